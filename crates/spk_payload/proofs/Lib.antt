@@ -1,0 +1,5 @@
+mod Texts
+mod Turns
+mod Metrics
+mod FirstFault
+mod Payloads

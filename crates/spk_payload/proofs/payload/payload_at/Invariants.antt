@@ -1,0 +1,13 @@
+use Rattle.std.proofs.Common.{◌≡◌}
+use Rattle.spk_protobuf.specs.View.{items_left}
+use Rattle.spk_payload.specs.Reading.{each_item, payload_entry, payload_at}
+use Rattle.spk_payload.specs.View.{payload_view}
+use Rattle.spk_payload.proofs.payload.payload_at.Given as goal
+
+-- what is there so far, with the items that are left, gives what the text gives
+abbrev pub invariant-loop-field : goal.invariant-loop-field
+invariant-loop-field l = record {
+  can : (goal.iterator-loop-field).can_next l.field-iterator;
+  finite : (goal.iterator-loop-field).is_finite l.field-iterator;
+  gives : each_item payload_entry (payload_view l.payload) (items_left l.field-iterator) ≡ payload_at l.bytes;
+}

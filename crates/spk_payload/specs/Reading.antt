@@ -1,0 +1,79 @@
+-- Reading item by item, as the code does. Private clauses and proofs alone rest on it: public clauses say what
+-- it gives by Meaning and Faults.
+use Rattle.std.specs.Prelude.{ℕ, ◌%◌, ◌^◌, not, List, [], ◌∷◌, ◌++◌, Option, Some, None, Result, Ok, Err, ◌==◌, if◌then◌else◌}
+use Rattle.std.specs.Str.{is_utf8}
+use Rattle.spk_protobuf.specs.declared.fault.WireFault.{WireFault}
+use Rattle.spk_protobuf.specs.Grammar.{Shape, Varint, Eight, Bytes, Four, Entry}
+use Rattle.spk_protobuf.specs.Reading.{items_of}
+use Rattle.spk_payload.specs.declared.fault.PayloadFault.{PayloadFault}
+use Rattle.spk_payload.specs.declared.fault.PayloadFault.TheVariants.{Wire, NotText}
+use Rattle.spk_payload.specs.Meaning.{Content, Int, Long, Flag, Words, Octets, Other, MetricData, PayloadData}
+
+infixl 10 ◌>>=◌
+abbrev pub ◌>>=◌ : {A B : Type 0} → Result A PayloadFault → (A → Result B PayloadFault) → Result B PayloadFault
+(Ok x) >>= f = f x
+(Err e) >>= f = Err e
+
+-- A step for each field, in order, up to the first fault.
+unfoldable pub each_item : {S : Type 0} → (S → Entry → Result S PayloadFault) → S → List (Result Entry WireFault) → Result S PayloadFault
+each_item step s [] = Ok s
+each_item step s (Err w ∷ items) = Err (Wire w)
+each_item step s (Ok e ∷ items) = step s e >>= λ t. each_item step t items
+
+unfoldable pub text_at : List ℕ → Result (List ℕ) PayloadFault
+text_at bytes = if is_utf8 bytes then Ok bytes else Err NotText
+
+-- ---- metrics
+
+abbrev pub no_metric : MetricData
+no_metric = record { name = None; alias = None; timestamp = None; datatype = None; historical = None; transient = None; null = None; value = None }
+
+abbrev pub metric_number : MetricData → ℕ → ℕ → MetricData
+metric_number m number n =
+  if number == 2 then record m { alias = Some n } else (
+  if number == 3 then record m { timestamp = Some n } else (
+  if number == 4 then record m { datatype = Some (n % 2 ^ 32) } else (
+  if number == 5 then record m { historical = Some (not (n == 0)) } else (
+  if number == 6 then record m { transient = Some (not (n == 0)) } else (
+  if number == 7 then record m { null = Some (not (n == 0)) } else (
+  if number == 10 then record m { value = Some (Int (n % 2 ^ 32)) } else (
+  if number == 11 then record m { value = Some (Long n) } else (
+  if number == 14 then record m { value = Some (Flag (not (n == 0))) } else m))))))))
+
+abbrev pub metric_bytes : MetricData → ℕ → List ℕ → Result MetricData PayloadFault
+metric_bytes m number bytes =
+  if number == 1 then (text_at bytes >>= λ text. Ok (record m { name = Some text })) else (
+  if number == 15 then (text_at bytes >>= λ text. Ok (record m { value = Some (Words text) })) else (
+  if number == 16 then Ok (record m { value = Some (Octets bytes) }) else (
+  if number == 17 then Ok (record m { value = Some Other }) else (
+  if number == 18 then Ok (record m { value = Some Other }) else (
+  if number == 19 then Ok (record m { value = Some Other }) else Ok m)))))
+
+abbrev pub metric_entry : MetricData → Entry → Result MetricData PayloadFault
+metric_entry m e = by_shape e.shape
+  where
+    by_shape : Shape → Result MetricData PayloadFault
+    by_shape (Varint n) = Ok (metric_number m e.number n)
+    by_shape (Eight bytes) = Ok (if e.number == 13 then record m { value = Some Other } else m)
+    by_shape (Bytes bytes) = metric_bytes m e.number bytes
+    by_shape (Four bytes) = Ok (if e.number == 12 then record m { value = Some Other } else m)
+
+unfoldable pub metric_at : List ℕ → Result MetricData PayloadFault
+metric_at bytes = each_item metric_entry no_metric (items_of bytes)
+
+-- ---- payloads
+
+abbrev pub no_payload : PayloadData
+no_payload = record { timestamp = None; metrics = []; seq = None }
+
+abbrev pub payload_entry : PayloadData → Entry → Result PayloadData PayloadFault
+payload_entry p e = by_shape e.shape
+  where
+    by_shape : Shape → Result PayloadData PayloadFault
+    by_shape (Varint n) = Ok (if e.number == 1 then record p { timestamp = Some n } else (if e.number == 3 then record p { seq = Some n } else p))
+    by_shape (Eight bytes) = Ok p
+    by_shape (Bytes bytes) = if e.number == 2 then (metric_at bytes >>= λ m. Ok (record p { metrics = p.metrics ++ m ∷ [] })) else Ok p
+    by_shape (Four bytes) = Ok p
+
+unfoldable pub payload_at : List ℕ → Result PayloadData PayloadFault
+payload_at bytes = each_item payload_entry no_payload (items_of bytes)

@@ -1,0 +1,110 @@
+-- What a value is by its datatype (Sparkplug 3.0.0, 6.4.16 "Datatype Details"). Which field a datatype is read
+-- from, and the readings of a narrow signed number from one byte or two, are the project's own.
+use Rattle.std.specs.Prelude.{ℕ, ℤ, pos, ◌-ℤ◌, ◌-◌, ◌*◌, ◌^◌, Bool, List, Option, Some, None, nat_lt, option_and_then, ◌==◌, if◌then◌else◌}
+use Rattle.std.specs.Option.{option_map}
+use Rattle.spk_payload.specs.declared.typing.Value.{Value}
+use Rattle.spk_payload.specs.declared.typing.Value.TheVariants as value
+use Rattle.std.specs.String.{string_bytes}
+use Rattle.spk_payload.specs.Meaning.{Content, Int, Long, Flag, Words, Octets, Other}
+
+-- A value with its type, without where it lies in memory.
+pub data Typed : Type 0 where
+  Signed : ℤ → Typed
+  Unsigned : ℕ → Typed
+  Truth : Bool → Typed
+  Text : List ℕ → Typed
+  Bytes : List ℕ → Typed
+
+abbrev pub typed_view : Value → Typed
+typed_view (value.Signed z) = Signed z
+typed_view (value.Unsigned n) = Unsigned n
+typed_view (value.Flag b) = Truth b
+typed_view (value.Words s) = Text (string_bytes s)
+typed_view (value.Octets v) = Bytes v.items
+
+-- ---- what stands in a field of the value
+
+abbrev pub int_in : Content → Option ℕ
+int_in (Int n) = Some n
+int_in (Long n) = None
+int_in (Flag b) = None
+int_in (Words bytes) = None
+int_in (Octets bytes) = None
+int_in Other = None
+
+abbrev pub long_in : Content → Option ℕ
+long_in (Int n) = None
+long_in (Long n) = Some n
+long_in (Flag b) = None
+long_in (Words bytes) = None
+long_in (Octets bytes) = None
+long_in Other = None
+
+abbrev pub int_or_long_in : Content → Option ℕ
+int_or_long_in (Int n) = Some n
+int_or_long_in (Long n) = Some n
+int_or_long_in (Flag b) = None
+int_or_long_in (Words bytes) = None
+int_or_long_in (Octets bytes) = None
+int_or_long_in Other = None
+
+abbrev pub truth_in : Content → Option Typed
+truth_in (Int n) = None
+truth_in (Long n) = None
+truth_in (Flag b) = Some (Truth b)
+truth_in (Words bytes) = None
+truth_in (Octets bytes) = None
+truth_in Other = None
+
+abbrev pub text_in : Content → Option Typed
+text_in (Int n) = None
+text_in (Long n) = None
+text_in (Flag b) = None
+text_in (Words bytes) = Some (Text bytes)
+text_in (Octets bytes) = None
+text_in Other = None
+
+abbrev pub bytes_in : Content → Option Typed
+bytes_in (Int n) = None
+bytes_in (Long n) = None
+bytes_in (Flag b) = None
+bytes_in (Words bytes) = None
+bytes_in (Octets bytes) = Some (Bytes bytes)
+bytes_in Other = None
+
+-- ---- the table
+
+-- A signed number of so many bits, half being 2 to the bits less one, in an int_value: as its own bits, or as the
+-- 32 bits of its two's complement.
+abbrev pub narrow_signed : ℕ → ℕ → Option Typed
+narrow_signed half n =
+  if nat_lt n half then Some (Signed (pos n)) else (
+  if nat_lt n (2 * half) then Some (Signed (pos n -ℤ pos (2 * half))) else (
+  if nat_lt n (2 ^ 32 - half) then None else Some (Signed (pos n -ℤ pos (2 ^ 32)))))
+
+-- Two's complement on 64 bits.
+abbrev pub signed_64 : ℕ → Typed
+signed_64 n = if nat_lt n (2 ^ 63) then Signed (pos n) else Signed (pos n -ℤ pos (2 ^ 64))
+
+abbrev pub below : ℕ → ℕ → Option Typed
+below limit n = if nat_lt n limit then Some (Unsigned n) else None
+
+-- 1 Int8, 2 Int16, 3 Int32, 4 Int64, 5 UInt8, 6 UInt16, 7 UInt32, 8 UInt64, 11 Boolean, 12 String, 13 DateTime,
+-- 14 Text, 15 UUID, 17 Bytes, 18 File. Nothing else is read.
+abbrev pub typed_of : ℕ → Content → Option Typed
+typed_of datatype c =
+  if datatype == 1 then option_and_then (narrow_signed (2 ^ 7)) (int_in c) else (
+  if datatype == 2 then option_and_then (narrow_signed (2 ^ 15)) (int_in c) else (
+  if datatype == 3 then option_and_then (narrow_signed (2 ^ 31)) (int_in c) else (
+  if datatype == 4 then option_map signed_64 (long_in c) else (
+  if datatype == 5 then option_and_then (below (2 ^ 8)) (int_in c) else (
+  if datatype == 6 then option_and_then (below (2 ^ 16)) (int_in c) else (
+  if datatype == 7 then option_and_then (below (2 ^ 32)) (int_or_long_in c) else (
+  if datatype == 8 then option_map Unsigned (long_in c) else (
+  if datatype == 11 then truth_in c else (
+  if datatype == 12 then text_in c else (
+  if datatype == 13 then option_map Unsigned (int_or_long_in c) else (
+  if datatype == 14 then text_in c else (
+  if datatype == 15 then text_in c else (
+  if datatype == 17 then bytes_in c else (
+  if datatype == 18 then bytes_in c else None))))))))))))))

@@ -1,0 +1,14 @@
+//! Sparkplug B payloads: what their bytes mean, and what a value of a datatype is.
+//!
+//! Follows the Sparkplug specification 3.0.0, chapter 6 "Sparkplug Payloads" (its protobuf schema and datatypes).
+#![tactic(auto)]
+
+mod fault;
+mod metric;
+mod payload;
+mod typing;
+
+pub use fault::PayloadFault;
+pub use metric::{Metric, Raw};
+pub use payload::{Payload, decode};
+pub use typing::{Value, typed};

@@ -1,0 +1,68 @@
+//! Payloads, read from their bytes.
+
+ghost use Rattle.std.specs.Prelude.{◌≡◌, ◌⊎◌, Ok, Err, IfOk, IfErr};
+ghost use Rattle.spk_protobuf.specs.View.{entry_of};
+ghost use Rattle.spk_payload.specs.declared.fault.PayloadFault.{PayloadFault};
+ghost use Rattle.spk_payload.specs.Meaning.{PayloadData, MeansPayload};
+ghost use Rattle.spk_payload.specs.Faults.{IsPayloadFault};
+ghost use Rattle.spk_payload.specs.Reading as spec;
+ghost use Rattle.spk_payload.specs.View.{payload_view, Gives, Turns};
+
+use crate::fault::PayloadFault;
+use crate::metric::{Metric, metric_at};
+use spk_protobuf::{Field, Fields, Wire};
+use std::alloc::Global;
+
+/// A payload: its timestamp in milliseconds since 1970, its metrics in order, and its sequence number
+/// (Sparkplug 3.0.0, 6.4.4).
+#[derive(Debug, Drop, PartialEq)]
+pub struct Payload {
+    pub timestamp: Option<u64>,
+    pub metrics: Vec<Metric>,
+    pub seq: Option<u64>,
+}
+
+impl Payload {
+    fn put(&mut self, alloc: Global, field: Field<'_>) -> Result<(), PayloadFault>
+        ensures { Turns payload_view result self.new (spec.payload_entry (payload_view self.old) (entry_of field.entry)) }
+    {
+        match (field.number, field.wire) {
+            (1, Wire::Varint(number)) => self.timestamp = Some(number),
+            (3, Wire::Varint(number)) => self.seq = Some(number),
+            (2, Wire::Bytes(bytes)) => self.metrics.push(metric_at(alloc, bytes)?)?,
+            _ => {}
+        }
+        Ok(())
+    }
+}
+
+fn payload_at(alloc: Global, bytes: &[u8]) -> Result<Payload, PayloadFault>
+    ensures { Gives payload_view result (spec.payload_at bytes.now) }
+{
+    let mut payload = Payload {
+        timestamp: None,
+        metrics: Vec::new(alloc),
+        seq: None,
+    };
+    for field in Fields::new(bytes) {
+        payload.put(alloc, field?)?;
+    }
+    Ok(payload)
+}
+
+/// The payload that the bytes mean (Sparkplug 3.0.0, 6.4 "Google Protocol Buffer Schema").
+///
+/// Refuses with the first fault in reading order: a metric is read whole where it stands. No length in the bytes
+/// makes it ask for more memory than the bytes at hand.
+pub fn decode(alloc: Global, bytes: &[u8]) -> Result<Payload, PayloadFault>
+    // What is answered is what the bytes mean.
+    ensures found { IfOk result (λ p. MeansPayload bytes.now (payload_view p)) }
+    // What the bytes mean is answered, unless memory was refused.
+    ensures only { (p : PayloadData) → MeansPayload bytes.now p → Gives payload_view result (Ok p) }
+    // A fault is the first one of the bytes, and the first one is answered, unless memory was refused.
+    ensures fault { IfErr result (λ f. (f ≡ PayloadFault.NoMemory) ⊎ IsPayloadFault bytes.now f) }
+    ensures only_fault { (f : PayloadFault) → IsPayloadFault bytes.now f
+        → Gives payload_view result (Err f) }
+{
+    payload_at(alloc, bytes)
+}

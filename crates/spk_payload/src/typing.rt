@@ -1,0 +1,101 @@
+//! What a value is by its datatype.
+
+ghost use Rattle.std.specs.Prelude.{◌≡◌, ◌*◌, ◌^◌, ◌≤◌, Option, Some, None, MatchResult, option_map};
+ghost use Rattle.spk_payload.specs.Meaning.{Int, Long};
+ghost use Rattle.spk_payload.specs.Typing as spec;
+ghost use Rattle.spk_payload.specs.View.{content_of};
+
+use crate::metric::Raw;
+
+/// A value with its type.
+#[derive(Debug, Drop, PartialEq)]
+pub enum Value {
+    /// Int8, Int16, Int32, Int64.
+    Signed(i64),
+    /// UInt8, UInt16, UInt32, UInt64, and DateTime in milliseconds since 1970.
+    Unsigned(u64),
+    /// Boolean.
+    Flag(bool),
+    /// String, Text, UUID.
+    Words(String),
+    /// Bytes, File.
+    Octets(Vec<u8>),
+}
+
+/// A signed number of 8, 16 or 32 bits in an `int_value`.
+fn narrow_signed(half: u32, number: u32) -> Option<Value>
+    requires { half ≤ 2 ^ 31 }
+    ensures { option_map spec.typed_view result ≡ spec.narrow_signed half number }
+{
+    let half = i64::from(half);
+    let number = i64::from(number);
+    if number < half {
+        Some(Value::Signed(number))
+    } else if number < 2 * half {
+        Some(Value::Signed(number - 2 * half))
+    } else if number < (1 << 32) - half {
+        None
+    } else {
+        Some(Value::Signed(number - (1 << 32)))
+    }
+}
+
+fn below(limit: u64, number: u64) -> Option<Value>
+    ensures { option_map spec.typed_view result ≡ spec.below limit number }
+{
+    (number < limit).then_some(Value::Unsigned(number))
+}
+
+fn typed_int(datatype: u32, number: u32) -> Option<Value>
+    ensures { option_map spec.typed_view result ≡ spec.typed_of datatype (Int number) }
+{
+    match datatype {
+        1 => narrow_signed(1 << 7, number),
+        2 => narrow_signed(1 << 15, number),
+        3 => narrow_signed(1 << 31, number),
+        5 => below(1 << 8, u64::from(number)),
+        6 => below(1 << 16, u64::from(number)),
+        7 => below(1 << 32, u64::from(number)),
+        13 => Some(Value::Unsigned(u64::from(number))),
+        _ => None,
+    }
+}
+
+fn typed_long(datatype: u32, number: u64) -> Option<Value>
+    ensures { option_map spec.typed_view result ≡ spec.typed_of datatype (Long number) }
+{
+    match datatype {
+        4 => Some(Value::Signed(number.cast_signed())),
+        7 => below(1 << 32, number),
+        8 | 13 => Some(Value::Unsigned(number)),
+        _ => None,
+    }
+}
+
+/// The value that a datatype reads, by its number (Sparkplug 3.0.0, 6.4.16; docs/DEFINITIONS.md has the table).
+/// Takes no memory.
+///
+/// A value that the datatype doesn't read is handed back as it was.
+pub fn typed(datatype: u32, raw: Raw) -> Result<Value, Raw>
+    ensures { MatchResult result
+        (λ v. spec.typed_of datatype (content_of raw) ≡ Some (spec.typed_view v))
+        (λ back. (spec.typed_of datatype (content_of raw) ≡ None) × (back ≡ raw)) }
+{
+    match raw {
+        Raw::Int(number) => typed_int(datatype, number).ok_or(Raw::Int(number)),
+        Raw::Long(number) => typed_long(datatype, number).ok_or(Raw::Long(number)),
+        Raw::Flag(flag) => match datatype {
+            11 => Ok(Value::Flag(flag)),
+            _ => Err(Raw::Flag(flag)),
+        },
+        Raw::Words(text) => match datatype {
+            12 | 14 | 15 => Ok(Value::Words(text)),
+            _ => Err(Raw::Words(text)),
+        },
+        Raw::Octets(bytes) => match datatype {
+            17 | 18 => Ok(Value::Octets(bytes)),
+            _ => Err(Raw::Octets(bytes)),
+        },
+        Raw::Other => Err(Raw::Other),
+    }
+}

@@ -1,0 +1,5 @@
+mod Groups
+mod Values
+pub mod Items
+mod Loops
+mod Shortest

@@ -1,0 +1,69 @@
+//! Varints and length-delimited fields, appended.
+
+ghost use Rattle.std.specs.Prelude.{◌≡◌, ℕ, ◌+◌, ◌*◌, ◌-◌, ◌/◌, ◌%◌, ◌^◌, ◌<◌, ◌≤◌, ◌++◌, List, length, take, OnOk, OnErr};
+ghost use Rattle.spk_protobuf.specs.Grammar.{Entry, Bytes, IsVarint, IsField};
+ghost use Rattle.spk_protobuf.specs.Spelling.{varint, bytes_field};
+
+use std::alloc::AllocError;
+
+/// The bytes of the shortest varint, and how many they are.
+fn shortest(number: u64) -> ([u8; 10], usize)
+    ensures len { result.1 ≤ 10 }
+    ensures bytes { take result.1 result.0 ≡ varint number }
+{
+    let mut bytes = [0u8; 10];
+    let mut rest = number;
+    for i in 0..9usize {
+        if rest < 128 {
+            bytes[i] = rest as u8;
+            return (bytes, i + 1);
+        }
+        bytes[i] = (rest % 128) as u8 + 128;
+        rest /= 128;
+    }
+    bytes[9] = rest as u8;
+    (bytes, 10)
+}
+
+/// Appends the number as the shortest varint, 1 to 10 bytes (protobuf encoding, "Base 128 Varints").
+///
+/// Where no memory is given, `out` is as it was.
+pub fn put_varint(out: &mut Vec<u8>, number: u64) -> Result<(), AllocError>
+    ensures ok { OnOk result (out.new.items ≡ out.old.items ++ varint number) }
+    // What is appended is a varint of the number, and none is shorter.
+    ensures reads { IsVarint (varint number) number }
+    ensures shortest { (text : List ℕ) → IsVarint text number → length (varint number) ≤ length text }
+    ensures err { OnErr result (out.new.items ≡ out.old.items) }
+{
+    let (bytes, len) = shortest(number);
+    out.extend_from_slice(&bytes[..len])
+}
+
+/// The tag of a length-delimited field, the length, and the bytes. After an `Err` some of it may stand in `out`.
+fn put_parts(out: &mut Vec<u8>, number: u64, bytes: &[u8]) -> Result<(), AllocError>
+    ensures ok { OnOk result (out.new.items ≡ out.old.items ++ bytes_field number bytes.now) }
+    ensures err { OnErr result (take (length out.old.items) out.new.items ≡ out.old.items) }
+{
+    put_varint(out, number.wrapping_mul(8).wrapping_add(2))?;
+    put_varint(out, bytes.len() as u64)?;
+    out.extend_from_slice(bytes)
+}
+
+/// Appends a length-delimited field: its tag, the length and the bytes (protobuf encoding, "Length-Delimited
+/// Records").
+///
+/// A number from 1 to 2^61 - 1 gives a field of that number. Another number is written too: of its tag the low
+/// 64 bits. Where no memory is given, `out` is as it was.
+pub fn put_bytes(out: &mut Vec<u8>, number: u64, bytes: &[u8]) -> Result<(), AllocError>
+    ensures ok { OnOk result (out.new.items ≡ out.old.items ++ bytes_field number bytes.now) }
+    ensures field { 0 < number → number < 2 ^ 61
+        → IsField (bytes_field number bytes.now) (record { number = number; shape = Bytes bytes.now }) }
+    ensures err { OnErr result (out.new.items ≡ out.old.items) }
+{
+    let before = out.len();
+    let put = put_parts(out, number, bytes);
+    if put.is_err() {
+        out.truncate(before);
+    }
+    put
+}
