@@ -52,13 +52,13 @@ module _ {S : Type 0} (step : S → Entry → Result S PayloadFault) (Sound : En
   first_fault s (Ok x ∷ items) f e =
       elim (j.either s x) [
         | inl h ↦
-          let one = j.passes s x h in
-          let rest : each_item step one.0 items ≡ Err f = ap (λ (r : Result S PayloadFault). r >>= λ t. each_item step t items) (sym one.1) ∙ e in
-          let r = first_fault one.0 items f rest in
-          record { before = Ok x ∷ r.before; item = r.item; after = r.after; are = ap (λ (others : Items). Ok x ∷ others) r.are; sound = All-cons (IsSoundBy Sound) (Ok x) r.before h r.sound; is = r.is }
+            let one = j.passes s x h in
+            let rest : each_item step one.0 items ≡ Err f = ap (λ (r : Result S PayloadFault). r >>= λ t. each_item step t items) (sym one.1) ∙ e in
+            let r = first_fault one.0 items f rest in
+            record { before = Ok x ∷ r.before; item = r.item; after = r.after; are = ap (λ (others : Items). Ok x ∷ others) r.are; sound = All-cons (IsSoundBy Sound) (Ok x) r.before h r.sound; is = r.is }
         | inr h ↦
-          let due : failed {A = S} h.0 ≡ failed f = ap (λ (r : Result S PayloadFault). r >>= λ t. each_item step t items) (sym (j.stops s x h.0 h.1)) ∙ e in
-          record { before = []; item = Ok x; after = items; are = refl; sound = All-nil (IsSoundBy Sound); is = subst (λ (g : PayloadFault). Holds x g) (same_err {S = S} h.0 f due) h.1 }
+            let due : failed {A = S} h.0 ≡ failed f = ap (λ (r : Result S PayloadFault). r >>= λ t. each_item step t items) (sym (j.stops s x h.0 h.1)) ∙ e in
+            record { before = []; item = Ok x; after = items; are = refl; sound = All-nil (IsSoundBy Sound); is = subst (λ (g : PayloadFault). Holds x g) (same_err {S = S} h.0 f due) h.1 }
       ]
 
   pub stops_there : (s : S) (before : Items) (item : Result Entry WireFault) (after : Items) (f : PayloadFault) → All (IsSoundBy Sound) before → IsFaultBy Holds item f → each_item step s (before ++ item ∷ after) ≡ Err f

@@ -52,22 +52,22 @@ by_number P n p1 p2 p3 p4 p5 p6 p7 p10 p11 p12 p13 p14 p15 p16 p17 p18 p19 other
 varint_entry : (m : MetricData) (n v : ℕ) → metric_entry m (at n (Varint v)) ≡ Ok (with_more m (at n (Varint v)))
 varint_entry m n v =
     by_number (λ k. metric_entry m (at k (Varint v)) ≡ Ok (with_more m (at k (Varint v)))) n refl refl refl refl refl refl refl refl refl refl refl refl refl refl refl refl refl
-      (λ f1 f2 f3 f4 f5 f6 f7 f10 f11 f12 f13 f14 f15 f16 f17 f18 f19. rw (f1, f2, f3, f4, f5, f6, f7, f10, f11, f12, f13, f14, f15, f16, f17, f18, f19) refl)
+    (λ f1 f2 f3 f4 f5 f6 f7 f10 f11 f12 f13 f14 f15 f16 f17 f18 f19. rw (f1, f2, f3, f4, f5, f6, f7, f10, f11, f12, f13, f14, f15, f16, f17, f18, f19) refl)
 
 eight_entry : (m : MetricData) (n : ℕ) (b : List ℕ) → metric_entry m (at n (Eight b)) ≡ Ok (with_more m (at n (Eight b)))
 eight_entry m n b =
     by_number (λ k. metric_entry m (at k (Eight b)) ≡ Ok (with_more m (at k (Eight b)))) n refl refl refl refl refl refl refl refl refl refl refl refl refl refl refl refl refl
-      (λ f1 f2 f3 f4 f5 f6 f7 f10 f11 f12 f13 f14 f15 f16 f17 f18 f19. rw (f1, f2, f3, f4, f5, f6, f7, f10, f11, f12, f13, f14, f15, f16, f17, f18, f19) refl)
+    (λ f1 f2 f3 f4 f5 f6 f7 f10 f11 f12 f13 f14 f15 f16 f17 f18 f19. rw (f1, f2, f3, f4, f5, f6, f7, f10, f11, f12, f13, f14, f15, f16, f17, f18, f19) refl)
 
 four_entry : (m : MetricData) (n : ℕ) (b : List ℕ) → metric_entry m (at n (Four b)) ≡ Ok (with_more m (at n (Four b)))
 four_entry m n b =
     by_number (λ k. metric_entry m (at k (Four b)) ≡ Ok (with_more m (at k (Four b)))) n refl refl refl refl refl refl refl refl refl refl refl refl refl refl refl refl refl
-      (λ f1 f2 f3 f4 f5 f6 f7 f10 f11 f12 f13 f14 f15 f16 f17 f18 f19. rw (f1, f2, f3, f4, f5, f6, f7, f10, f11, f12, f13, f14, f15, f16, f17, f18, f19) refl)
+    (λ f1 f2 f3 f4 f5 f6 f7 f10 f11 f12 f13 f14 f15 f16 f17 f18 f19. rw (f1, f2, f3, f4, f5, f6, f7, f10, f11, f12, f13, f14, f15, f16, f17, f18, f19) refl)
 
 bytes_entry : (m : MetricData) (n : ℕ) (b : List ℕ) → HasText (at n (Bytes b)) → metric_entry m (at n (Bytes b)) ≡ Ok (with_more m (at n (Bytes b)))
 bytes_entry m n b =
     by_number (λ k. HasText (at k (Bytes b)) → metric_entry m (at k (Bytes b)) ≡ Ok (with_more m (at k (Bytes b)))) n (λ h. rw (text_at-text b h.0) refl) (λ h. refl) (λ h. refl) (λ h. refl) (λ h. refl) (λ h. refl) (λ h. refl) (λ h. refl) (λ h. refl) (λ h. refl) (λ h. refl) (λ h. refl) (λ h. rw (text_at-text b h.1) refl) (λ h. refl) (λ h. refl) (λ h. refl) (λ h. refl)
-      (λ f1 f2 f3 f4 f5 f6 f7 f10 f11 f12 f13 f14 f15 f16 f17 f18 f19 h. rw (f1, f2, f3, f4, f5, f6, f7, f10, f11, f12, f13, f14, f15, f16, f17, f18, f19) refl)
+    (λ f1 f2 f3 f4 f5 f6 f7 f10 f11 f12 f13 f14 f15 f16 f17 f18 f19 h. rw (f1, f2, f3, f4, f5, f6, f7, f10, f11, f12, f13, f14, f15, f16, f17, f18, f19) refl)
 
 pub entry_ok : (m : MetricData) (e : Entry) → HasText e → metric_entry m e ≡ Ok (with_more m e)
 entry_ok m e h = by_shape e.number e.shape h
@@ -104,8 +104,8 @@ entry_or_not m e = by_shape e.number e.shape
     by_shape n (Bytes b) =
         let P : ℕ → Type 0 = λ k. HasText (at k (Bytes b)) ⊎ ((HasText (at k (Bytes b)) → ⊥) × (metric_entry m (at k (Bytes b)) ≡ Err NotText)) in
         at_or_not P 1 n (elim (utf8_or_not b) [ inl u ↦ inl (u, tt) | inr u ↦ inr (λ h. u h.0, rw (text_at-other b u) refl) ])
-          (λ f1. at_or_not P 15 n (elim (utf8_or_not b) [ inl u ↦ inl (tt, u) | inr u ↦ inr (λ h. u h.1, rw (text_at-other b u) refl) ])
-            (λ f15. inl (rw f1 tt, rw f15 tt)))
+        (λ f1. at_or_not P 15 n (elim (utf8_or_not b) [ inl u ↦ inl (tt, u) | inr u ↦ inr (λ h. u h.1, rw (text_at-other b u) refl) ])
+        (λ f15. inl (rw f1 tt, rw f15 tt)))
 
 -- ---- all entries
 
@@ -147,14 +147,14 @@ map_step f a b old = or_assoc (option_map f a) (option_map f b) old ∙ ap (λ x
 with_all-more : (m : MetricData) (e : Entry) (es : List Entry) → with_all (with_more m e) es ≡ with_all m (e ∷ es)
 with_all-more m e es =
     same_metric
-      (or_assoc (last (bytes_in 1) es) (bytes_in 1 e) m.name)
-      (or_assoc (last (number_in 2) es) (number_in 2 e) m.alias)
-      (or_assoc (last (number_in 3) es) (number_in 3 e) m.timestamp)
-      (map_step (λ n. n % 2 ^ 32) (last (number_in 4) es) (number_in 4 e) m.datatype)
-      (map_step (λ n. not (eqb n 0)) (last (number_in 5) es) (number_in 5 e) m.historical)
-      (map_step (λ n. not (eqb n 0)) (last (number_in 6) es) (number_in 6 e) m.transient)
-      (map_step (λ n. not (eqb n 0)) (last (number_in 7) es) (number_in 7 e) m.null)
-      (or_assoc (last content_in es) (content_in e) m.value)
+    (or_assoc (last (bytes_in 1) es) (bytes_in 1 e) m.name)
+    (or_assoc (last (number_in 2) es) (number_in 2 e) m.alias)
+    (or_assoc (last (number_in 3) es) (number_in 3 e) m.timestamp)
+    (map_step (λ n. n % 2 ^ 32) (last (number_in 4) es) (number_in 4 e) m.datatype)
+    (map_step (λ n. not (eqb n 0)) (last (number_in 5) es) (number_in 5 e) m.historical)
+    (map_step (λ n. not (eqb n 0)) (last (number_in 6) es) (number_in 6 e) m.transient)
+    (map_step (λ n. not (eqb n 0)) (last (number_in 7) es) (number_in 7 e) m.null)
+    (or_assoc (last content_in es) (content_in e) m.value)
 
 with_all-none : (es : List Entry) → with_all no_metric es ≡ metric_of es
 with_all-none es = same_metric (or_none (last (bytes_in 1) es)) (or_none (last (number_in 2) es)) (or_none (last (number_in 3) es)) (or_none (option_map (λ n. n % 2 ^ 32) (last (number_in 4) es))) (or_none (option_map (λ n. not (eqb n 0)) (last (number_in 5) es))) (or_none (option_map (λ n. not (eqb n 0)) (last (number_in 6) es))) (or_none (option_map (λ n. not (eqb n 0)) (last (number_in 7) es))) (or_none (last content_in es))
@@ -197,15 +197,15 @@ reads_metric m (Err w ∷ items) result e = err_no_ok (Wire w) result e
 reads_metric m (Ok x ∷ items) result e =
     elim (entry_or_not m x) [
       | inl h ↦
-        let one = entry_ok m x h in
-        let rest : each_item metric_entry (with_more m x) items ≡ Ok result = ap (λ (r : Result MetricData PayloadFault). r >>= λ t. each_item metric_entry t items) (sym one) ∙ e in
-        let r = reads_metric (with_more m x) items result rest in
-        record {
-          entries = x ∷ r.entries;
-          are = ap (λ (others : Items). Ok x ∷ others) r.are;
-          texts = All-cons HasText x r.entries h r.texts;
-          is = r.is ∙ with_all-more m x r.entries;
-        }
+          let one = entry_ok m x h in
+          let rest : each_item metric_entry (with_more m x) items ≡ Ok result = ap (λ (r : Result MetricData PayloadFault). r >>= λ t. each_item metric_entry t items) (sym one) ∙ e in
+          let r = reads_metric (with_more m x) items result rest in
+          record {
+            entries = x ∷ r.entries;
+            are = ap (λ (others : Items). Ok x ∷ others) r.are;
+            texts = All-cons HasText x r.entries h r.texts;
+            is = r.is ∙ with_all-more m x r.entries;
+          }
       | inr h ↦ err_no_ok NotText result (ap (λ (r : Result MetricData PayloadFault). r >>= λ t. each_item metric_entry t items) (sym h.1) ∙ e)
     ]
 

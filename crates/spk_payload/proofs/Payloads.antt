@@ -35,6 +35,7 @@ judges_metric = record {
     refused : (m : MetricData) (e : Entry) (f : PayloadFault) → LacksText e f → HasText e ⊎ ((HasText e → ⊥) × (metric_entry m e ≡ Err NotText)) → metric_entry m e ≡ Err f
     refused m e f h (inl t) = absurd (h.0 t)
     refused m e f h (inr t) = t.1 ∙ ap (λ (g : PayloadFault). failed {A = MetricData} g) (sym h.1)
+
     which : (m : MetricData) (e : Entry) → HasText e ⊎ ((HasText e → ⊥) × (metric_entry m e ≡ Err NotText)) → HasText e ⊎ ((f : PayloadFault) × LacksText e f)
     which m e (inl t) = inl t
     which m e (inr t) = inr (NotText, (t.0, refl))
@@ -102,21 +103,23 @@ entry_is p e = by_shape e.number e.shape
   where
     same : (t s : Option ℕ) → done (record_of t p.metrics s) ≡ done (record_of t (p.metrics ++ []) s)
     same t s = ap (λ (ms : List MetricData). done (record_of t ms s)) (sym (append-nil p.metrics))
+
     same_p : done p ≡ done (record_of p.timestamp (p.metrics ++ []) p.seq)
     same_p = same p.timestamp p.seq
+
     by_shape : (n : ℕ) (shape : Shape) → payload_entry p (at n shape) ≡ part_of p (at n shape) (bytes_in 2 (at n shape))
     by_shape n (Varint v) =
         by_number (λ k. payload_entry p (at k (Varint v)) ≡ part_of p (at k (Varint v)) (bytes_in 2 (at k (Varint v)))) n (same (Some v) p.seq) (same p.timestamp p.seq) (same p.timestamp (Some v))
-          (λ f1 f2 f3. rw (f2, f1, f3) same_p)
+        (λ f1 f2 f3. rw (f2, f1, f3) same_p)
     by_shape n (Eight b) =
         by_number (λ k. payload_entry p (at k (Eight b)) ≡ part_of p (at k (Eight b)) (bytes_in 2 (at k (Eight b)))) n (same p.timestamp p.seq) (same p.timestamp p.seq) (same p.timestamp p.seq)
-          (λ f1 f2 f3. rw (f2, f1, f3) same_p)
+        (λ f1 f2 f3. rw (f2, f1, f3) same_p)
     by_shape n (Bytes b) =
         by_number (λ k. payload_entry p (at k (Bytes b)) ≡ part_of p (at k (Bytes b)) (bytes_in 2 (at k (Bytes b)))) n (same p.timestamp p.seq) refl (same p.timestamp p.seq)
-          (λ f1 f2 f3. rw (f2, f1, f3) same_p)
+        (λ f1 f2 f3. rw (f2, f1, f3) same_p)
     by_shape n (Four b) =
         by_number (λ k. payload_entry p (at k (Four b)) ≡ part_of p (at k (Four b)) (bytes_in 2 (at k (Four b)))) n (same p.timestamp p.seq) (same p.timestamp p.seq) (same p.timestamp p.seq)
-          (λ f1 f2 f3. rw (f2, f1, f3) same_p)
+        (λ f1 f2 f3. rw (f2, f1, f3) same_p)
 
 -- ---- faults of a payload
 
@@ -136,12 +139,15 @@ judges_payload = record {
     passes : (p : PayloadData) (e : Entry) (o : Option (List ℕ)) → IfSome o (λ text. (m : MetricData) × MeansMetric text m) → (t : PayloadData) × (part_of p e o ≡ Ok t)
     passes p e None h = (with_part p e [], refl)
     passes p e (Some text) h = (with_part p e (h.0 ∷ []), rw (metric_again text h.0 h.1) refl)
+
     stops : (p : PayloadData) (e : Entry) (f : PayloadFault) (o : Option (List ℕ)) → MatchOption o ⊥ (λ text. IsMetricFault text f) → part_of p e o ≡ Err f
     stops p e f None h = absurd h
     stops p e f (Some text) h = rw (metric_fault_again text f h) refl
+
     by_read : (text : List ℕ) (r : Result MetricData PayloadFault) → metric_at text ≡ r → ((m : MetricData) × MeansMetric text m) ⊎ ((f : PayloadFault) × IsMetricFault text f)
     by_read text (Ok m) e = inl (m, metric_takes text m e)
     by_read text (Err f) e = inr (f, metric_fault text f e)
+
     either : (o : Option (List ℕ)) → IfSome o (λ text. (m : MetricData) × MeansMetric text m) ⊎ ((f : PayloadFault) × MatchOption o ⊥ (λ text. IsMetricFault text f))
     either None = inl tt
     either (Some text) = by_read text (metric_at text) refl
@@ -227,6 +233,7 @@ reads_payload p (Ok x ∷ items) result e =
           mean = subst (λ (found : Option (List ℕ)). MeanEach (cons_option found (filter_map (bytes_in 2) r.entries)) (one ∷ r.metrics)) (sym o) (metric_takes text one m, r.mean);
           is = r.is ∙ with_all-more p x r.entries (one ∷ []) r.metrics;
         }
+
     step : (o : Option (List ℕ)) → bytes_in 2 x ≡ o → (part_of p x o >>= λ t. each_item payload_entry t items) ≡ Ok result → ((q : PayloadData) → each_item payload_entry q items ≡ Ok result → ReadsPayload q items result) → ReadsPayload p (Ok x ∷ items) result
     step None o k go =
         let r = go (with_part p x []) k in

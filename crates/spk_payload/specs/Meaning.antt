@@ -70,16 +70,16 @@ bytes_in n e = if e.number == n then bytes_of e.shape else None
 -- 15 string_value, 16 bytes_value, 17 dataset_value, 18 template_value, 19 extension_value.
 abbrev pub content_in : Entry → Option Content
 content_in e =
-  if e.number == 10 then option_map (λ n. Int (n % 2 ^ 32)) (varint_of e.shape) else (
-  if e.number == 11 then option_map Long (varint_of e.shape) else (
-  if e.number == 12 then option_map (λ _. Other) (four_of e.shape) else (
-  if e.number == 13 then option_map (λ _. Other) (eight_of e.shape) else (
-  if e.number == 14 then option_map (λ n. Flag (not (n == 0))) (varint_of e.shape) else (
-  if e.number == 15 then option_map Words (bytes_of e.shape) else (
-  if e.number == 16 then option_map Octets (bytes_of e.shape) else (
-  if e.number == 17 then option_map (λ _. Other) (bytes_of e.shape) else (
-  if e.number == 18 then option_map (λ _. Other) (bytes_of e.shape) else (
-  if e.number == 19 then option_map (λ _. Other) (bytes_of e.shape) else None)))))))))
+    if e.number == 10 then option_map (λ n. Int (n % 2 ^ 32)) (varint_of e.shape) else (
+    if e.number == 11 then option_map Long (varint_of e.shape) else (
+    if e.number == 12 then option_map (λ _. Other) (four_of e.shape) else (
+    if e.number == 13 then option_map (λ _. Other) (eight_of e.shape) else (
+    if e.number == 14 then option_map (λ n. Flag (not (n == 0))) (varint_of e.shape) else (
+    if e.number == 15 then option_map Words (bytes_of e.shape) else (
+    if e.number == 16 then option_map Octets (bytes_of e.shape) else (
+    if e.number == 17 then option_map (λ _. Other) (bytes_of e.shape) else (
+    if e.number == 18 then option_map (λ _. Other) (bytes_of e.shape) else (
+    if e.number == 19 then option_map (λ _. Other) (bytes_of e.shape) else None)))))))))
 
 -- ---- queries on a field list
 

@@ -30,24 +30,24 @@ no_metric = record { name = None; alias = None; timestamp = None; datatype = Non
 
 abbrev pub metric_number : MetricData → ℕ → ℕ → MetricData
 metric_number m number n =
-  if number == 2 then record m { alias = Some n } else (
-  if number == 3 then record m { timestamp = Some n } else (
-  if number == 4 then record m { datatype = Some (n % 2 ^ 32) } else (
-  if number == 5 then record m { historical = Some (not (n == 0)) } else (
-  if number == 6 then record m { transient = Some (not (n == 0)) } else (
-  if number == 7 then record m { null = Some (not (n == 0)) } else (
-  if number == 10 then record m { value = Some (Int (n % 2 ^ 32)) } else (
-  if number == 11 then record m { value = Some (Long n) } else (
-  if number == 14 then record m { value = Some (Flag (not (n == 0))) } else m))))))))
+    if number == 2 then record m { alias = Some n } else (
+    if number == 3 then record m { timestamp = Some n } else (
+    if number == 4 then record m { datatype = Some (n % 2 ^ 32) } else (
+    if number == 5 then record m { historical = Some (not (n == 0)) } else (
+    if number == 6 then record m { transient = Some (not (n == 0)) } else (
+    if number == 7 then record m { null = Some (not (n == 0)) } else (
+    if number == 10 then record m { value = Some (Int (n % 2 ^ 32)) } else (
+    if number == 11 then record m { value = Some (Long n) } else (
+    if number == 14 then record m { value = Some (Flag (not (n == 0))) } else m))))))))
 
 abbrev pub metric_bytes : MetricData → ℕ → List ℕ → Result MetricData PayloadFault
 metric_bytes m number bytes =
-  if number == 1 then (text_at bytes >>= λ text. Ok (record m { name = Some text })) else (
-  if number == 15 then (text_at bytes >>= λ text. Ok (record m { value = Some (Words text) })) else (
-  if number == 16 then Ok (record m { value = Some (Octets bytes) }) else (
-  if number == 17 then Ok (record m { value = Some Other }) else (
-  if number == 18 then Ok (record m { value = Some Other }) else (
-  if number == 19 then Ok (record m { value = Some Other }) else Ok m)))))
+    if number == 1 then (text_at bytes >>= λ text. Ok (record m { name = Some text })) else (
+    if number == 15 then (text_at bytes >>= λ text. Ok (record m { value = Some (Words text) })) else (
+    if number == 16 then Ok (record m { value = Some (Octets bytes) }) else (
+    if number == 17 then Ok (record m { value = Some Other }) else (
+    if number == 18 then Ok (record m { value = Some Other }) else (
+    if number == 19 then Ok (record m { value = Some Other }) else Ok m)))))
 
 abbrev pub metric_entry : MetricData → Entry → Result MetricData PayloadFault
 metric_entry m e = by_shape e.shape

@@ -78,9 +78,9 @@ bytes_in Other = None
 -- 32 bits of its two's complement.
 abbrev pub narrow_signed : ℕ → ℕ → Option Typed
 narrow_signed half n =
-  if nat_lt n half then Some (Signed (pos n)) else (
-  if nat_lt n (2 * half) then Some (Signed (pos n -ℤ pos (2 * half))) else (
-  if nat_lt n (2 ^ 32 - half) then None else Some (Signed (pos n -ℤ pos (2 ^ 32)))))
+    if nat_lt n half then Some (Signed (pos n)) else (
+    if nat_lt n (2 * half) then Some (Signed (pos n -ℤ pos (2 * half))) else (
+    if nat_lt n (2 ^ 32 - half) then None else Some (Signed (pos n -ℤ pos (2 ^ 32)))))
 
 -- Two's complement on 64 bits.
 abbrev pub signed_64 : ℕ → Typed
@@ -93,18 +93,18 @@ below limit n = if nat_lt n limit then Some (Unsigned n) else None
 -- 14 Text, 15 UUID, 17 Bytes, 18 File. Nothing else is read.
 abbrev pub typed_of : ℕ → Content → Option Typed
 typed_of datatype c =
-  if datatype == 1 then option_and_then (narrow_signed (2 ^ 7)) (int_in c) else (
-  if datatype == 2 then option_and_then (narrow_signed (2 ^ 15)) (int_in c) else (
-  if datatype == 3 then option_and_then (narrow_signed (2 ^ 31)) (int_in c) else (
-  if datatype == 4 then option_map signed_64 (long_in c) else (
-  if datatype == 5 then option_and_then (below (2 ^ 8)) (int_in c) else (
-  if datatype == 6 then option_and_then (below (2 ^ 16)) (int_in c) else (
-  if datatype == 7 then option_and_then (below (2 ^ 32)) (int_or_long_in c) else (
-  if datatype == 8 then option_map Unsigned (long_in c) else (
-  if datatype == 11 then truth_in c else (
-  if datatype == 12 then text_in c else (
-  if datatype == 13 then option_map Unsigned (int_or_long_in c) else (
-  if datatype == 14 then text_in c else (
-  if datatype == 15 then text_in c else (
-  if datatype == 17 then bytes_in c else (
-  if datatype == 18 then bytes_in c else None))))))))))))))
+    if datatype == 1 then option_and_then (narrow_signed (2 ^ 7)) (int_in c) else (
+    if datatype == 2 then option_and_then (narrow_signed (2 ^ 15)) (int_in c) else (
+    if datatype == 3 then option_and_then (narrow_signed (2 ^ 31)) (int_in c) else (
+    if datatype == 4 then option_map signed_64 (long_in c) else (
+    if datatype == 5 then option_and_then (below (2 ^ 8)) (int_in c) else (
+    if datatype == 6 then option_and_then (below (2 ^ 16)) (int_in c) else (
+    if datatype == 7 then option_and_then (below (2 ^ 32)) (int_or_long_in c) else (
+    if datatype == 8 then option_map Unsigned (long_in c) else (
+    if datatype == 11 then truth_in c else (
+    if datatype == 12 then text_in c else (
+    if datatype == 13 then option_map Unsigned (int_or_long_in c) else (
+    if datatype == 14 then text_in c else (
+    if datatype == 15 then text_in c else (
+    if datatype == 17 then bytes_in c else (
+    if datatype == 18 then bytes_in c else None))))))))))))))

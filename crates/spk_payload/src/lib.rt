@@ -12,3 +12,6 @@ pub use fault::PayloadFault;
 pub use metric::{Metric, Raw};
 pub use payload::{Payload, decode};
 pub use typing::{Value, typed};
+
+#[cfg(test)]
+mod tests;

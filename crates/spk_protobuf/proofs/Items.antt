@@ -1,10 +1,10 @@
 -- The items that the reader finds are the items of the text, and no other list is.
-use Rattle.std.proofs.Common.{◌≡◌, ◌≢◌, ◌↔◌, ℕ, zero, suc, ◌+◌, ◌<◌, ◌≤◌, List, [], ◌∷◌, ◌++◌, length, map, Result, Ok, Err, refl, sym, ap, subst, ◌∙◌, append_assoc, length-append, arith}
+use Rattle.std.proofs.Common.{◌≡◌, ◌≢◌, ◌↔◌, ℕ, zero, suc, ◌<◌, ◌≤◌, List, [], ◌∷◌, ◌++◌, length, map, Result, Ok, Err, refl, sym, ap, subst, ◌∙◌, append_assoc, length-append, arith}
 use Rattle.spk_protobuf.specs.declared.fault.WireFault.{WireFault}
-use Rattle.spk_protobuf.specs.Grammar.{Entry, IsField, FieldList}
-use Rattle.spk_protobuf.specs.Faults.{IsFieldFault, AreItems}
+use Rattle.spk_protobuf.specs.Grammar.{Entry, FieldList}
+use Rattle.spk_protobuf.specs.Faults.{AreItems}
 use Rattle.spk_protobuf.specs.Reading.{field_at, item_then, items_within, items_of}
-use Rattle.spk_protobuf.proofs.Values.{TakesField, field_take, field_again, IsField-length, field_fault, field_fault_again}
+use Rattle.spk_protobuf.proofs.Values.{field_take, field_again, IsField-length, field_fault, field_fault_again}
 
 abbrev Items : Type 0
 Items = List (Result Entry WireFault)

@@ -1,9 +1,9 @@
 -- The canonical spelling of a number is a varint of it, and none is shorter.
-use Rattle.std.proofs.Common.{◌≡◌, ◌≢◌, ℕ, zero, suc, ◌+◌, ◌-◌, ◌*◌, ◌/◌, ◌%◌, ◌^◌, ◌<◌, ◌≤◌, Bool, true, false, cond, ltb, List, [], ◌∷◌, ◌++◌, length, take, refl, sym, ap, subst, ◌∙◌, append_assoc, arith, inl, inr}
+use Rattle.std.proofs.Common.{◌≡◌, ℕ, zero, suc, ◌+◌, ◌-◌, ◌*◌, ◌/◌, ◌%◌, ◌^◌, ◌<◌, ◌≤◌, true, false, cond, ltb, List, [], ◌∷◌, ◌++◌, length, refl, sym, ap, subst, ◌∙◌, append_assoc, arith, inl, inr}
 use Rattle.std.proofs.lemmas.Bool.{lt-ltb, le-ltb, cases_lt}
 use Rattle.std.proofs.lemmas.Nat.{pow-add}
 use Rattle.std.specs.Prelude.{Result, Ok, Err, is_ok, OnOk}
-use Rattle.spk_protobuf.specs.Grammar.{Shape, Bytes, Entry, AreGroups, IsVarint, IsValue, IsField}
+use Rattle.spk_protobuf.specs.Grammar.{Bytes, AreGroups, IsVarint, IsField}
 use Rattle.spk_protobuf.specs.Spelling.{groups_of, varint, bytes_field}
 use Rattle.spk_protobuf.proofs.Groups.{AreGroups-more}
 

@@ -1,13 +1,13 @@
 -- What the reader takes as a value or a field is one, and each is taken, whatever follows it. It faults where none stands.
-use Rattle.std.proofs.Common.{◌≡◌, ◌≢◌, ℕ, zero, suc, ◌+◌, ◌*◌, ◌/◌, ◌%◌, ◌^◌, ◌<◌, ◌≤◌, ◌⊎◌, Bool, true, false, cond, eqb, ltb, List, [], ◌∷◌, ◌++◌, length, take, drop, Result, Ok, Err, refl, sym, ap, subst, ◌∙◌, append_assoc, length-append, length-take, arith, inl, inr}
+use Rattle.std.proofs.Common.{◌≡◌, ◌≢◌, ℕ, ◌+◌, ◌*◌, ◌/◌, ◌%◌, ◌<◌, ◌≤◌, ◌⊎◌, true, false, cond, eqb, ltb, List, ◌++◌, length, take, drop, Result, Ok, Err, refl, sym, ap, subst, ◌∙◌, append_assoc, length-append, length-take, arith, inl, inr}
 use Rattle.std.proofs.lemmas.Bool.{ltb-true, ltb-false, lt-ltb, le-ltb, eqb-true, eqb-false, eq-eqb, ne_eqb, cases_lt}
 use Rattle.std.proofs.lemmas.List.{take_at, drop_at, take-append-drop}
 use Rattle.spk_protobuf.specs.declared.fault.WireFault.{WireFault}
 use Rattle.spk_protobuf.specs.declared.fault.WireFault.TheVariants.{Truncated, VarintTooLong, Group, FieldZero, WireType}
 use Rattle.spk_protobuf.specs.Grammar.{Shape, Varint, Eight, Bytes, Four, Entry, IsVarint, IsValue, IsField, wire_type}
-use Rattle.spk_protobuf.specs.Faults.{IsVarintFault, IsShorterThanSaid, IsValueCut, IsTagFault, IsFieldFault}
+use Rattle.spk_protobuf.specs.Faults.{IsVarintFault, IsValueCut, IsTagFault, IsFieldFault}
 use Rattle.spk_protobuf.specs.Reading.{◌>>=◌, varint_at, some_at, value_at, field_at}
-use Rattle.spk_protobuf.proofs.Groups.{bind_ok, bind_err, chosen, done, failed, ok_is, err_is, ok_no_err, err_no_ok, varint_take, varint_again, IsVarint-length, varint_fault, varint_fault_again}
+use Rattle.spk_protobuf.proofs.Groups.{bind_ok, bind_err, chosen, done, ok_is, err_is, ok_no_err, err_no_ok, varint_take, varint_again, IsVarint-length, varint_fault, varint_fault_again}
 
 -- ---- so many bytes
 

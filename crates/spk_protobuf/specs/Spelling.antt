@@ -1,5 +1,5 @@
 -- The canonical spelling of a varint and of a length-delimited field.
-use Rattle.std.specs.Prelude.{◌≡◌, ℕ, zero, suc, ◌+◌, ◌*◌, ◌/◌, ◌%◌, ◌^◌, List, [], ◌∷◌, ◌++◌, length, nat_lt, if◌then◌else◌}
+use Rattle.std.specs.Prelude.{ℕ, zero, suc, ◌+◌, ◌*◌, ◌/◌, ◌%◌, ◌^◌, List, [], ◌∷◌, ◌++◌, length, nat_lt, if◌then◌else◌}
 
 -- The groups of n, the least significant first: one, and at most k more.
 unfoldable pub groups_of : ℕ → ℕ → List ℕ

@@ -1,5 +1,5 @@
 -- What contracts see of the crate's types.
-use Rattle.std.specs.Prelude.{◌≡◌, ℕ, List, Result, Ok, Err}
+use Rattle.std.specs.Prelude.{◌≡◌, List, Result, Ok, Err}
 use Rattle.spk_protobuf.specs.declared.fault.WireFault.{WireFault}
 use Rattle.spk_protobuf.specs.declared.field.Wire.{Wire}
 use Rattle.spk_protobuf.specs.declared.field.Wire.TheVariants as wire

@@ -1,0 +1,28 @@
+//! The program `sparkplug`: Sparkplug B payloads on the command line.
+#![tactic(auto)]
+
+mod fault;
+mod files;
+mod run;
+mod show;
+mod texts;
+mod words;
+
+use files::MachineFiles;
+use std::process::ExitCode;
+use std::{env, io};
+
+#[cfg(test)]
+mod tests;
+
+fn main(rt: HostRuntime) -> io::Result<ExitCode> {
+    let given: Vec<String> = env::args(&rt)?.collect(rt.alloc())?;
+    let mut words = Vec::new(rt.alloc());
+    for word in &given {
+        words.push(word.as_str())?;
+    }
+    let mut files = MachineFiles { rt: &rt };
+    let mut writer = io::writer(&rt);
+    let status = run::run(&rt, &words, &mut files, &mut writer);
+    Ok(ExitCode::from(status))
+}

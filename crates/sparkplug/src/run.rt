@@ -1,0 +1,100 @@
+//! A run of the program: words in, lines and a status out.
+
+use crate::fault::{Fault, Stop};
+use crate::files::{Files, text_of};
+use crate::show::show;
+use crate::words::command_line;
+use clap::ArgMatches;
+use clap::error::ErrorKind;
+use std::alloc::Global;
+use std::io::{self, BufWriter, Write};
+
+fn show_command<F: Files, W: Write>(
+    alloc: Global,
+    matches: &ArgMatches<'_>,
+    files: &mut F,
+    out: &mut W,
+) -> Result<(), Stop> {
+    if let Some(name) = matches.get_str("file") {
+        let text = text_of(alloc, files, name)?;
+        return show(alloc, out, text.as_str().trim_end());
+    }
+    show(alloc, out, matches.get_str("hex").unwrap_or(""))
+}
+
+/// What clap says of the words: its text and status, or want of memory.
+fn refusal(alloc: Global, error: &clap::Error) -> Result<Stop, Stop> {
+    if matches!(error.kind(), ErrorKind::OutOfMemory) {
+        return Ok(Stop::Fault(Fault::NoMemory));
+    }
+    let text = format!(in alloc; "{error}")?;
+    let status = if error.use_stderr() { 2 } else { 0 };
+    Ok(Stop::Words(text, status))
+}
+
+fn command<F: Files, W: Write>(
+    alloc: Global,
+    words: &[&str],
+    files: &mut F,
+    out: &mut W,
+) -> Result<(), Stop> {
+    let matches = match command_line(alloc)?.try_get_matches_from(words) {
+        Ok(matches) => matches,
+        Err(error) => return Err(refusal(alloc, &error)?),
+    };
+    match matches.subcommand_matches("show") {
+        Some(given) => show_command(alloc, given, files, out),
+        None => Ok(()),
+    }
+}
+
+/// The last lines of a command, and its status.
+fn ending<W: Write>(out: &mut W, stop: Stop) -> io::Result<u8> {
+    match stop {
+        Stop::Words(text, status) => {
+            write!(out, "{text}")?;
+            Ok(status)
+        }
+        Stop::Fault(fault) => {
+            let number = fault.number();
+            writeln!(out, "fault {fault} ({number})")?;
+            Ok(1)
+        }
+        Stop::Writer => Ok(1),
+    }
+}
+
+fn buffered<F: Files, W: Write + Drop>(
+    alloc: Global,
+    words: &[&str],
+    files: &mut F,
+    writer: W,
+) -> io::Result<u8> {
+    let mut out = BufWriter::new(alloc, writer)?;
+    let status = match command(alloc, words, files, &mut out) {
+        Ok(()) => 0,
+        Err(stop) => ending(&mut out, stop)?,
+    };
+    out.flush()?;
+    Ok(status)
+}
+
+/// Runs the program on its words, the first of which is its own name, and answers its status: 0 where the work was
+/// done or help was asked for, 1 at a fault, which is printed as `fault NAME (number)`, or where the writer failed,
+/// 2 where the words aren't a command. All texts go to the writer.
+pub fn run<R: AllocGlobal, F: Files, W: Write>(
+    rt: &R,
+    words: &[&str],
+    files: &mut F,
+    writer: &mut W,
+) -> u8 {
+    match buffered(rt.alloc(), words, files, &mut *writer) {
+        Ok(status) => status,
+        Err(error) => {
+            if error.kind() == io::ErrorKind::OutOfMemory {
+                let _ = writeln!(writer, "fault NoMemory (1)");
+            }
+            1
+        }
+    }
+}

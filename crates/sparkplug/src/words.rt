@@ -1,0 +1,56 @@
+//! The command line.
+
+use clap::{Arg, ArgAction, Command};
+use std::alloc::{AllocError, Global};
+
+const ABOUT: &str = "Sparkplug B: what payloads say, over decoders that are proved";
+
+const STATUSES: &str = "\
+Status: 0 is done; 1 is a fault, printed as `fault NAME (number)`, or output that could not be written;
+2 is a command line that isn't one. docs/FAULTS.md tells each fault by its number.";
+
+const SHOW: &str = "\
+Example:
+  sparkplug show 0805120b0a05626453657120045800
+prints
+  timestamp 5 seq - metrics 1
+  metric 0 name \"bdSeq\" alias - time - type 4 historical - transient - null - value 0
+
+A field that isn't there is `-`. A value is what the metric's datatype makes of it; bytes are `hex:` and
+digits. `other` is a float, a double, a data set, a template or an extension, whose values aren't read.
+`mistyped` is a value that the metric's own datatype doesn't read; NDATA and DDATA carry no datatype (it
+is in the birth certificate), so each of their values is `mistyped` here.
+
+Status: 0 is done; 1 is a fault, printed as `fault NAME (number)`, or output that could not be written;
+2 is a command line that isn't one. docs/FAULTS.md tells each fault by its number.";
+
+fn show<'a>(alloc: Global) -> Result<Command<'a>, AllocError> {
+    let hex = Arg::new(alloc, "hex")
+        .value_name("HEX")
+        .help("The payload's bytes in hexadecimal, of either case")
+        .required_unless_present("file")?
+        .action(ArgAction::Set);
+    let file = Arg::new(alloc, "file")
+        .long("file")
+        .value_name("NAME")
+        .help(
+            "Reads HEX from a file of at most 1,048,576 bytes; white space at its end is passed over",
+        )
+        .conflicts_with("hex")?
+        .action(ArgAction::Set);
+    let command = Command::new(alloc, "show")
+        .about("Prints a payload and its metrics")
+        .after_help(SHOW);
+    command.arg(hex)?.arg(file)
+}
+
+/// The commands that there are.
+pub(crate) fn command_line<'a>(alloc: Global) -> Result<Command<'a>, AllocError> {
+    let command = Command::new(alloc, "sparkplug")
+        .about(ABOUT)
+        .version("0.1.0")
+        .after_help(STATUSES)
+        .subcommand_required(true)
+        .arg_required_else_help(true);
+    command.subcommand(show(alloc)?)
+}
