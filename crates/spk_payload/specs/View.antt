@@ -1,5 +1,5 @@
 -- What contracts see of the crate's types.
-use Rattle.std.specs.Prelude.{◌≡◌, ℕ, List, map, Option, Result, Ok, Err}
+use Rattle.std.specs.Prelude.{◌≡◌, map, Result, Ok, Err}
 use Rattle.std.specs.Option.{option_map}
 use Rattle.std.specs.String.{string_bytes}
 use Rattle.spk_payload.specs.declared.fault.PayloadFault.{PayloadFault}
