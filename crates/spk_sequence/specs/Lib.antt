@@ -1,4 +1,10 @@
 pub mod Calls
+pub mod Claims
 pub mod Data
+pub mod Following
+pub mod HostRecord
+pub mod NodeRecord
+pub mod Positions
 pub mod Slots
 pub mod Step
+pub mod Window
