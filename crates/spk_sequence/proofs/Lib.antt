@@ -1,6 +1,10 @@
+pub mod Eaten
+pub mod Held
 pub mod KeepLemmas
+pub mod Outcomes
 pub mod Places
 pub mod Quiet
+pub mod Ranges
 pub mod Rows
 pub mod Sessions
 pub mod SlotLemmas
