@@ -15,7 +15,7 @@ use Rattle.spk_sequence.proofs.Tied.{Tied, IsTaken, IsFollowed, IsWaiting, InSte
 use Rattle.spk_sequence.proofs.Quiet.{quiet, following_as, following-quiet, goes_on_true}
 
 -- a list with a position above n has a member that is above n
-above_of : (hs : List ℕ) (n : ℕ) → is_waiting hs n ≡ true → (q : ℕ) × (contains q hs ≡ true) × (n < q)
+pub above_of : (hs : List ℕ) (n : ℕ) → is_waiting hs n ≡ true → (q : ℕ) × (contains q hs ≡ true) × (n < q)
 above_of [] n e = absurd (true≢false (sym e))
 above_of (q ∷ hs) n e = elim (or_cases (nat_lt n q) (is_waiting hs n) e) [
     inl here ↦ (q, or_left (eqb q q) (contains q hs) (eq-eqb q q refl), ltb-true n q here)
@@ -23,7 +23,7 @@ above_of (q ∷ hs) n e = elim (or_cases (nat_lt n q) (is_waiting hs n) e) [
   ]
 
 -- and the other way round
-above_from : (hs : List ℕ) (n q : ℕ) → contains q hs ≡ true → n < q → is_waiting hs n ≡ true
+pub above_from : (hs : List ℕ) (n q : ℕ) → contains q hs ≡ true → n < q → is_waiting hs n ≡ true
 above_from [] n q e above = e
 above_from (p ∷ hs) n q e above = elim (or_cases (eqb p q) (contains q hs) e) [
     inl same ↦ or_left (nat_lt n p) (is_waiting hs n) (let i : p ≡ q = eqb-true p q same in lt-ltb n p (omega arith))

@@ -1,6 +1,8 @@
+pub mod Births
 pub mod Eaten
 pub mod Held
 pub mod KeepLemmas
+pub mod Messages
 pub mod Outcomes
 pub mod Places
 pub mod Quiet

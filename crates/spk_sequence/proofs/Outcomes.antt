@@ -48,49 +48,49 @@ outcome_from s h d e p now kind r ps k x c t right q =
     }
 
 -- the six rules, one test after another
-not_live : (d : Standing) (x now : ℕ) (own : Option ℕ) → is_live d.phase ≡ false → hand_other d x own now ≡ (step.NotLive, d)
+pub not_live : (d : Standing) (x now : ℕ) (own : Option ℕ) → is_live d.phase ≡ false → hand_other d x own now ≡ (step.NotLive, d)
 not_live d x now own a = rw a refl
 
-too_old : (d : Standing) (x now : ℕ) (own : Option ℕ) → is_live d.phase ≡ true → is_below own d.stamp ≡ true → hand_other d x own now ≡ (step.Old, d)
+pub too_old : (d : Standing) (x now : ℕ) (own : Option ℕ) → is_live d.phase ≡ true → is_below own d.stamp ≡ true → hand_other d x own now ≡ (step.Old, d)
 too_old d x now own a b = rw (a, b) refl
 
-next_one : (d : Standing) (x now : ℕ) (own : Option ℕ) → is_live d.phase ≡ true → is_below own d.stamp ≡ false → eqb (ahead x d.next) 0 ≡ true →
+pub next_one : (d : Standing) (x now : ℕ) (own : Option ℕ) → is_live d.phase ≡ true → is_below own d.stamp ≡ false → eqb (ahead x d.next) 0 ≡ true →
     hand_other d x own now ≡ (step.Consumed (1 + run_of (places_from d.held d.width 1)), after_consumed d x (places_from d.held d.width 1) now)
 next_one d x now own a b c = rw (a, b, c) refl
 
-again : (d : Standing) (x now : ℕ) (own : Option ℕ) → is_live d.phase ≡ true → is_below own d.stamp ≡ false → eqb (ahead x d.next) 0 ≡ false → nat_lt (ahead x d.next) d.width ≡ true → is_some (held_at d.held (ahead x d.next)) ≡ true →
+pub again : (d : Standing) (x now : ℕ) (own : Option ℕ) → is_live d.phase ≡ true → is_below own d.stamp ≡ false → eqb (ahead x d.next) 0 ≡ false → nat_lt (ahead x d.next) d.width ≡ true → is_some (held_at d.held (ahead x d.next)) ≡ true →
     hand_other d x own now ≡ (step.Old, d)
 again d x now own a b c e f = rw (a, b, c, e, f) refl
 
-held_now : (d : Standing) (x now : ℕ) (own : Option ℕ) → is_live d.phase ≡ true → is_below own d.stamp ≡ false → eqb (ahead x d.next) 0 ≡ false → nat_lt (ahead x d.next) d.width ≡ true → is_some (held_at d.held (ahead x d.next)) ≡ false →
+pub held_now : (d : Standing) (x now : ℕ) (own : Option ℕ) → is_live d.phase ≡ true → is_below own d.stamp ≡ false → eqb (ahead x d.next) 0 ≡ false → nat_lt (ahead x d.next) d.width ≡ true → is_some (held_at d.held (ahead x d.next)) ≡ false →
     hand_other d x own now ≡ (step.Held, after_held d (ahead x d.next) own now)
 held_now d x now own a b c e f = rw (a, b, c, e, f) refl
 
-too_far : (d : Standing) (x now : ℕ) (own : Option ℕ) → is_live d.phase ≡ true → is_below own d.stamp ≡ false → eqb (ahead x d.next) 0 ≡ false → nat_lt (ahead x d.next) d.width ≡ false → nat_lt (ahead x d.next) (256 - d.width) ≡ true →
+pub too_far : (d : Standing) (x now : ℕ) (own : Option ℕ) → is_live d.phase ≡ true → is_below own d.stamp ≡ false → eqb (ahead x d.next) 0 ≡ false → nat_lt (ahead x d.next) d.width ≡ false → nat_lt (ahead x d.next) (256 - d.width) ≡ true →
     hand_other d x own now ≡ (step.Gap, after_stop d phase.Gap)
 too_far d x now own a b c e f = rw (a, b, c, e, f) refl
 
-behind : (d : Standing) (x now : ℕ) (own : Option ℕ) → is_live d.phase ≡ true → is_below own d.stamp ≡ false → eqb (ahead x d.next) 0 ≡ false → nat_lt (ahead x d.next) d.width ≡ false → nat_lt (ahead x d.next) (256 - d.width) ≡ false →
+pub behind : (d : Standing) (x now : ℕ) (own : Option ℕ) → is_live d.phase ≡ true → is_below own d.stamp ≡ false → eqb (ahead x d.next) 0 ≡ false → nat_lt (ahead x d.next) d.width ≡ false → nat_lt (ahead x d.next) (256 - d.width) ≡ false →
     hand_other d x own now ≡ (step.Old, d)
 behind d x now own a b c e f = rw (a, b, c, e, f) refl
 
 -- the same by positions
-off_step : (s : Setting) (h : HostRecord) (p : ℕ) → (following s h).on ≡ false → message_step s h p ≡ step.NotLive
+pub off_step : (s : Setting) (h : HostRecord) (p : ℕ) → (following s h).on ≡ false → message_step s h p ≡ step.NotLive
 off_step s h p a = rw a refl
 
-old_step : (s : Setting) (h : HostRecord) (p : ℕ) → (following s h).on ≡ true → nat_lt p (next_after h) ≡ true → message_step s h p ≡ step.Old
+pub old_step : (s : Setting) (h : HostRecord) (p : ℕ) → (following s h).on ≡ true → nat_lt p (next_after h) ≡ true → message_step s h p ≡ step.Old
 old_step s h p a b = rw (a, b) refl
 
-next_step : (s : Setting) (h : HostRecord) (p k : ℕ) → (following s h).on ≡ true → nat_lt p (next_after h) ≡ false → eqb p (next_after h) ≡ true → run_after s h p ≡ k → message_step s h p ≡ step.Consumed (1 + k)
+pub next_step : (s : Setting) (h : HostRecord) (p k : ℕ) → (following s h).on ≡ true → nat_lt p (next_after h) ≡ false → eqb p (next_after h) ≡ true → run_after s h p ≡ k → message_step s h p ≡ step.Consumed (1 + k)
 next_step s h p k a b c e = rw (a, b, c, e) refl
 
-again_step : (s : Setting) (h : HostRecord) (p : ℕ) → (following s h).on ≡ true → nat_lt p (next_after h) ≡ false → eqb p (next_after h) ≡ false → nat_lt p (next_after h + s.width) ≡ true → waits (following s h) (next_after h) p ≡ true → message_step s h p ≡ step.Old
+pub again_step : (s : Setting) (h : HostRecord) (p : ℕ) → (following s h).on ≡ true → nat_lt p (next_after h) ≡ false → eqb p (next_after h) ≡ false → nat_lt p (next_after h + s.width) ≡ true → waits (following s h) (next_after h) p ≡ true → message_step s h p ≡ step.Old
 again_step s h p a b c e f = rw (a, b, c, e, f) refl
 
-held_step : (s : Setting) (h : HostRecord) (p : ℕ) → (following s h).on ≡ true → nat_lt p (next_after h) ≡ false → eqb p (next_after h) ≡ false → nat_lt p (next_after h + s.width) ≡ true → waits (following s h) (next_after h) p ≡ false → message_step s h p ≡ step.Held
+pub held_step : (s : Setting) (h : HostRecord) (p : ℕ) → (following s h).on ≡ true → nat_lt p (next_after h) ≡ false → eqb p (next_after h) ≡ false → nat_lt p (next_after h + s.width) ≡ true → waits (following s h) (next_after h) p ≡ false → message_step s h p ≡ step.Held
 held_step s h p a b c e f = rw (a, b, c, e, f) refl
 
-gap_step : (s : Setting) (h : HostRecord) (p : ℕ) → (following s h).on ≡ true → nat_lt p (next_after h) ≡ false → eqb p (next_after h) ≡ false → nat_lt p (next_after h + s.width) ≡ false → message_step s h p ≡ step.Gap
+pub gap_step : (s : Setting) (h : HostRecord) (p : ℕ) → (following s h).on ≡ true → nat_lt p (next_after h) ≡ false → eqb p (next_after h) ≡ false → nat_lt p (next_after h + s.width) ≡ false → message_step s h p ≡ step.Gap
 gap_step s h p a b c e = rw (a, b, c, e) refl
 
 -- the run of positions is the run of places
@@ -119,13 +119,13 @@ run_after-is s h p now c held r =
     stops : (xs : List (Option (Option ℕ))) → prefix_len is_some xs < length xs → is_some (held_at xs (prefix_len is_some xs)) ≡ false
     stops xs below = prefix_len_stops is_some xs None below
 
-live_is_alive : (x : Phase) → is_live x ≡ true → is_dead x ≡ false
+pub live_is_alive : (x : Phase) → is_live x ≡ true → is_dead x ≡ false
 live_is_alive phase.Live e = refl
 live_is_alive phase.Unknown e = refl
 live_is_alive phase.Gap e = refl
 live_is_alive phase.Dead e = absurd (true≢false (sym e))
 
-live_is_known : (x : Phase) → is_live x ≡ true → is_known x ≡ true
+pub live_is_known : (x : Phase) → is_live x ≡ true → is_known x ≡ true
 live_is_known phase.Live e = refl
 live_is_known phase.Gap e = refl
 live_is_known phase.Dead e = refl
