@@ -244,7 +244,7 @@ first_birth s h d p now t window opening tk =
       (λ near. and_left (is_session_dead s h) (is_session_of s (taken s h) (session_at s.published p)) (sym t.dead ∙ unknown_is_alive d.phase unknown))
 
 -- sessions less than 256 apart are one where their bytes are
-near_sessions : (s : Setting) (j k : ℕ) → j < k + 256 → k < j + 256 → written_session s j ≡ written_session s k → j ≡ k
+pub near_sessions : (s : Setting) (j k : ℕ) → j < k + 256 → k < j + 256 → written_session s j ≡ written_session s k → j ≡ k
 near_sessions s j k low high e = omega arith
 
 later_birth : (s : Setting) (h : HostRecord) (d : Standing) (p now b : ℕ) → IsNodeRecord s.published → Tied s h d → InWindow s h p → opens s.published p ≡ true → taken s h ≡ Some b → Outcome s h d (MessageComes p now)

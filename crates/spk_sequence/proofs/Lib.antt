@@ -1,5 +1,7 @@
+pub mod Always
 pub mod Births
 pub mod Eaten
+pub mod Ends
 pub mod Held
 pub mod KeepLemmas
 pub mod Messages

@@ -3,6 +3,8 @@
 //! (Sparkplug 3.0.0, 6.4.20 on `seq`, 5.12 on the reordering of messages at a host).
 #![tactic(auto)]
 
+pub mod laws;
+
 mod answer;
 mod message;
 mod phase;
