@@ -15,7 +15,7 @@ use Rattle.spk_sequence.specs.Positions.{right_at, right_consumed, run_after, is
 use Rattle.spk_sequence.specs.Claims.{IsLawful, SameStep, IsLiveByPositions, TakesBirth, HasCause}
 use Rattle.spk_sequence.proofs.Places.{held_at-empty}
 use Rattle.spk_sequence.proofs.Tied.{Tied, IsFollowed, InStep, in_step_runs_on}
-use Rattle.spk_sequence.proofs.Outcomes.{Outcome}
+use Rattle.spk_sequence.proofs.Outcomes.{Outcome, Ate}
 use Rattle.spk_sequence.proofs.Messages.{message_outcome, birth_of}
 use Rattle.spk_sequence.proofs.Births.{birth_outcome}
 use Rattle.spk_sequence.proofs.Ends.{death_outcome, tick_outcome}
@@ -71,6 +71,11 @@ steps_of s inputs input l = (all_step_runs_on s l.runs_on (input ∷ inputs)).0
 
 pub before_of : (s : Setting) (inputs : List Input) (input : Input) → IsLawful s (input ∷ inputs) → IsLawful s inputs
 before_of s inputs input l = record { node = l.node; some_places = l.some_places; few_places = l.few_places; runs_on = l.runs_on; may_come = l.may_come.1 }
+
+-- what an event consumes
+pub ate_of : (s : Setting) (inputs : List Input) (input : Input) → IsLawful s (input ∷ inputs) → Ate s (record_of s inputs) input (done_at s (record_of s inputs) (standing_of s inputs) input).consumed
+ate_of s inputs input l =
+    (outcome s (record_of s inputs) (standing_of s inputs) input l.node (tied_of s inputs (before_of s inputs input l)) l.may_come.0 (steps_of s inputs input l)).ate
 
 pub same_step : (s : Setting) (inputs : List Input) (input : Input) → IsLawful s (input ∷ inputs) → IsNearBirth s (record_of s inputs) input → SameStep s inputs input
 same_step s inputs input l near =

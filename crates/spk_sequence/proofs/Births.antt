@@ -20,7 +20,7 @@ use Rattle.spk_sequence.proofs.Places.{held_at-made, held_at-past}
 use Rattle.spk_sequence.proofs.Tied.{Tied, IsTaken, IsFollowed, IsWaiting, InStep, in_step_later, entry_of, number_below}
 use Rattle.spk_sequence.proofs.Quiet.{tied_still, goes_on}
 use Rattle.spk_sequence.proofs.Eaten.{eats, IsReady, tied_eaten, consumed_is_run}
-use Rattle.spk_sequence.proofs.Outcomes.{Outcome, outcome_from, run_after-is, live_is_alive, live_is_known}
+use Rattle.spk_sequence.proofs.Outcomes.{Outcome, outcome_from, run_after-is, live_is_alive, live_is_known, eats_ready}
 use Rattle.spk_sequence.proofs.Messages.{passed}
 
 -- what the place i past a birth becomes
@@ -200,7 +200,7 @@ new_right s h p k opening a b c = ap (λ x. cond x (birth_step s h p) (message_s
 -- a birth that is taken
 take_birth : (s : Setting) (h : HostRecord) (d : Standing) (p now : ℕ) → Tied s h d → opens s.published p ≡ true → IsReady s h p now p (kept_places d (written_number s p) (stamp_at s.published p)) →
     (is_known d.phase && nat_le (stamp_at s.published p) d.stamp) ≡ false → (is_dead d.phase && eqb (written_session s (session_at s.published p)) d.bd) ≡ false →
-    is_taken_before (taken s h) p ≡ false → (IsNearBirth s h (MessageComes p now) → is_of_dead s h p ≡ false) → Outcome s h d (MessageComes p now)
+    is_taken_before (taken s h) p ≡ false → is_of_dead s h p ≡ false → Outcome s h d (MessageComes p now)
 take_birth s h d p now t opening ready a b before of_dead =
     let x : ℕ = written_number s p in
     let st : ℕ = stamp_at s.published p in
@@ -211,8 +211,8 @@ take_birth s h d p now t opening ready a b before of_dead =
     outcome_from s h d (after_birth d x st bd now) p now (Birth st bd) (step.Consumed (1 + k)) (range_with_len p (suc k)) (birth_kind s p opening)
       (new_birth d x st bd now a b) (consumed_is_run s h p now p held ready)
       (let e : Standing = record d { stamp = st; bd = bd } in tied_eaten s h d e p now p held t ready t.wait t.width refl refl)
-      (λ near. new_right s h p k opening before (of_dead near) (run_after-is s h p now p held ready))
-      (ap (range_with_len p) more)
+      (λ near. new_right s h p k opening before of_dead (run_after-is s h p now p held ready))
+      (ap (range_with_len p) more) (inr (k, eats_ready s h d p now p held t ready (inl (opening, before, of_dead)), refl))
 
 unknown_is_alive : (x : Phase) → is_known x ≡ false → is_dead x ≡ false
 unknown_is_alive phase.Unknown e = refl
@@ -241,7 +241,7 @@ first_birth s h d p now t window opening tk =
       (and_left (is_known d.phase) (nat_le (stamp_at s.published p) d.stamp) unknown)
       (and_left (is_dead d.phase) (eqb (written_session s (session_at s.published p)) d.bd) (unknown_is_alive d.phase unknown))
       (ap (λ o. is_taken_before o p) tk)
-      (λ near. and_left (is_session_dead s h) (is_session_of s (taken s h) (session_at s.published p)) (sym t.dead ∙ unknown_is_alive d.phase unknown))
+      (and_left (is_session_dead s h) (is_session_of s (taken s h) (session_at s.published p)) (sym t.dead ∙ unknown_is_alive d.phase unknown))
 
 -- sessions less than 256 apart are one where their bytes are
 pub near_sessions : (s : Setting) (j k : ℕ) → j < k + 256 → k < j + 256 → written_session s j ≡ written_session s k → j ≡ k
@@ -270,7 +270,7 @@ later_birth s h d p now b node t window opening tk =
             inl on ↦ passed s h d p now b step.OldBirth (λ y. refl) t tk on (omega arith)
           | inr off ↦ tied_still s h d (MessageComes p now) (Stepped step.OldBirth) t off refl (omega arith)
           ])
-          (λ near. old_right s h p opening (ap (λ y. is_taken_before y p) tk ∙ le-leb p b before)) refl
+          (λ near. old_right s h p opening (ap (λ y. is_taken_before y p) tk ∙ le-leb p b before)) refl (inl refl)
     | inl newer ↦
         let newest : stamp_at s.published b < st = node.newer b p newer published opening in
         let fresh : (is_known d.phase && nat_le st d.stamp) ≡ false = and_right (is_known d.phase) (nat_le st d.stamp) (lt-leb st d.stamp (omega arith)) in
@@ -283,7 +283,7 @@ later_birth s h d p now b node t window opening tk =
             | inr off ↦ ready_off s h d p now t off opening window
             ])
             fresh (and_left (is_dead d.phase) (eqb bd d.bd) alive) before
-            (λ near. and_left (is_session_dead s h) (is_session_of s (taken s h) j) (sym t.dead ∙ alive))
+            (and_left (is_session_dead s h) (is_session_of s (taken s h) j) (sym t.dead ∙ alive))
         | inl dead ↦
             let off : (following s h).on ≡ false = sym t.live ∙ dead_is_off d.phase dead in
             elim (cases_eq bd d.bd) [
@@ -292,10 +292,10 @@ later_birth s h d p now b node t window opening tk =
                 (λ near. dead_right s h p opening before
                   (let close : IsNearTo s (Some b) j = subst (λ y. IsNearTo s y j) tk (near opening) in
                    let one : j ≡ k = near_sessions s j k close.0 close.1 (same ∙ o.bd) in
-                   and_from (is_session_dead s h) (is_session_of s (taken s h) j) (sym t.dead ∙ dead) (of_session ∙ eq-eqb j k one))) refl
+                   and_from (is_session_dead s h) (is_session_of s (taken s h) j) (sym t.dead ∙ dead) (of_session ∙ eq-eqb j k one))) refl (inl refl)
             | inr other ↦ take_birth s h d p now t opening (ready_off s h d p now t off opening window) fresh
                 (and_right (is_dead d.phase) (eqb bd d.bd) (ne_eqb bd d.bd other)) before
-                (λ near. and_right (is_session_dead s h) (is_session_of s (taken s h) j) (of_session ∙ ne_eqb j k (λ e. other (ap (written_session s) e ∙ sym o.bd))))
+                (and_right (is_session_dead s h) (is_session_of s (taken s h) j) (of_session ∙ ne_eqb j k (λ e. other (ap (written_session s) e ∙ sym o.bd))))
             ]
         ]
     ]

@@ -39,7 +39,7 @@ pub record IsReady (s : Setting) (h : HostRecord) (p now c : ℕ) (held : List (
   pub alive : (not (opens s.published p) && is_session_dead s h) ≡ false
 
 -- the run: each of it was handed, and the one after it was not
-in_run : (s : Setting) (h : HostRecord) (p now c : ℕ) (held : List (Option (Option ℕ))) → IsReady s h p now c held → (k : ℕ) → k < run_of held → contains (p + 1 + k) (following s h).handed ≡ true
+pub in_run : (s : Setting) (h : HostRecord) (p now c : ℕ) (held : List (Option (Option ℕ))) → IsReady s h p now c held → (k : ℕ) → k < run_of held → contains (p + 1 + k) (following s h).handed ≡ true
 in_run s h p now c held r k below =
     let few : run_of held ≤ length held = prefix_len-le-length is_some held in
     let sized : length held ≡ s.width = r.sized in
@@ -60,7 +60,7 @@ past_run s h p now c held r =
     | inr missing ↦ missing
     ]
 
-closed_run : (s : Setting) (h : HostRecord) (p now c : ℕ) (held : List (Option (Option ℕ))) → IsReady s h p now c held → (q : ℕ) → p + 1 ≤ q → q < p + 1 + run_of held → opens s.published q ≡ false
+pub closed_run : (s : Setting) (h : HostRecord) (p now c : ℕ) (held : List (Option (Option ℕ))) → IsReady s h p now c held → (q : ℕ) → p + 1 ≤ q → q < p + 1 + run_of held → opens s.published q ≡ false
 closed_run s h p now c held r q low high =
     let at : p + 1 + (q - (p + 1)) ≡ q = omega arith in
     (r.waiting q (omega arith) (ap (λ x. contains x (following s h).handed) (sym at) ∙ in_run s h p now c held r (q - (p + 1)) (omega arith))).closed

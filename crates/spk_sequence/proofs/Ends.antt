@@ -55,6 +55,7 @@ death_outcome s h d j now t near =
               (sym (and_parts (is_known d.phase) (eqb (written_session s j) d.bd) matched).0)
               (sym (or_left (is_matching_death s h input) (is_session_dead s h) m)) t.fits);
           same = λ x. ap (λ y. quiet input (Told (cond y Matched Ignored))) e;
+          ate = refl;
         }
     | inr ignored ↦
         let m : is_matching_death s h input ≡ false = sym e ∙ ignored in
@@ -65,6 +66,7 @@ death_outcome s h d j now t near =
             | inr off ↦ tied_still s h d input (Told Ignored) t off m t.fits
             ]);
           same = λ x. ap (λ y. quiet input (Told (cond y Matched Ignored))) e;
+          ate = refl;
         }
     ]
 
@@ -101,6 +103,7 @@ tick_outcome s h d now t =
           tied = subst (λ x. Tied s (quiet input (Ticked x) ∷ h) (cond x (after_stop d phase.Gap) d)) (sym over)
             (tied_stops s h d input (Ticked true) phase.Gap t refl (goes_on_gap s h input g) (sym (live_is_known d.phase live)) (sym (sym t.dead ∙ live_is_alive d.phase live)) t.fits);
           same = λ x. ap (λ y. quiet input (Ticked y)) e;
+          ate = refl;
         }
     | inr waits_on ↦
         let g : is_gap s h input ≡ false = sym e ∙ waits_on in
@@ -111,5 +114,6 @@ tick_outcome s h d now t =
             | inr off ↦ tied_still s h d input (Ticked false) t off refl t.fits
             ]);
           same = λ x. ap (λ y. quiet input (Ticked y)) e;
+          ate = refl;
         }
     ]

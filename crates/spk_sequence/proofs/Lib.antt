@@ -1,7 +1,11 @@
 pub mod Always
 pub mod Births
+pub mod Deaths
 pub mod Eaten
 pub mod Ends
+pub mod FarDeaths
+pub mod Fronts
+pub mod Headline
 pub mod Held
 pub mod KeepLemmas
 pub mod Messages

@@ -19,7 +19,7 @@ use Rattle.spk_sequence.proofs.Tied.{Tied, IsTaken, IsFollowed, IsWaiting, InSte
 use Rattle.spk_sequence.proofs.Quiet.{quiet, tied_still, tied_on, tied_stops, goes_on_gap}
 use Rattle.spk_sequence.proofs.Held.{tied_held, above_from}
 use Rattle.spk_sequence.proofs.Eaten.{eats, IsReady, tied_eaten, consumed_is_run}
-use Rattle.spk_sequence.proofs.Outcomes.{Outcome, outcome_from, not_live, too_old, next_one, again, held_now, too_far, behind, off_step, old_step, next_step, again_step, held_step, gap_step, run_after-is, live_is_alive, live_is_known, message_ready}
+use Rattle.spk_sequence.proofs.Outcomes.{Outcome, outcome_from, not_live, too_old, next_one, again, held_now, too_far, behind, off_step, old_step, next_step, again_step, held_step, gap_step, run_after-is, live_is_alive, live_is_known, message_ready, eats_ready}
 
 pub some_of : (o : Option ℕ) → is_some o ≡ true → (b : ℕ) × (o ≡ Some b)
 some_of (Some b) e = (b, refl)
@@ -75,7 +75,7 @@ message_outcome s h d p now node t window closed steps =
     elim (cases_Bool f.on) [
       inr off ↦ outcome_from s h d d p now (Other (Some st)) step.NotLive [] kind (not_live d x now (Some st) (t.live ∙ off)) refl
         (tied_still s h d (MessageComes p now) (Stepped step.NotLive) t off refl (omega arith))
-        (λ near. message_right s h p step.NotLive closed (off_step s h p off)) refl
+        (λ near. message_right s h p step.NotLive closed (off_step s h p off)) refl (inl refl)
     | inl on ↦
         let taken_one : (b : ℕ) × (taken s h ≡ Some b) = birth_of s h d t on in
         let b : ℕ = taken_one.0 in
@@ -95,7 +95,7 @@ message_outcome s h d p now node t window closed steps =
             let stamp : st < d.stamp = (let e : st < stamp_at s.published b = node.newer p b older (omega arith) o.opening in let i : d.stamp ≡ stamp_at s.published b = o.stamp in omega arith) in
             outcome_from s h d d p now (Other (Some st)) step.Old [] kind (too_old d x now (Some st) live (lt-ltb st d.stamp stamp)) refl
               (passed s h d p now b step.Old (λ y. refl) t tk on (omega arith))
-              (λ near. message_right s h p step.Old closed (old_step s h p on (lt-ltb p n (omega arith)))) refl
+              (λ near. message_right s h p step.Old closed (old_step s h p on (lt-ltb p n (omega arith)))) refl (inl refl)
         | inr newer ↦
             let in_step : InStep s p b = steps b tk on newer in
             let number : x ≡ (written_number s b + (p - b)) % 256 = in_step.counted b o.opening (omega arith) newer in
@@ -107,7 +107,7 @@ message_outcome s h d p now node t window closed steps =
                 outcome_from s h d d p now (Other (Some st)) step.Old [] kind
                   (behind d x now (Some st) live not_below (ne_eqb (ahead x d.next) 0 (λ e. absurd (omega arith))) (le-ltb (ahead x d.next) d.width (omega arith)) (le-ltb (ahead x d.next) (256 - d.width) (omega arith))) refl
                   (passed s h d p now b step.Old (λ y. refl) t tk on before)
-                  (λ near. message_right s h p step.Old closed (old_step s h p on (lt-ltb p n before))) refl
+                  (λ near. message_right s h p step.Old closed (old_step s h p on (lt-ltb p n before))) refl (inl refl)
             | inr from_next ↦ elim (cases_eq p n) [
                 inl here ↦
                   let held : List (Option (Option ℕ)) = places_from d.held d.width 1 in
@@ -118,7 +118,7 @@ message_outcome s h d p now node t window closed steps =
                     (next_one d x now (Some st) live not_below (eq-eqb (ahead x d.next) 0 (omega arith))) (consumed_is_run s h p now b held ready)
                     (tied_eaten s h d d p now b held t ready t.wait t.width o.stamp o.bd)
                     (λ near. message_right s h p (step.Consumed (1 + k)) closed (next_step s h p k on (le-ltb p n from_next) (eq-eqb p n here) (run_after-is s h p now b held ready)))
-                    (ap (range_with_len p) more)
+                    (ap (range_with_len p) more) (inr (k, eats_ready s h d p now b held t ready (inr (closed, here, on)), refl))
               | inr later ↦ elim (cases_lt p (n + s.width)) [
                   inl inside ↦
                     let place : ahead x d.next ≡ p - n = omega arith in
@@ -131,11 +131,11 @@ message_outcome s h d p now node t window closed steps =
                       inl twice ↦ outcome_from s h d d p now (Other (Some st)) step.Old [] kind
                         (again d x now (Some st) live not_below not_zero within (entry ∙ twice)) refl
                         (waits_twice s h d p now b t tk on twice)
-                        (λ near. message_right s h p step.Old closed (again_step s h p on (le-ltb p n from_next) (ne_eqb p n later) (lt-ltb p (n + s.width) inside) twice)) refl
+                        (λ near. message_right s h p step.Old closed (again_step s h p on (le-ltb p n from_next) (ne_eqb p n later) (lt-ltb p (n + s.width) inside) twice)) refl (inl refl)
                     | inr fresh ↦ outcome_from s h d (after_held d (p - n) (Some st) now) p now (Other (Some st)) step.Held [] kind
                         (held_now d x now (Some st) live not_below not_zero within (entry ∙ fresh) ∙ ap (λ i. (step.Held, after_held d i (Some st) now)) place) refl
                         (tied_held s h d p now b t tk on (no_gap s h p now inside) (omega arith) inside fresh closed in_step published)
-                        (λ near. message_right s h p step.Held closed (held_step s h p on (le-ltb p n from_next) (ne_eqb p n later) (lt-ltb p (n + s.width) inside) fresh)) refl
+                        (λ near. message_right s h p step.Held closed (held_step s h p on (le-ltb p n from_next) (ne_eqb p n later) (lt-ltb p (n + s.width) inside) fresh)) refl (inl refl)
                     ]
                 | inr outside ↦
                     let upper : p < reach h + (256 - 2 * s.width) = window.not_far_ahead on in
@@ -145,7 +145,7 @@ message_outcome s h d p now node t window closed steps =
                       (tied_stops s h d (MessageComes p now) (Stepped step.Gap) phase.Gap t refl
                         (goes_on_gap s h (MessageComes p now) (and_from (f.on && not (opens s.published p)) (nat_le (n + s.width) p) (and_from f.on (not (opens s.published p)) on (ap not closed)) (le-leb (n + s.width) p outside)))
                         (sym (live_is_known d.phase live)) (sym (sym t.dead ∙ live_is_alive d.phase live)) (omega arith))
-                      (λ near. message_right s h p step.Gap closed (gap_step s h p on (le-ltb p n from_next) (ne_eqb p n later) (le-ltb p (n + s.width) outside))) refl
+                      (λ near. message_right s h p step.Gap closed (gap_step s h p on (le-ltb p n from_next) (ne_eqb p n later) (le-ltb p (n + s.width) outside))) refl (inl refl)
                 ]
               ]
             ]

@@ -1,5 +1,5 @@
 -- What an event answers on numbers, and that it is what it answers on positions.
-use Rattle.std.proofs.Common.{◌≡◌, ℕ, zero, suc, ◌+◌, ◌-◌, ◌*◌, ◌%◌, ◌<◌, ◌≤◌, ◌≢◌, ◌&&◌, ◌||◌, Bool, true, false, cond, not, nat_lt, nat_le, eqb, List, [], ◌∷◌, length, get_or, refl, sym, ◌∙◌, ap, arith, Option, Some, None, is_some, inl, inr, subst}
+use Rattle.std.proofs.Common.{◌≡◌, ℕ, zero, suc, ◌+◌, ◌-◌, ◌*◌, ◌%◌, ◌<◌, ◌≤◌, ◌≢◌, ◌&&◌, ◌||◌, ◌⊎◌, Bool, true, false, cond, not, nat_lt, nat_le, eqb, List, [], ◌∷◌, length, get_or, refl, sym, ◌∙◌, ap, arith, Option, Some, None, is_some, inl, inr, subst}
 use Rattle.std.specs.List.{range_with_len, list_any, prefix_len}
 use Rattle.std.proofs.lemmas.List.FromFn.{length-range_with_len, get_or-range_with_len}
 use Rattle.std.proofs.lemmas.List.Sums.{prefix_len_is, prefix_len-le-length, prefix_len_passes, prefix_len_stops}
@@ -17,18 +17,31 @@ use Rattle.spk_sequence.specs.NodeRecord.{Setting, IsNodeRecord, opens, stamp_at
 use Rattle.spk_sequence.specs.HostRecord.{Input, MessageComes, Done, HostRecord, kind_of, call_of, consumed_by, done_at, next_after, reach}
 use Rattle.spk_sequence.specs.Following.{Following, contains, taken, following, waits, is_gap, is_session_dead}
 use Rattle.spk_sequence.specs.Window.{InWindow, IsNearBirth}
-use Rattle.spk_sequence.specs.Positions.{right_at, right_reply, right_consumed, birth_step, message_step, run_after}
+use Rattle.spk_sequence.specs.Positions.{is_taken_before, is_of_dead, right_at, right_reply, right_consumed, birth_step, message_step, run_after}
 use Rattle.spk_sequence.proofs.Places.{held_at-past}
 use Rattle.spk_sequence.proofs.WindowLemmas.{held_at-places_from, length-places_from}
 use Rattle.spk_sequence.proofs.Tied.{Tied, IsTaken, IsFollowed, IsWaiting, InStep, entry_of, number_below}
 use Rattle.spk_sequence.proofs.Quiet.{quiet, tied_still, tied_on, tied_stops, goes_on, goes_on_true, goes_on_gap}
 use Rattle.spk_sequence.proofs.Held.{tied_held}
-use Rattle.spk_sequence.proofs.Eaten.{eats, IsReady, tied_eaten, consumed_is_run}
+use Rattle.spk_sequence.proofs.Eaten.{eats, IsReady, tied_eaten, consumed_is_run, in_run, closed_run}
+
+-- p is consumed, with k waiting ones after it: an NBIRTH newer than the one taken, or the position that comes next.
+pub record Eats (s : Setting) (h : HostRecord) (p k : ℕ) : Type 0 where
+  pub within : p + suc k ≤ length s.published
+  pub closed : (q : ℕ) → p < q → q < p + suc k → opens s.published q ≡ false
+  pub alone : (following s h).on ≡ false → k ≡ 0
+  pub which : ((opens s.published p ≡ true) × (is_taken_before (taken s h) p ≡ false) × (is_of_dead s h p ≡ false)) ⊎ ((opens s.published p ≡ false) × (p ≡ next_after h) × ((following s h).on ≡ true))
+
+-- what an event consumes
+abbrev pub Ate : Setting → HostRecord → Input → List ℕ → Type 0
+Ate s h (MessageComes p now) ps = (ps ≡ []) ⊎ ((k : ℕ) × Eats s h p k × (ps ≡ range_with_len p (suc k)))
+Ate s h _ ps = ps ≡ []
 
 -- After an event the data is tied to the record again, and the event is that of the positions.
 pub record Outcome (s : Setting) (h : HostRecord) (d : Standing) (input : Input) : Type 0 where
   pub tied : Tied s (done_at s h d input ∷ h) (after_call d (call_of s input))
   pub same : IsNearBirth s h input → done_at s h d input ≡ right_at s h input
+  pub ate : Ate s h input (done_at s h d input).consumed
 
 abbrev pub stepped : ℕ → ℕ → Step → List ℕ → Done
 stepped p now r ps = record { input = MessageComes p now; reply = Stepped r; consumed = ps }
@@ -36,8 +49,8 @@ stepped p now r ps = record { input = MessageComes p now; reply = Stepped r; con
 pub outcome_from : (s : Setting) (h : HostRecord) (d e : Standing) (p now : ℕ) (kind : Kind) (r : Step) (ps : List ℕ) → kind_of s p ≡ kind → hand d (written_number s p) kind now ≡ (r, e) →
     consumed_by s h (MessageComes p now) (Stepped r) ≡ ps → Tied s (stepped p now r ps ∷ h) e →
     (IsNearBirth s h (MessageComes p now) → cond (opens s.published p) (birth_step s h p) (message_step s h p) ≡ r) → right_consumed (MessageComes p now) (Stepped r) ≡ ps →
-    Outcome s h d (MessageComes p now)
-outcome_from s h d e p now kind r ps k x c t right q =
+    Ate s h (MessageComes p now) ps → Outcome s h d (MessageComes p now)
+outcome_from s h d e p now kind r ps k x c t right q ate =
     let is : hand d (written_number s p) (kind_of s p) now ≡ (r, e) = ap (λ j. hand d (written_number s p) j now) k ∙ x in
     record {
       tied = subst (λ (y : Step × Standing). Tied s (stepped p now y.0 (consumed_by s h (MessageComes p now) (Stepped y.0)) ∷ h) y.1) (sym is)
@@ -45,6 +58,7 @@ outcome_from s h d e p now kind r ps k x c t right q =
       same = λ near. ap (λ (y : Step × Standing). stepped p now y.0 (consumed_by s h (MessageComes p now) (Stepped y.0))) is
         ∙ ap (stepped p now r) (c ∙ sym q)
         ∙ sym (ap (λ y. stepped p now y (right_consumed (MessageComes p now) (Stepped y))) (right near));
+      ate = subst (Ate s h (MessageComes p now)) (sym (ap (λ (y : Step × Standing). consumed_by s h (MessageComes p now) (Stepped y.0)) is ∙ c)) ate;
     }
 
 -- the six rules, one test after another
@@ -177,3 +191,23 @@ message_ready s h d p now b t tk on at closed in_step window =
     and_true : (b : Bool) → (b && true) ≡ b
     and_true true = refl
     and_true false = refl
+
+-- what is ready is consumed
+pub eats_ready : (s : Setting) (h : HostRecord) (d : Standing) (p now c : ℕ) (held : List (Option (Option ℕ))) → Tied s h d → IsReady s h p now c held →
+    ((opens s.published p ≡ true) × (is_taken_before (taken s h) p ≡ false) × (is_of_dead s h p ≡ false)) ⊎ ((opens s.published p ≡ false) × (p ≡ next_after h) × ((following s h).on ≡ true)) → Eats s h p (run_of held)
+eats_ready s h d p now c held t r which = record {
+    within = elim (cases_eq (run_of held) 0) [
+        inl none ↦ (let l : p < length s.published = r.published in omega arith)
+      | inr some ↦
+          let at : p + 1 + (run_of held - 1) ≡ p + run_of held = omega arith in
+          let there : contains (p + run_of held) (following s h).handed ≡ true = ap (λ x. contains x (following s h).handed) (sym at) ∙ in_run s h p now c held r (run_of held - 1) (omega arith) in
+          let reached : p + run_of held < reach h = (r.waiting (p + run_of held) (omega arith) there).reached in
+          let fits : reach h ≤ length s.published = t.fits in omega arith
+      ];
+    closed = λ q low high. closed_run s h p now c held r q (omega arith) (omega arith);
+    alone = λ off. elim (cases_eq (run_of held) 0) [
+        inl none ↦ none
+      | inr some ↦ absurd (true≢false (sym (in_run s h p now c held r 0 (omega arith)) ∙ ap (contains (p + 1 + 0)) (t.off_handed off)))
+      ];
+    which = which;
+  }

@@ -7,10 +7,10 @@ use Rattle.spk_sequence.specs.Calls.{Reply, Stepped, Ticked, Told}
 use Rattle.spk_sequence.specs.NodeRecord.{Setting, Message, NodeRecord, Numbering, RunsOn, Restarts}
 use Rattle.spk_sequence.specs.HostRecord.{Input, MessageComes, DeathComes, TickComes, record_of, consumed_of}
 
-abbrev message : ℕ → ℕ → ℕ → Message
+abbrev pub message : ℕ → ℕ → ℕ → Message
 message birth session stamp = record { birth = birth; session = session; stamp = stamp }
 
-abbrev setting : NodeRecord → Numbering → Setting
+abbrev pub setting : NodeRecord → Numbering → Setting
 setting published numbering = record { published = published; numbering = numbering; seq = 0; bd = 0; wait = 2000; width = 64 }
 
 -- the replies to these inputs, in order

@@ -1,12 +1,12 @@
 -- What the law on positions says of a host session.
-use Rattle.std.specs.Prelude.{◌≡◌, ℕ, ◌+◌, ◌-◌, ◌%◌, ◌<◌, ◌≤◌, ◌⊎◌, ◌↔◌, Bool, true, false, not, ◌||◌, List, [], ◌∷◌, ◌++◌, length, Option, Some, None, reverse}
+use Rattle.std.specs.Prelude.{◌≡◌, ℕ, ◌+◌, ◌-◌, ◌%◌, ◌<◌, ◌≤◌, ◌⊎◌, ◌↔◌, Bool, true, false, not, ◌&&◌, ◌||◌, if◌then◌else◌, List, [], ◌∷◌, ◌++◌, length, Option, Some, None, reverse}
 use Rattle.std.specs.List.{range_with_len, Contains}
 use Rattle.spk_sequence.specs.Data.{Standing}
 use Rattle.spk_sequence.specs.Step.{is_live}
 use Rattle.spk_sequence.specs.Calls.{Stepped, Ticked, Told}
 use Rattle.spk_sequence.specs.NodeRecord.{Setting, NodeRecord, IsNodeRecord, RunsOn, opens, birth_at, session_at, written_number}
 use Rattle.spk_sequence.specs.HostRecord.{Input, MessageComes, DeathComes, TickComes, Done, HostRecord, standing_of, record_of, done_at, next_after, consumed_of}
-use Rattle.spk_sequence.specs.Following.{taken, takes, following, contains, dead_sessions, is_gap, is_matching_death}
+use Rattle.spk_sequence.specs.Following.{taken, takes, following, contains, dead_sessions, is_empty}
 use Rattle.spk_sequence.specs.Window.{AllMayCome}
 use Rattle.spk_sequence.specs.Positions.{right_at, is_taken_before, is_of_dead}
 
@@ -82,3 +82,8 @@ TakesBirth s h p e = opens s.published p ≡ true → takes s e ≡ not (is_take
 -- The host does not follow, or the position after the last one consumed was not handed since it began to.
 abbrev pub HasCause : Setting → HostRecord → Type 0
 HasCause s h = (following s h).on ≡ true → contains (next_after h) (following s h).handed ≡ false
+
+-- the birth taken after an event: the NBIRTH handed if something was consumed then, and else the one before
+abbrev pub taken_by : Setting → HostRecord → Input → List ℕ → Option ℕ
+taken_by s h (MessageComes p now) consumed = if opens s.published p && not (is_empty consumed) then Some p else taken s h
+taken_by s h _ consumed = taken s h

@@ -1,9 +1,10 @@
 //! Laws on lists of calls: functions that do nothing, whose contracts speak of definitions alone.
-ghost use Rattle.std.specs.Prelude.{ℕ, List, ◌∷◌};
+ghost use Rattle.std.specs.Prelude.{◌≡◌, ℕ, List, ◌∷◌};
 ghost use Rattle.spk_sequence.specs.NodeRecord.{Setting};
-ghost use Rattle.spk_sequence.specs.HostRecord.{Input, MessageComes, record_of, standing_of, done_at};
+ghost use Rattle.spk_sequence.specs.HostRecord.{Input, MessageComes, record_of, standing_of, done_at, consumed_of};
 ghost use Rattle.spk_sequence.specs.Window.{IsNearBirth};
-ghost use Rattle.spk_sequence.specs.Claims.{IsLawful, SameStep, IsLiveByPositions, HasCause, TakesBirth};
+ghost use Rattle.spk_sequence.specs.Following.{taken};
+ghost use Rattle.spk_sequence.specs.Claims.{IsLawful, SameStep, IsLiveByPositions, BirthPrefixes, AfterGap, AfterDeath, TakesBirth, HasCause, taken_by, EndsWithTaken};
 
 /// For every node record whose sequence number runs on over births, every width of 1 to 96 and
 /// every list of inputs inside the window, the deaths being of near sessions. Inputs stand newest
@@ -18,6 +19,24 @@ pub fn positions()
     // the phase is Live exactly while the host follows, and then `next` is that of the positions
     ensures live { (s : Setting) (inputs : List Input) → IsLawful s inputs → IsLiveByPositions s inputs }
 
+    // birth by birth in increasing order, what was consumed is a prefix of that birth's messages
+    ensures fronts {
+        (s : Setting) (inputs : List Input) → IsLawful s inputs →
+        BirthPrefixes s.published (consumed_of (record_of s inputs))
+    }
+
+    // while the host does not follow, as after a gap, nothing is consumed but a newer birth
+    ensures after_gap {
+        (s : Setting) (inputs : List Input) (input : Input) → IsLawful s (input ∷ inputs) →
+        AfterGap s (record_of s inputs) (done_at s (record_of s inputs) (standing_of s inputs) input)
+    }
+
+    // nothing is consumed of a session whose matching death came
+    ensures after_death {
+        (s : Setting) (inputs : List Input) (input : Input) → IsLawful s (input ∷ inputs) →
+        AfterDeath s (record_of s inputs) (done_at s (record_of s inputs) (standing_of s inputs) input)
+    }
+
     // a birth of a near session is taken but for the two causes
     ensures births {
         (s : Setting) (inputs : List Input) (p now : ℕ) → IsLawful s (MessageComes p now ∷ inputs) →
@@ -27,5 +46,15 @@ pub fn positions()
 
     // wherever consumption stands, it stands for a cause
     ensures cause { (s : Setting) (inputs : List Input) → IsLawful s inputs → HasCause s (record_of s inputs) }
+
+    // the birth taken after an event
+    ensures taken {
+        (s : Setting) (inputs : List Input) (input : Input) → IsLawful s (input ∷ inputs) →
+        taken s (record_of s (input ∷ inputs)) ≡
+        taken_by s (record_of s inputs) input (done_at s (record_of s inputs) (standing_of s inputs) input).consumed
+    }
+
+    // the consumed list ends with the messages of the birth taken, up to the last one consumed
+    ensures last_part { (s : Setting) (inputs : List Input) → IsLawful s inputs → EndsWithTaken s (record_of s inputs) }
 {
 }
