@@ -9,6 +9,7 @@ pub mod Headline
 pub mod Held
 pub mod KeepLemmas
 pub mod Messages
+pub mod NumberLemmas
 pub mod Outcomes
 pub mod Places
 pub mod Quiet

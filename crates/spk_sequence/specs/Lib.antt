@@ -4,6 +4,7 @@ pub mod Data
 pub mod Following
 pub mod HostRecord
 pub mod NodeRecord
+pub mod Numbers
 pub mod Positions
 pub mod Slots
 pub mod Step

@@ -1,5 +1,9 @@
 //! Laws on lists of calls: functions that do nothing, whose contracts speak of definitions alone.
-ghost use Rattle.std.specs.Prelude.{◌≡◌, ℕ, List, ◌∷◌};
+ghost use Rattle.std.specs.Prelude.{◌≡◌, ℕ, ◌<◌, List, ◌∷◌};
+ghost use Rattle.spk_sequence.specs.declared.message.Kind.{Kind};
+ghost use Rattle.spk_sequence.specs.Data.{Standing, IsWhole};
+ghost use Rattle.spk_sequence.specs.Step.{hand, tick, death};
+ghost use Rattle.spk_sequence.specs.Numbers.{KeepsNumbers, Remains};
 ghost use Rattle.spk_sequence.specs.NodeRecord.{Setting};
 ghost use Rattle.spk_sequence.specs.HostRecord.{Input, MessageComes, record_of, standing_of, done_at, consumed_of};
 ghost use Rattle.spk_sequence.specs.Window.{IsNearBirth};
@@ -56,5 +60,21 @@ pub fn positions()
 
     // the consumed list ends with the messages of the birth taken, up to the last one consumed
     ensures last_part { (s : Setting) (inputs : List Input) → IsLawful s inputs → EndsWithTaken s (record_of s inputs) }
+{
+}
+
+/// What each call does to what is held, by numbers alone, from any data that is whole.
+pub fn numbers()
+    // a step eats what was held, adds the one handed, or leaves of what was held what it leaves
+    ensures hand {
+        (s : Standing) (number now : ℕ) (kind : Kind) → number < 256 → IsWhole s →
+        KeepsNumbers s (hand s number kind now).1 number (hand s number kind now).0
+    }
+
+    // a moment adds nothing to what is held
+    ensures tick { (s : Standing) (now : ℕ) → Remains s (tick s now) }
+
+    // nor does a death
+    ensures death { (s : Standing) (bd : ℕ) → Remains s (death s bd) }
 {
 }
