@@ -7,6 +7,7 @@ pub mod FarDeaths
 pub mod Fronts
 pub mod Headline
 pub mod Held
+pub mod InLineLemmas
 pub mod KeepLemmas
 pub mod Messages
 pub mod NumberLemmas

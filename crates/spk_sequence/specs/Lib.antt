@@ -3,6 +3,7 @@ pub mod Claims
 pub mod Data
 pub mod Following
 pub mod HostRecord
+pub mod InLine
 pub mod NodeRecord
 pub mod Numbers
 pub mod Positions

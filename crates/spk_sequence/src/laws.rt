@@ -1,14 +1,20 @@
 //! Laws on lists of calls: functions that do nothing, whose contracts speak of definitions alone.
-ghost use Rattle.std.specs.Prelude.{◌≡◌, ℕ, ◌<◌, List, ◌∷◌};
+ghost use Rattle.std.specs.Prelude.{◌≡◌, ℕ, ◌+◌, ◌%◌, ◌<◌, false, List, ◌∷◌};
 ghost use Rattle.spk_sequence.specs.declared.message.Kind.{Kind};
 ghost use Rattle.spk_sequence.specs.Data.{Standing, IsWhole};
-ghost use Rattle.spk_sequence.specs.Step.{hand, tick, death};
+ghost use Rattle.spk_sequence.specs.Step.{is_any_held, hand, tick, death};
+ghost use Rattle.spk_sequence.specs.Calls.{Call, replies_of};
+ghost use Rattle.spk_sequence.specs.InLine.{IsInLine, replies_in_line};
 ghost use Rattle.spk_sequence.specs.Numbers.{KeepsNumbers, Remains};
 ghost use Rattle.spk_sequence.specs.NodeRecord.{Setting};
 ghost use Rattle.spk_sequence.specs.HostRecord.{Input, MessageComes, record_of, standing_of, done_at, consumed_of};
 ghost use Rattle.spk_sequence.specs.Window.{IsNearBirth};
 ghost use Rattle.spk_sequence.specs.Following.{taken};
 ghost use Rattle.spk_sequence.specs.Claims.{IsLawful, SameStep, IsLiveByPositions, BirthPrefixes, AfterGap, AfterDeath, TakesBirth, HasCause, taken_by, EndsWithTaken};
+
+use crate::answer::Step;
+use crate::message::Kind;
+use crate::phase::Phase;
 
 /// For every node record whose sequence number runs on over births, every width of 1 to 96 and
 /// every list of inputs inside the window, the deaths being of near sessions. Inputs stand newest
@@ -76,5 +82,23 @@ pub fn numbers()
 
     // nor does a death
     ensures death { (s : Standing) (bd : ℕ) → Remains s (death s bd) }
+{
+}
+
+/// While nothing is held, messages in order are consumed one by one, by numbers alone: from a
+/// birth that is taken on, until a matching death, another birth or a `reset`.
+pub fn in_line()
+    ensures live {
+        (calls : List Call) (s : Standing) → IsWhole s → s.phase ≡ Phase.Live → is_any_held s.held ≡ false →
+        IsInLine s.next s.stamp s.bd calls → replies_of s calls ≡ replies_in_line calls
+    }
+
+    ensures birth {
+        (calls : List Call) (s : Standing) (number stamp bd now n : ℕ) → number < 256 → IsWhole s →
+        (hand s number (Kind.Birth stamp bd) now).0 ≡ Step.Consumed n →
+        is_any_held (hand s number (Kind.Birth stamp bd) now).1.held ≡ false →
+        IsInLine ((number + n) % 256) stamp bd calls →
+        replies_of (hand s number (Kind.Birth stamp bd) now).1 calls ≡ replies_in_line calls
+    }
 {
 }
