@@ -5,6 +5,7 @@ pub mod Eaten
 pub mod Ends
 pub mod FarDeaths
 pub mod Fronts
+pub mod Grows
 pub mod Headline
 pub mod Held
 pub mod InLineLemmas

@@ -6,7 +6,7 @@ use Rattle.spk_sequence.specs.Step.{is_live}
 use Rattle.spk_sequence.specs.Calls.{Stepped, Ticked, Told}
 use Rattle.spk_sequence.specs.NodeRecord.{Setting, NodeRecord, IsNodeRecord, RunsOn, opens, birth_at, session_at, written_number}
 use Rattle.spk_sequence.specs.HostRecord.{Input, MessageComes, DeathComes, TickComes, Done, HostRecord, standing_of, record_of, done_at, next_after, consumed_of}
-use Rattle.spk_sequence.specs.Following.{taken, takes, following, contains, dead_sessions, is_empty}
+use Rattle.spk_sequence.specs.Following.{taken, takes, following, contains, is_session_dead, dead_sessions, is_empty}
 use Rattle.spk_sequence.specs.Window.{AllMayCome}
 use Rattle.spk_sequence.specs.Positions.{right_at, is_taken_before, is_of_dead}
 
@@ -87,3 +87,17 @@ HasCause s h = (following s h).on ≡ true → contains (next_after h) (followin
 abbrev pub taken_by : Setting → HostRecord → Input → List ℕ → Option ℕ
 taken_by s h (MessageComes p now) consumed = if opens s.published p && not (is_empty consumed) then Some p else taken s h
 taken_by s h _ consumed = taken s h
+
+-- the setting with more published afterwards
+abbrev pub with_more : Setting → NodeRecord → Setting
+with_more s more = record s { published = s.published ++ more }
+
+-- What was done, and each query on it, is the same with more published afterwards, and the inputs still may come.
+pub record IsSameWithMore (s : Setting) (more : NodeRecord) (inputs : List Input) : Type 0 where
+  pub same_record : record_of (with_more s more) inputs ≡ record_of s inputs
+  pub same_standing : standing_of (with_more s more) inputs ≡ standing_of s inputs
+  pub same_taken : taken (with_more s more) (record_of (with_more s more) inputs) ≡ taken s (record_of s inputs)
+  pub same_following : following (with_more s more) (record_of (with_more s more) inputs) ≡ following s (record_of s inputs)
+  pub same_dead : is_session_dead (with_more s more) (record_of (with_more s more) inputs) ≡ is_session_dead s (record_of s inputs)
+  pub same_sessions : dead_sessions (with_more s more) (record_of (with_more s more) inputs) ≡ dead_sessions s (record_of s inputs)
+  pub may_come : AllMayCome (with_more s more) inputs
