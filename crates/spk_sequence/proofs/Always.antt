@@ -12,7 +12,6 @@ use Rattle.spk_sequence.specs.HostRecord.{Input, MessageComes, DeathComes, TickC
 use Rattle.spk_sequence.specs.Following.{contains, taken, takes, following}
 use Rattle.spk_sequence.specs.Window.{InWindow, MayCome, AllMayCome, IsNearBirth}
 use Rattle.spk_sequence.specs.Positions.{right_at, right_consumed, run_after, is_taken_before, is_of_dead}
-use Rattle.spk_sequence.specs.Claims.{IsLawful, SameStep, IsLiveByPositions, TakesBirth, HasCause}
 use Rattle.spk_sequence.proofs.Places.{held_at-empty}
 use Rattle.spk_sequence.proofs.Tied.{Tied, IsFollowed, InStep, in_step_runs_on}
 use Rattle.spk_sequence.proofs.Outcomes.{Outcome, Ate}
@@ -63,36 +62,7 @@ tied_always s node low high [] may steps = tied_fresh s low high
 tied_always s node low high (input ∷ inputs) may steps =
     (outcome s (record_of s inputs) (standing_of s inputs) input node (tied_always s node low high inputs may.1 steps.1) may.0 steps.0).tied
 
-pub tied_of : (s : Setting) (inputs : List Input) → IsLawful s inputs → Tied s (record_of s inputs) (standing_of s inputs)
-tied_of s inputs l = tied_always s l.node l.some_places l.few_places inputs l.may_come (all_step_runs_on s l.runs_on inputs)
-
-steps_of : (s : Setting) (inputs : List Input) (input : Input) → IsLawful s (input ∷ inputs) → StepsOf s (record_of s inputs) input
-steps_of s inputs input l = (all_step_runs_on s l.runs_on (input ∷ inputs)).0
-
-pub before_of : (s : Setting) (inputs : List Input) (input : Input) → IsLawful s (input ∷ inputs) → IsLawful s inputs
-before_of s inputs input l = record { node = l.node; some_places = l.some_places; few_places = l.few_places; runs_on = l.runs_on; may_come = l.may_come.1 }
-
--- what an event consumes
-pub ate_of : (s : Setting) (inputs : List Input) (input : Input) → IsLawful s (input ∷ inputs) → Ate s (record_of s inputs) input (done_at s (record_of s inputs) (standing_of s inputs) input).consumed
-ate_of s inputs input l =
-    (outcome s (record_of s inputs) (standing_of s inputs) input l.node (tied_of s inputs (before_of s inputs input l)) l.may_come.0 (steps_of s inputs input l)).ate
-
-pub same_step : (s : Setting) (inputs : List Input) (input : Input) → IsLawful s (input ∷ inputs) → IsNearBirth s (record_of s inputs) input → SameStep s inputs input
-same_step s inputs input l near =
-    (outcome s (record_of s inputs) (standing_of s inputs) input l.node (tied_of s inputs (before_of s inputs input l)) l.may_come.0 (steps_of s inputs input l)).same near
-
-pub live_by_positions : (s : Setting) (inputs : List Input) → IsLawful s inputs → IsLiveByPositions s inputs
-live_by_positions s inputs l =
-    let t : Tied s (record_of s inputs) (standing_of s inputs) = tied_of s inputs l in
-    record { live = t.live; next = λ b on tk. (t.followed b tk on).next }
-
-pub has_cause : (s : Setting) (inputs : List Input) → IsLawful s inputs → HasCause s (record_of s inputs)
-has_cause s inputs l on =
-    let t : Tied s (record_of s inputs) (standing_of s inputs) = tied_of s inputs l in
-    let b : (c : ℕ) × (taken s (record_of s inputs) ≡ Some c) = birth_of s (record_of s inputs) (standing_of s inputs) t on in
-    (t.followed b.0 b.1 on).cause
-
-right_takes : (s : Setting) (h : HostRecord) (p now : ℕ) → opens s.published p ≡ true → takes s (right_at s h (MessageComes p now)) ≡ not (is_taken_before (taken s h) p || is_of_dead s h p)
+pub right_takes : (s : Setting) (h : HostRecord) (p now : ℕ) → opens s.published p ≡ true → takes s (right_at s h (MessageComes p now)) ≡ not (is_taken_before (taken s h) p || is_of_dead s h p)
 right_takes s h p now opening =
     let more : 1 + run_after s h p ≡ suc (run_after s h p) = omega arith in
     let ran : list_any (opens s.published) (range_with_len p (1 + run_after s h p)) ≡ true =
@@ -103,8 +73,3 @@ right_takes s h p now opening =
     go true b k e = refl
     go false true k e = refl
     go false false k e = e
-
-pub takes_birth : (s : Setting) (inputs : List Input) (p now : ℕ) → IsLawful s (MessageComes p now ∷ inputs) → IsNearBirth s (record_of s inputs) (MessageComes p now) →
-    TakesBirth s (record_of s inputs) p (done_at s (record_of s inputs) (standing_of s inputs) (MessageComes p now))
-takes_birth s inputs p now l near opening =
-    ap (takes s) (same_step s inputs (MessageComes p now) l near) ∙ right_takes s (record_of s inputs) p now opening

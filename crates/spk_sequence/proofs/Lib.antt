@@ -10,12 +10,14 @@ pub mod Headline
 pub mod Held
 pub mod InLineLemmas
 pub mod KeepLemmas
+pub mod Lawful
 pub mod Messages
 pub mod NumberLemmas
 pub mod Outcomes
 pub mod Places
 pub mod Quiet
 pub mod Ranges
+pub mod Restarts
 pub mod Rows
 pub mod Sessions
 pub mod SlotLemmas

@@ -4,20 +4,19 @@ use Rattle.std.specs.List.{range_with_len, Contains}
 use Rattle.spk_sequence.specs.Data.{Standing}
 use Rattle.spk_sequence.specs.Step.{is_live}
 use Rattle.spk_sequence.specs.Calls.{Stepped, Ticked, Told}
-use Rattle.spk_sequence.specs.NodeRecord.{Setting, NodeRecord, IsNodeRecord, RunsOn, opens, birth_at, session_at, written_number}
+use Rattle.spk_sequence.specs.NodeRecord.{Setting, NodeRecord, IsNodeRecord, opens, birth_at, session_at, written_number}
 use Rattle.spk_sequence.specs.HostRecord.{Input, MessageComes, DeathComes, TickComes, Done, HostRecord, standing_of, record_of, done_at, next_after, consumed_of}
 use Rattle.spk_sequence.specs.Following.{taken, takes, following, contains, is_session_dead, dead_sessions, is_empty}
-use Rattle.spk_sequence.specs.Window.{AllMayCome}
+use Rattle.spk_sequence.specs.Window.{AllMayCome, NumbersFit}
 use Rattle.spk_sequence.specs.Positions.{right_at, is_taken_before, is_of_dead}
 
--- What the law asks: a node record, a width of 1 to 96, a number that runs on over births, and inputs each of which may
--- come after the ones before it.
+-- What the law asks: a node record, a width of 1 to 96, and inputs each of which may come after the ones before it.
 pub record IsLawful (s : Setting) (inputs : List Input) : Type 0 where
   pub node : IsNodeRecord s.published
   pub some_places : 0 < s.width
   pub few_places : s.width ≤ 96
-  pub runs_on : s.numbering ≡ RunsOn
   pub may_come : AllMayCome s inputs
+  pub numbered : NumbersFit s.numbering s inputs
 
 -- an event on numbers is the event on positions
 abbrev pub SameStep : Setting → List Input → Input → Type 0

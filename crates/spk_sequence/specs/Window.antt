@@ -1,6 +1,6 @@
 -- What may be handed over: positions inside the window, and births and deaths of sessions that are near.
 use Rattle.std.specs.Prelude.{◌≡◌, ℕ, ◌+◌, ◌-◌, ◌*◌, ◌<◌, ◌≤◌, ◌⊎◌, Bool, true, false, ◌==◌, List, [], ◌∷◌, length, Option, Some, None}
-use Rattle.spk_sequence.specs.NodeRecord.{Setting, opens, session_at, start_of}
+use Rattle.spk_sequence.specs.NodeRecord.{Setting, Numbering, RunsOn, Restarts, opens, session_at, start_of}
 use Rattle.spk_sequence.specs.HostRecord.{Input, MessageComes, DeathComes, TickComes, Done, HostRecord, record_of, reach, position_of}
 use Rattle.spk_sequence.specs.Following.{taken, following, contains}
 
@@ -47,3 +47,18 @@ IsNearBirth s h _ = Unit {0}
 abbrev pub AllMayCome : Setting → List Input → Type 0
 AllMayCome s [] = Unit {0}
 AllMayCome s (input ∷ inputs) = MayCome s (record_of s inputs) input × AllMayCome s inputs
+
+-- what a message asks where the number restarts: its own NBIRTH was handed before it
+abbrev pub IsAfterOwnBirth : Setting → HostRecord → Input → Type 0
+IsAfterOwnBirth s h (MessageComes p now) = IsAfterBirth s h p
+IsAfterOwnBirth s h _ = Unit {0}
+
+abbrev pub AllAfterBirth : Setting → List Input → Type 0
+AllAfterBirth s [] = Unit {0}
+AllAfterBirth s (input ∷ inputs) = IsAfterOwnBirth s (record_of s inputs) input × IsNearBirth s (record_of s inputs) input × AllAfterBirth s inputs
+
+-- A number that runs on asks nothing more. Where it restarts, no message is handed before its own NBIRTH, and births too
+-- are of near sessions.
+abbrev pub NumbersFit : Numbering → Setting → List Input → Type 0
+NumbersFit RunsOn s inputs = Unit {0}
+NumbersFit Restarts s inputs = AllAfterBirth s inputs

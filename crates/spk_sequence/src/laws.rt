@@ -6,19 +6,19 @@ ghost use Rattle.spk_sequence.specs.Step.{is_any_held, hand, tick, death};
 ghost use Rattle.spk_sequence.specs.Calls.{Call, replies_of};
 ghost use Rattle.spk_sequence.specs.InLine.{IsInLine, replies_in_line};
 ghost use Rattle.spk_sequence.specs.Numbers.{KeepsNumbers, Remains};
-ghost use Rattle.spk_sequence.specs.NodeRecord.{Setting};
+ghost use Rattle.spk_sequence.specs.NodeRecord.{Setting, NodeRecord};
 ghost use Rattle.spk_sequence.specs.HostRecord.{Input, MessageComes, record_of, standing_of, done_at, consumed_of};
 ghost use Rattle.spk_sequence.specs.Window.{IsNearBirth};
 ghost use Rattle.spk_sequence.specs.Following.{taken};
-ghost use Rattle.spk_sequence.specs.Claims.{IsLawful, SameStep, IsLiveByPositions, BirthPrefixes, AfterGap, AfterDeath, TakesBirth, HasCause, taken_by, EndsWithTaken};
+ghost use Rattle.spk_sequence.specs.Claims.{IsLawful, SameStep, IsLiveByPositions, BirthPrefixes, AfterGap, AfterDeath, TakesBirth, HasCause, taken_by, EndsWithTaken, IsSameWithMore};
 
 use crate::answer::Step;
 use crate::message::Kind;
 use crate::phase::Phase;
 
-/// For every node record whose sequence number runs on over births, every width of 1 to 96 and
-/// every list of inputs inside the window, the deaths being of near sessions. Inputs stand newest
-/// first.
+/// For every node record, every width of 1 to 96 and every list of inputs inside the window, the
+/// deaths being of near sessions. Where the sequence number restarts at each NBIRTH, births too are
+/// of near sessions, and no message is handed before its own NBIRTH. Inputs stand newest first.
 pub fn positions()
     // each event on numbers is the event on positions, if a birth is of a near session
     ensures same_steps {
@@ -66,6 +66,11 @@ pub fn positions()
 
     // the consumed list ends with the messages of the birth taken, up to the last one consumed
     ensures last_part { (s : Setting) (inputs : List Input) → IsLawful s inputs → EndsWithTaken s (record_of s inputs) }
+
+    // what was done, and every query on it, is the same when more is published afterwards
+    ensures grows {
+        (s : Setting) (more : NodeRecord) (inputs : List Input) → IsLawful s inputs → IsSameWithMore s more inputs
+    }
 {
 }
 

@@ -1,5 +1,5 @@
-use Rattle.spk_sequence.proofs.Always.{same_step, live_by_positions, takes_birth, has_cause}
-use Rattle.spk_sequence.proofs.Headline.{fronts, after_gap, after_death, taken_after, last_part}
+use Rattle.spk_sequence.proofs.Lawful.{same_step, live_by_positions, takes_birth, has_cause}
+use Rattle.spk_sequence.proofs.Headline.{fronts, after_gap, after_death, taken_after, last_part, grows}
 use Rattle.spk_sequence.proofs.laws.positions.Goals as goal
 
 pub returns-clause-same_steps : goal.returns-clause-same_steps
@@ -28,3 +28,6 @@ returns-clause-taken c = taken_after
 
 pub returns-clause-last_part : goal.returns-clause-last_part
 returns-clause-last_part c = last_part
+
+pub returns-clause-grows : goal.returns-clause-grows
+returns-clause-grows c = grows
