@@ -19,6 +19,7 @@ pub mod Quiet
 pub mod Ranges
 pub mod Restarts
 pub mod Rows
+pub mod Satisfied
 pub mod Sessions
 pub mod SlotLemmas
 pub mod Tied
