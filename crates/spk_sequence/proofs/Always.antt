@@ -1,21 +1,21 @@
 -- The data is tied to the record after every list of inputs.
-use Rattle.std.proofs.Common.{◌≡◌, ℕ, zero, suc, ◌+◌, ◌-◌, ◌%◌, ◌<◌, ◌≤◌, ◌&&◌, ◌||◌, Bool, true, false, cond, not, nat_lt, nat_le, eqb, List, [], ◌∷◌, length, refl, sym, ◌∙◌, ap, arith, Option, Some, None, is_some, inl, inr, subst}
+use Rattle.std.proofs.Common.{◌≡◌, ℕ, suc, ◌+◌, ◌<◌, ◌≤◌, ◌||◌, Bool, true, false, cond, not, List, [], ◌∷◌, refl, ◌∙◌, ap, arith, Option, Some, None, inl, inr}
 use Rattle.std.specs.List.{range_with_len, list_any}
 use Rattle.std.proofs.lemmas.List.{length-replicate}
-use Rattle.std.proofs.lemmas.Bool.{true≢false, cases_Bool, or_left, or_from}
+use Rattle.std.proofs.lemmas.Bool.{cases_Bool, or_left}
 use Rattle.spk_sequence.specs.declared.answer.Step.TheVariants as step
-use Rattle.spk_sequence.specs.Data.{Standing, IsWhole, held_at}
+use Rattle.spk_sequence.specs.Data.{Standing}
 use Rattle.spk_sequence.specs.Step.{fresh_standing}
 use Rattle.spk_sequence.specs.Calls.{Stepped}
-use Rattle.spk_sequence.specs.NodeRecord.{Setting, Numbering, RunsOn, IsNodeRecord, opens, written_number}
-use Rattle.spk_sequence.specs.HostRecord.{Input, MessageComes, DeathComes, TickComes, Done, HostRecord, record_of, standing_of, done_at, call_of, next_after}
-use Rattle.spk_sequence.specs.Following.{contains, taken, takes, following}
-use Rattle.spk_sequence.specs.Window.{InWindow, MayCome, AllMayCome, IsNearBirth}
+use Rattle.spk_sequence.specs.NodeRecord.{Setting, RunsOn, IsNodeRecord, opens}
+use Rattle.spk_sequence.specs.HostRecord.{Input, MessageComes, DeathComes, TickComes, HostRecord, record_of, standing_of}
+use Rattle.spk_sequence.specs.Following.{taken, takes, following}
+use Rattle.spk_sequence.specs.Window.{MayCome, AllMayCome}
 use Rattle.spk_sequence.specs.Positions.{right_at, right_consumed, run_after, is_taken_before, is_of_dead}
 use Rattle.spk_sequence.proofs.Places.{held_at-empty}
-use Rattle.spk_sequence.proofs.Tied.{Tied, IsFollowed, InStep, in_step_runs_on}
-use Rattle.spk_sequence.proofs.Outcomes.{Outcome, Ate}
-use Rattle.spk_sequence.proofs.Messages.{message_outcome, birth_of}
+use Rattle.spk_sequence.proofs.Tied.{Tied, InStep, in_step_runs_on}
+use Rattle.spk_sequence.proofs.Outcomes.{Outcome}
+use Rattle.spk_sequence.proofs.Messages.{message_outcome}
 use Rattle.spk_sequence.proofs.Births.{birth_outcome}
 use Rattle.spk_sequence.proofs.Ends.{death_outcome, tick_outcome}
 
@@ -36,26 +36,26 @@ all_step_runs_on s e (TickComes now ∷ inputs) = (tt, all_step_runs_on s e inpu
 
 pub outcome : (s : Setting) (h : HostRecord) (d : Standing) (input : Input) → IsNodeRecord s.published → Tied s h d → MayCome s h input → StepsOf s h input → Outcome s h d input
 outcome s h d (MessageComes p now) node t may steps = elim (cases_Bool (opens s.published p)) [
-    inl opening ↦ birth_outcome s h d p now node t may opening
+  | inl opening ↦ birth_outcome s h d p now node t may opening
   | inr closed ↦ message_outcome s h d p now node t may closed (λ b tk on after. steps b closed tk on after)
-  ]
+]
 outcome s h d (DeathComes j now) node t may steps = death_outcome s h d j now t may
 outcome s h d (TickComes now) node t may steps = tick_outcome s h d now t
 
 tied_fresh : (s : Setting) → 0 < s.width → s.width ≤ 96 → Tied s [] (fresh_standing s.wait s.width)
 tied_fresh s low high = record {
-    whole = record { some_places = low; few_places = high; one_byte = omega arith; all_places = length-replicate {A = Option (Option ℕ)} s.width None; next_not_held = held_at-empty s.width 0 };
-    wait = refl;
-    width = refl;
-    live = refl;
-    known = refl;
-    dead = refl;
-    fits = omega arith;
-    birth = λ b e. absurd (cc);
-    followed = λ b e on. absurd (cc);
-    off_held = λ off. held_at-empty s.width;
-    off_handed = λ off. refl;
-  }
+  whole = record { some_places = low; few_places = high; one_byte = omega arith; all_places = length-replicate {A = Option (Option ℕ)} s.width None; next_not_held = held_at-empty s.width 0 };
+  wait = refl;
+  width = refl;
+  live = refl;
+  known = refl;
+  dead = refl;
+  fits = omega arith;
+  birth = λ b e. absurd (cc);
+  followed = λ b e on. absurd (cc);
+  off_held = λ off. held_at-empty s.width;
+  off_handed = λ off. refl;
+}
 
 pub tied_always : (s : Setting) → IsNodeRecord s.published → 0 < s.width → s.width ≤ 96 → (inputs : List Input) → AllMayCome s inputs → AllStep s inputs → Tied s (record_of s inputs) (standing_of s inputs)
 tied_always s node low high [] may steps = tied_fresh s low high
@@ -66,7 +66,7 @@ pub right_takes : (s : Setting) (h : HostRecord) (p now : ℕ) → opens s.publi
 right_takes s h p now opening =
     let more : 1 + run_after s h p ≡ suc (run_after s h p) = omega arith in
     let ran : list_any (opens s.published) (range_with_len p (1 + run_after s h p)) ≡ true =
-      ap (λ k. list_any (opens s.published) (range_with_len p k)) more ∙ or_left (opens s.published p) (list_any (opens s.published) (range_with_len (p + 1) (run_after s h p))) opening in
+    ap (λ k. list_any (opens s.published) (range_with_len p k)) more ∙ or_left (opens s.published p) (list_any (opens s.published) (range_with_len (p + 1) (run_after s h p))) opening in
     rw opening (go (is_taken_before (taken s h) p) (is_of_dead s h p) (run_after s h p) ran)
   where
     go : (a b : Bool) (k : ℕ) → list_any (opens s.published) (range_with_len p (1 + k)) ≡ true → takes s (record { input = MessageComes p now; reply = Stepped (cond a step.OldBirth (cond b step.DeadSession (step.Consumed (1 + k)))); consumed = right_consumed (MessageComes p now) (Stepped (cond a step.OldBirth (cond b step.DeadSession (step.Consumed (1 + k))))) }) ≡ not (a || b)

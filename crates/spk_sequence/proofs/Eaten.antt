@@ -1,19 +1,19 @@
 -- A message or an NBIRTH that is consumed, with the waiting ones that follow it without a hole.
-use Rattle.std.proofs.Common.{◌≡◌, ℕ, zero, suc, ◌+◌, ◌-◌, ◌*◌, ◌%◌, ◌<◌, ◌≤◌, ◌≢◌, ◌&&◌, ◌||◌, Bool, true, false, cond, not, nat_lt, eqb, max, List, [], ◌∷◌, length, refl, sym, ◌∙◌, ap, arith, Option, Some, None, is_some, inl, inr, subst, if◌then◌else◌}
-use Rattle.std.specs.List.{range_with_len, list_any, prefix_len, filter_map}
+use Rattle.std.proofs.Common.{◌≡◌, ℕ, suc, ◌+◌, ◌-◌, ◌%◌, ◌<◌, ◌≤◌, ◌&&◌, ◌||◌, Bool, true, false, cond, not, nat_lt, max, List, ◌∷◌, length, refl, sym, ◌∙◌, ap, arith, Option, Some, None, is_some, inl, inr, subst}
+use Rattle.std.specs.List.{range_with_len, list_any, filter_map}
 use Rattle.std.proofs.lemmas.List.Sums.{prefix_len_passes, prefix_len_stops, prefix_len-le-length}
-use Rattle.std.proofs.lemmas.Bool.{true≢false, false≢true, cases_lt, cases_eq, cases_Bool, lt-ltb, le-ltb, ltb-true, eq-eqb, ne_eqb, and_right, and_parts, and_from, or_right, or_left, or_cases, eqb-true}
+use Rattle.std.proofs.lemmas.Bool.{true≢false, cases_lt, cases_eq, cases_Bool, lt-ltb, le-ltb, ltb-true, ne_eqb, and_right, and_parts}
 use Rattle.spk_sequence.specs.declared.answer.Step.TheVariants as step
-use Rattle.spk_sequence.specs.Data.{Standing, IsWhole, held_at}
-use Rattle.spk_sequence.specs.Step.{places_from, run_of, after_consumed}
-use Rattle.spk_sequence.specs.Calls.{Reply, Stepped}
+use Rattle.spk_sequence.specs.Data.{Standing, held_at}
+use Rattle.spk_sequence.specs.Step.{run_of, after_consumed}
+use Rattle.spk_sequence.specs.Calls.{Stepped}
 use Rattle.spk_sequence.specs.NodeRecord.{Setting, opens, stamp_at, session_at, written_number, written_session}
-use Rattle.spk_sequence.specs.HostRecord.{Input, MessageComes, Done, HostRecord, held_under, consumed_by, next_after, reach, after_last}
-use Rattle.spk_sequence.specs.Following.{Following, contains, taken, takes, following, waits, is_waiting, is_session_dead, last_opening}
+use Rattle.spk_sequence.specs.HostRecord.{MessageComes, Done, HostRecord, held_under, consumed_by, next_after, reach}
+use Rattle.spk_sequence.specs.Following.{Following, contains, taken, takes, following, waits, is_waiting, is_session_dead}
 use Rattle.spk_sequence.proofs.Places.{held_at-past}
 use Rattle.spk_sequence.proofs.WindowLemmas.{held_at-places_from, length-places_from}
 use Rattle.spk_sequence.proofs.Ranges.{after_last-range, none_opens, last_opening-none, filter_map-run}
-use Rattle.spk_sequence.proofs.Tied.{Tied, IsTaken, IsFollowed, IsWaiting, InStep, in_step_later, entry_of, number_below}
+use Rattle.spk_sequence.proofs.Tied.{Tied, IsTaken, IsFollowed, IsWaiting, InStep, entry_of}
 use Rattle.spk_sequence.proofs.Quiet.{following_as, goes_on}
 
 -- an event that consumes a message and k waiting ones after it
@@ -44,8 +44,8 @@ in_run s h p now c held r k below =
     let few : run_of held ≤ length held = prefix_len-le-length is_some held in
     let sized : length held ≡ s.width = r.sized in
     elim (cases_Bool (contains (p + 1 + k) (following s h).handed)) [
-      inl handed ↦ handed
-    | inr missing ↦ absurd (true≢false (sym (prefix_len_passes is_some held k None below) ∙ ap is_some (r.places k (omega arith) ∙ ap (λ x. entry_of s x (p + 1 + k)) missing)))
+      | inl handed ↦ handed
+      | inr missing ↦ absurd (true≢false (sym (prefix_len_passes is_some held k None below) ∙ ap is_some (r.places k (omega arith) ∙ ap (λ x. entry_of s x (p + 1 + k)) missing)))
     ]
 
 past_run : (s : Setting) (h : HostRecord) (p now c : ℕ) (held : List (Option (Option ℕ))) → IsReady s h p now c held → contains (p + 1 + run_of held) (following s h).handed ≡ false
@@ -54,10 +54,10 @@ past_run s h p now c held r =
     let sized : length held ≡ s.width = r.sized in
     let k : ℕ = run_of held in
     elim (cases_Bool (contains (p + 1 + k) (following s h).handed)) [
-      inl handed ↦
-        let near : p + 1 + k < p + s.width = r.near (p + 1 + k) (omega arith) handed in
-        absurd (true≢false (sym (ap is_some (r.places k (omega arith) ∙ ap (λ x. entry_of s x (p + 1 + k)) handed)) ∙ prefix_len_stops is_some held None (omega arith)))
-    | inr missing ↦ missing
+      | inl handed ↦
+          let near : p + 1 + k < p + s.width = r.near (p + 1 + k) (omega arith) handed in
+          absurd (true≢false (sym (ap is_some (r.places k (omega arith) ∙ ap (λ x. entry_of s x (p + 1 + k)) handed)) ∙ prefix_len_stops is_some held None (omega arith)))
+      | inr missing ↦ missing
     ]
 
 pub closed_run : (s : Setting) (h : HostRecord) (p now c : ℕ) (held : List (Option (Option ℕ))) → IsReady s h p now c held → (q : ℕ) → p + 1 ≤ q → q < p + 1 + run_of held → opens s.published q ≡ false
@@ -72,14 +72,14 @@ consumed_is_run s h p now c held r =
     let count : 1 + k - 1 ≡ k = omega arith in
     ap (λ n. p ∷ filter_map (λ i. held_under s h ((written_number s p + i) % 256)) (range_with_len 1 n)) count
     ∙ ap (λ ps. p ∷ ps) (filter_map-run (λ i. held_under s h ((written_number s p + i) % 256)) p 1 k (λ i low high.
-        let at : p + 1 + (i - 1) ≡ p + i = omega arith in
-        let handed : contains (p + i) (following s h).handed ≡ true = ap (λ x. contains x (following s h).handed) (sym at) ∙ in_run s h p now c held r (i - 1) (omega arith) in
-        let w : IsWaiting s h c (p + i) = r.waiting (p + i) (omega arith) handed in
-        let after : c ≤ p = r.after in
-        let one : written_number s p ≡ (written_number s c + (p - c)) % 256 = r.in_step.counted c r.opening (omega arith) after in
-        let other : written_number s (p + i) ≡ (written_number s c + (p + i - c)) % 256 = w.in_step.counted c r.opening (omega arith) (omega arith) in
-        let same : (written_number s p + i) % 256 ≡ written_number s (p + i) = omega arith in
-        ap (held_under s h) same ∙ w.under))
+    let at : p + 1 + (i - 1) ≡ p + i = omega arith in
+    let handed : contains (p + i) (following s h).handed ≡ true = ap (λ x. contains x (following s h).handed) (sym at) ∙ in_run s h p now c held r (i - 1) (omega arith) in
+    let w : IsWaiting s h c (p + i) = r.waiting (p + i) (omega arith) handed in
+    let after : c ≤ p = r.after in
+    let one : written_number s p ≡ (written_number s c + (p - c)) % 256 = r.in_step.counted c r.opening (omega arith) after in
+    let other : written_number s (p + i) ≡ (written_number s c + (p + i - c)) % 256 = w.in_step.counted c r.opening (omega arith) (omega arith) in
+    let same : (written_number s p + i) % 256 ≡ written_number s (p + i) = omega arith in
+    ap (held_under s h) same ∙ w.under))
 
 takes_is : (s : Setting) (h : HostRecord) (p now c : ℕ) (held : List (Option (Option ℕ))) → IsReady s h p now c held → takes s (eats p now (run_of held)) ≡ opens s.published p
 takes_is s h p now c held r =
@@ -119,12 +119,12 @@ tied_eaten s h d e p now c held t r wait width stamp bd =
     let f : following s h' ≡ following_as true (MessageComes p now) old (next_after h) (range_with_len p (suc k)) = ap (λ x. following_as x (MessageComes p now) old (next_after h) (range_with_len p (suc k))) on in
     let handed : (q : ℕ) → p < q → contains q (following s h').handed ≡ contains q old.handed = λ q above. ap (λ (x : Following). contains q x.handed) f ∙ ap (λ x. x || contains q old.handed) (ne_eqb p q (λ i. absurd (omega arith))) in
     let last_reached : p + 1 + k ≤ max (p + 1) (reach h) = elim (cases_eq k 0) [
-        inl none ↦ omega arith
+      | inl none ↦ omega arith
       | inr some ↦
           let at : p + 1 + (k - 1) ≡ p + k = omega arith in
           let there : contains (p + k) old.handed ≡ true = ap (λ x. contains x old.handed) (sym at) ∙ in_run s h p now c held r (k - 1) (omega arith) in
           let reached : p + k < reach h = (r.waiting (p + k) (omega arith) there).reached in omega arith
-      ] in
+    ] in
     record {
       whole = record {
         some_places = omega arith;
@@ -132,9 +132,9 @@ tied_eaten s h d e p now c held t r wait width stamp bd =
         one_byte = omega arith;
         all_places = length-places_from held e.width k;
         next_not_held = held_at-places_from held e.width k 0 (omega arith) ∙ (elim (cases_lt k s.width) [
-            inl inside ↦ (let at : k + 0 ≡ k = omega arith in ap (held_at held) at ∙ r.places k inside ∙ ap (λ x. entry_of s x (p + 1 + k)) stops)
+          | inl inside ↦ (let at : k + 0 ≡ k = omega arith in ap (held_at held) at ∙ r.places k inside ∙ ap (λ x. entry_of s x (p + 1 + k)) stops)
           | inr past ↦ held_at-past held (k + 0) (omega arith)
-          ]);
+        ]);
       };
       wait = wait;
       width = width;
@@ -143,67 +143,67 @@ tied_eaten s h d e p now c held t r wait width stamp bd =
       dead = sym (ap (λ x. not x && is_session_dead s h) (takes_is s h p now c held r) ∙ r.alive);
       fits = omega arith;
       birth = λ b tb.
-        let same : c ≡ b = (let i : Some c ≡ Some b = sym (taken_is s h p now c held r) ∙ tb in cc) in
-        let after : c ≤ p = r.after in
-        subst (λ x. IsTaken s h' (after_consumed e (written_number s p) held now) x) same (record {
-          opening = r.opening;
-          stamp = stamp;
-          bd = bd;
-          below = omega arith;
-          reached = omega arith;
-          one_birth = λ q low high. elim (cases_lt p q) [
-              inl above ↦ closed_run s h p now c held r q (omega arith) (omega arith)
-            | inr below ↦ r.one_birth q low below
+          let same : c ≡ b = (let i : Some c ≡ Some b = sym (taken_is s h p now c held r) ∙ tb in cc) in
+          let after : c ≤ p = r.after in
+          subst (λ x. IsTaken s h' (after_consumed e (written_number s p) held now) x) same (record {
+            opening = r.opening;
+            stamp = stamp;
+            bd = bd;
+            below = omega arith;
+            reached = omega arith;
+            one_birth = λ q low high. elim (cases_lt p q) [
+              | inl above ↦ closed_run s h p now c held r q (omega arith) (omega arith)
+              | inr below ↦ r.one_birth q low below
             ];
-        });
+          });
       followed = λ b tb o.
-        let same : c ≡ b = (let i : Some c ≡ Some b = sym (taken_is s h p now c held r) ∙ tb in cc) in
-        let after : c ≤ p = r.after in
-        let one : written_number s p ≡ (written_number s c + (p - c)) % 256 = r.in_step.counted c r.opening (omega arith) after in
-        let waits_is : (q : ℕ) → n < q → waits (following s h') (next_after h') q ≡ contains q old.handed = λ q above.
-            ap (λ x. waits (following s h') x q) next ∙ ap (λ x. contains q (following s h').handed && x) (lt-ltb n q above) ∙ and_true (contains q (following s h').handed) ∙ handed q (omega arith) in
-        subst (λ x. IsFollowed s h' (after_consumed e (written_number s p) held now) x) same (record {
-          next = omega arith;
-          high = omega arith;
-          cause = ap (λ x. contains x (following s h').handed) next ∙ handed n (omega arith) ∙ stops;
-          places = λ i below.
-            let at : next_after h' + i ≡ p + 1 + (k + i) = omega arith in
-            held_at-places_from held e.width k i (omega arith) ∙ (elim (cases_eq i 0) [
-                inl first ↦
-                  let here : k + i ≡ k = omega arith in
-                  let not_past : nat_lt (next_after h') (next_after h' + i) ≡ false = le-ltb (next_after h') (next_after h' + i) (omega arith) in
-                  ap (held_at held) here ∙ (let empty : held_at held k ≡ None = elim (cases_lt k s.width) [
-                      inl inside ↦ r.places k inside ∙ ap (λ x. entry_of s x (p + 1 + k)) stops
-                    | inr past ↦ held_at-past held k (omega arith)
-                    ] in empty)
-                  ∙ sym (ap (λ x. entry_of s x (next_after h' + i)) (and_right (contains (next_after h' + i) (following s h').handed) (nat_lt (next_after h') (next_after h' + i)) not_past))
-              | inr later ↦ (let goal : held_at held (k + i) ≡ entry_of s (contains (p + 1 + (k + i)) old.handed) (p + 1 + (k + i)) = elim (cases_lt (k + i) s.width) [
-                      inl inside ↦ r.places (k + i) inside
+          let same : c ≡ b = (let i : Some c ≡ Some b = sym (taken_is s h p now c held r) ∙ tb in cc) in
+          let after : c ≤ p = r.after in
+          let one : written_number s p ≡ (written_number s c + (p - c)) % 256 = r.in_step.counted c r.opening (omega arith) after in
+          let waits_is : (q : ℕ) → n < q → waits (following s h') (next_after h') q ≡ contains q old.handed = λ q above.
+          ap (λ x. waits (following s h') x q) next ∙ ap (λ x. contains q (following s h').handed && x) (lt-ltb n q above) ∙ and_true (contains q (following s h').handed) ∙ handed q (omega arith) in
+          subst (λ x. IsFollowed s h' (after_consumed e (written_number s p) held now) x) same (record {
+            next = omega arith;
+            high = omega arith;
+            cause = ap (λ x. contains x (following s h').handed) next ∙ handed n (omega arith) ∙ stops;
+            places = λ i below.
+                let at : next_after h' + i ≡ p + 1 + (k + i) = omega arith in
+                held_at-places_from held e.width k i (omega arith) ∙ (elim (cases_eq i 0) [
+                  | inl first ↦
+                      let here : k + i ≡ k = omega arith in
+                      let not_past : nat_lt (next_after h') (next_after h' + i) ≡ false = le-ltb (next_after h') (next_after h' + i) (omega arith) in
+                      ap (held_at held) here ∙ (let empty : held_at held k ≡ None = elim (cases_lt k s.width) [
+                        | inl inside ↦ r.places k inside ∙ ap (λ x. entry_of s x (p + 1 + k)) stops
+                        | inr past ↦ held_at-past held k (omega arith)
+                      ] in empty)
+                      ∙ sym (ap (λ x. entry_of s x (next_after h' + i)) (and_right (contains (next_after h' + i) (following s h').handed) (nat_lt (next_after h') (next_after h' + i)) not_past))
+                  | inr later ↦ (let goal : held_at held (k + i) ≡ entry_of s (contains (p + 1 + (k + i)) old.handed) (p + 1 + (k + i)) = elim (cases_lt (k + i) s.width) [
+                    | inl inside ↦ r.places (k + i) inside
                     | inr past ↦
                         let gone : contains (p + 1 + (k + i)) old.handed ≡ false = elim (cases_Bool (contains (p + 1 + (k + i)) old.handed)) [
-                            inl there ↦ absurd (let near : p + 1 + (k + i) < p + s.width = r.near (p + 1 + (k + i)) (omega arith) there in omega arith)
+                          | inl there ↦ absurd (let near : p + 1 + (k + i) < p + s.width = r.near (p + 1 + (k + i)) (omega arith) there in omega arith)
                           | inr gone ↦ gone
-                          ] in
+                        ] in
                         held_at-past held (k + i) (omega arith) ∙ sym (ap (λ x. entry_of s x (p + 1 + (k + i))) gone)
-                    ] in goal)
-                  ∙ sym (ap (λ x. entry_of s x (next_after h' + i)) (waits_is (next_after h' + i) (omega arith)) ∙ ap (λ x. entry_of s (contains x old.handed) x) at)
-              ]);
-          waiting = λ q wq.
-            let parts : (contains q (following s h').handed ≡ true) × (nat_lt (next_after h') q ≡ true) = and_parts (contains q (following s h').handed) (nat_lt (next_after h') q) wq in
-            let over : next_after h' < q = ltb-true (next_after h') q parts.1 in
-            let there : contains q old.handed ≡ true = sym (handed q (omega arith)) ∙ parts.0 in
-            let v : IsWaiting s h c q = r.waiting q (omega arith) there in
-            let near : q < p + s.width = r.near q (omega arith) there in
-            let reached : q < reach h = v.reached in
-            record {
-              near = omega arith;
-              reached = omega arith;
-              closed = v.closed;
-              in_step = v.in_step;
-              under = v.under;
-            };
-          since = λ any. sym (ap (λ (x : Following). x.began) f ∙ ap (λ x. cond x old.began now) (and_right (is_waiting old.handed (next_after h)) false refl));
-        });
+                  ] in goal)
+                      ∙ sym (ap (λ x. entry_of s x (next_after h' + i)) (waits_is (next_after h' + i) (omega arith)) ∙ ap (λ x. entry_of s (contains x old.handed) x) at)
+                ]);
+            waiting = λ q wq.
+                let parts : (contains q (following s h').handed ≡ true) × (nat_lt (next_after h') q ≡ true) = and_parts (contains q (following s h').handed) (nat_lt (next_after h') q) wq in
+                let over : next_after h' < q = ltb-true (next_after h') q parts.1 in
+                let there : contains q old.handed ≡ true = sym (handed q (omega arith)) ∙ parts.0 in
+                let v : IsWaiting s h c q = r.waiting q (omega arith) there in
+                let near : q < p + s.width = r.near q (omega arith) there in
+                let reached : q < reach h = v.reached in
+                record {
+                  near = omega arith;
+                  reached = omega arith;
+                  closed = v.closed;
+                  in_step = v.in_step;
+                  under = v.under;
+                };
+            since = λ any. sym (ap (λ (x : Following). x.began) f ∙ ap (λ x. cond x old.began now) (and_right (is_waiting old.handed (next_after h)) false refl));
+          });
       off_held = λ off. absurd (true≢false (sym (ap (λ (x : Following). x.on) f) ∙ off));
       off_handed = λ off. absurd (true≢false (sym (ap (λ (x : Following). x.on) f) ∙ off));
     }

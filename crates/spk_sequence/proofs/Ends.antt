@@ -1,15 +1,13 @@
 -- Deaths and moments.
-use Rattle.std.proofs.Common.{◌≡◌, ℕ, zero, suc, ◌+◌, ◌-◌, ◌*◌, ◌%◌, ◌<◌, ◌≤◌, ◌≢◌, ◌&&◌, ◌||◌, Bool, true, false, cond, not, nat_lt, nat_le, eqb, List, [], ◌∷◌, length, refl, sym, ◌∙◌, ap, arith, Option, Some, None, is_some, inl, inr, subst}
-use Rattle.std.specs.List.{list_any}
-use Rattle.std.proofs.lemmas.Bool.{true≢false, cases_Bool, cases_eq, eq-eqb, ne_eqb, and_right, and_left, and_parts, and_from, or_left}
-use Rattle.spk_sequence.specs.declared.phase.Phase.{Phase}
+use Rattle.std.proofs.Common.{◌≡◌, ℕ, ◌-◌, ◌&&◌, true, false, cond, nat_le, eqb, ◌∷◌, refl, sym, ◌∙◌, ap, Option, Some, None, is_some, inl, inr, subst}
+use Rattle.std.proofs.lemmas.Bool.{cases_Bool, cases_eq, eq-eqb, ne_eqb, and_left, and_parts, or_left}
 use Rattle.spk_sequence.specs.declared.phase.Phase.TheVariants as phase
 use Rattle.spk_sequence.specs.declared.answer.Match.TheVariants.{Matched, Ignored}
-use Rattle.spk_sequence.specs.Data.{Standing, IsWhole, held_at}
-use Rattle.spk_sequence.specs.Step.{is_live, is_dead, is_known, is_any_held, is_match, is_over, after_stop}
-use Rattle.spk_sequence.specs.Calls.{Reply, Stepped, Ticked, Told}
-use Rattle.spk_sequence.specs.NodeRecord.{Setting, IsNodeRecord, opens, session_at, written_session}
-use Rattle.spk_sequence.specs.HostRecord.{Input, MessageComes, DeathComes, TickComes, HostRecord, is_held_under, next_after, reach, reach_past}
+use Rattle.spk_sequence.specs.Data.{Standing}
+use Rattle.spk_sequence.specs.Step.{is_live, is_known, is_any_held, is_match, is_over, after_stop}
+use Rattle.spk_sequence.specs.Calls.{Reply, Ticked, Told}
+use Rattle.spk_sequence.specs.NodeRecord.{Setting, session_at, written_session}
+use Rattle.spk_sequence.specs.HostRecord.{Input, DeathComes, TickComes, HostRecord, is_held_under, next_after, reach, reach_past}
 use Rattle.spk_sequence.specs.Following.{Following, contains, taken, following, and_handed, is_waiting, is_gap, is_matching_death, is_session_of, is_session_dead}
 use Rattle.spk_sequence.specs.Window.{IsNear, IsNearTo}
 use Rattle.spk_sequence.proofs.Places.{none_held-from}
@@ -37,9 +35,9 @@ match_is s h d j now t near = go (taken s h) refl
         let close : IsNearTo s (Some b) j = subst (λ y. IsNearTo s y j) e near in
         ap (λ y. y && eqb (written_session s j) d.bd) (t.known ∙ ap is_some e)
         ∙ (elim (cases_eq j (session_at s.published b)) [
-            inl same ↦ eq-eqb (written_session s j) d.bd (ap (written_session s) same ∙ sym o.bd) ∙ sym (eq-eqb j (session_at s.published b) same)
+          | inl same ↦ eq-eqb (written_session s j) d.bd (ap (written_session s) same ∙ sym o.bd) ∙ sym (eq-eqb j (session_at s.published b) same)
           | inr other ↦ ne_eqb (written_session s j) d.bd (λ i. other (near_sessions s j (session_at s.published b) close.0 close.1 (i ∙ o.bd))) ∙ sym (ne_eqb j (session_at s.published b) other)
-          ])
+        ])
         ∙ sym (ap (λ y. is_session_of s y j) e)
 
 pub death_outcome : (s : Setting) (h : HostRecord) (d : Standing) (j now : ℕ) → Tied s h d → IsNear s h j → Outcome s h d (DeathComes j now)
@@ -47,27 +45,27 @@ death_outcome s h d j now t near =
     let input : Input = DeathComes j now in
     let e : is_match d (written_session s j) ≡ is_matching_death s h input = match_is s h d j now t near in
     elim (cases_Bool (is_match d (written_session s j))) [
-      inl matched ↦
-        let m : is_matching_death s h input ≡ true = sym e ∙ matched in
-        record {
-          tied = subst (λ x. Tied s (quiet input (Told (cond x Matched Ignored)) ∷ h) (cond x (after_stop d phase.Dead) d)) (sym matched)
-            (tied_stops s h d input (Told Matched) phase.Dead t refl (goes_on_match s h input m)
-              (sym (and_parts (is_known d.phase) (eqb (written_session s j) d.bd) matched).0)
-              (sym (or_left (is_matching_death s h input) (is_session_dead s h) m)) t.fits);
-          same = λ x. ap (λ y. quiet input (Told (cond y Matched Ignored))) e;
-          ate = refl;
-        }
-    | inr ignored ↦
-        let m : is_matching_death s h input ≡ false = sym e ∙ ignored in
-        record {
-          tied = subst (λ x. Tied s (quiet input (Told (cond x Matched Ignored)) ∷ h) (cond x (after_stop d phase.Dead) d)) (sym ignored)
-            (elim (cases_Bool (following s h).on) [
-              inl on ↦ (let b : (c : ℕ) × (taken s h ≡ Some c) = birth_of s h d t on in unchanged s h d input (Told Ignored) t refl m b.0 b.1 on (λ x. refl) refl refl)
-            | inr off ↦ tied_still s h d input (Told Ignored) t off m t.fits
-            ]);
-          same = λ x. ap (λ y. quiet input (Told (cond y Matched Ignored))) e;
-          ate = refl;
-        }
+      | inl matched ↦
+          let m : is_matching_death s h input ≡ true = sym e ∙ matched in
+          record {
+            tied = subst (λ x. Tied s (quiet input (Told (cond x Matched Ignored)) ∷ h) (cond x (after_stop d phase.Dead) d)) (sym matched)
+                (tied_stops s h d input (Told Matched) phase.Dead t refl (goes_on_match s h input m)
+                (sym (and_parts (is_known d.phase) (eqb (written_session s j) d.bd) matched).0)
+                (sym (or_left (is_matching_death s h input) (is_session_dead s h) m)) t.fits);
+            same = λ x. ap (λ y. quiet input (Told (cond y Matched Ignored))) e;
+            ate = refl;
+          }
+      | inr ignored ↦
+          let m : is_matching_death s h input ≡ false = sym e ∙ ignored in
+          record {
+            tied = subst (λ x. Tied s (quiet input (Told (cond x Matched Ignored)) ∷ h) (cond x (after_stop d phase.Dead) d)) (sym ignored)
+                (elim (cases_Bool (following s h).on) [
+                  | inl on ↦ (let b : (c : ℕ) × (taken s h ≡ Some c) = birth_of s h d t on in unchanged s h d input (Told Ignored) t refl m b.0 b.1 on (λ x. refl) refl refl)
+                  | inr off ↦ tied_still s h d input (Told Ignored) t off m t.fits
+                ]);
+            same = λ x. ap (λ y. quiet input (Told (cond y Matched Ignored))) e;
+            ate = refl;
+          }
     ]
 
 -- the timer is over exactly at a gap
@@ -76,18 +74,18 @@ over_is s h d now t =
     let n : ℕ = next_after h in
     let f : Following = following s h in
     elim (cases_Bool f.on) [
-      inr off ↦ and_left (is_any_held d.held) (nat_le d.wait (now - d.since)) (none_held-from d.held (λ i below. t.off_held off i))
-        ∙ sym (ap (λ x. x && is_waiting f.handed n && nat_le s.wait (now - f.began)) off)
-    | inl on ↦
-        let b : (c : ℕ) × (taken s h ≡ Some c) = birth_of s h d t on in
-        let w : IsFollowed s h d b.0 = t.followed b.0 b.1 on in
-        let any : is_any_held d.held ≡ is_waiting f.handed n = any_held-waiting s h d b.0 t b.1 on in
-        ap (λ x. x && nat_le d.wait (now - d.since)) any
-        ∙ (elim (cases_Bool (is_waiting f.handed n)) [
-            inl some ↦ (let e : nat_le d.wait (now - d.since) ≡ nat_le s.wait (now - f.began) = rw (t.wait, w.since some) refl in ap (λ x. is_waiting f.handed n && x) e)
-          | inr none ↦ and_left (is_waiting f.handed n) (nat_le d.wait (now - d.since)) none ∙ sym (and_left (is_waiting f.handed n) (nat_le s.wait (now - f.began)) none)
+      | inr off ↦ and_left (is_any_held d.held) (nat_le d.wait (now - d.since)) (none_held-from d.held (λ i below. t.off_held off i))
+          ∙ sym (ap (λ x. x && is_waiting f.handed n && nat_le s.wait (now - f.began)) off)
+      | inl on ↦
+          let b : (c : ℕ) × (taken s h ≡ Some c) = birth_of s h d t on in
+          let w : IsFollowed s h d b.0 = t.followed b.0 b.1 on in
+          let any : is_any_held d.held ≡ is_waiting f.handed n = any_held-waiting s h d b.0 t b.1 on in
+          ap (λ x. x && nat_le d.wait (now - d.since)) any
+          ∙ (elim (cases_Bool (is_waiting f.handed n)) [
+            | inl some ↦ (let e : nat_le d.wait (now - d.since) ≡ nat_le s.wait (now - f.began) = rw (t.wait, w.since some) refl in ap (λ x. is_waiting f.handed n && x) e)
+            | inr none ↦ and_left (is_waiting f.handed n) (nat_le d.wait (now - d.since)) none ∙ sym (and_left (is_waiting f.handed n) (nat_le s.wait (now - f.began)) none)
           ])
-        ∙ sym (ap (λ x. x && is_waiting f.handed n && nat_le s.wait (now - f.began)) on)
+          ∙ sym (ap (λ x. x && is_waiting f.handed n && nat_le s.wait (now - f.began)) on)
     ]
 
 pub tick_outcome : (s : Setting) (h : HostRecord) (d : Standing) (now : ℕ) → Tied s h d → Outcome s h d (TickComes now)
@@ -95,25 +93,25 @@ tick_outcome s h d now t =
     let input : Input = TickComes now in
     let e : is_over d now ≡ is_gap s h input = over_is s h d now t in
     elim (cases_Bool (is_over d now)) [
-      inl over ↦
-        let g : is_gap s h input ≡ true = sym e ∙ over in
-        let on : (following s h).on ≡ true = (and_parts (following s h).on (is_waiting (following s h).handed (next_after h)) (and_parts ((following s h).on && is_waiting (following s h).handed (next_after h)) (nat_le s.wait (now - (following s h).began)) g).0).0 in
-        let live : is_live d.phase ≡ true = t.live ∙ on in
-        record {
-          tied = subst (λ x. Tied s (quiet input (Ticked x) ∷ h) (cond x (after_stop d phase.Gap) d)) (sym over)
-            (tied_stops s h d input (Ticked true) phase.Gap t refl (goes_on_gap s h input g) (sym (live_is_known d.phase live)) (sym (sym t.dead ∙ live_is_alive d.phase live)) t.fits);
-          same = λ x. ap (λ y. quiet input (Ticked y)) e;
-          ate = refl;
-        }
-    | inr waits_on ↦
-        let g : is_gap s h input ≡ false = sym e ∙ waits_on in
-        record {
-          tied = subst (λ x. Tied s (quiet input (Ticked x) ∷ h) (cond x (after_stop d phase.Gap) d)) (sym waits_on)
-            (elim (cases_Bool (following s h).on) [
-              inl on ↦ (let b : (c : ℕ) × (taken s h ≡ Some c) = birth_of s h d t on in unchanged s h d input (Ticked false) t g refl b.0 b.1 on (λ x. refl) refl refl)
-            | inr off ↦ tied_still s h d input (Ticked false) t off refl t.fits
-            ]);
-          same = λ x. ap (λ y. quiet input (Ticked y)) e;
-          ate = refl;
-        }
+      | inl over ↦
+          let g : is_gap s h input ≡ true = sym e ∙ over in
+          let on : (following s h).on ≡ true = (and_parts (following s h).on (is_waiting (following s h).handed (next_after h)) (and_parts ((following s h).on && is_waiting (following s h).handed (next_after h)) (nat_le s.wait (now - (following s h).began)) g).0).0 in
+          let live : is_live d.phase ≡ true = t.live ∙ on in
+          record {
+            tied = subst (λ x. Tied s (quiet input (Ticked x) ∷ h) (cond x (after_stop d phase.Gap) d)) (sym over)
+                (tied_stops s h d input (Ticked true) phase.Gap t refl (goes_on_gap s h input g) (sym (live_is_known d.phase live)) (sym (sym t.dead ∙ live_is_alive d.phase live)) t.fits);
+            same = λ x. ap (λ y. quiet input (Ticked y)) e;
+            ate = refl;
+          }
+      | inr waits_on ↦
+          let g : is_gap s h input ≡ false = sym e ∙ waits_on in
+          record {
+            tied = subst (λ x. Tied s (quiet input (Ticked x) ∷ h) (cond x (after_stop d phase.Gap) d)) (sym waits_on)
+                (elim (cases_Bool (following s h).on) [
+                  | inl on ↦ (let b : (c : ℕ) × (taken s h ≡ Some c) = birth_of s h d t on in unchanged s h d input (Ticked false) t g refl b.0 b.1 on (λ x. refl) refl refl)
+                  | inr off ↦ tied_still s h d input (Ticked false) t off refl t.fits
+                ]);
+            same = λ x. ap (λ y. quiet input (Ticked y)) e;
+            ate = refl;
+          }
     ]

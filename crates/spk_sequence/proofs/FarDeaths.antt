@@ -1,5 +1,5 @@
 -- Why deaths have to be of near sessions: bytes of sessions 256 apart are one.
-use Rattle.std.specs.Prelude.{◌≡◌, ℕ, true, false, List, [], ◌∷◌, ◌++◌, reverse, refl}
+use Rattle.std.specs.Prelude.{◌≡◌, false, List, [], ◌∷◌, reverse, refl}
 use Rattle.spk_sequence.specs.NodeRecord.{NodeRecord, RunsOn}
 use Rattle.spk_sequence.specs.HostRecord.{Input, MessageComes, DeathComes, TickComes, record_of, consumed_of}
 use Rattle.spk_sequence.specs.Following.{following}

@@ -1,8 +1,8 @@
 -- What was done is the same when more is published afterwards.
-use Rattle.std.proofs.Common.{◌≡◌, ℕ, zero, suc, ◌+◌, ◌-◌, ◌*◌, ◌%◌, ◌<◌, ◌≤◌, ◌&&◌, ◌||◌, Bool, true, false, cond, not, nat_lt, nat_le, eqb, List, [], ◌∷◌, ◌++◌, length, refl, sym, ◌∙◌, ap, arith, Option, Some, None, is_some, inl, inr, subst, length-append}
+use Rattle.std.proofs.Common.{◌≡◌, ℕ, zero, suc, ◌+◌, ◌-◌, ◌%◌, ◌<◌, ◌≤◌, ◌&&◌, ◌||◌, true, cond, not, nat_lt, nat_le, eqb, List, [], ◌∷◌, ◌++◌, length, refl, sym, ◌∙◌, ap, arith, Option, Some, None, inl, inr, subst, length-append}
 use Rattle.std.specs.List.{range_with_len, list_any, filter_map}
 use Rattle.std.proofs.Math.ListN.{get_or-append}
-use Rattle.std.proofs.lemmas.Bool.{true≢false, eqb-true, eq-eqb, or_left, or_right}
+use Rattle.std.proofs.lemmas.Bool.{true≢false, eq-eqb, or_left, or_right}
 use Rattle.spk_sequence.specs.declared.answer.Step.TheVariants as step
 use Rattle.spk_sequence.specs.declared.message.Kind.TheVariants.{Birth, Other}
 use Rattle.spk_sequence.specs.Data.{Standing}
@@ -10,12 +10,12 @@ use Rattle.spk_sequence.specs.Calls.{Reply, Stepped, Ticked, Told, reply_of, aft
 use Rattle.spk_sequence.specs.NodeRecord.{Setting, NodeRecord, Message, Numbering, RunsOn, Restarts, IsNodeRecord, message_at, opens, birth_at, session_at, stamp_at, start_of, number_by, written_number}
 use Rattle.spk_sequence.specs.HostRecord.{Input, MessageComes, DeathComes, TickComes, Done, HostRecord, record_of, standing_of, done_at, call_of, kind_of, consumed_by, held_under, is_held_under, position_of, next_after, reach}
 use Rattle.spk_sequence.specs.Following.{Following, contains, taken, takes, following, last_opening, is_matching_death, is_session_of, is_session_dead, dead_sessions, with_dead, is_gap_of}
-use Rattle.spk_sequence.specs.Window.{InWindow, MayCome, AllMayCome, IsNearTo}
+use Rattle.spk_sequence.specs.Window.{MayCome, AllMayCome, IsNearTo}
 use Rattle.spk_sequence.specs.Claims.{with_more, IsSameWithMore}
 use Rattle.spk_sequence.proofs.Ranges.{in_run}
 use Rattle.spk_sequence.proofs.Tied.{Tied, IsTaken}
 use Rattle.spk_sequence.proofs.Quiet.{following_as}
-use Rattle.spk_sequence.proofs.Outcomes.{Outcome, Eats, Ate}
+use Rattle.spk_sequence.proofs.Outcomes.{Ate}
 use Rattle.spk_sequence.proofs.Always.{AllStep, outcome, tied_always}
 
 -- what was published stays
@@ -62,7 +62,7 @@ filter_map_same f g (x ∷ xs) same = rw (same x, filter_map_same f g xs same) r
 consumed_same : (s : Setting) (more : NodeRecord) (h : HostRecord) (input : Input) (reply : Reply) → IsKnown s input → ((x : ℕ) → held_under (with_more s more) h x ≡ held_under s h x) → consumed_by (with_more s more) h input reply ≡ consumed_by s h input reply
 consumed_same s more h (MessageComes p now) (Stepped (step.Consumed n)) below under =
     ap (λ ps. p ∷ ps) (filter_map_same (λ i. held_under (with_more s more) h ((written_number (with_more s more) p + i) % 256)) (λ i. held_under s h ((written_number s p + i) % 256)) (range_with_len 1 (n - 1))
-      (λ i. under ((written_number (with_more s more) p + i) % 256) ∙ ap (λ y. held_under s h ((y + i) % 256)) (number_same s more p below)))
+    (λ i. under ((written_number (with_more s more) p + i) % 256) ∙ ap (λ y. held_under s h ((y + i) % 256)) (number_same s more p below)))
 consumed_same s more h (MessageComes p now) (Stepped step.Held) below under = refl
 consumed_same s more h (MessageComes p now) (Stepped step.Old) below under = refl
 consumed_same s more h (MessageComes p now) (Stepped step.Gap) below under = refl
@@ -113,12 +113,12 @@ known_consumed : (s : Setting) (h : HostRecord) (input : Input) (ps : List ℕ) 
 known_consumed s h (DeathComes j now) ps ate q there = absurd (true≢false (sym there ∙ ap (contains q) ate))
 known_consumed s h (TickComes now) ps ate q there = absurd (true≢false (sym there ∙ ap (contains q) ate))
 known_consumed s h (MessageComes p now) ps ate q there = elim ate [
-    inl none ↦ absurd (true≢false (sym there ∙ ap (contains q) none))
+  | inl none ↦ absurd (true≢false (sym there ∙ ap (contains q) none))
   | inr some ↦
       let within : (p ≤ q) × (q < p + suc some.0) = in_run q p (suc some.0) (sym (ap (contains q) some.2) ∙ there) in
       let high : q < p + suc some.0 = within.1 in
       let fits : p + suc some.0 ≤ length s.published = some.1.within in omega arith
-  ]
+]
 
 -- the queries agree
 record Agrees (s : Setting) (more : NodeRecord) (h : HostRecord) : Type 0 where
@@ -156,12 +156,12 @@ agrees_after s more h e known eaten below a =
     record {
       taken = ap (λ o. last_opening (s.published ++ more) o e.consumed) a.taken ∙ last_same s.published more (taken s h) e.consumed eaten;
       following =
-        ap (λ x. following_as (x || ((following t h).on && not (is_gap_of t (following t h) n e.input) && not (is_matching_death t h e.input))) e.input (following t h) n e.consumed) tk
-        ∙ ap (λ (f : Following). following_as (takes s e || (f.on && not (is_gap_of t f n e.input) && not (is_matching_death t h e.input))) e.input f n e.consumed) a.following
-        ∙ ap (λ x. following_as (takes s e || ((following s h).on && not x && not (is_matching_death t h e.input))) e.input (following s h) n e.consumed) (gap_same s more (following s h) n e.input known)
-        ∙ ap (λ x. following_as (takes s e || ((following s h).on && not (is_gap_of s (following s h) n e.input) && not x)) e.input (following s h) n e.consumed) m;
+          ap (λ x. following_as (x || ((following t h).on && not (is_gap_of t (following t h) n e.input) && not (is_matching_death t h e.input))) e.input (following t h) n e.consumed) tk
+          ∙ ap (λ (f : Following). following_as (takes s e || (f.on && not (is_gap_of t f n e.input) && not (is_matching_death t h e.input))) e.input f n e.consumed) a.following
+          ∙ ap (λ x. following_as (takes s e || ((following s h).on && not x && not (is_matching_death t h e.input))) e.input (following s h) n e.consumed) (gap_same s more (following s h) n e.input known)
+          ∙ ap (λ x. following_as (takes s e || ((following s h).on && not (is_gap_of s (following s h) n e.input) && not x)) e.input (following s h) n e.consumed) m;
       dead = ap (λ x. not x && (is_matching_death t h e.input || is_session_dead t h)) tk
-        ∙ ap (λ x. not (takes s e) && (x || is_session_dead t h)) m ∙ ap (λ x. not (takes s e) && (is_matching_death s h e.input || x)) a.dead;
+          ∙ ap (λ x. not (takes s e) && (x || is_session_dead t h)) m ∙ ap (λ x. not (takes s e) && (is_matching_death s h e.input || x)) a.dead;
       sessions = dead_list_same s more h e.input _ _ a.sessions m;
       under = λ x. ap (λ b. cond b (position_of e.input) (held_under t h x)) (held_same s more x e.input e.reply known) ∙ ap (λ o. cond (is_held_under s x e.input e.reply) (position_of e.input) o) (a.under x);
     }
@@ -188,10 +188,10 @@ may_same : (s : Setting) (more : NodeRecord) (h : HostRecord) (input : Input) �
 may_same s more h (TickComes now) below a may = may
 may_same s more h (DeathComes j now) below a may = subst (λ o. IsNearTo (with_more s more) o j) (sym a.taken) (near_same s more (taken s h) j below may)
 may_same s more h (MessageComes p now) below a may = record {
-    published = (let k : p < length s.published = may.published in let e : length (s.published ++ more) ≡ length s.published + length more = length-append s.published more in omega arith);
-    not_far_behind = may.not_far_behind;
-    not_far_ahead = λ on. may.not_far_ahead (sym (ap (λ (f : Following). f.on) a.following) ∙ on);
-  }
+  published = (let k : p < length s.published = may.published in let e : length (s.published ++ more) ≡ length s.published + length more = length-append s.published more in omega arith);
+  not_far_behind = may.not_far_behind;
+  not_far_ahead = λ on. may.not_far_ahead (sym (ap (λ (f : Following). f.on) a.following) ∙ on);
+}
 
 record Grown (s : Setting) (more : NodeRecord) (inputs : List Input) : Type 0 where
   same_record : record_of (with_more s more) inputs ≡ record_of s inputs
@@ -201,9 +201,11 @@ record Grown (s : Setting) (more : NodeRecord) (inputs : List Input) : Type 0 wh
 
 grown_always : (s : Setting) (more : NodeRecord) → IsNodeRecord s.published → 0 < s.width → s.width ≤ 96 → (inputs : List Input) → AllMayCome s inputs → AllStep s inputs → Grown s more inputs
 grown_always s more node low high [] may steps = record {
-    same_record = refl; same_standing = refl; may = tt;
-    agrees = record { taken = refl; following = refl; dead = refl; sessions = refl; under = λ x. refl };
-  }
+  same_record = refl;
+  same_standing = refl;
+  may = tt;
+  agrees = record { taken = refl; following = refl; dead = refl; sessions = refl; under = λ x. refl };
+}
 grown_always s more node low high (input ∷ inputs) may steps =
     let h : HostRecord = record_of s inputs in
     let d : Standing = standing_of s inputs in
@@ -211,12 +213,12 @@ grown_always s more node low high (input ∷ inputs) may steps =
     let g : Grown s more inputs = grown_always s more node low high inputs may.1 steps.1 in
     let known : IsKnown s input = known_of s h input may.0 in
     let below : (b : ℕ) → taken s h ≡ Some b → b < length s.published = λ b tk.
-      (let o : IsTaken s h d b = t.birth b tk in let bn : b < next_after h = o.below in let nr : next_after h ≤ reach h = o.reached in let fits : reach h ≤ length s.published = t.fits in omega arith) in
+    (let o : IsTaken s h d b = t.birth b tk in let bn : b < next_after h = o.below in let nr : next_after h ≤ reach h = o.reached in let fits : reach h ≤ length s.published = t.fits in omega arith) in
     let ate : Ate s h input (done_at s h d input).consumed = (outcome s h d input node t may.0 steps.0).ate in
     record {
       same_record = ap (λ x. done_at (with_more s more) x (standing_of (with_more s more) inputs) input ∷ x) g.same_record
-        ∙ ap (λ x. done_at (with_more s more) h x input ∷ h) g.same_standing
-        ∙ ap (λ e. e ∷ h) (done_same s more h d input known g.agrees);
+          ∙ ap (λ x. done_at (with_more s more) h x input ∷ h) g.same_standing
+          ∙ ap (λ e. e ∷ h) (done_same s more h d input known g.agrees);
       same_standing = ap (λ x. after_call x (call_of (with_more s more) input)) g.same_standing ∙ ap (after_call d) (call_same s more input known);
       agrees = agrees_after s more h (done_at s h d input) known (known_consumed s h input (done_at s h d input).consumed ate) below g.agrees;
       may = (subst (λ x. MayCome (with_more s more) x input) (sym g.same_record) (may_same s more h input below g.agrees may.0), g.may);

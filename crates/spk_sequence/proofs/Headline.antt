@@ -1,5 +1,5 @@
 -- The clauses of the law that speak of what was consumed.
-use Rattle.std.proofs.Common.{◌≡◌, ℕ, List, ◌∷◌}
+use Rattle.std.proofs.Common.{◌≡◌, List, ◌∷◌}
 use Rattle.spk_sequence.specs.NodeRecord.{Setting, NodeRecord}
 use Rattle.spk_sequence.specs.HostRecord.{Input, record_of, standing_of, done_at, consumed_of}
 use Rattle.spk_sequence.specs.Following.{taken}
@@ -24,7 +24,7 @@ after_gap s inputs input l = after_gap_of s (record_of s inputs) input (done_at 
 pub after_death : (s : Setting) (inputs : List Input) (input : Input) → IsLawful s (input ∷ inputs) → AfterDeath s (record_of s inputs) (done_at s (record_of s inputs) (standing_of s inputs) input)
 after_death s inputs input l =
     after_death_of s (record_of s inputs) (standing_of s inputs) input (done_at s (record_of s inputs) (standing_of s inputs) input) l.node (tied_of s inputs (before_of s inputs input l))
-      (past_always s l.node l.some_places l.few_places inputs l.may_come.1 (steps_all s (input ∷ inputs) l).1) (ate_of s inputs input l)
+    (past_always s l.node l.some_places l.few_places inputs l.may_come.1 (steps_all s (input ∷ inputs) l).1) (ate_of s inputs input l)
 
 pub taken_after : (s : Setting) (inputs : List Input) (input : Input) → IsLawful s (input ∷ inputs) →
     taken s (record_of s (input ∷ inputs)) ≡ taken_by s (record_of s inputs) input (done_at s (record_of s inputs) (standing_of s inputs) input).consumed

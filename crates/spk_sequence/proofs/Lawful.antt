@@ -1,24 +1,13 @@
 -- What holds of every lawful list of inputs.
-use Rattle.std.proofs.Common.{◌≡◌, ℕ, zero, suc, ◌+◌, ◌-◌, ◌%◌, ◌<◌, ◌≤◌, ◌&&◌, ◌||◌, Bool, true, false, cond, not, nat_lt, nat_le, eqb, List, [], ◌∷◌, length, refl, sym, ◌∙◌, ap, arith, Option, Some, None, is_some, inl, inr, subst}
-use Rattle.std.specs.List.{range_with_len, list_any}
-use Rattle.std.proofs.lemmas.List.{length-replicate}
-use Rattle.std.proofs.lemmas.Bool.{true≢false, cases_Bool, or_left, or_from}
-use Rattle.spk_sequence.specs.declared.answer.Step.TheVariants as step
-use Rattle.spk_sequence.specs.Data.{Standing, IsWhole, held_at}
-use Rattle.spk_sequence.specs.Step.{fresh_standing}
-use Rattle.spk_sequence.specs.Calls.{Stepped}
-use Rattle.spk_sequence.specs.NodeRecord.{Setting, Numbering, RunsOn, Restarts, IsNodeRecord, opens, written_number}
-use Rattle.spk_sequence.specs.HostRecord.{Input, MessageComes, DeathComes, TickComes, Done, HostRecord, record_of, standing_of, done_at, call_of, next_after}
-use Rattle.spk_sequence.specs.Following.{contains, taken, takes, following}
-use Rattle.spk_sequence.specs.Window.{InWindow, MayCome, AllMayCome, NumbersFit, IsNearBirth}
-use Rattle.spk_sequence.specs.Positions.{right_at, right_consumed, run_after, is_taken_before, is_of_dead}
+use Rattle.std.proofs.Common.{◌≡◌, ℕ, List, ◌∷◌, refl, ◌∙◌, ap, Some}
+use Rattle.spk_sequence.specs.NodeRecord.{Setting, Numbering, RunsOn, Restarts}
+use Rattle.spk_sequence.specs.HostRecord.{Input, MessageComes, record_of, standing_of, done_at}
+use Rattle.spk_sequence.specs.Following.{taken, takes}
+use Rattle.spk_sequence.specs.Window.{NumbersFit, IsNearBirth}
 use Rattle.spk_sequence.specs.Claims.{IsLawful, SameStep, IsLiveByPositions, TakesBirth, HasCause}
-use Rattle.spk_sequence.proofs.Places.{held_at-empty}
-use Rattle.spk_sequence.proofs.Tied.{Tied, IsFollowed, InStep, in_step_runs_on}
-use Rattle.spk_sequence.proofs.Outcomes.{Outcome, Ate}
-use Rattle.spk_sequence.proofs.Messages.{message_outcome, birth_of}
-use Rattle.spk_sequence.proofs.Births.{birth_outcome}
-use Rattle.spk_sequence.proofs.Ends.{death_outcome, tick_outcome}
+use Rattle.spk_sequence.proofs.Tied.{Tied}
+use Rattle.spk_sequence.proofs.Outcomes.{Ate}
+use Rattle.spk_sequence.proofs.Messages.{birth_of}
 use Rattle.spk_sequence.proofs.Always.{StepsOf, AllStep, all_step_runs_on, outcome, tied_always, right_takes}
 use Rattle.spk_sequence.proofs.Restarts.{all_step_restarts}
 

@@ -1,29 +1,27 @@
 -- What an event answers on numbers, and that it is what it answers on positions.
-use Rattle.std.proofs.Common.{◌≡◌, ℕ, zero, suc, ◌+◌, ◌-◌, ◌*◌, ◌%◌, ◌<◌, ◌≤◌, ◌≢◌, ◌&&◌, ◌||◌, ◌⊎◌, Bool, true, false, cond, not, nat_lt, nat_le, eqb, List, [], ◌∷◌, length, get_or, refl, sym, ◌∙◌, ap, arith, Option, Some, None, is_some, inl, inr, subst}
-use Rattle.std.specs.List.{range_with_len, list_any, prefix_len}
+use Rattle.std.proofs.Common.{◌≡◌, ℕ, suc, ◌+◌, ◌-◌, ◌<◌, ◌≤◌, ◌&&◌, ◌||◌, ◌⊎◌, Bool, true, false, cond, not, nat_lt, nat_le, eqb, List, [], ◌∷◌, length, refl, sym, ◌∙◌, ap, arith, Option, Some, None, is_some, inl, inr, subst}
+use Rattle.std.specs.List.{range_with_len, prefix_len}
 use Rattle.std.proofs.lemmas.List.FromFn.{length-range_with_len, get_or-range_with_len}
 use Rattle.std.proofs.lemmas.List.Sums.{prefix_len_is, prefix_len-le-length, prefix_len_passes, prefix_len_stops}
-use Rattle.std.proofs.lemmas.Bool.{true≢false, cases_lt, cases_eq, cases_Bool, lt-ltb, le-ltb, ltb-true, eq-eqb, ne_eqb, and_right, and_left, and_parts, and_from, le-leb, lt-leb}
+use Rattle.std.proofs.lemmas.Bool.{true≢false, cases_lt, cases_eq, cases_Bool, lt-ltb, and_right, and_left, and_from, lt-leb}
 use Rattle.spk_sequence.specs.declared.phase.Phase.{Phase}
 use Rattle.spk_sequence.specs.declared.phase.Phase.TheVariants as phase
 use Rattle.spk_sequence.specs.declared.message.Kind.{Kind}
-use Rattle.spk_sequence.specs.declared.message.Kind.TheVariants.{Birth, Other}
 use Rattle.spk_sequence.specs.declared.answer.Step.{Step}
 use Rattle.spk_sequence.specs.declared.answer.Step.TheVariants as step
-use Rattle.spk_sequence.specs.Data.{Standing, IsWhole, held_at}
+use Rattle.spk_sequence.specs.Data.{Standing, held_at}
 use Rattle.spk_sequence.specs.Step.{is_live, is_dead, is_known, is_below, ahead, hand, hand_other, places_from, run_of, after_consumed, after_held, after_stop}
-use Rattle.spk_sequence.specs.Calls.{Reply, Stepped, after_call}
-use Rattle.spk_sequence.specs.NodeRecord.{Setting, IsNodeRecord, opens, stamp_at, session_at, written_number, written_session}
+use Rattle.spk_sequence.specs.Calls.{Stepped, after_call}
+use Rattle.spk_sequence.specs.NodeRecord.{Setting, opens, stamp_at, written_number}
 use Rattle.spk_sequence.specs.HostRecord.{Input, MessageComes, Done, HostRecord, kind_of, call_of, consumed_by, done_at, next_after, reach}
-use Rattle.spk_sequence.specs.Following.{Following, contains, taken, following, waits, is_gap, is_session_dead}
+use Rattle.spk_sequence.specs.Following.{Following, contains, taken, following, waits, is_session_dead}
 use Rattle.spk_sequence.specs.Window.{InWindow, IsNearBirth}
-use Rattle.spk_sequence.specs.Positions.{is_taken_before, is_of_dead, right_at, right_reply, right_consumed, birth_step, message_step, run_after}
+use Rattle.spk_sequence.specs.Positions.{is_taken_before, is_of_dead, right_at, right_consumed, birth_step, message_step, run_after}
 use Rattle.spk_sequence.proofs.Places.{held_at-past}
 use Rattle.spk_sequence.proofs.WindowLemmas.{held_at-places_from, length-places_from}
-use Rattle.spk_sequence.proofs.Tied.{Tied, IsTaken, IsFollowed, IsWaiting, InStep, entry_of, number_below}
-use Rattle.spk_sequence.proofs.Quiet.{quiet, tied_still, tied_on, tied_stops, goes_on, goes_on_true, goes_on_gap}
-use Rattle.spk_sequence.proofs.Held.{tied_held}
-use Rattle.spk_sequence.proofs.Eaten.{eats, IsReady, tied_eaten, consumed_is_run, in_run, closed_run}
+use Rattle.spk_sequence.proofs.Tied.{Tied, IsTaken, IsFollowed, IsWaiting, InStep, entry_of}
+use Rattle.spk_sequence.proofs.Quiet.{goes_on, goes_on_true}
+use Rattle.spk_sequence.proofs.Eaten.{IsReady, in_run, closed_run}
 
 -- p is consumed, with k waiting ones after it: an NBIRTH newer than the one taken, or the position that comes next.
 pub record Eats (s : Setting) (h : HostRecord) (p k : ℕ) : Type 0 where
@@ -54,10 +52,10 @@ outcome_from s h d e p now kind r ps k x c t right q ate =
     let is : hand d (written_number s p) (kind_of s p) now ≡ (r, e) = ap (λ j. hand d (written_number s p) j now) k ∙ x in
     record {
       tied = subst (λ (y : Step × Standing). Tied s (stepped p now y.0 (consumed_by s h (MessageComes p now) (Stepped y.0)) ∷ h) y.1) (sym is)
-        (subst (λ js. Tied s (stepped p now r js ∷ h) e) (sym c) t);
+          (subst (λ js. Tied s (stepped p now r js ∷ h) e) (sym c) t);
       same = λ near. ap (λ (y : Step × Standing). stepped p now y.0 (consumed_by s h (MessageComes p now) (Stepped y.0))) is
-        ∙ ap (stepped p now r) (c ∙ sym q)
-        ∙ sym (ap (λ y. stepped p now y (right_consumed (MessageComes p now) (Stepped y))) (right near));
+          ∙ ap (stepped p now r) (c ∙ sym q)
+          ∙ sym (ap (λ y. stepped p now y (right_consumed (MessageComes p now) (Stepped y))) (right near));
       ate = subst (Ate s h (MessageComes p now)) (sym (ap (λ (y : Step × Standing). consumed_by s h (MessageComes p now) (Stepped y.0)) is ∙ c)) ate;
     }
 
@@ -117,19 +115,20 @@ run_after-is s h p now c held r =
     let sized : length held ≡ s.width = r.sized in
     let long : length (range_with_len (p + 1) s.width) ≡ s.width = length-range_with_len (p + 1) s.width in
     let waits_is : (q : ℕ) → p < q → waits f n q ≡ contains q f.handed = λ q above. elim (cases_Bool (contains q f.handed)) [
-        inl there ↦ and_from (contains q f.handed) (nat_lt n q) there (lt-ltb n q (r.low q above there)) ∙ sym there
+      | inl there ↦ and_from (contains q f.handed) (nat_lt n q) there (lt-ltb n q (r.low q above there)) ∙ sym there
       | inr gone ↦ and_left (contains q f.handed) (nat_lt n q) gone ∙ sym gone
-      ] in
+    ] in
     let full : (i : ℕ) → i < s.width → is_some (held_at held i) ≡ waits f n (p + 1 + i) = λ i below.
-        ap is_some (r.places i below) ∙ some_if (contains (p + 1 + i) f.handed) (stamp_at s.published (p + 1 + i)) ∙ sym (waits_is (p + 1 + i) (omega arith)) in
+    ap is_some (r.places i below) ∙ some_if (contains (p + 1 + i) f.handed) (stamp_at s.published (p + 1 + i)) ∙ sym (waits_is (p + 1 + i) (omega arith)) in
     prefix_len_is (waits f n) (range_with_len (p + 1) s.width) k 0 (omega arith)
-      (λ i below. ap (waits f n) (get_or-range_with_len (p + 1) s.width i 0 (omega arith)) ∙ sym (full i (omega arith)) ∙ prefix_len_passes is_some held i None below)
-      (λ below. let inside : k < s.width = omega arith in
-        ap (waits f n) (get_or-range_with_len (p + 1) s.width k 0 inside) ∙ sym (full k inside) ∙ stops held (omega arith))
+    (λ i below. ap (waits f n) (get_or-range_with_len (p + 1) s.width i 0 (omega arith)) ∙ sym (full i (omega arith)) ∙ prefix_len_passes is_some held i None below)
+    (λ below. let inside : k < s.width = omega arith in
+    ap (waits f n) (get_or-range_with_len (p + 1) s.width k 0 inside) ∙ sym (full k inside) ∙ stops held (omega arith))
   where
     some_if : (b : Bool) (x : ℕ) → is_some (cond b (Some (Some x)) None) ≡ b
     some_if true x = refl
     some_if false x = refl
+
     stops : (xs : List (Option (Option ℕ))) → prefix_len is_some xs < length xs → is_some (held_at xs (prefix_len is_some xs)) ≡ false
     stops xs below = prefix_len_stops is_some xs None below
 
@@ -166,20 +165,20 @@ message_ready s h d p now b t tk on at closed in_step window =
       in_step = in_step;
       takes_it = ap (λ x. cond x (Some p) (taken s h)) closed ∙ tk;
       one_birth = λ q low high. elim (cases_lt q n) [
-          inl inside ↦ o.one_birth q low inside
+        | inl inside ↦ o.one_birth q low inside
         | inr last ↦ (let here : p ≡ q = omega arith in ap (opens s.published) (sym here) ∙ closed)
-        ];
+      ];
       sized = length-places_from d.held d.width 1 ∙ wide;
       places = λ i below.
-        let there : n + (1 + i) ≡ p + 1 + i = omega arith in
-        held_at-places_from d.held d.width 1 i (omega arith) ∙ (elim (cases_lt (1 + i) s.width) [
-            inl inside ↦ w.places (1 + i) inside ∙ ap (λ x. entry_of s (waits f n x) x) there ∙ ap (λ x. entry_of s x (p + 1 + i)) (waits_is (p + 1 + i) (omega arith))
-          | inr past ↦
-              let gone : contains (p + 1 + i) f.handed ≡ false = elim (cases_Bool (contains (p + 1 + i) f.handed)) [
-                  inl handed ↦ absurd (let near : p + 1 + i < n + s.width = (waiting (p + 1 + i) (omega arith) handed).near in omega arith)
-                | inr gone ↦ gone
+          let there : n + (1 + i) ≡ p + 1 + i = omega arith in
+          held_at-places_from d.held d.width 1 i (omega arith) ∙ (elim (cases_lt (1 + i) s.width) [
+            | inl inside ↦ w.places (1 + i) inside ∙ ap (λ x. entry_of s (waits f n x) x) there ∙ ap (λ x. entry_of s x (p + 1 + i)) (waits_is (p + 1 + i) (omega arith))
+            | inr past ↦
+                let gone : contains (p + 1 + i) f.handed ≡ false = elim (cases_Bool (contains (p + 1 + i) f.handed)) [
+                  | inl handed ↦ absurd (let near : p + 1 + i < n + s.width = (waiting (p + 1 + i) (omega arith) handed).near in omega arith)
+                  | inr gone ↦ gone
                 ] in
-              held_at-past d.held (1 + i) (omega arith) ∙ sym (ap (λ x. entry_of s x (p + 1 + i)) gone)
+                held_at-past d.held (1 + i) (omega arith) ∙ sym (ap (λ x. entry_of s x (p + 1 + i)) gone)
           ]);
       near = λ q above there. (let near : q < n + s.width = (waiting q above there).near in omega arith);
       waiting = waiting;
@@ -196,18 +195,18 @@ message_ready s h d p now b t tk on at closed in_step window =
 pub eats_ready : (s : Setting) (h : HostRecord) (d : Standing) (p now c : ℕ) (held : List (Option (Option ℕ))) → Tied s h d → IsReady s h p now c held →
     ((opens s.published p ≡ true) × (is_taken_before (taken s h) p ≡ false) × (is_of_dead s h p ≡ false)) ⊎ ((opens s.published p ≡ false) × (p ≡ next_after h) × ((following s h).on ≡ true)) → Eats s h p (run_of held)
 eats_ready s h d p now c held t r which = record {
-    within = elim (cases_eq (run_of held) 0) [
-        inl none ↦ (let l : p < length s.published = r.published in omega arith)
-      | inr some ↦
-          let at : p + 1 + (run_of held - 1) ≡ p + run_of held = omega arith in
-          let there : contains (p + run_of held) (following s h).handed ≡ true = ap (λ x. contains x (following s h).handed) (sym at) ∙ in_run s h p now c held r (run_of held - 1) (omega arith) in
-          let reached : p + run_of held < reach h = (r.waiting (p + run_of held) (omega arith) there).reached in
-          let fits : reach h ≤ length s.published = t.fits in omega arith
-      ];
-    closed = λ q low high. closed_run s h p now c held r q (omega arith) (omega arith);
-    alone = λ off. elim (cases_eq (run_of held) 0) [
-        inl none ↦ none
-      | inr some ↦ absurd (true≢false (sym (in_run s h p now c held r 0 (omega arith)) ∙ ap (contains (p + 1 + 0)) (t.off_handed off)))
-      ];
-    which = which;
-  }
+  within = elim (cases_eq (run_of held) 0) [
+    | inl none ↦ (let l : p < length s.published = r.published in omega arith)
+    | inr some ↦
+        let at : p + 1 + (run_of held - 1) ≡ p + run_of held = omega arith in
+        let there : contains (p + run_of held) (following s h).handed ≡ true = ap (λ x. contains x (following s h).handed) (sym at) ∙ in_run s h p now c held r (run_of held - 1) (omega arith) in
+        let reached : p + run_of held < reach h = (r.waiting (p + run_of held) (omega arith) there).reached in
+        let fits : reach h ≤ length s.published = t.fits in omega arith
+  ];
+  closed = λ q low high. closed_run s h p now c held r q (omega arith) (omega arith);
+  alone = λ off. elim (cases_eq (run_of held) 0) [
+    | inl none ↦ none
+    | inr some ↦ absurd (true≢false (sym (in_run s h p now c held r 0 (omega arith)) ∙ ap (contains (p + 1 + 0)) (t.off_handed off)))
+  ];
+  which = which;
+}

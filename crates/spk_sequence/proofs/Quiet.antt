@@ -1,19 +1,16 @@
 -- Events that consume nothing.
-use Rattle.std.proofs.Common.{◌≡◌, ℕ, zero, suc, ◌+◌, ◌-◌, ◌*◌, ◌%◌, ◌<◌, ◌≤◌, ◌≢◌, ◌&&◌, ◌||◌, Bool, true, false, cond, not, nat_lt, nat_le, eqb, max, List, [], ◌∷◌, length, get_or, set, replicate, refl, sym, ◌∙◌, ap, arith, Option, Some, None, is_some, inl, inr, subst, if◌then◌else◌}
-use Rattle.std.specs.List.{list_any}
-use Rattle.std.proofs.lemmas.List.{get_or-set_same, get_or-set_other, length-set, length-replicate}
-use Rattle.std.proofs.lemmas.Bool.{true≢false, cases_lt, cases_eq, cases_Bool, lt-ltb, le-ltb, ltb-true, eq-eqb, ne_eqb, and_right, and_parts, and_from, or_right, or_left, or_cases, eqb-true}
+use Rattle.std.proofs.Common.{◌≡◌, ℕ, ◌+◌, ◌<◌, ◌≤◌, ◌&&◌, ◌||◌, Bool, true, false, cond, not, nat_lt, List, [], ◌∷◌, length, refl, sym, ◌∙◌, ap, arith, Option, Some, None, inl, inr, if◌then◌else◌}
+use Rattle.std.proofs.lemmas.List.{length-replicate}
+use Rattle.std.proofs.lemmas.Bool.{true≢false, cases_lt, le-ltb, and_right}
 use Rattle.spk_sequence.specs.declared.phase.Phase.{Phase}
-use Rattle.spk_sequence.specs.declared.answer.Step.{Step}
-use Rattle.spk_sequence.specs.declared.answer.Step.TheVariants as step
 use Rattle.spk_sequence.specs.Data.{Standing, IsWhole, held_at}
-use Rattle.spk_sequence.specs.Step.{is_live, is_known, is_dead, is_any_held, after_stop, after_held, ahead}
-use Rattle.spk_sequence.specs.Calls.{Reply, Stepped}
-use Rattle.spk_sequence.specs.NodeRecord.{Setting, opens, stamp_at, session_at, written_number, written_session}
+use Rattle.spk_sequence.specs.Step.{is_live, is_known, is_dead, after_stop}
+use Rattle.spk_sequence.specs.Calls.{Reply}
+use Rattle.spk_sequence.specs.NodeRecord.{Setting, written_number}
 use Rattle.spk_sequence.specs.HostRecord.{Input, MessageComes, DeathComes, TickComes, Done, HostRecord, held_under, is_held_under, position_of, next_after, reach, reach_past}
 use Rattle.spk_sequence.specs.Following.{Following, contains, taken, following, waits, is_waiting, is_session_dead, is_gap, is_matching_death, and_handed, is_empty, moment_of}
-use Rattle.spk_sequence.proofs.Places.{held_at-past, held_at-empty, none_held, none_held-from}
-use Rattle.spk_sequence.proofs.Tied.{Tied, IsTaken, IsFollowed, IsWaiting, InStep, entry_of, number_below}
+use Rattle.spk_sequence.proofs.Places.{held_at-empty}
+use Rattle.spk_sequence.proofs.Tied.{Tied, IsTaken, IsFollowed, IsWaiting, entry_of}
 
 -- an event that consumes nothing
 abbrev pub quiet : Input → Reply → Done
@@ -22,10 +19,10 @@ quiet input reply = record { input = input; reply = reply; consumed = [] }
 -- what the host follows after an event, from whether it goes on
 abbrev pub following_as : Bool → Input → Following → ℕ → List ℕ → Following
 following_as on input f n consumed = record {
-    on = on;
-    handed = if on then and_handed input f.handed else [];
-    began = if is_waiting f.handed n && is_empty consumed then f.began else moment_of input;
-  }
+  on = on;
+  handed = if on then and_handed input f.handed else [];
+  began = if is_waiting f.handed n && is_empty consumed then f.began else moment_of input;
+}
 
 abbrev pub goes_on : Setting → HostRecord → Input → Bool
 goes_on s h input = (following s h).on && not (is_gap s h input) && not (is_matching_death s h input)
@@ -78,15 +75,15 @@ tied_off s h d e input reply t whole wait width stamp bd live off known dead non
       dead = dead;
       fits = fits;
       birth = λ b tk.
-        let o : IsTaken s h d b = t.birth b tk in
-        record {
-          opening = o.opening;
-          stamp = stamp ∙ o.stamp;
-          bd = bd ∙ o.bd;
-          below = o.below;
-          reached = (let r : next_after h ≤ reach h = o.reached in omega (arith, reach_more input (reach h)));
-          one_birth = o.one_birth;
-        };
+          let o : IsTaken s h d b = t.birth b tk in
+          record {
+            opening = o.opening;
+            stamp = stamp ∙ o.stamp;
+            bd = bd ∙ o.bd;
+            below = o.below;
+            reached = (let r : next_after h ≤ reach h = o.reached in omega (arith, reach_more input (reach h)));
+            one_birth = o.one_birth;
+          };
       followed = λ b tk on. absurd (true≢false (sym on ∙ ap (λ (x : Following). x.on) f));
       off_held = λ o. none;
       off_handed = λ o. ap (λ (x : Following). x.handed) f;
@@ -99,8 +96,8 @@ pub tied_stops : (s : Setting) (h : HostRecord) (d : Standing) (input : Input) (
 tied_stops s h d input reply to t live off known dead fits =
     let w : IsWhole d = t.whole in
     tied_off s h d (after_stop d to) input reply t
-      (record { some_places = w.some_places; few_places = w.few_places; one_byte = w.one_byte; all_places = length-replicate {A = Option (Option ℕ)} d.width None; next_not_held = held_at-empty d.width 0 })
-      refl refl refl refl live off known dead (held_at-empty d.width) fits
+    (record { some_places = w.some_places; few_places = w.few_places; one_byte = w.one_byte; all_places = length-replicate {A = Option (Option ℕ)} d.width None; next_not_held = held_at-empty d.width 0 })
+    refl refl refl refl live off known dead (held_at-empty d.width) fits
 
 -- nothing changes where the host does not follow
 pub tied_still : (s : Setting) (h : HostRecord) (d : Standing) (input : Input) (reply : Reply) → Tied s h d → (following s h).on ≡ false → is_matching_death s h input ≡ false → reach_past input (reach h) ≤ length s.published → Tied s (quiet input reply ∷ h) d
@@ -109,9 +106,9 @@ tied_still s h d input reply t off m fits =
 
 pub same_waits : (hs gs : List ℕ) (n q : ℕ) → (n < q → contains q gs ≡ contains q hs) → (contains q gs && nat_lt n q) ≡ (contains q hs && nat_lt n q)
 same_waits hs gs n q same = elim (cases_lt n q) [
-    inl above ↦ ap (λ x. x && nat_lt n q) (same above)
+  | inl above ↦ ap (λ x. x && nat_lt n q) (same above)
   | inr below ↦ and_right (contains q gs) (nat_lt n q) (le-ltb n q below) ∙ sym (and_right (contains q hs) (nat_lt n q) (le-ltb n q below))
-  ]
+]
 
 -- the same positions wait after the event
 pub tied_on : (s : Setting) (h : HostRecord) (d : Standing) (input : Input) (reply : Reply) (b : ℕ) → Tied s h d → taken s h ≡ Some b → (following s h).on ≡ true → is_gap s h input ≡ false → is_matching_death s h input ≡ false →
@@ -135,26 +132,29 @@ tied_on s h d input reply b t tk on g m unheld same_reach same same_any =
       dead = t.dead ∙ sym (ap (λ x. x || is_session_dead s h) m);
       fits = (let l : reach h ≤ length s.published = t.fits in omega arith);
       birth = λ c tc. let k : IsTaken s h d c = t.birth c tc in record {
-          opening = k.opening; stamp = k.stamp; bd = k.bd; below = k.below;
-          reached = (let r : next_after h ≤ reach h = k.reached in omega arith);
-          one_birth = k.one_birth;
-        };
+        opening = k.opening;
+        stamp = k.stamp;
+        bd = k.bd;
+        below = k.below;
+        reached = (let r : next_after h ≤ reach h = k.reached in omega arith);
+        one_birth = k.one_birth;
+      };
       followed = λ c tc o. let k : IsFollowed s h d c = t.followed c tc on in record {
-          next = k.next;
-          high = (let r : reach h ≤ next_after h + s.width = k.high in omega arith);
-          cause = ap (λ (x : Following). contains n x.handed) f ∙ same n (omega arith) ∙ k.cause;
-          places = λ i below. k.places i below ∙ ap (λ x. entry_of s x (n + i)) (sym (still (n + i)));
-          waiting = λ q wq. let v : IsWaiting s h c q = k.waiting q (sym (still q) ∙ wq) in record {
-              near = v.near;
-              reached = (let r : q < reach h = v.reached in omega arith);
-              closed = v.closed;
-              in_step = v.in_step;
-              under = ap (λ x. cond x (position_of input) (held_under s h (written_number s q))) (unheld (written_number s q)) ∙ v.under;
-            };
-          since = λ any.
+        next = k.next;
+        high = (let r : reach h ≤ next_after h + s.width = k.high in omega arith);
+        cause = ap (λ (x : Following). contains n x.handed) f ∙ same n (omega arith) ∙ k.cause;
+        places = λ i below. k.places i below ∙ ap (λ x. entry_of s x (n + i)) (sym (still (n + i)));
+        waiting = λ q wq. let v : IsWaiting s h c q = k.waiting q (sym (still q) ∙ wq) in record {
+          near = v.near;
+          reached = (let r : q < reach h = v.reached in omega arith);
+          closed = v.closed;
+          in_step = v.in_step;
+          under = ap (λ x. cond x (position_of input) (held_under s h (written_number s q))) (unheld (written_number s q)) ∙ v.under;
+        };
+        since = λ any.
             let before : is_waiting old.handed n ≡ true = sym same_any ∙ sym (ap (λ (x : Following). is_waiting x.handed n) f) ∙ any in
             k.since before ∙ sym (ap (λ (x : Following). x.began) f ∙ ap (λ x. cond (x && true) old.began (moment_of input)) before);
-        };
+      };
       off_held = λ off. absurd (true≢false (sym (ap (λ (x : Following). x.on) f) ∙ off));
       off_handed = λ off. absurd (true≢false (sym (ap (λ (x : Following). x.on) f) ∙ off));
     }

@@ -1,7 +1,7 @@
 -- Runs of positions.
-use Rattle.std.proofs.Common.{◌≡◌, ℕ, zero, suc, ◌+◌, ◌-◌, ◌<◌, ◌≤◌, ◌≢◌, ◌||◌, Bool, true, false, cond, eqb, List, [], ◌∷◌, ◌++◌, length, refl, sym, ◌∙◌, ap, arith, Option, Some, None, inl, inr, append_assoc, append-nil}
-use Rattle.std.specs.List.{range_with_len, list_any, filter_map, prefix_len}
-use Rattle.std.proofs.lemmas.Bool.{true≢false, cases_lt, cases_eq, cases_Bool, or_cases, or_parts, or_left, or_right, eqb-true, eq-eqb, ne_eqb}
+use Rattle.std.proofs.Common.{◌≡◌, ℕ, zero, suc, ◌+◌, ◌<◌, ◌≤◌, ◌||◌, true, false, cond, eqb, ◌∷◌, ◌++◌, refl, sym, ◌∙◌, ap, arith, Option, Some, inl, inr}
+use Rattle.std.specs.List.{range_with_len, list_any, filter_map}
+use Rattle.std.proofs.lemmas.Bool.{true≢false, or_cases, eqb-true}
 use Rattle.spk_sequence.specs.NodeRecord.{NodeRecord, opens}
 use Rattle.spk_sequence.specs.HostRecord.{after_last}
 use Rattle.spk_sequence.specs.Following.{contains, last_opening}
@@ -35,9 +35,9 @@ filter_map-run f p a (suc k) h =
 pub in_run : (q p k : ℕ) → contains q (range_with_len p k) ≡ true → (p ≤ q) × (q < p + k)
 in_run q p zero e = absurd (true≢false (sym e))
 in_run q p (suc k) e = elim (or_cases (eqb p q) (contains q (range_with_len (p + 1) k)) e) [
-    inl here ↦ (let i : p ≡ q = eqb-true p q here in (omega arith, omega arith))
+  | inl here ↦ (let i : p ≡ q = eqb-true p q here in (omega arith, omega arith))
   | inr later ↦ (let r : (p + 1 ≤ q) × (q < p + 1 + k) = in_run q (p + 1) k later in (omega arith, omega arith))
-  ]
+]
 
 -- two runs, one after the other
 pub range-append : (p k j : ℕ) → range_with_len p (k + j) ≡ range_with_len p k ++ range_with_len (p + k) j

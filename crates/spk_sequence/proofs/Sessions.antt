@@ -1,5 +1,5 @@
 -- Host sessions that are worked out by hand, by what the definitions compute. Inputs stand in the order of time.
-use Rattle.std.specs.Prelude.{◌≡◌, ℕ, true, false, List, [], ◌∷◌, ◌+◌, ◌++◌, reverse, map, Some, None, refl}
+use Rattle.std.specs.Prelude.{◌≡◌, ℕ, true, false, List, [], ◌∷◌, ◌+◌, ◌++◌, reverse, map, refl}
 use Rattle.std.specs.List.{range_with_len}
 use Rattle.spk_sequence.specs.declared.answer.Step.TheVariants as step
 use Rattle.spk_sequence.specs.declared.answer.Match.TheVariants.{Matched, Ignored}

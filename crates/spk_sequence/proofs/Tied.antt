@@ -1,8 +1,8 @@
 -- How the data of numbers stands to the record of positions.
-use Rattle.std.proofs.Common.{◌≡◌, ℕ, ◌+◌, ◌-◌, ◌%◌, ◌<◌, ◌≤◌, Bool, true, false, cond, List, [], length, ◌∷◌, refl, sym, ◌∙◌, ap, arith, Option, Some, None, is_some}
+use Rattle.std.proofs.Common.{◌≡◌, ℕ, ◌+◌, ◌-◌, ◌%◌, ◌<◌, ◌≤◌, Bool, true, false, cond, [], length, ap, arith, Option, Some, None, is_some}
 use Rattle.spk_sequence.specs.Data.{Standing, IsWhole, held_at}
 use Rattle.spk_sequence.specs.Step.{is_live, is_known, is_dead}
-use Rattle.spk_sequence.specs.NodeRecord.{Setting, Numbering, RunsOn, Restarts, IsNodeRecord, opens, stamp_at, session_at, start_of, number_by, written_number, written_session}
+use Rattle.spk_sequence.specs.NodeRecord.{Setting, Numbering, RunsOn, Restarts, opens, stamp_at, session_at, number_by, written_number, written_session}
 use Rattle.spk_sequence.specs.HostRecord.{HostRecord, held_under, next_after, reach}
 use Rattle.spk_sequence.specs.Following.{contains, taken, following, waits, is_waiting, is_session_dead}
 
@@ -21,11 +21,11 @@ number_below s p = number_by_below s.numbering s p
 -- a number that runs on is in step with every birth
 pub in_step_runs_on : (s : Setting) → s.numbering ≡ RunsOn → (q b : ℕ) → InStep s q b
 in_step_runs_on s e q b = record {
-    counted = λ c opening after before.
+  counted = λ c opening after before.
       let one : written_number s q ≡ (s.seq + q) % 256 = ap (λ n. number_by n s q) e in
       let other : written_number s c ≡ (s.seq + c) % 256 = ap (λ n. number_by n s c) e in
       omega arith;
-  }
+}
 
 -- in step with later births too
 pub in_step_later : (s : Setting) (q b c : ℕ) → b ≤ c → InStep s q b → InStep s q c

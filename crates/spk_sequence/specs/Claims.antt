@@ -1,11 +1,9 @@
 -- What the law on positions says of a host session.
-use Rattle.std.specs.Prelude.{◌≡◌, ℕ, ◌+◌, ◌-◌, ◌%◌, ◌<◌, ◌≤◌, ◌⊎◌, ◌↔◌, Bool, true, false, not, ◌&&◌, ◌||◌, if◌then◌else◌, List, [], ◌∷◌, ◌++◌, length, Option, Some, None, reverse}
-use Rattle.std.specs.List.{range_with_len, Contains}
-use Rattle.spk_sequence.specs.Data.{Standing}
+use Rattle.std.specs.Prelude.{◌≡◌, ℕ, ◌+◌, ◌-◌, ◌%◌, ◌<◌, ◌≤◌, ◌⊎◌, true, false, not, ◌&&◌, ◌||◌, if◌then◌else◌, List, [], ◌∷◌, ◌++◌, length, Option, Some}
+use Rattle.std.specs.List.{range_with_len}
 use Rattle.spk_sequence.specs.Step.{is_live}
-use Rattle.spk_sequence.specs.Calls.{Stepped, Ticked, Told}
 use Rattle.spk_sequence.specs.NodeRecord.{Setting, NodeRecord, IsNodeRecord, opens, birth_at, session_at, written_number}
-use Rattle.spk_sequence.specs.HostRecord.{Input, MessageComes, DeathComes, TickComes, Done, HostRecord, standing_of, record_of, done_at, next_after, consumed_of}
+use Rattle.spk_sequence.specs.HostRecord.{Input, MessageComes, Done, HostRecord, standing_of, record_of, done_at, next_after, consumed_of}
 use Rattle.spk_sequence.specs.Following.{taken, takes, following, contains, is_session_dead, dead_sessions, is_empty}
 use Rattle.spk_sequence.specs.Window.{AllMayCome, NumbersFit}
 use Rattle.spk_sequence.specs.Positions.{right_at, is_taken_before, is_of_dead}
@@ -27,7 +25,7 @@ SameStep s inputs input = done_at s (record_of s inputs) (standing_of s inputs) 
 pub record IsLiveByPositions (s : Setting) (inputs : List Input) : Type 0 where
   pub live : is_live (standing_of s inputs).phase ≡ (following s (record_of s inputs)).on
   pub next : (b : ℕ) → (following s (record_of s inputs)).on ≡ true → taken s (record_of s inputs) ≡ Some b →
-    (standing_of s inputs).next ≡ (written_number s b + (next_after (record_of s inputs) - b)) % 256
+      (standing_of s inputs).next ≡ (written_number s b + (next_after (record_of s inputs) - b)) % 256
 
 -- a birth's position, and how many of its messages
 pub record Part : Type 0 where

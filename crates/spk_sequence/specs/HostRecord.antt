@@ -1,13 +1,13 @@
 -- What was done in one host session of a node: the list of what was handed over, what was answered, and the positions
 -- that were consumed. Newest first.
-use Rattle.std.specs.Prelude.{ℕ, suc, ◌+◌, ◌-◌, ◌%◌, Bool, true, false, ◌&&◌, ◌==◌, max, List, [], ◌∷◌, ◌++◌, Option, Some, None, filter_map, if◌then◌else◌}
+use Rattle.std.specs.Prelude.{ℕ, ◌+◌, ◌-◌, ◌%◌, Bool, false, ◌==◌, max, List, [], ◌∷◌, ◌++◌, Option, Some, None, filter_map, if◌then◌else◌}
 use Rattle.std.specs.List.{range_with_len}
 use Rattle.spk_sequence.specs.declared.message.Kind.{Kind}
 use Rattle.spk_sequence.specs.declared.message.Kind.TheVariants.{Birth, Other}
 use Rattle.spk_sequence.specs.declared.answer.Step.TheVariants as step
 use Rattle.spk_sequence.specs.Data.{Standing}
 use Rattle.spk_sequence.specs.Step.{fresh_standing}
-use Rattle.spk_sequence.specs.Calls.{Call, Hand, Tick, Death, Reply, Stepped, Ticked, Told, reply_of, after_call}
+use Rattle.spk_sequence.specs.Calls.{Call, Hand, Tick, Death, Reply, Stepped, reply_of, after_call}
 use Rattle.spk_sequence.specs.NodeRecord.{Setting, opens, stamp_at, session_at, written_number, written_session}
 
 pub data Input : Type 0 where

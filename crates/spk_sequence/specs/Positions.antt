@@ -1,5 +1,5 @@
 -- What an event answers and consumes, by positions alone.
-use Rattle.std.specs.Prelude.{ℕ, ◌+◌, ◌-◌, Bool, true, false, ◌&&◌, ◌==◌, nat_lt, nat_le, List, [], ◌∷◌, Option, Some, None, if◌then◌else◌}
+use Rattle.std.specs.Prelude.{ℕ, ◌+◌, Bool, false, ◌&&◌, ◌==◌, nat_lt, nat_le, List, [], Option, Some, None, if◌then◌else◌}
 use Rattle.std.specs.List.{range_with_len, prefix_len}
 use Rattle.spk_sequence.specs.declared.answer.Step.{Step}
 use Rattle.spk_sequence.specs.declared.answer.Step.TheVariants as step
@@ -32,10 +32,10 @@ abbrev pub message_step : Setting → HostRecord → ℕ → Step
 message_step s h p =
     let n = next_after h in
     if (following s h).on then
-      (if nat_lt p n then step.Old
-       else if p == n then step.Consumed (1 + run_after s h p)
-       else if nat_lt p (n + s.width) then (if waits (following s h) n p then step.Old else step.Held)
-       else step.Gap)
+    (if nat_lt p n then step.Old
+    else if p == n then step.Consumed (1 + run_after s h p)
+    else if nat_lt p (n + s.width) then (if waits (following s h) n p then step.Old else step.Held)
+    else step.Gap)
     else step.NotLive
 
 abbrev pub right_reply : Setting → HostRecord → Input → Reply

@@ -46,6 +46,10 @@ abbrev pub is_kept : Option (Option ℕ) → ℕ → Bool
 is_kept (Some (Some own)) stamp = nat_le stamp own
 is_kept _ stamp = false
 
+-- the places counted from the number after the one that comes next
+abbrev pub places_after : Standing → List (Option (Option ℕ))
+places_after s = places_from s.held s.width 1
+
 -- The places counted from the number after a birth's: a message stays if its number is 1 to width - 1 past the
 -- birth's, and the birth keeps it.
 abbrev pub kept_places : Standing → ℕ → ℕ → List (Option (Option ℕ))
@@ -97,7 +101,7 @@ hand_ahead s place stamp now =
 abbrev pub hand_other : Standing → ℕ → Option ℕ → ℕ → Step × Standing
 hand_other s number stamp now =
     let place = ahead number s.next in
-    let rest = places_from s.held s.width 1 in
+    let rest = places_after s in
     if not (is_live s.phase) then (step.NotLive, s)
     else if is_below stamp s.stamp then (step.Old, s)
     else if place == 0 then (step.Consumed (1 + run_of rest), after_consumed s number rest now)

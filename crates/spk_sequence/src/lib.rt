@@ -3,9 +3,8 @@
 //! (Sparkplug 3.0.0, 6.4.20 on `seq`, 5.12 on the reordering of messages at a host).
 #![tactic(auto)]
 
-pub mod laws;
-
 mod answer;
+pub mod laws;
 mod message;
 mod phase;
 mod sequence;

@@ -1,6 +1,6 @@
 ghost use Rattle.std.specs.Prelude.{◌≡◌, ℕ, ◌+◌, ◌<◌, ◌≤◌, ◌==◌, nat_le, is_some, if◌then◌else◌, None};
 ghost use Rattle.spk_sequence.specs.Data.{Standing, IsWhole, held_at};
-ghost use Rattle.spk_sequence.specs.Step.{is_any_held, ahead, is_below, places_from, kept_places, run_of, after_consumed, after_stop, after_held, hand_birth, hand_other, hand_ahead, hand, is_over, tick, match_of, death, fresh_standing, next_of};
+ghost use Rattle.spk_sequence.specs.Step.{is_any_held, ahead, is_below, places_from, places_after, kept_places, run_of, after_consumed, after_stop, after_held, hand_birth, hand_other, hand_ahead, hand, is_over, tick, match_of, death, fresh_standing, next_of};
 
 use crate::answer::{Gap, Match, Step};
 use crate::message::Kind;
@@ -30,7 +30,16 @@ impl Model for Sequence {
 
     ghost Value = { Standing };
 
-    ghost view = { λ s. record { wait = s.wait; width = s.width; phase = s.phase; stamp = s.stamp; bd = s.bd; next = s.next; since = s.since; held = places_of s.slots s.next s.width } };
+    ghost view = { λ s. record {
+      wait = s.wait;
+      width = s.width;
+      phase = s.phase;
+      stamp = s.stamp;
+      bd = s.bd;
+      next = s.next;
+      since = s.since;
+      held = places_of s.slots s.next s.width;
+    } };
 
     ghost invariant = { λ s. IsWithin s.slots s.next s.width };
 }
@@ -289,8 +298,8 @@ impl Sequence {
     /// The message that comes next is consumed, and those that follow it without a hole.
     fn consume(&mut self, number: u8, now: u64) -> Step
         requires { number ≡ self.old.next }
-        ensures step { result ≡ Step.Consumed (1 + run_of (places_from self.old.held self.old.width 1)) }
-        ensures data { self.new ≡ after_consumed self.old number (places_from self.old.held self.old.width 1) now }
+        ensures step { result ≡ Step.Consumed (1 + run_of (places_after self.old)) }
+        ensures data { self.new ≡ after_consumed self.old number (places_after self.old) now }
         ensures whole { IsWhole self.new }
     {
         let first = number.wrapping_add(1);
