@@ -47,6 +47,6 @@ impl Width {
     pub fn budget(self) -> u16
         ensures value { result ≡ 256 - 2 * self }
     {
-        256 - 2 * u16::from(self.places)
+        256 - 2 * u16::from(self.get())
     }
 }
