@@ -1,4 +1,4 @@
--- What a node published, by positions: all messages end to end, counted from 0 (Sparkplug 3.0.0, 6.4.20 on `seq`).
+-- What a node published, by positions: all messages end to end, counted from 0 (Sparkplug 3.0.0, chapter 6 on `seq`).
 use Rattle.std.specs.Prelude.{◌≡◌, ℕ, zero, suc, ◌+◌, ◌-◌, ◌%◌, ◌<◌, ◌≤◌, ◌⊎◌, Bool, true, ◌||◌, ◌==◌, nat_lt, List, length, get_or, if◌then◌else◌}
 
 -- the birth that a message is published under, the session of that birth, and the message's stamp

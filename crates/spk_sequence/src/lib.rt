@@ -1,6 +1,6 @@
 //! The order of one edge node's messages at a host application: one byte of sequence number, a
 //! window of held messages, a timer, and the birth/death sequence number decide what is consumed
-//! (Sparkplug 3.0.0, 6.4.20 on `seq`, 5.12 on the reordering of messages at a host).
+//! (Sparkplug 3.0.0, chapter 5 on the ordering of messages at a host, chapter 6 on `seq` and `bdSeq`).
 #![tactic(auto)]
 
 mod answer;

@@ -1,5 +1,5 @@
 /// What a host knows of a message that carries a sequence number, beside that number.
-/// Timestamps are in milliseconds (Sparkplug 3.0.0, 6.4.4).
+/// Timestamps are in milliseconds (Sparkplug 3.0.0, chapter 6).
 #[derive(Clone, Copy, Debug, PartialEq, Eq)]
 pub enum Kind {
     /// An NBIRTH, with its timestamp and its bdSeq.

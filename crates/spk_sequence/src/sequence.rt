@@ -90,7 +90,7 @@ impl Sequence {
         }
     }
 
-    /// An NDEATH of the node, with its bdSeq (Sparkplug 3.0.0, 5.6).
+    /// An NDEATH of the node, with its bdSeq (Sparkplug 3.0.0, chapter 5).
     pub fn death(&mut self, bd: u8) -> Match
         ensures answer { result ≡ match_of self.old bd }
         ensures data { self.new ≡ death self.old bd }
