@@ -1,0 +1,11 @@
+use Rattle.spk_sequence.proofs.NumberLemmas.{keeps_numbers, tick_remains, death_remains}
+use Rattle.spk_sequence.proofs.laws.numbers.Goals as goal
+
+pub returns-clause-hand : goal.returns-clause-hand
+returns-clause-hand c = keeps_numbers
+
+pub returns-clause-tick : goal.returns-clause-tick
+returns-clause-tick c = tick_remains
+
+pub returns-clause-death : goal.returns-clause-death
+returns-clause-death c = death_remains

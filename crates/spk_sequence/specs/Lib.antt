@@ -1,0 +1,12 @@
+pub mod Calls
+pub mod Claims
+pub mod Data
+pub mod Following
+pub mod HostRecord
+pub mod InLine
+pub mod NodeRecord
+pub mod Numbers
+pub mod Positions
+pub mod Slots
+pub mod Step
+pub mod Window

@@ -1,0 +1,89 @@
+//! Laws on lists of calls: functions that do nothing, whose contracts speak of definitions alone.
+ghost use Rattle.std.specs.Prelude.{◌≡◌, ℕ, ◌+◌, ◌%◌, ◌<◌, false, List, ◌∷◌};
+ghost use Rattle.spk_sequence.specs.declared.message.Kind.{Kind};
+ghost use Rattle.spk_sequence.specs.Data.{Standing, IsWhole};
+ghost use Rattle.spk_sequence.specs.Step.{is_any_held, hand, tick, death};
+ghost use Rattle.spk_sequence.specs.Calls.{Call, replies_of};
+ghost use Rattle.spk_sequence.specs.InLine.{IsInLine, replies_in_line};
+ghost use Rattle.spk_sequence.specs.Numbers.{KeepsNumbers, Remains};
+ghost use Rattle.spk_sequence.specs.NodeRecord.{Setting, NodeRecord};
+ghost use Rattle.spk_sequence.specs.HostRecord.{Input, MessageComes, record_of, standing_of, done_at, consumed_of};
+ghost use Rattle.spk_sequence.specs.Window.{IsNearBirth};
+ghost use Rattle.spk_sequence.specs.Following.{taken};
+ghost use Rattle.spk_sequence.specs.Claims.{IsLawful, SameStep, IsLiveByPositions, BirthPrefixes, AfterGap, AfterDeath, TakesBirth, HasCause, taken_by, EndsWithTaken, IsSameWithMore};
+
+use crate::answer::Step;
+use crate::message::Kind;
+use crate::phase::Phase;
+
+/// For every node record, every width of 1 to 96 and every list of inputs inside the window, the
+/// deaths being of near sessions. Where the sequence number restarts at each NBIRTH, births too are
+/// of near sessions, and no message is handed before its own NBIRTH. Inputs stand newest first.
+pub fn positions()
+    // each event on numbers is the event on positions, if a birth is of a near session
+    ensures same_steps { (s : Setting) (inputs : List Input) (input : Input) → IsLawful s (input ∷ inputs) →
+        IsNearBirth s (record_of s inputs) input → SameStep s inputs input }
+
+    // the phase is Live exactly while the host follows, and then `next` is that of the positions
+    ensures live { (s : Setting) (inputs : List Input) → IsLawful s inputs → IsLiveByPositions s inputs }
+
+    // birth by birth in increasing order, what was consumed is a prefix of that birth's messages
+    ensures fronts { (s : Setting) (inputs : List Input) → IsLawful s inputs →
+        BirthPrefixes s.published (consumed_of (record_of s inputs)) }
+
+    // while the host does not follow, as after a gap, nothing is consumed but a newer birth
+    ensures after_gap { (s : Setting) (inputs : List Input) (input : Input) → IsLawful s (input ∷ inputs) →
+        AfterGap s (record_of s inputs) (done_at s (record_of s inputs) (standing_of s inputs) input) }
+
+    // nothing is consumed of a session whose matching death came
+    ensures after_death { (s : Setting) (inputs : List Input) (input : Input) → IsLawful s (input ∷ inputs) →
+        AfterDeath s (record_of s inputs) (done_at s (record_of s inputs) (standing_of s inputs) input) }
+
+    // a birth of a near session is taken but for the two causes
+    ensures births { (s : Setting) (inputs : List Input) (p now : ℕ) → IsLawful s (MessageComes p now ∷ inputs) →
+        IsNearBirth s (record_of s inputs) (MessageComes p now) →
+        TakesBirth s (record_of s inputs) p
+        (done_at s (record_of s inputs) (standing_of s inputs) (MessageComes p now)) }
+
+    // wherever consumption stands, it stands for a cause
+    ensures cause { (s : Setting) (inputs : List Input) → IsLawful s inputs → HasCause s (record_of s inputs) }
+
+    // the birth taken after an event
+    ensures taken { (s : Setting) (inputs : List Input) (input : Input) → IsLawful s (input ∷ inputs) →
+        taken s (record_of s (input ∷ inputs)) ≡
+        taken_by s (record_of s inputs) input
+        (done_at s (record_of s inputs) (standing_of s inputs) input).consumed }
+
+    // the consumed list ends with the messages of the birth taken, up to the last one consumed
+    ensures last_part { (s : Setting) (inputs : List Input) → IsLawful s inputs → EndsWithTaken s (record_of s inputs) }
+
+    // what was done, and every query on it, is the same when more is published afterwards
+    ensures grows { (s : Setting) (more : NodeRecord) (inputs : List Input) → IsLawful s inputs →
+        IsSameWithMore s more inputs }
+{}
+
+/// What each call does to what is held, by numbers alone, from any data that is whole.
+pub fn numbers()
+    // a step eats what was held, adds the one handed, or leaves of what was held what it leaves
+    ensures hand { (s : Standing) (number now : ℕ) (kind : Kind) → number < 256 → IsWhole s →
+        KeepsNumbers s (hand s number kind now).1 number (hand s number kind now).0 }
+
+    // a moment adds nothing to what is held
+    ensures tick { (s : Standing) (now : ℕ) → Remains s (tick s now) }
+
+    // nor does a death
+    ensures death { (s : Standing) (bd : ℕ) → Remains s (death s bd) }
+{}
+
+/// While nothing is held, messages in order are consumed one by one, by numbers alone: from a
+/// birth that is taken on, until a matching death, another birth or a `reset`.
+pub fn in_line()
+    ensures live { (calls : List Call) (s : Standing) → IsWhole s → s.phase ≡ Phase.Live → is_any_held s.held ≡ false →
+        IsInLine s.next s.stamp s.bd calls → replies_of s calls ≡ replies_in_line calls }
+
+    ensures birth { (calls : List Call) (s : Standing) (number stamp bd now n : ℕ) → number < 256 → IsWhole s →
+        (hand s number (Kind.Birth stamp bd) now).0 ≡ Step.Consumed n →
+        is_any_held (hand s number (Kind.Birth stamp bd) now).1.held ≡ false →
+        IsInLine ((number + n) % 256) stamp bd calls →
+        replies_of (hand s number (Kind.Birth stamp bd) now).1 calls ≡ replies_in_line calls }
+{}

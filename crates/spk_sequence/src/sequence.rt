@@ -1,0 +1,313 @@
+ghost use Rattle.std.specs.Prelude.{◌≡◌, ℕ, ◌+◌, ◌<◌, ◌≤◌, ◌==◌, nat_le, is_some, if◌then◌else◌, None};
+ghost use Rattle.spk_sequence.specs.Data.{Standing, IsWhole, held_at};
+ghost use Rattle.spk_sequence.specs.Step.{is_any_held, ahead, is_below, places_from, places_after, kept_places, run_of, after_consumed, after_stop, after_held, hand_birth, hand_other, hand_ahead, hand, is_over, tick, match_of, death, fresh_standing, next_of};
+
+use crate::answer::{Gap, Match, Step};
+use crate::message::Kind;
+use crate::phase::Phase;
+use crate::slots::Slots;
+use crate::width::Width;
+use std::marker::Model;
+
+/// The order of one node's messages at a host, from the beginning of a host session.
+///
+/// It keeps no message: a caller keeps those that are `Held`, under their numbers.
+#[derive(Debug, Drop)]
+pub struct Sequence {
+    wait: u64,
+    width: Width,
+    phase: Phase,
+    stamp: u64,
+    bd: u8,
+    next: u8,
+    since: u64,
+    slots: Slots,
+}
+
+impl Model for Sequence {
+    ghost use Rattle.spk_sequence.specs.Data.{Standing};
+    ghost use Rattle.spk_sequence.specs.Slots.{places_of, IsWithin};
+
+    ghost Value = { Standing };
+
+    ghost view = { λ s. record {
+      wait = s.wait;
+      width = s.width;
+      phase = s.phase;
+      stamp = s.stamp;
+      bd = s.bd;
+      next = s.next;
+      since = s.since;
+      held = places_of s.slots s.next s.width;
+    } };
+
+    ghost invariant = { λ s. IsWithin s.slots s.next s.width };
+}
+
+impl Sequence {
+    /// A node of which nothing is known. A held message waits `wait` milliseconds for the ones
+    /// before it, and `width` numbers are taken at a time.
+    pub fn new(wait: u64, width: Width) -> Sequence
+        ensures fresh { result ≡ fresh_standing wait width }
+        ensures whole { IsWhole result }
+    {
+        let _places = width.get();
+        Sequence {
+            wait,
+            width,
+            phase: Phase::Unknown,
+            stamp: 0,
+            bd: 0,
+            next: 0,
+            since: 0,
+            slots: Slots::new(),
+        }
+    }
+
+    /// A message of the node, with its sequence number, at a moment in milliseconds.
+    pub fn hand(&mut self, number: u8, kind: Kind, now: u64) -> Step
+        ensures step { result ≡ (hand self.old number kind now).0 }
+        ensures data { self.new ≡ (hand self.old number kind now).1 }
+        ensures whole { IsWhole self.new }
+    {
+        match kind {
+            Kind::Birth { stamp, bd } => self.hand_birth(number, stamp, bd, now),
+            Kind::Other { stamp } => self.hand_other(number, stamp, now),
+        }
+    }
+
+    /// A moment in milliseconds: a gap if a held message has waited long enough for one before it.
+    pub fn tick(&mut self, now: u64) -> Option<Gap>
+        ensures gap { is_some result ≡ is_over self.old now }
+        ensures data { self.new ≡ tick self.old now }
+        ensures whole { IsWhole self.new }
+    {
+        if self.is_over(now) {
+            self.stop(Phase::Gap);
+            Some(Gap)
+        } else {
+            None
+        }
+    }
+
+    /// An NDEATH of the node, with its bdSeq (Sparkplug 3.0.0, chapter 5).
+    pub fn death(&mut self, bd: u8) -> Match
+        ensures answer { result ≡ match_of self.old bd }
+        ensures data { self.new ≡ death self.old bd }
+        ensures whole { IsWhole self.new }
+    {
+        if self.phase().is_known() && self.is_session(bd) {
+            self.stop(Phase::Dead);
+            Match::Matched
+        } else {
+            Match::Ignored
+        }
+    }
+
+    /// A new host session: nothing is known of the node.
+    pub fn reset(&mut self)
+        ensures data { self.new ≡ fresh_standing self.old.wait self.old.width }
+        ensures whole { IsWhole self.new }
+    {
+        self.phase = Phase::Unknown;
+        self.stamp = 0;
+        self.bd = 0;
+        self.next = 0;
+        self.since = 0;
+        self.slots.clear_all();
+    }
+
+    /// How the host stands to the node.
+    pub fn phase(&self) -> Phase
+        ensures value { result ≡ self.now.phase }
+        ensures whole { IsWhole self.now }
+    {
+        self.phase
+    }
+
+    /// The number that comes next, while the node is followed.
+    pub fn next(&self) -> Option<u8>
+        ensures value { result ≡ next_of self.now }
+        ensures whole { IsWhole self.now }
+    {
+        if self.phase().is_live() {
+            Some(self.next)
+        } else {
+            None
+        }
+    }
+
+    fn hand_birth(&mut self, number: u8, stamp: u64, bd: u8, now: u64) -> Step
+        ensures step { result ≡ (hand_birth self.old number stamp bd now).0 }
+        ensures data { self.new ≡ (hand_birth self.old number stamp bd now).1 }
+        ensures whole { IsWhole self.new }
+    {
+        if self.phase().is_known() && self.is_newest(stamp) {
+            return Step::OldBirth;
+        }
+        if self.phase().is_dead() && self.is_session(bd) {
+            return Step::DeadSession;
+        }
+        self.restart(number, stamp, bd);
+        self.consume(number, now)
+    }
+
+    fn hand_other(&mut self, number: u8, stamp: Option<u64>, now: u64) -> Step
+        ensures step { result ≡ (hand_other self.old number stamp now).0 }
+        ensures data { self.new ≡ (hand_other self.old number stamp now).1 }
+        ensures whole { IsWhole self.new }
+    {
+        if !self.phase().is_live() {
+            return Step::NotLive;
+        }
+        if self.is_before_birth(stamp) {
+            return Step::Old;
+        }
+        let place = self.place_of(number);
+        if place == 0 {
+            return self.consume(number, now);
+        }
+        self.hand_ahead(place, stamp, now)
+    }
+
+    /// A message whose number is not the one that comes next.
+    fn hand_ahead(&mut self, place: u8, stamp: Option<u64>, now: u64) -> Step
+        requires { 0 < place }
+        ensures step { result ≡ (hand_ahead self.old place stamp now).0 }
+        ensures data { self.new ≡ (hand_ahead self.old place stamp now).1 }
+        ensures whole { IsWhole self.new }
+    {
+        let width = self.width();
+        if place < width {
+            if self.is_held(place) {
+                return Step::Old;
+            }
+            self.hold(place, stamp, now);
+            return Step::Held;
+        }
+        if u16::from(place) < 256 - u16::from(width) {
+            self.stop(Phase::Gap);
+            return Step::Gap;
+        }
+        Step::Old
+    }
+
+    /// Whether no birth of this stamp is newer than the one taken last.
+    fn is_newest(&self, stamp: u64) -> bool
+        ensures { result ≡ nat_le stamp self.now.stamp }
+    {
+        stamp <= self.stamp
+    }
+
+    /// Whether a bdSeq is that of the birth taken last.
+    fn is_session(&self, bd: u8) -> bool
+        ensures { result ≡ (bd == self.now.bd) }
+    {
+        bd == self.bd
+    }
+
+    /// Whether a message is older than the birth taken last, by its stamp.
+    fn is_before_birth(&self, stamp: Option<u64>) -> bool
+        ensures { result ≡ is_below stamp self.now.stamp }
+    {
+        match stamp {
+            Some(own) => own < self.stamp,
+            None => false,
+        }
+    }
+
+    fn width(&self) -> u8
+        ensures value { result ≡ self.now.width }
+        ensures bounded { result ≤ 96 }
+        ensures whole { IsWhole self.now }
+    {
+        self.width.get()
+    }
+
+    /// How far a number is ahead of the one that comes next.
+    fn place_of(&self, number: u8) -> u8
+        ensures value { result ≡ ahead number self.now.next }
+        ensures next { result ≡ 0 → number ≡ self.now.next }
+    {
+        number.wrapping_sub(self.next)
+    }
+
+    fn is_any_held(&self) -> bool
+        ensures value { result ≡ is_any_held self.now.held }
+        ensures whole { IsWhole self.now }
+    {
+        !self.slots.is_empty()
+    }
+
+    fn is_held(&self, place: u8) -> bool
+        requires { place < self.now.width }
+        ensures { result ≡ is_some (held_at self.now.held place) }
+    {
+        self.slots
+            .get(self.next.wrapping_add(place) % 128)
+            .is_some()
+    }
+
+    fn is_over(&self, now: u64) -> bool
+        ensures value { result ≡ is_over self.now now }
+        ensures whole { IsWhole self.now }
+    {
+        self.is_any_held() && self.wait <= now.saturating_sub(self.since)
+    }
+
+    /// The node is no longer followed, and what is held is dropped.
+    fn stop(&mut self, phase: Phase)
+        ensures data { self.new ≡ after_stop self.old phase }
+        ensures whole { IsWhole self.new }
+    {
+        self.phase = phase;
+        self.slots.clear_all();
+    }
+
+    /// The moment from which on the wait counts once one more message is held.
+    fn wait_start(&self, now: u64) -> u64
+        ensures { result ≡ (if is_any_held self.now.held then self.now.since else now) }
+    {
+        if self.is_any_held() { self.since } else { now }
+    }
+
+    /// One more message is held. The wait begins if none was.
+    fn hold(&mut self, place: u8, stamp: Option<u64>, now: u64)
+        requires ahead { 0 < place }
+        requires within { place < self.old.width }
+        ensures data { self.new ≡ after_held self.old place stamp now }
+        ensures whole { IsWhole self.new }
+    {
+        let since = self.wait_start(now);
+        self.since = since;
+        self.slots.put(self.next.wrapping_add(place) % 128, stamp);
+    }
+
+    /// A birth is taken: of what is held, there stays what it keeps.
+    fn restart(&mut self, number: u8, stamp: u64, bd: u8)
+        ensures data { self.new ≡ record self.old { stamp = stamp; bd = bd; next = number; held = self.new.held } }
+        ensures kept { places_from self.new.held self.new.width 1 ≡ kept_places self.old number stamp }
+    {
+        let width = self.width.get();
+        self.slots.keep(self.next, width, number, stamp);
+        self.next = number;
+        self.stamp = stamp;
+        self.bd = bd;
+    }
+
+    /// The message that comes next is consumed, and those that follow it without a hole.
+    fn consume(&mut self, number: u8, now: u64) -> Step
+        requires { number ≡ self.old.next }
+        ensures step { result ≡ Step.Consumed (1 + run_of (places_after self.old)) }
+        ensures data { self.new ≡ after_consumed self.old number (places_after self.old) now }
+        ensures whole { IsWhole self.new }
+    {
+        let first = number.wrapping_add(1);
+        let run = self.slots.run(first, self.width.get());
+        self.slots.clear_run(first, run);
+        self.phase = Phase::Live;
+        self.next = first.wrapping_add(run);
+        self.since = now;
+        Step::Consumed(1 + run)
+    }
+}
