@@ -1,0 +1,12 @@
+//! Topic names and topic filters of MQTT 3.1.1 (chapter 4.7), the topics of Sparkplug 3.0.0 (section 4.1),
+//! and the grants of a broker as a tree of levels.
+#![tactic(auto)]
+
+mod fault;
+mod filter;
+mod levels;
+mod topic;
+
+pub use fault::TopicFault;
+pub use filter::Filter;
+pub use topic::Topic;
