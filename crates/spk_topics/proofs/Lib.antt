@@ -1,1 +1,4 @@
+pub mod FitLemmas
 pub mod LevelLemmas
+pub mod SparkLemmas
+pub mod Tests

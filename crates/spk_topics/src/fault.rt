@@ -2,6 +2,7 @@
 ghost use Rattle.std.specs.Prelude.{◌≡◌};
 ghost use Rattle.spk_topics.specs.Fault.{number_of};
 
+use std::alloc::{AllocError, AllocFailed};
 use thiserror::Error;
 
 /// Why a text is no topic, no filter, or no Sparkplug topic.
@@ -33,5 +34,27 @@ impl TopicFault {
         ensures { result ≡ number_of self }
     {
         self as u32
+    }
+}
+
+impl From<AllocError> for TopicFault {
+    ghost use Rattle.std.specs.Prelude.{◌≡◌};
+    ghost use Rattle.spk_topics.specs.declared.fault.TopicFault.TheVariants.{NoMemory};
+
+    ghost from_gives = { λ _ e. e ≡ NoMemory };
+
+    fn from(_failed: AllocError) -> TopicFault {
+        TopicFault::NoMemory
+    }
+}
+
+impl<T: Drop> From<AllocFailed<T>> for TopicFault {
+    ghost use Rattle.std.specs.Prelude.{◌≡◌};
+    ghost use Rattle.spk_topics.specs.declared.fault.TopicFault.TheVariants.{NoMemory};
+
+    ghost from_gives = { λ _ e. e ≡ NoMemory };
+
+    fn from(_failed: AllocFailed<T>) -> TopicFault {
+        TopicFault::NoMemory
     }
 }

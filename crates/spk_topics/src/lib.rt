@@ -5,8 +5,12 @@
 mod fault;
 mod filter;
 mod levels;
+mod matching;
+mod spark;
 mod topic;
 
 pub use fault::TopicFault;
 pub use filter::Filter;
+pub use matching::matches;
+pub use spark::{Spark, Verb};
 pub use topic::Topic;

@@ -46,8 +46,8 @@ impl<'a> Topic<'a> {
     }
 }
 
-// Whether a byte stands in a text.
-fn has(text: &str, byte: u8) -> bool
+/// Whether a byte stands in a text.
+pub(crate) fn has(text: &str, byte: u8) -> bool
     ensures { result ≡ holds byte text.now }
 {
     text.bytes().any(|b| b == byte)
