@@ -4,8 +4,10 @@
 
 mod fault;
 mod filter;
+mod found;
 mod levels;
 mod matching;
+mod seats;
 mod spark;
 mod topic;
 

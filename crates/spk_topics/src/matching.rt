@@ -13,7 +13,14 @@ use crate::topic::Topic;
 pub fn matches(filter: &Filter, topic: &Topic) -> bool
     ensures { IsTrue result ↔ Matches filter.now topic.now }
 {
-    !is_barred(filter.text(), topic.text()) && fits(filter.text(), topic.text())
+    matches_text(filter.text(), topic.text())
+}
+
+/// Whether the text of a filter matches that of a topic name.
+pub(crate) fn matches_text(filter: &str, topic: &str) -> bool
+    ensures { IsTrue result ↔ Matches filter.now topic.now }
+{
+    !is_barred(filter, topic) && fits(filter, topic)
 }
 
 // Whether a filter that starts with a wildcard stands before a topic that begins with `$`.
