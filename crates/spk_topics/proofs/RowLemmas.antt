@@ -73,7 +73,7 @@ find-append q (e ∷ es) bs =
     ap (cond (eq_by_cmp grant_cmp q e.0) (Some e.1)) (find-append q es bs)
     ∙ cond_else (eq_by_cmp grant_cmp q e.0) e.1 (find grant_cmp q es) (find grant_cmp q bs)
 
-look-cons : (r : Row) (rs : List Row) (f : List ℕ) (k : ℕ) → look (r ∷ rs) f k ≡ or_else (cond (bytes_eq f r.0) (held r.1 k) None) (look rs f k)
+pub look-cons : (r : Row) (rs : List Row) (f : List ℕ) (k : ℕ) → look (r ∷ rs) f k ≡ or_else (cond (bytes_eq f r.0) (held r.1 k) None) (look rs f k)
 look-cons r rs f k = find-append (f, k) (tagged r.0 r.1) (flat rs) ∙ ap (λ o. or_else o (look rs f k)) (find-tagged f r.0 k r.1)
 
 else_none : (o : Option ℕ) → or_else o None ≡ o

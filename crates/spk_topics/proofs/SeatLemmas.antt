@@ -1,6 +1,7 @@
 -- The rows of seats, and what the grants hold where nothing is granted.
 use Rattle.std.proofs.Common.{◌≡◌, ◌⊎◌, ℕ, ◌<◌, List, [], Bool, true, false, refl, ap, sym, ◌∙◌, subst, cond, inl, inr, length, set, get_or, arith, Some, None}
 use Rattle.std.specs.Prelude.{slice_get}
+use Rattle.std.proofs.Common.{◌∷◌}
 use Rattle.std.specs.Option.{option_map}
 use Rattle.std.specs.Ordering.{eq_by_cmp, is_eq, nat_cmp}
 use Rattle.std.specs.declared.cmp.Ordering.{Ordering}
@@ -15,6 +16,8 @@ use Rattle.spk_topics.specs.declared.seats.Seat.{Seat}
 use Rattle.spk_topics.specs.Grants.{Grants, grant_cmp}
 use Rattle.spk_topics.specs.Rows.{Row, flat, grants_of, Absent, IsPlace}
 use Rattle.spk_topics.specs.Seats.{row_of, rows_of}
+use Rattle.std.specs.Str.{bytes_eq}
+use Rattle.spk_topics.proofs.FitLemmas.{bytes_self}
 use Rattle.spk_topics.proofs.RowLemmas.{grants_total, grants_exact, none_there, one_given, one_taken, get-grants_of, held}
 
 pub in_rows : (seats : List Seat) (i : ℕ) (row : Row) → slice_get (rows_of seats) i ≡ Some row → i < length seats
@@ -87,3 +90,19 @@ other_seat seats f i d key p differs =
 -- a seat that holds what it held leaves the rows as they were
 pub same_rows : (seats : List Seat) (i : ℕ) (d t : Seat) → row_of t ≡ row_of (get_or seats i d) → rows_of (set seats i t) ≡ rows_of seats
 same_rows seats i d t h = map-set_same row_of seats i t d h
+
+pub row_at : (seats : List Seat) (i : ℕ) (s : Seat) → i < length seats → s ≡ get_or seats i s → slice_get (rows_of seats) i ≡ Some (row_of s)
+row_at seats i s h e = slice_get-map row_of seats i ∙ ap (option_map row_of) (slice_get-get_or seats i s h ∙ ap (λ x. Some x) (sym e))
+
+pub not_here : (seats : List Seat) (i : ℕ) (s : Seat) (f : List ℕ) (row : Row) → s ≡ get_or seats i s → slice_get (rows_of seats) i ≡ Some row → (string_bytes s.filter ≡ f → ⊥) → row.0 ≡ f → ⊥
+not_here seats i s f row e h differs same = differs (ap (λ (x : Seat). string_bytes x.filter) e ∙ ap (λ (x : Row). x.0) (sym (seat_row seats i row s h)) ∙ same)
+
+pub texts_differ : (t u f : List ℕ) (b : Bool) → t ≡ u → b ≡ bytes_eq t f → b ≡ false → u ≡ f → ⊥
+texts_differ t u f b e is no_match same = let k : bytes_eq t f ≡ true = ap (λ x. bytes_eq x f) (e ∙ same) ∙ bytes_self f in cc
+
+pub no_entries : (es : List (ℕ × ℕ)) → length es ≡ 0 → es ≡ []
+no_entries [] h = refl
+no_entries (e ∷ es) h = absurd (omega arith)
+
+pub rows_length : (seats : List Seat) → length (rows_of seats) ≡ length seats
+rows_length seats = length-map seats row_of

@@ -4,6 +4,7 @@ pub mod Found
 pub mod Grants
 pub mod Levels
 pub mod Matching
+pub mod Reached
 pub mod Rows
 pub mod Seats
 pub mod Spark

@@ -1,5 +1,6 @@
 -- Rows of grants: each has a filter's bytes, and the QoS of its keys.
 use Rattle.std.specs.Prelude.{◌≡◌, ◌⊎◌, ℕ, List, [], ◌∷◌, ◌++◌, Some, slice_get}
+use Rattle.std.proofs.Common.{set}
 use Rattle.std.specs.FinMap.{from_entries}
 use Rattle.spk_topics.specs.Grants.{Grants}
 
@@ -32,3 +33,7 @@ pub record IsPlace (rows : List Row) (filter : List ℕ) (n : ℕ) : Type 0 wher
 -- no row has grants of the filter
 abbrev pub Absent : List Row → List ℕ → Type 0
 Absent rows filter = (i : ℕ) (row : Row) → slice_get rows i ≡ Some row → row.0 ≡ filter → row.1 ≡ []
+
+-- the row at n is the filter's, with other grants or with the same
+abbrev pub SetsRow : List Row → List Row → List ℕ → ℕ → Type 0
+SetsRow old new filter n = (new ≡ old) ⊎ ((es : List (ℕ × ℕ)) × (new ≡ set old n (filter, es)))

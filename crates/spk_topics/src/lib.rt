@@ -10,9 +10,11 @@ mod matching;
 mod seats;
 mod spark;
 mod topic;
+mod tree;
 
 pub use fault::TopicFault;
 pub use filter::Filter;
 pub use matching::matches;
 pub use spark::{Spark, Verb};
 pub use topic::Topic;
+pub use tree::Tree;

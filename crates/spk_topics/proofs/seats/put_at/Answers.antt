@@ -20,7 +20,10 @@ returns-in-Ok-clause-ok c =
 
 pub returns-in-Ok-clause-rows : goal.returns-in-Ok-clause-rows
 returns-in-Ok-clause-rows c =
-    (c.put.new.self.grants.entries, rows_set c.args.seats.now c.args.place c.put.new.self ∙ ap (λ f. set (rows_of c.args.seats.now) c.args.place (f, c.put.new.self.grants.entries)) c.in-Ok.ensures.filter)
+    inr (c.put.new.self.grants.entries, rows_set c.args.seats.now c.args.place c.put.new.self ∙ ap (λ f. set (rows_of c.args.seats.now) c.args.place (f, c.put.new.self.grants.entries)) c.in-Ok.ensures.filter)
+
+pub returns-in-Err-clause-rows : goal.returns-in-Err-clause-rows
+returns-in-Err-clause-rows c = inl (same_rows c.args.seats.now c.args.place c.index-seats-place.result c.put.new.self c.in-Err.ensures.err)
 
 pub returns-in-Err-clause-err : goal.returns-in-Err-clause-err
 returns-in-Err-clause-err c = same_rows c.args.seats.now c.args.place c.index-seats-place.result c.put.new.self c.in-Err.ensures.err

@@ -1,3 +1,4 @@
+use Rattle.std.proofs.Common.{inl}
 use Rattle.std.proofs.Common.{◌≡◌, ◌∙◌, sym, ap, refl, inr, None, set, get_or, true, false}
 use Rattle.std.specs.Prelude.{is_some}
 use Rattle.std.specs.String.{string_bytes}
@@ -43,3 +44,6 @@ returns-clause-gone c =
 pub returns-clause-rows : goal.returns-clause-rows
 returns-clause-rows c =
     inr (c.take.new.self.grants.entries, rows_set c.args.seats.now c.args.place c.take.new.self ∙ ap (λ f. set (rows_of c.args.seats.now) c.args.place (f, c.take.new.self.grants.entries)) (ap string_bytes c.take.ensures.filter ∙ same c))
+
+pub returns-then-ne-clause-rows : goal.returns-then-ne-clause-rows
+returns-then-ne-clause-rows c = inl (same_rows c.args.seats.now c.args.place c.index-seats-place.result _ refl)
