@@ -62,7 +62,7 @@ same_key : (k j : ℕ) → is_eq (nat_cmp k j) ≡ true → k ≡ j
 same_key k j h = grind (arith, nat_tests)
 
 contained_here : (x : ℕ × ℕ) (es : List (ℕ × ℕ)) (k q : ℕ) (b : Bool) → is_eq (nat_cmp k x.0) ≡ b → (lookup (tree.is_at (nat_cmp k)) es ≡ Some q → Contains es (k, q))
-  → cond b (Some x.1) (lookup (tree.is_at (nat_cmp k)) es) ≡ Some q → Contains (x ∷ es) (k, q)
+    → cond b (Some x.1) (lookup (tree.is_at (nat_cmp k)) es) ≡ Some q → Contains (x ∷ es) (k, q)
 contained_here x es k q true e ih h =
     let v : x.1 ≡ q = cc in
     let s : x.0 ≡ k = sym (same_key k x.0 e) in
@@ -84,14 +84,14 @@ pub finds : (rows : List Row) (topic : List ℕ) (m : tree.BTreeMap ℕ ℕ) →
 finds rows topic m single ordered h = record {
   ascending = IsStrictlyIncreasing-from_sorted _ ordered;
   each = λ k q c.
-    let (i, there) = among m.entries (k, q) c in
-    let found = btree_map_get_place nat_cmp_total m i k q ordered there in
-    record {
-      granted = grant_of rows topic k q single (h.sound k q found);
-      greatest = λ p g.
-        let (best, is, le) = h.all k p (reached_of rows topic k p g) in
-        let same : best ≡ q = one_value best q (sym is ∙ found) in
-        omega arith;
-    };
+      let (i, there) = among m.entries (k, q) c in
+      let found = btree_map_get_place nat_cmp_total m i k q ordered there in
+      record {
+        granted = grant_of rows topic k q single (h.sound k q found);
+        greatest = λ p g.
+            let (best, is, le) = h.all k p (reached_of rows topic k p g) in
+            let same : best ≡ q = one_value best q (sym is ∙ found) in
+            omega arith;
+      };
   all = λ k q g. let (best, is, le) = h.all k q (reached_of rows topic k q g) in (best, contained m.entries k best is);
 }

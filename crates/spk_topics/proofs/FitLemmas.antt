@@ -4,7 +4,7 @@ use Rattle.std.specs.Prelude.{◌||◌, ◌&&◌, IsTrue, ◌↔◌}
 use Rattle.std.specs.Str.{bytes_eq}
 use Rattle.std.proofs.lemmas.Slice.Eq.{bytes_eq-Decides}
 use Rattle.std.proofs.lemmas.Bool.{eqb-true}
-use Rattle.spk_topics.proofs.Tests.{or_cases, and_parts, and_both}
+use Rattle.spk_topics.proofs.BoolLemmas.{or_cases, and_parts, and_both}
 use Rattle.spk_topics.specs.Levels.{levels, is_empty}
 use Rattle.spk_topics.specs.Matching.{Fits, StartsWithWildcard, BeginsWithDollar, IsBarred, Matches}
 use Rattle.spk_topics.specs.Matching.Fits.{both_end, any_rest, any_level, same_level}
@@ -30,7 +30,7 @@ next_level level name filter topic (inl h) f = subst (λ l. Fits (l ∷ filter) 
 next_level level name filter topic (inr h) f = subst (λ l. Fits (l ∷ filter) (name ∷ topic)) (sym (bytes_same _ _ h)) (same_level name filter topic f)
 
 either_way : (level name : List ℕ) (filter topic : List (List ℕ)) → (fits filter topic ≡ true → Fits filter topic)
-  → ((bytes_eq level (35 ∷ []) && is_empty filter) ≡ true) ⊎ (((bytes_eq level (43 ∷ []) || bytes_eq level name) && fits filter topic) ≡ true) → Fits (level ∷ filter) (name ∷ topic)
+    → ((bytes_eq level (35 ∷ []) && is_empty filter) ≡ true) ⊎ (((bytes_eq level (43 ∷ []) || bytes_eq level name) && fits filter topic) ≡ true) → Fits (level ∷ filter) (name ∷ topic)
 either_way level name filter topic ih (inl h) = all_rest level filter (name ∷ topic) h
 either_way level name filter topic ih (inr h) =
     let (this, rest) = and_parts _ _ h in
@@ -92,9 +92,10 @@ not_both b h k = cc
 
 -- where the bar doesn't stand, the levels decide
 pub open_matches : (filter topic : List ℕ) (b : Bool) → is_barred filter topic ≡ false → b ≡ fits (levels filter) (levels topic) → IsTrue b ↔ Matches filter topic
-open_matches filter topic b h e =
-    ((λ t. record { allowed = (λ bar. not_both _ h (barred-of filter topic bar)); fits = Fits-of _ _ (sym e ∙ t) }),
-     (λ m. e ∙ fits-of _ _ m.fits))
+open_matches filter topic b h e = (
+  (λ t. record { allowed = (λ bar. not_both _ h (barred-of filter topic bar)); fits = Fits-of _ _ (sym e ∙ t) }),
+  (λ m. e ∙ fits-of _ _ m.fits),
+)
 
 pub barred_never : (filter topic : List ℕ) → is_barred filter topic ≡ true → Matches filter topic → ⊥
 barred_never filter topic h m = m.allowed (IsBarred-of filter topic h)

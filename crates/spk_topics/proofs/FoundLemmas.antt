@@ -26,7 +26,7 @@ least_max : (o : Option ℕ) (q v : ℕ) → o ≡ Some q → q ≤ max (unwrap_
 least_max o q v e = rw e (omega arith)
 
 kept_here : (o : Option ℕ) (v q : ℕ) (b : Bool) (after : Option ℕ → Option ℕ) → ((p : Option ℕ) (r : ℕ) → p ≡ Some r → HasLeast (after p) r)
-  → o ≡ Some q → HasLeast (after (cond b (Some (max (unwrap_or o 0) v)) o)) q
+    → o ≡ Some q → HasLeast (after (cond b (Some (max (unwrap_or o 0) v)) o)) q
 kept_here o v q true after ih e = more _ q (max (unwrap_or o 0) v) (ih (Some (max (unwrap_or o 0) v)) (max (unwrap_or o 0) v) refl) (least_max o q v e)
 kept_here o v q false after ih e = ih o q e
 
@@ -35,8 +35,8 @@ merged_kept j o [] q e = (q, e, omega arith)
 merged_kept j o (x ∷ es) q e = kept_here o x.1 q (is_eq (nat_cmp x.0 j)) (λ p. merged j p es) (λ p r. merged_kept j p es r) e
 
 taken_here : (j : ℕ) (o : Option ℕ) (x : ℕ × ℕ) (es : List (ℕ × ℕ)) (q : ℕ) (b : Bool) → b ≡ is_eq (nat_cmp j x.0)
-  → ((p : Option ℕ) → lookup (is_at (nat_cmp j)) es ≡ Some q → HasLeast (merged j p es) q)
-  → cond b (Some x.1) (lookup (is_at (nat_cmp j)) es) ≡ Some q → HasLeast (merged j (cond (is_eq (nat_cmp x.0 j)) (Some (max (unwrap_or o 0) x.1)) o) es) q
+    → ((p : Option ℕ) → lookup (is_at (nat_cmp j)) es ≡ Some q → HasLeast (merged j p es) q)
+    → cond b (Some x.1) (lookup (is_at (nat_cmp j)) es) ≡ Some q → HasLeast (merged j (cond (is_eq (nat_cmp x.0 j)) (Some (max (unwrap_or o 0) x.1)) o) es) q
 taken_here j o x es q true e ih h =
     let same : x.1 ≡ q = cc in
     rw (swapped x.0 j) (rw (← e) (more _ q (max (unwrap_or o 0) x.1) (merged_kept j (Some (max (unwrap_or o 0) x.1)) es (max (unwrap_or o 0) x.1) refl) (omega arith)))
@@ -69,8 +69,8 @@ from_first (Some u) x es j b s e =
     pick (inr p) = inr (0, ap (λ y. Some y) (pair_of x j b s p))
 
 from_here : (j b : ℕ) (o : Option ℕ) (x : ℕ × ℕ) (es : List (ℕ × ℕ)) (t : Bool) → is_eq (nat_cmp x.0 j) ≡ t
-  → ((p : Option ℕ) → merged j p es ≡ Some b → (p ≡ Some b) ⊎ Among es (j, b))
-  → merged j (cond t (Some (max (unwrap_or o 0) x.1)) o) es ≡ Some b → (o ≡ Some b) ⊎ Among (x ∷ es) (j, b)
+    → ((p : Option ℕ) → merged j p es ≡ Some b → (p ≡ Some b) ⊎ Among es (j, b))
+    → merged j (cond t (Some (max (unwrap_or o 0) x.1)) o) es ≡ Some b → (o ≡ Some b) ⊎ Among (x ∷ es) (j, b)
 from_here j b o x es true e ih h = pick (ih _ h)
   where
     pick : (Some (max (unwrap_or o 0) x.1) ≡ Some b) ⊎ Among es (j, b) → (o ≡ Some b) ⊎ Among (x ∷ es) (j, b)

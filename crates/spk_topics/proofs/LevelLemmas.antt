@@ -5,7 +5,7 @@ use Rattle.std.specs.Prelude.{not, is_some, ◌||◌}
 use Rattle.std.specs.Option.{option_map}
 use Rattle.std.specs.List.{position_or_len, before_first, after_first, list_all}
 use Rattle.std.proofs.lemmas.Bool.{eqb-true}
-use Rattle.spk_topics.proofs.Tests.{and_parts, not_true}
+use Rattle.spk_topics.proofs.BoolLemmas.{and_parts, not_true}
 use Rattle.std.proofs.lemmas.Grind.{common_steps}
 use Rattle.spk_topics.specs.Levels.{levels, levels_left, widened, is_empty, joined}
 use Rattle.spk_topics.specs.Text.{holds}
@@ -17,8 +17,8 @@ later b s p ih =
     rw e (rw f (rw ih refl))
 
 cut_here : (b : ℕ) (s : List ℕ) (t : Bool) → nat_eq b 47 ≡ t
-  → (position_or_len (λ b. nat_eq b 47) s < length s → levels s ≡ before_first (λ b. nat_eq b 47) s ∷ levels (after_first (λ b. nat_eq b 47) s))
-  → position_or_len (λ b. nat_eq b 47) (b ∷ s) < length (b ∷ s) → levels (b ∷ s) ≡ before_first (λ b. nat_eq b 47) (b ∷ s) ∷ levels (after_first (λ b. nat_eq b 47) (b ∷ s))
+    → (position_or_len (λ b. nat_eq b 47) s < length s → levels s ≡ before_first (λ b. nat_eq b 47) s ∷ levels (after_first (λ b. nat_eq b 47) s))
+    → position_or_len (λ b. nat_eq b 47) (b ∷ s) < length (b ∷ s) → levels (b ∷ s) ≡ before_first (λ b. nat_eq b 47) (b ∷ s) ∷ levels (after_first (λ b. nat_eq b 47) (b ∷ s))
 cut_here b s true e ih h = rw e refl
 cut_here b s false e ih h =
     let g : 1 + position_or_len (λ b. nat_eq b 47) s < length (b ∷ s) = (rw e at h) in
@@ -29,7 +29,7 @@ levels-cut [] h = absurd (omega arith)
 levels-cut (b ∷ s) h = cut_here b s (nat_eq b 47) refl (levels-cut s) h
 
 whole_here : (b : ℕ) (s : List ℕ) (t : Bool) → nat_eq b 47 ≡ t → (position_or_len (λ b. nat_eq b 47) s ≡ length s → levels s ≡ s ∷ [])
-  → position_or_len (λ b. nat_eq b 47) (b ∷ s) ≡ length (b ∷ s) → levels (b ∷ s) ≡ (b ∷ s) ∷ []
+    → position_or_len (λ b. nat_eq b 47) (b ∷ s) ≡ length (b ∷ s) → levels (b ∷ s) ≡ (b ∷ s) ∷ []
 whole_here b s true e ih h = let g : 0 ≡ length (b ∷ s) = (rw e at h) in absurd (omega arith)
 whole_here b s false e ih h =
     let g : 1 + position_or_len (λ b. nat_eq b 47) s ≡ length (b ∷ s) = (rw e at h) in
@@ -80,7 +80,7 @@ pub same_levels : (a b : List ℕ) → levels a ≡ levels b → a ≡ b
 same_levels a b e = sym (joined-levels a) ∙ ap joined e ∙ joined-levels b
 
 front_byte : (b : ℕ) (t : Bool) (l : List ℕ) (ls : List (List ℕ)) (s : List ℕ) → nat_eq b 47 ≡ t → (t || holds 47 l) ≡ false
-  → (holds 47 l ≡ false → levels (l ++ s) ≡ l ∷ ls) → levels (b ∷ (l ++ s)) ≡ (b ∷ l) ∷ ls
+    → (holds 47 l ≡ false → levels (l ++ s) ≡ l ∷ ls) → levels (b ∷ (l ++ s)) ≡ (b ∷ l) ∷ ls
 front_byte b true l ls s e h ih = cc
 front_byte b false l ls s e h ih = rw e (ap (widened b) (ih h))
 

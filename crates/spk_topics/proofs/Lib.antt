@@ -1,3 +1,4 @@
+pub mod BoolLemmas
 pub mod FindLemmas
 pub mod FitLemmas
 pub mod FoundLemmas
@@ -6,4 +7,3 @@ pub mod ListLemmas
 pub mod RowLemmas
 pub mod SeatLemmas
 pub mod SparkLemmas
-pub mod Tests

@@ -127,6 +127,7 @@ apart_push rows g apart i s h = side (push_sees rows (g, []) i s h)
     old : (s.1 ≡ []) ⊎ Only rows s.0 i → (s.1 ≡ []) ⊎ Only (rows ++ (g, []) ∷ []) s.0 i
     old (inl none) = inl none
     old (inr only) = inr (only_push rows g s.0 i only)
+
     side : Sees rows i s ⊎ ((i ≡ length rows) × ((g, []) ≡ s)) → (s.1 ≡ []) ⊎ Only (rows ++ (g, []) ∷ []) s.0 i
     side (inl k) = old (apart i s k)
     side (inr (p, is)) = inl (ap (λ (y : Row). y.1) (sym is))
@@ -164,7 +165,7 @@ least_after : (o : Option ℕ) (p q : ℕ) → HasLeast o p → q ≤ p → HasL
 least_after o p q h le = (h.0, h.1, omega (arith, h.2))
 
 pub matched : (rows : List Row) (topic : List ℕ) (i : ℕ) (row : Row) (m : tree.BTreeMap ℕ ℕ) (old new : ℕ → Option ℕ) → FoundBelow rows topic i old → Sees rows i row → m.entries ≡ row.1 → Matches row.0 topic
-  → Gathers old new (tree.get nat_cmp m) → FoundBelow rows topic (i + 1) new
+    → Gathers old new (tree.get nat_cmp m) → FoundBelow rows topic (i + 1) new
 matched rows topic i row m old new f h e fits g = record {
   sound = λ k q s. side k q (g.sound k q s);
   all = λ k q r lt. later k q r (less_or r.place i lt);
@@ -173,6 +174,7 @@ matched rows topic i row m old new f h e fits g = record {
     side : (k q : ℕ) → (old k ≡ Some q) ⊎ (tree.get nat_cmp m k ≡ Some q) → Reached rows topic k q
     side k q (inl p) = f.sound k q p
     side k q (inr p) = record { place = i; row = row; there = h; matching = fits; holds = ap (λ es. held es k) (sym e) ∙ p }
+
     later : (k q : ℕ) (r : Reached rows topic k q) → (r.place < i) ⊎ (r.place ≡ i) → HasLeast (new k) q
     later k q r (inl lt) = let (best, is, le) = f.all k q r lt in least_after (new k) best q (g.kept k best is) le
     later k q r (inr same) =

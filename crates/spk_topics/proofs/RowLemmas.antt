@@ -44,7 +44,6 @@ both_eq Greater b = refl
 tie : (f g : List ℕ) (k j : ℕ) → eq_by_cmp grant_cmp (f, k) (g, j) ≡ (bytes_eq f g && is_eq (nat_cmp k j))
 tie f g k j = both_eq (slice_cmp nat_cmp f g) (nat_cmp k j) ∙ ap (λ b. b && is_eq (nat_cmp k j)) (is_eq-slice_cmp f g)
 
-
 cond_of : (b c : Bool) (v : ℕ) (o : Option ℕ) → cond (b && c) (Some v) (cond b o None) ≡ cond b (cond c (Some v) o) None
 cond_of true c v o = refl
 cond_of false c v o = refl
@@ -169,8 +168,8 @@ own_row f r k (inl e) = ap (λ b. cond b (held r.1 k) None) (ap (bytes_eq f) e �
 own_row f r k (inr e) = ap (λ es. cond (bytes_eq f r.0) (held es k) None) e ∙ sym (cond_none (bytes_eq f r.0)) ∙ sym (ap (λ es. held es k) e)
 
 here : (rs : List Row) (f : List ℕ) (n : ℕ) (r : Row) (es : List (ℕ × ℕ)) (key : ℕ) (o : Option ℕ) → Only rs f n → slice_get rs n ≡ Some r → (r.0 ≡ f) ⊎ (r.1 ≡ [])
-  → ((j : ℕ) → held es j ≡ cond (is_eq (nat_cmp key j)) o (held r.1 j))
-  → (g : List ℕ) (j : ℕ) (b : Bool) → bytes_eq g f ≡ b → look (set rs n (f, es)) g j ≡ cond (b && is_eq (nat_cmp j key)) o (look rs g j)
+    → ((j : ℕ) → held es j ≡ cond (is_eq (nat_cmp key j)) o (held r.1 j))
+    → (g : List ℕ) (j : ℕ) (b : Bool) → bytes_eq g f ≡ b → look (set rs n (f, es)) g j ≡ cond (b && is_eq (nat_cmp j key)) o (look rs g j)
 here rs f n r es key o only e s h g j true t =
     let same : g ≡ f = bytes_same g f t in
     subst (λ x. look (set rs n (f, es)) x j ≡ cond (is_eq (nat_cmp j key)) o (look rs x j)) (sym same)
@@ -179,19 +178,19 @@ here rs f n r es key o only e s h g j true t =
 here rs f n r es key o only e s h g j false t = changed_other rs f g n r es j t e s
 
 pub one_changed : (rs : List Row) (f : List ℕ) (n : ℕ) (r : Row) (es : List (ℕ × ℕ)) (key : ℕ) (o : Option ℕ) → Only rs f n → slice_get rs n ≡ Some r → (r.0 ≡ f) ⊎ (r.1 ≡ [])
-  → ((j : ℕ) → held es j ≡ cond (is_eq (nat_cmp key j)) o (held r.1 j))
-  → (q : List ℕ × ℕ) → look (set rs n (f, es)) q.0 q.1 ≡ cond (eq_by_cmp grant_cmp q (f, key)) o (look rs q.0 q.1)
+    → ((j : ℕ) → held es j ≡ cond (is_eq (nat_cmp key j)) o (held r.1 j))
+    → (q : List ℕ × ℕ) → look (set rs n (f, es)) q.0 q.1 ≡ cond (eq_by_cmp grant_cmp q (f, key)) o (look rs q.0 q.1)
 one_changed rs f n r es key o only e s h q =
     here rs f n r es key o only e s h q.0 q.1 (bytes_eq q.0 f) refl ∙ ap (λ b. cond b o (look rs q.0 q.1)) (sym (tie q.0 f q.1 key))
 
 pub one_given : (rs : List Row) (f : List ℕ) (n : ℕ) (r : Row) (es : List (ℕ × ℕ)) (key qos : ℕ) → Only rs f n → slice_get rs n ≡ Some r → (r.0 ≡ f) ⊎ (r.1 ≡ [])
-  → ((j : ℕ) → held es j ≡ cond (is_eq (nat_cmp key j)) (Some qos) (held r.1 j)) → grants_of (set rs n (f, es)) ≡ insert (grants_of rs) (f, key) qos
+    → ((j : ℕ) → held es j ≡ cond (is_eq (nat_cmp key j)) (Some qos) (held r.1 j)) → grants_of (set rs n (f, es)) ≡ insert (grants_of rs) (f, key) qos
 one_given rs f n r es key qos only e s h = same_map grants_total grants_exact _ _ (λ q.
     get-from_entries grants_total (flat (set rs n (f, es))) q ∙ one_changed rs f n r es key (Some qos) only e s h q
     ∙ sym (get-insert grants_total (grants_of rs) (f, key) qos q ∙ ap (cond (eq_by_cmp grant_cmp q (f, key)) (Some qos)) (get-from_entries grants_total (flat rs) q)))
 
 pub one_taken : (rs : List Row) (f : List ℕ) (n : ℕ) (r : Row) (es : List (ℕ × ℕ)) (key : ℕ) → Only rs f n → slice_get rs n ≡ Some r → (r.0 ≡ f) ⊎ (r.1 ≡ [])
-  → ((j : ℕ) → held es j ≡ cond (is_eq (nat_cmp key j)) None (held r.1 j)) → grants_of (set rs n (f, es)) ≡ remove (grants_of rs) (f, key)
+    → ((j : ℕ) → held es j ≡ cond (is_eq (nat_cmp key j)) None (held r.1 j)) → grants_of (set rs n (f, es)) ≡ remove (grants_of rs) (f, key)
 one_taken rs f n r es key only e s h = same_map grants_total grants_exact _ _ (λ q.
     get-from_entries grants_total (flat (set rs n (f, es))) q ∙ one_changed rs f n r es key None only e s h q
     ∙ sym (get-remove grants_total (grants_of rs) (f, key) q ∙ ap (cond (eq_by_cmp grant_cmp q (f, key)) None) (get-from_entries grants_total (flat rs) q)))

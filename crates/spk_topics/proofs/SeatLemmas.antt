@@ -51,8 +51,8 @@ get-absent rows f k h = get-from_entries grants_total (flat rows) (f, k) ∙ non
 
 -- the grants once a seat has a key more
 pub seat_given : (seats : List Seat) (f : List ℕ) (i : ℕ) (d t : Seat) (key qos : ℕ) → IsPlace (rows_of seats) f i → string_bytes t.filter ≡ f
-  → ((j : ℕ) → tree.get nat_cmp t.grants j ≡ cond (is_eq (nat_cmp key j)) (Some qos) (tree.get nat_cmp (get_or seats i d).grants j))
-  → grants_of (rows_of (set seats i t)) ≡ insert (grants_of (rows_of seats)) (f, key) qos
+    → ((j : ℕ) → tree.get nat_cmp t.grants j ≡ cond (is_eq (nat_cmp key j)) (Some qos) (tree.get nat_cmp (get_or seats i d).grants j))
+    → grants_of (rows_of (set seats i t)) ≡ insert (grants_of (rows_of seats)) (f, key) qos
 seat_given seats f i d t key qos p filter h =
     let same : p.row ≡ row_of (get_or seats i d) = seat_row seats i p.row d p.there in
     ap grants_of (rows_set seats i t ∙ ap (λ g. set (rows_of seats) i (g, t.grants.entries)) filter)
@@ -61,8 +61,8 @@ seat_given seats f i d t key qos p filter h =
 
 -- the grants once a seat has a key less
 pub seat_taken : (seats : List Seat) (f : List ℕ) (i : ℕ) (d t : Seat) (key : ℕ) → IsPlace (rows_of seats) f i → string_bytes t.filter ≡ f
-  → ((j : ℕ) → tree.get nat_cmp t.grants j ≡ cond (is_eq (nat_cmp key j)) None (tree.get nat_cmp (get_or seats i d).grants j))
-  → grants_of (rows_of (set seats i t)) ≡ remove (grants_of (rows_of seats)) (f, key)
+    → ((j : ℕ) → tree.get nat_cmp t.grants j ≡ cond (is_eq (nat_cmp key j)) None (tree.get nat_cmp (get_or seats i d).grants j))
+    → grants_of (rows_of (set seats i t)) ≡ remove (grants_of (rows_of seats)) (f, key)
 seat_taken seats f i d t key p filter h =
     let same : p.row ≡ row_of (get_or seats i d) = seat_row seats i p.row d p.there in
     ap grants_of (rows_set seats i t ∙ ap (λ g. set (rows_of seats) i (g, t.grants.entries)) filter)
@@ -71,14 +71,14 @@ seat_taken seats f i d t key p filter h =
 
 -- what is granted stands in the seat
 pub seat_holds : (seats : List Seat) (f : List ℕ) (i : ℕ) (d : Seat) (key : ℕ) → IsPlace (rows_of seats) f i
-  → get (grants_of (rows_of seats)) (f, key) ≡ tree.get nat_cmp (get_or seats i d).grants key
+    → get (grants_of (rows_of seats)) (f, key) ≡ tree.get nat_cmp (get_or seats i d).grants key
 seat_holds seats f i d key p =
     let same : p.row ≡ row_of (get_or seats i d) = seat_row seats i p.row d p.there in
     get-grants_of (rows_of seats) f i p.row key p.only p.there p.fits ∙ ap (λ (r : Row). held r.1 key) same
 
 -- nothing is granted where the seat is another filter's
 pub other_seat : (seats : List Seat) (f : List ℕ) (i : ℕ) (d : Seat) (key : ℕ) → IsPlace (rows_of seats) f i → (string_bytes (get_or seats i d).filter ≡ f → ⊥)
-  → get (grants_of (rows_of seats)) (f, key) ≡ None
+    → get (grants_of (rows_of seats)) (f, key) ≡ None
 other_seat seats f i d key p differs =
     let same : p.row ≡ row_of (get_or seats i d) = seat_row seats i p.row d p.there in
     get-grants_of (rows_of seats) f i p.row key p.only p.there p.fits ∙ nothing_in p.row p.fits same

@@ -5,10 +5,13 @@
 mod fault;
 mod filter;
 mod found;
+pub mod laws;
 mod levels;
 mod matching;
 mod seats;
 mod spark;
+#[cfg(test)]
+mod tests;
 mod topic;
 mod tree;
 

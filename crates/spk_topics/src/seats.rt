@@ -80,7 +80,6 @@ impl Seat {
     }
 }
 
-
 /// Sets the QoS of a filter and a key in the seat at a place, and says whether the key is new there.
 pub(crate) fn put_at(
     alloc: Global,
@@ -119,7 +118,11 @@ pub(crate) fn take_at(seats: &mut [Seat], place: usize, filter: &str, key: u64) 
 }
 
 /// A place without grants at the end.
-pub(crate) fn push_seat(alloc: Global, seats: &mut Vec<Seat>, filter: &str) -> Result<(), TopicFault>
+pub(crate) fn push_seat(
+    alloc: Global,
+    seats: &mut Vec<Seat>,
+    filter: &str,
+) -> Result<(), TopicFault>
     ensures ok { OnOk result (rows_of seats.new.items ≡ rows_of seats.old.items ++ (filter.now, []) ∷ []) }
     ensures fault { IfErr result (λ e. e ≡ TopicFault.NoMemory) }
     ensures err { OnErr result (seats.new.items ≡ seats.old.items) }

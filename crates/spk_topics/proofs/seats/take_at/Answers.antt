@@ -6,7 +6,7 @@ use Rattle.std.specs.FinMap.{get}
 use Rattle.spk_topics.specs.Rows.{grants_of}
 use Rattle.spk_topics.specs.Seats.{rows_of}
 use Rattle.spk_topics.proofs.FitLemmas.{bytes_self, bytes_same}
-use Rattle.spk_topics.proofs.Tests.{not_true, not_false}
+use Rattle.spk_topics.proofs.BoolLemmas.{not_true, not_false}
 use Rattle.std.specs.Str.{bytes_eq}
 use Rattle.spk_topics.proofs.SeatLemmas.{seat_taken, seat_holds, other_seat, rows_set, same_rows, remove_absent}
 use Rattle.spk_topics.proofs.seats.take_at.Goals as goal

@@ -22,13 +22,13 @@ loop-n-preserved c =
     let seen = row_at c.args.seats.now c.loop-n.n s (omega arith) c.index-seats-n.is in
     elim c.if-matches_text.branch [
       | then-matches_text+in_ok-gather w ↦
-        let fits : Matches (string_bytes s.filter) c.args.topic.now = subst (λ t. Matches t c.args.topic.now) c.deref.ensures (c.matches_text.ensures.0 w.if-matches_text.true) in
-        subst (λ m. FoundBelow (rows_of c.args.seats.now) c.args.topic.now (c.loop-n.n + 1) (get nat_cmp m)) (sym w.found-is)
-        (matched (rows_of c.args.seats.now) c.args.topic.now c.loop-n.n (row_of s) s.grants (get nat_cmp c.loop-n.found) (get nat_cmp w.gather.new.found) c.loop-n.invariant seen refl fits w.in_ok-gather.ensures.ok)
+          let fits : Matches (string_bytes s.filter) c.args.topic.now = subst (λ t. Matches t c.args.topic.now) c.deref.ensures (c.matches_text.ensures.0 w.if-matches_text.true) in
+          subst (λ m. FoundBelow (rows_of c.args.seats.now) c.args.topic.now (c.loop-n.n + 1) (get nat_cmp m)) (sym w.found-is)
+          (matched (rows_of c.args.seats.now) c.args.topic.now c.loop-n.n (row_of s) s.grants (get nat_cmp c.loop-n.found) (get nat_cmp w.gather.new.found) c.loop-n.invariant seen refl fits w.in_ok-gather.ensures.ok)
       | else-matches_text w ↦
-        subst (λ m. FoundBelow (rows_of c.args.seats.now) c.args.topic.now (c.loop-n.n + 1) (get nat_cmp m)) (sym w.found-is)
-        (unmatched (rows_of c.args.seats.now) c.args.topic.now c.loop-n.n (row_of s) (get nat_cmp c.loop-n.found) c.loop-n.invariant seen
-        (λ fits. never c.matches_text.result (c.matches_text.ensures.1 (subst (λ t. Matches t c.args.topic.now) (sym c.deref.ensures) fits)) w.if-matches_text.false))
+          subst (λ m. FoundBelow (rows_of c.args.seats.now) c.args.topic.now (c.loop-n.n + 1) (get nat_cmp m)) (sym w.found-is)
+          (unmatched (rows_of c.args.seats.now) c.args.topic.now c.loop-n.n (row_of s) (get nat_cmp c.loop-n.found) c.loop-n.invariant seen
+          (λ fits. never c.matches_text.result (c.matches_text.ensures.1 (subst (λ t. Matches t c.args.topic.now) (sym c.deref.ensures) fits)) w.if-matches_text.false))
     ]
 
 pub returns-in-Ok-clause-ok : goal.returns-in-Ok-clause-ok
