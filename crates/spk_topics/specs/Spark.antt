@@ -1,4 +1,4 @@
--- The topics of Sparkplug 3.0.0 (sections 4.1 and 10.14): `spBv1.0/group/TYPE/node`, `spBv1.0/group/TYPE/node/device`
+-- The topics of Sparkplug 3.0.0 (chapter 4): `spBv1.0/group/TYPE/node`, `spBv1.0/group/TYPE/node/device`
 -- and `spBv1.0/STATE/host`. The names are bytes in UTF-8.
 use Rattle.std.specs.Prelude.{◌≢◌, ℕ, List, [], ◌∷◌, ◌&&◌, Bool, not, codes, IsTrue}
 use Rattle.std.specs.String.{string_bytes}

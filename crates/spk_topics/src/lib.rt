@@ -1,5 +1,5 @@
-//! Topic names and topic filters of MQTT 3.1.1 (chapter 4.7), the topics of Sparkplug 3.0.0 (section 4.1),
-//! and the grants of a broker as a tree of levels.
+//! Topic names and topic filters of MQTT 3.1.1 (chapter 4.7), the topics of Sparkplug 3.0.0 (chapter 4),
+//! and the grants of a broker, by filter and key.
 #![tactic(auto)]
 
 mod fault;

@@ -1,4 +1,4 @@
-//! The topics of Sparkplug 3.0.0 (sections 4.1 and 10.14).
+//! The topics of Sparkplug 3.0.0 (chapter 4).
 ghost use Rattle.std.specs.Prelude.{◌≡◌, ◌≢◌, ◌∷◌, codes, IfOk, IfErr, IfSome, IfNone, IsTrue, Some, None};
 ghost use Rattle.std.specs.String.{string_bytes};
 ghost use Rattle.spk_topics.specs.Spark.{Named, RefusesNames, RefusesText, device_type, has_names, is_name, named, named_levels, node_type, topic_of};

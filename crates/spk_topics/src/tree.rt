@@ -18,6 +18,7 @@ use std::marker::Model;
 
 /// The grants that stand: for a filter and a key, a QoS. Contracts see them as the finite map from pairs
 /// of a filter's bytes and a key to a QoS.
+/// For now each call looks at each filter.
 #[derive(Drop)]
 pub struct Tree {
     alloc: Global,
