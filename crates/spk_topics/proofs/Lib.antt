@@ -1,0 +1,9 @@
+pub mod BoolLemmas
+pub mod FindLemmas
+pub mod FitLemmas
+pub mod FoundLemmas
+pub mod LevelLemmas
+pub mod ListLemmas
+pub mod RowLemmas
+pub mod SeatLemmas
+pub mod SparkLemmas

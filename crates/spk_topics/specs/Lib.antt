@@ -1,0 +1,12 @@
+pub mod Fault
+pub mod Fitting
+pub mod Found
+pub mod Grants
+pub mod Levels
+pub mod Matching
+pub mod Reached
+pub mod Rows
+pub mod Seats
+pub mod Spark
+pub mod SparkReading
+pub mod Text

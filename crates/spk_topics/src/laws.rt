@@ -1,0 +1,19 @@
+//! Laws of the definitions.
+ghost use Rattle.std.specs.Prelude.{◌≡◌, ◌∷◌, ℕ, List, IsTrue, not, false};
+ghost use Rattle.std.specs.List.{list_all};
+ghost use Rattle.spk_topics.specs.Levels.{joined, levels};
+ghost use Rattle.spk_topics.specs.Spark.{Named, has_names, topic_of};
+ghost use Rattle.spk_topics.specs.Text.{holds};
+
+/// The levels of a text are the texts between its slashes: joined by slashes they are the text, and levels
+/// without a slash, joined, are read again.
+pub fn levels_are_parts()
+    ensures parts { (text : List ℕ) → joined (levels text) ≡ text }
+    ensures again { (level : List ℕ) (rest : List (List ℕ)) → IsTrue (list_all (λ l. not (holds 47 l)) (level ∷ rest)) → levels (joined (level ∷ rest)) ≡ level ∷ rest }
+{}
+
+/// No text is the topic of two different names, so what `text` writes `read` gives back, and the other way
+/// round.
+pub fn one_topic()
+    ensures { (m n : Named) → IsTrue (has_names m) → IsTrue (has_names n) → topic_of m ≡ topic_of n → m ≡ n }
+{}

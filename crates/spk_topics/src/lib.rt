@@ -1,0 +1,23 @@
+//! Topic names and topic filters of MQTT 3.1.1 (chapter 4.7), the topics of Sparkplug 3.0.0 (chapter 4),
+//! and the grants of a broker, by filter and key.
+#![tactic(auto)]
+
+mod fault;
+mod filter;
+mod found;
+pub mod laws;
+mod levels;
+mod matching;
+mod seats;
+mod spark;
+#[cfg(test)]
+mod tests;
+mod topic;
+mod tree;
+
+pub use fault::TopicFault;
+pub use filter::Filter;
+pub use matching::matches;
+pub use spark::{Spark, Verb};
+pub use topic::Topic;
+pub use tree::Tree;
