@@ -1,0 +1,9 @@
+//! MQTT 3.1.1 control packets (OASIS, 2014, chapters 2 and 3), at QoS 0 and 1: read, written, and taken from a
+//! stream in any pieces.
+#![tactic(auto)]
+
+mod fault;
+mod packet;
+
+pub use fault::PacketFault;
+pub use packet::{Packet, Request, Will};
