@@ -1,0 +1,4 @@
+pub mod Texts
+pub mod Faults
+pub mod Each
+pub mod Shorter

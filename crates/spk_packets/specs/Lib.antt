@@ -1,1 +1,6 @@
 pub mod Fault
+pub mod Message
+pub mod Grammar
+pub mod Refusals
+pub mod Reading
+pub mod View

@@ -4,6 +4,11 @@
 
 mod fault;
 mod packet;
+mod parts;
+mod publish;
+mod small;
+mod subscribe;
+mod table;
 
 pub use fault::PacketFault;
 pub use packet::{Packet, Request, Will};
