@@ -190,6 +190,13 @@ password_at true bytes = do
   password ← counted_at bytes
   Ok password.1
 
+-- the user name and the password where they are there, and no more
+unfoldable pub login_at : Bool → Bool → List ℕ → Result (Unit {0}) PacketFault
+login_at user password bytes = do
+  named ← user_at user bytes
+  rest ← password_at password named
+  ended tt rest
+
 unfoldable pub flagged_at : List ℕ → Result Message PacketFault
 flagged_at [] = Err BadBody
 flagged_at (b ∷ rest) = do
@@ -197,9 +204,8 @@ flagged_at (b ∷ rest) = do
   keep ← number_at rest
   client ← text_at keep.1
   will ← will_at flags.will client.1
-  named ← user_at flags.user will.1
-  done ← password_at flags.password named
-  ended (Connect client.0 flags.clean keep.0 will.0) done
+  login ← login_at flags.user flags.password will.1
+  Ok (Connect client.0 flags.clean keep.0 will.0)
 
 unfoldable pub level_at : List ℕ → Result Message PacketFault
 level_at [] = Err BadBody

@@ -5,6 +5,8 @@ use Rattle.spk_packets.specs.declared.packet.Packet.{Packet}
 use Rattle.spk_packets.specs.declared.packet.Packet.TheVariants as packets
 use Rattle.spk_packets.specs.declared.packet.Request.{Request}
 use Rattle.spk_packets.specs.declared.packet.Will.{Will}
+use Rattle.spk_packets.specs.declared.connect.Flags.{Flags}
+use Rattle.spk_packets.specs.Reading.{FlagsData}
 use Rattle.spk_packets.specs.Message.{WillData, Message, Connect, ConnAck, Publish, PubAck, Subscribe, SubAck, Unsubscribe, UnsubAck, PingReq, PingResp, Disconnect}
 
 abbrev pub will_view : Will → WillData
@@ -30,3 +32,7 @@ view packets.Disconnect = Disconnect
 -- a packet, and how many bytes it takes
 abbrev pub front_view : Packet × ℕ → Message × ℕ
 front_view x = (view x.0, x.1)
+
+-- what connect flags say
+abbrev pub flags_view : Flags → FlagsData
+flags_view flags = record { user = flags.user; password = flags.password; will = option_map (λ will. (will.qos, will.retain)) flags.will; clean = flags.clean }

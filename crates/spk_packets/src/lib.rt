@@ -2,13 +2,16 @@
 //! stream in any pieces.
 #![tactic(auto)]
 
+mod connect;
 mod fault;
 mod packet;
 mod parts;
 mod publish;
+mod read;
 mod small;
 mod subscribe;
 mod table;
 
 pub use fault::PacketFault;
 pub use packet::{Packet, Request, Will};
+pub use read::{decode, read_length};
