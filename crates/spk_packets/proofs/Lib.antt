@@ -5,3 +5,5 @@ pub mod Shorter
 pub mod PartLaws
 pub mod Bytes
 pub mod BodyLaws
+pub mod ConnectLaws
+pub mod PacketLaws
