@@ -7,3 +7,4 @@ pub mod Bytes
 pub mod BodyLaws
 pub mod ConnectLaws
 pub mod PacketLaws
+pub mod Agreement

@@ -30,11 +30,11 @@ byte_of kinds.PingReq = 192
 byte_of kinds.PingResp = 208
 byte_of kinds.Disconnect = 224
 
-abbrev dup_fits : Bool → ℕ → Bool
+abbrev pub dup_fits : Bool → ℕ → Bool
 dup_fits true qos = qos == 1
 dup_fits false qos = true
 
-abbrev flags_fit : Kind → Bool
+abbrev pub flags_fit : Kind → Bool
 flags_fit kinds.Connect = true
 flags_fit kinds.ConnAck = true
 flags_fit (kinds.Publish dup qos retain) = nat_le qos 1 && dup_fits dup qos
@@ -55,7 +55,7 @@ all_kinds_hold : all_below 256 (λ b. kind_holds b (kind_of b)) ≡ true
 unfolding kind_of
 all_kinds_hold = refl
 
-kind_takes : (b : ℕ) (kind : Kind) → b < 256 → kind_of b ≡ Ok kind → (b ≡ byte_of kind) × (flags_fit kind ≡ true)
+pub kind_takes : (b : ℕ) (kind : Kind) → b < 256 → kind_of b ≡ Ok kind → (b ≡ byte_of kind) × (flags_fit kind ≡ true)
 kind_takes b kind lt e =
     let holds : kind_holds b (Ok kind) ≡ true = subst (λ (r : Result Kind PacketFault). kind_holds b r ≡ true) e (at_each_below 256 (λ k. kind_holds k (kind_of k)) all_kinds_hold b lt) in
     (sym (eqb-true _ _ (left_of (byte_of kind == b) (flags_fit kind) holds)), right_of (byte_of kind == b) (flags_fit kind) holds)

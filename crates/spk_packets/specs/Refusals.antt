@@ -220,13 +220,13 @@ first_refusals first = (has_reserved_type first, BadType) ∷ (has_wrong_flags f
 abbrev pub length_is_cut : ℕ → List ℕ → Bool
 length_is_cut zero bytes = false
 length_is_cut (suc n) [] = true
-length_is_cut (suc n) (b ∷ bs) = nat_le 128 b && length_is_cut n bs
+length_is_cut (suc n) (b ∷ bs) = not (nat_lt b 128) && length_is_cut n bs
 
 -- each of this many bytes has bit 7
 abbrev pub length_is_long : ℕ → List ℕ → Bool
 length_is_long zero bytes = true
 length_is_long (suc n) [] = false
-length_is_long (suc n) (b ∷ bs) = nat_le 128 b && length_is_long n bs
+length_is_long (suc n) (b ∷ bs) = not (nat_lt b 128) && length_is_long n bs
 
 abbrev pub length_refusals : List ℕ → Refusals
 length_refusals bytes = (length_is_cut 4 bytes, More) ∷ (length_is_long 4 bytes, BadLength) ∷ []
@@ -261,10 +261,17 @@ body_refusals first body = if type_of first == 1 then connect_refusals body
   else if type_of first == 11 then id_alone_refusals body
   else end_refusals body
 
--- The order of faults of a packet at the front of the bytes.
-unfoldable pub refusals : List ℕ → Refusals
-refusals [] = (true, More) ∷ []
-refusals (first ∷ rest) = first_refusals first
+-- the first byte, the remaining length, more than the greatest packet, less than the whole packet
+abbrev pub head_refusals : List ℕ → Refusals
+head_refusals [] = (true, More) ∷ []
+head_refusals (first ∷ rest) = first_refusals first
     ++ (length_refusals rest
-    ++ ((nat_lt largest (whole_len rest), TooLarge) ∷ (nat_lt (1 + length rest) (whole_len rest), More)
-    ∷ body_refusals first (body_of rest)))
+    ++ ((nat_lt largest (whole_len rest), TooLarge) ∷ (nat_lt (1 + length rest) (whole_len rest), More) ∷ []))
+
+abbrev pub rest_refusals : List ℕ → Refusals
+rest_refusals [] = []
+rest_refusals (first ∷ rest) = body_refusals first (body_of rest)
+
+-- The order of faults of a packet at the front of the bytes: its head, then its body.
+unfoldable pub refusals : List ℕ → Refusals
+refusals bytes = head_refusals bytes ++ rest_refusals bytes
