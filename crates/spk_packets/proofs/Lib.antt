@@ -8,3 +8,5 @@ pub mod BodyLaws
 pub mod ConnectLaws
 pub mod PacketLaws
 pub mod Agreement
+pub mod Decoding
+pub mod Prefix

@@ -4,6 +4,7 @@
 
 mod connect;
 mod fault;
+pub mod laws;
 mod packet;
 mod parts;
 mod publish;

@@ -24,7 +24,7 @@ pub(crate) const LARGEST: usize = 1_048_576;
 /// The remaining length, and how many bytes it takes.
 #[tactic(auto, unfolding(crate::specs::Reading::length_within))]
 fn sevens(bytes: &[u8]) -> Result<(u32, usize), PacketFault>
-    ensures given { Gives (λ x. x) result (length_at bytes.now) }
+    ensures given { result ≡ length_at bytes.now }
     ensures short { IfOk result (λ x. x.1 ≤ 4) }
 {
     match bytes {
@@ -102,14 +102,26 @@ fn front(alloc: Global, bytes: &[u8]) -> Result<(Packet, usize), PacketFault>
     Ok((packet(alloc, kind, body)?, whole))
 }
 
-/// The remaining length at the front of the bytes, and how many bytes it takes (section 2.2.3). It takes no memory.
+/// The remaining length at the front of the bytes, and how many bytes it takes (section 2.2.3). A form longer than
+/// needed is read too (own rule). It takes no memory. Refused are bytes that end within it, `More`, and a fourth byte
+/// that says that a fifth follows, `BadLength`.
 pub fn read_length(bytes: &[u8]) -> Result<(u32, usize), PacketFault>
+    ensures found { IfOk result (λ x. (x.1 ≤ length bytes.now) × IsLength (take x.1 bytes.now) x.0) }
+    ensures only { (n size : ℕ) → size ≤ length bytes.now → IsLength (take size bytes.now) n → result ≡ Ok (n, size) }
+    ensures refused { IfErr result (λ e. first_of (length_refusals bytes.now) ≡ Some e) }
 {
     sevens(bytes)
 }
 
-/// The packet at the front of the bytes, and how many bytes it takes.
+/// The packet at the front of the bytes, and how many bytes it takes (chapters 2 and 3). More may follow. It copies
+/// each text and payload that the packet keeps once, and asks for no memory for a length that the bytes don't hold.
 pub fn decode(alloc: Global, bytes: &[u8]) -> Result<(Packet, usize), PacketFault>
+    // The bytes that it takes spell the packet.
+    ensures found { IfOk result (λ x. (x.1 ≤ length bytes.now) × Spells (take x.1 bytes.now) (view x.0)) }
+    // Where the first n bytes spell a packet, that is the answer, unless memory runs out.
+    ensures only { (p : Message) (n : ℕ) → n ≤ length bytes.now → Spells (take n bytes.now) p → Gives front_view result (Ok (p, n)) }
+    // A fault is the first of the order that holds, unless memory ran out.
+    ensures refused { IfErr result (λ e. IsNamed e (first_of (refusals bytes.now))) }
 {
     front(alloc, bytes)
 }
