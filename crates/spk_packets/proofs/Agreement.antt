@@ -25,12 +25,12 @@ fault_of (Err e) = Some e
 abbrev Agree : {A : Type 0} → Result A PacketFault → Refusals → Type 0
 Agree r xs = fault_of r ≡ first_of xs
 
-first_of-some : (xs ys : Refusals) (e : PacketFault) → first_of xs ≡ Some e → first_of (xs ++ ys) ≡ Some e
+pub first_of-some : (xs ys : Refusals) (e : PacketFault) → first_of xs ≡ Some e → first_of (xs ++ ys) ≡ Some e
 first_of-some [] ys e h = absurd cc
 first_of-some ((true, f) ∷ xs) ys e h = h
 first_of-some ((false, f) ∷ xs) ys e h = first_of-some xs ys e h
 
-first_of-none : (xs ys : Refusals) → first_of xs ≡ None → first_of (xs ++ ys) ≡ first_of ys
+pub first_of-none : (xs ys : Refusals) → first_of xs ≡ None → first_of (xs ++ ys) ≡ first_of ys
 first_of-none [] ys h = refl
 first_of-none ((true, f) ∷ xs) ys h = absurd cc
 first_of-none ((false, f) ∷ xs) ys h = first_of-none xs ys h

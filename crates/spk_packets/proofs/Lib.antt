@@ -10,3 +10,4 @@ pub mod PacketLaws
 pub mod Agreement
 pub mod Decoding
 pub mod Prefix
+pub mod Written

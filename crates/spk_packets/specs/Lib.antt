@@ -4,3 +4,4 @@ pub mod Grammar
 pub mod Refusals
 pub mod Reading
 pub mod View
+pub mod Spelling

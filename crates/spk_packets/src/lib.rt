@@ -4,6 +4,7 @@
 
 mod connect;
 mod fault;
+mod judge;
 pub mod laws;
 mod packet;
 mod parts;
@@ -12,7 +13,9 @@ mod read;
 mod small;
 mod subscribe;
 mod table;
+mod write;
 
 pub use fault::PacketFault;
 pub use packet::{Packet, Request, Will};
 pub use read::{decode, read_length};
+pub use write::encode;
