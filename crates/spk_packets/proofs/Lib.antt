@@ -11,3 +11,4 @@ pub mod Agreement
 pub mod Decoding
 pub mod Prefix
 pub mod Written
+pub mod Waiting

@@ -5,3 +5,4 @@ pub mod Refusals
 pub mod Reading
 pub mod View
 pub mod Spelling
+pub mod Stream

@@ -4,6 +4,7 @@
 
 mod connect;
 mod fault;
+mod feed;
 mod judge;
 pub mod laws;
 mod packet;
@@ -16,6 +17,7 @@ mod table;
 mod write;
 
 pub use fault::PacketFault;
+pub use feed::Feed;
 pub use packet::{Packet, Request, Will};
 pub use read::{decode, read_length};
 pub use write::encode;
