@@ -12,3 +12,4 @@ pub mod Decoding
 pub mod Prefix
 pub mod Written
 pub mod Waiting
+pub mod Pieces
