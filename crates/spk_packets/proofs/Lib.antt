@@ -13,3 +13,4 @@ pub mod Prefix
 pub mod Written
 pub mod Waiting
 pub mod Pieces
+pub mod Canonical

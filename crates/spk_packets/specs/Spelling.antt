@@ -125,3 +125,23 @@ content_refusals p = (has_bad_text p, BadText) ∷ (has_bad_body p, BadBody) ∷
 -- The order of refusals in writing.
 abbrev pub unwritable : Message → Refusals
 unwritable p = content_refusals p ++ (nat_lt largest (length (spelling p)), TooLarge) ∷ []
+
+-- ---- what a packet of the code keeps of itself
+
+abbrev pub IsWord : Option ℕ → Type 0
+IsWord None = Unit {0}
+IsWord (Some id) = id < 65536
+
+-- Its numbers have two bytes.
+unfoldable pub HasWords : Message → Type 0
+HasWords (Connect client clean keep will) = keep < 65536
+HasWords (ConnAck present code) = Unit {0}
+HasWords (Publish dup qos retain topic id payload) = IsWord id
+HasWords (PubAck id) = id < 65536
+HasWords (Subscribe id filters) = id < 65536
+HasWords (SubAck id codes) = id < 65536
+HasWords (Unsubscribe id filters) = id < 65536
+HasWords (UnsubAck id) = id < 65536
+HasWords PingReq = Unit {0}
+HasWords PingResp = Unit {0}
+HasWords Disconnect = Unit {0}

@@ -4,8 +4,8 @@ ghost use Rattle.std.specs.Prelude.{◌≡◌, ◌⊎◌, ◌∷◌, ◌%◌, �
 ghost use Rattle.std.specs.Option.{option_map};
 ghost use Rattle.std.specs.List.{flat_map};
 ghost use Rattle.spk_packets.specs.Fault.{first_of, IsNamed};
-ghost use Rattle.spk_packets.specs.Grammar.{connect_flags, will_bits, first_byte, largest};
-ghost use Rattle.spk_packets.specs.Spelling.{number, counted, request, id_part, will_part, body, shortest, spelling, unwritable};
+ghost use Rattle.spk_packets.specs.Grammar.{Spells, connect_flags, will_bits, first_byte, largest};
+ghost use Rattle.spk_packets.specs.Spelling.{number, counted, request, id_part, will_part, body, shortest, spelling, unwritable, IsWord, HasWords};
 ghost use Rattle.spk_packets.specs.View.{view, will_view, request_view};
 
 use crate::fault::PacketFault;
@@ -69,7 +69,8 @@ fn put_will(out: &mut Vec<u8>, will: &Option<Will>) -> Result<(), AllocError>
 }
 
 fn put_id(out: &mut Vec<u8>, id: Option<u16>) -> Result<(), AllocError>
-    ensures { OnOk result (out.new.items ≡ out.old.items ++ id_part id) }
+    ensures put { OnOk result (out.new.items ≡ out.old.items ++ id_part id) }
+    ensures word { IsWord id }
 {
     match id {
         Some(id) => put_number(out, usize::from(id)),
@@ -78,9 +79,10 @@ fn put_id(out: &mut Vec<u8>, id: Option<u16>) -> Result<(), AllocError>
 }
 
 /// What stands behind the header.
-#[tactic(auto, unfolding(crate::specs::Spelling::body))]
+#[tactic(auto, unfolding(crate::specs::Spelling::body, crate::specs::Spelling::HasWords))]
 fn body_of(alloc: Global, packet: &Packet) -> Result<Vec<u8>, AllocError>
-    ensures { IfOk result (λ v. v.items ≡ body (view packet.now)) }
+    ensures body { IfOk result (λ v. v.items ≡ body (view packet.now)) }
+    ensures words { OnOk result (HasWords (view packet.now)) }
 {
     let mut out = Vec::new(alloc);
     match packet {
@@ -230,7 +232,11 @@ fn join(alloc: Global, first: u8, body: &[u8]) -> Result<Vec<u8>, PacketFault>
 /// without QoS 1 or QoS 1 without one, an empty list, DUP with QoS 0, a QoS or code outside its table, a will message
 /// over 65,535 bytes, `BadBody`; a publish or a will of QoS 2, `QosTwo`; more than 1,048,576 bytes in all, `TooLarge`.
 pub fn encode(alloc: Global, packet: &Packet) -> Result<Vec<u8>, PacketFault>
+    // What is written spells the packet.
+    ensures spells { IfOk result (λ v. Spells v.items (view packet.now)) }
+    // It is the canonical spelling.
     ensures spelled { IfOk result (λ v. v.items ≡ spelling (view packet.now)) }
+    // A refusal is the first of the order that holds, unless memory ran out; where one holds, nothing is written.
     ensures refused { IfErr result (λ e. IsNamed e (first_of (unwritable (view packet.now)))) }
     ensures not_refused { OnOk result (first_of (unwritable (view packet.now)) ≡ None) }
 {
