@@ -85,8 +85,8 @@ id_agrees : (bytes : List ℕ) → Agree (id_at bytes) (id_refusals bytes)
 unfolding id_at
 id_agrees bytes = agree_then (number_at bytes) (λ id. cond (eqb id.0 0) (Err BadBody) (Ok id)) (number_refusals bytes) ((front_number bytes == 0, BadBody) ∷ []) (number_agrees bytes)
     (λ x e. let v = number_value bytes x e in
-      subst (λ (y : ℕ × List ℕ). Agree (cond (eqb y.0 0) (Err BadBody) (Ok y)) ((front_number bytes == 0, BadBody) ∷ [])) (sym v)
-      (agree_test (front_number bytes == 0) BadBody (Ok (pair (front_number bytes) (after_number bytes))) [] refl))
+    subst (λ (y : ℕ × List ℕ). Agree (cond (eqb y.0 0) (Err BadBody) (Ok y)) ((front_number bytes == 0, BadBody) ∷ [])) (sym v)
+    (agree_test (front_number bytes == 0) BadBody (Ok (pair (front_number bytes) (after_number bytes))) [] refl))
 
 id_value : (bytes : List ℕ) (x : ℕ × List ℕ) → id_at bytes ≡ Ok x → x ≡ pair (front_number bytes) (after_number bytes)
 unfolding id_at
@@ -99,8 +99,8 @@ counted_agrees : (bytes : List ℕ) → Agree (counted_at bytes) (counted_refusa
 unfolding counted_at
 counted_agrees bytes = agree_then (number_at bytes) (λ n. cond (ltb (length n.1) n.0) (Err BadBody) (Ok (take n.0 n.1, drop n.0 n.1))) (number_refusals bytes) ((ltb (length (after_number bytes)) (front_number bytes), BadBody) ∷ []) (number_agrees bytes)
     (λ x e. let v = number_value bytes x e in
-      subst (λ (y : ℕ × List ℕ). Agree (cond (ltb (length y.1) y.0) (Err BadBody) (Ok (lists (take y.0 y.1) (drop y.0 y.1)))) ((ltb (length (after_number bytes)) (front_number bytes), BadBody) ∷ [])) (sym v)
-      (agree_test (ltb (length (after_number bytes)) (front_number bytes)) BadBody (Ok (lists (front_counted bytes) (after_counted bytes))) [] refl))
+    subst (λ (y : ℕ × List ℕ). Agree (cond (ltb (length y.1) y.0) (Err BadBody) (Ok (lists (take y.0 y.1) (drop y.0 y.1)))) ((ltb (length (after_number bytes)) (front_number bytes), BadBody) ∷ [])) (sym v)
+    (agree_test (ltb (length (after_number bytes)) (front_number bytes)) BadBody (Ok (lists (front_counted bytes) (after_counted bytes))) [] refl))
 
 counted_value : (bytes : List ℕ) (x : List ℕ × List ℕ) → counted_at bytes ≡ Ok x → x ≡ lists (front_counted bytes) (after_counted bytes)
 unfolding counted_at
@@ -117,8 +117,8 @@ text_agrees : (bytes : List ℕ) → Agree (text_at bytes) (text_refusals bytes)
 unfolding text_at
 text_agrees bytes = agree_then (counted_at bytes) text_test (counted_refusals bytes) ((not (is_utf8 (front_counted bytes)), BadText) ∷ (has_zero (front_counted bytes), BadText) ∷ []) (counted_agrees bytes)
     (λ x e. subst (λ (y : List ℕ × List ℕ). Agree (text_test y) ((not (is_utf8 (front_counted bytes)), BadText) ∷ (has_zero (front_counted bytes), BadText) ∷ [])) (sym (counted_value bytes x e))
-      (agree_test (not (is_utf8 (front_counted bytes))) BadText (cond (has_zero (front_counted bytes)) (Err BadText) (Ok (lists (front_counted bytes) (after_counted bytes)))) ((has_zero (front_counted bytes), BadText) ∷ [])
-        (agree_test (has_zero (front_counted bytes)) BadText (Ok (lists (front_counted bytes) (after_counted bytes))) [] refl)))
+    (agree_test (not (is_utf8 (front_counted bytes))) BadText (cond (has_zero (front_counted bytes)) (Err BadText) (Ok (lists (front_counted bytes) (after_counted bytes)))) ((has_zero (front_counted bytes), BadText) ∷ [])
+    (agree_test (has_zero (front_counted bytes)) BadText (Ok (lists (front_counted bytes) (after_counted bytes))) [] refl)))
 
 text_value : (bytes : List ℕ) (x : List ℕ × List ℕ) → text_at bytes ≡ Ok x → x ≡ lists (front_counted bytes) (after_counted bytes)
 unfolding text_at
@@ -173,7 +173,7 @@ module _ {X : Type 0} (at : List ℕ → Result (X × List ℕ) PacketFault) (re
   each_agrees (suc n) (b ∷ bs) =
       agree_then (at (b ∷ bs)) (λ first. each_within at n first.1 >>= λ others. Ok (first.0 ∷ others)) (refusals_at (b ∷ bs)) (each_refusals refusals_at after n (after (b ∷ bs))) (agrees (b ∷ bs))
       (λ x e. agree_mapped (each_within at n x.1) (λ others. x.0 ∷ others) (each_refusals refusals_at after n (after (b ∷ bs)))
-        (subst (λ (rest : List ℕ). Agree (each_within at n rest) (each_refusals refusals_at after n (after (b ∷ bs)))) (sym (value (b ∷ bs) x e)) (each_agrees n (after (b ∷ bs)))))
+      (subst (λ (rest : List ℕ). Agree (each_within at n rest) (each_refusals refusals_at after n (after (b ∷ bs)))) (sym (value (b ∷ bs) x e)) (each_agrees n (after (b ∷ bs)))))
 
 -- ---- CONNECT
 
@@ -206,7 +206,7 @@ will_agrees false w bytes = refl
 will_agrees true w bytes =
     agree_then (text_at bytes) (λ topic. counted_at topic.1 >>= λ message. Ok (Some (record { topic = topic.0; message = message.0; qos = w.0; retain = w.1 }), message.1)) (text_refusals bytes) (counted_refusals (after_counted bytes)) (text_agrees bytes)
     (λ x e. agree_mapped (counted_at x.1) (λ message. (Some (record { topic = x.0; message = message.0; qos = w.0; retain = w.1 }), message.1)) (counted_refusals (after_counted bytes))
-      (subst (λ (rest : List ℕ). Agree (counted_at rest) (counted_refusals (after_counted bytes))) (sym (text_after bytes x e)) (counted_agrees (after_counted bytes))))
+    (subst (λ (rest : List ℕ). Agree (counted_at rest) (counted_refusals (after_counted bytes))) (sym (text_after bytes x e)) (counted_agrees (after_counted bytes))))
 
 will_after : (there : Bool) (w : ℕ × Bool) (bytes : List ℕ) (x : Option WillData × List ℕ) → will_at (cond there (Some w) None) bytes ≡ Ok x → x.1 ≡ after_if there (λ rest. after_counted (after_counted rest)) bytes
 unfolding will_at
@@ -241,10 +241,10 @@ login_agrees : (b : ℕ) (bytes : List ℕ) → Agree (login_at (flag 128 b) (fl
 unfolding login_at
 login_agrees b bytes =
     agree_then (user_at (flag 128 b) bytes) (λ named. password_at (flag 64 b) named >>= λ rest. ended tt rest) (only_if (flag 128 b) (text_refusals bytes))
-      (only_if (flag 64 b) (counted_refusals (after_user b bytes)) ++ end_refusals (after_password b (after_user b bytes))) (user_agrees (flag 128 b) bytes)
+    (only_if (flag 64 b) (counted_refusals (after_user b bytes)) ++ end_refusals (after_password b (after_user b bytes))) (user_agrees (flag 128 b) bytes)
     (λ x e. subst (λ (y : List ℕ). Agree (password_at (flag 64 b) y >>= λ rest. ended tt rest) (only_if (flag 64 b) (counted_refusals (after_user b bytes)) ++ end_refusals (after_password b (after_user b bytes)))) (sym (user_after (flag 128 b) bytes x e))
-      (agree_then (password_at (flag 64 b) (after_user b bytes)) (λ rest. ended tt rest) (only_if (flag 64 b) (counted_refusals (after_user b bytes))) (end_refusals (after_password b (after_user b bytes))) (password_agrees (flag 64 b) (after_user b bytes))
-        (λ y f. subst (λ (rest : List ℕ). Agree (ended tt rest) (end_refusals (after_password b (after_user b bytes)))) (sym (password_after (flag 64 b) (after_user b bytes) y f)) (ended_agrees tt (after_password b (after_user b bytes))))))
+    (agree_then (password_at (flag 64 b) (after_user b bytes)) (λ rest. ended tt rest) (only_if (flag 64 b) (counted_refusals (after_user b bytes))) (end_refusals (after_password b (after_user b bytes))) (password_agrees (flag 64 b) (after_user b bytes))
+    (λ y f. subst (λ (rest : List ℕ). Agree (ended tt rest) (end_refusals (after_password b (after_user b bytes)))) (sym (password_after (flag 64 b) (after_user b bytes) y f)) (ended_agrees tt (after_password b (after_user b bytes))))))
 
 -- what `flagged_at` does step by step
 abbrev login_step : FlagsData → ℕ → List ℕ → Option WillData × List ℕ → Result Message PacketFault
@@ -269,13 +269,13 @@ flagged_agrees (b ∷ rest) =
     let client_part = text_refusals (after_number rest) ++ will_part in
     agree_then (flags_at b) (keep_step rest) (flags_refusals b) (number_refusals rest ++ client_part) (flags_agrees b)
     (λ g e. subst (λ (h : FlagsData). Agree (keep_step rest h) (number_refusals rest ++ client_part)) (sym (flags_value b g e))
-      (agree_then (number_at rest) (client_step f) (number_refusals rest) client_part (number_agrees rest)
-      (λ keep k. subst (λ (y : ℕ × List ℕ). Agree (client_step f y) client_part) (sym (number_value rest keep k))
-        (agree_then (text_at (after_number rest)) (will_step f (front_number rest)) (text_refusals (after_number rest)) will_part (text_agrees (after_number rest))
-        (λ client c. subst (λ (y : List ℕ × List ℕ). Agree (will_step f (front_number rest) y) will_part) (sym (text_value (after_number rest) client c))
-          (agree_then (will_at f.will (after_client rest)) (login_step f (front_number rest) (front_counted (after_number rest))) (will_refusals b (after_client rest)) login_part (will_agrees (flag 4 b) (will_qos b, flag 32 b) (after_client rest))
-          (λ will w. agree_mapped (login_at f.user f.password will.1) (λ login. Connect (front_counted (after_number rest)) f.clean (front_number rest) will.0) login_part
-            (subst (λ (y : List ℕ). Agree (login_at f.user f.password y) login_part) (sym (will_after (flag 4 b) (will_qos b, flag 32 b) (after_client rest) will w)) (login_agrees b (after_will b (after_client rest)))))))))))
+    (agree_then (number_at rest) (client_step f) (number_refusals rest) client_part (number_agrees rest)
+    (λ keep k. subst (λ (y : ℕ × List ℕ). Agree (client_step f y) client_part) (sym (number_value rest keep k))
+    (agree_then (text_at (after_number rest)) (will_step f (front_number rest)) (text_refusals (after_number rest)) will_part (text_agrees (after_number rest))
+    (λ client c. subst (λ (y : List ℕ × List ℕ). Agree (will_step f (front_number rest) y) will_part) (sym (text_value (after_number rest) client c))
+    (agree_then (will_at f.will (after_client rest)) (login_step f (front_number rest) (front_counted (after_number rest))) (will_refusals b (after_client rest)) login_part (will_agrees (flag 4 b) (will_qos b, flag 32 b) (after_client rest))
+    (λ will w. agree_mapped (login_at f.user f.password will.1) (λ login. Connect (front_counted (after_number rest)) f.clean (front_number rest) will.0) login_part
+    (subst (λ (y : List ℕ). Agree (login_at f.user f.password y) login_part) (sym (will_after (flag 4 b) (will_qos b, flag 32 b) (after_client rest) will w)) (login_agrees b (after_will b (after_client rest)))))))))))
 
 level_agrees : (bytes : List ℕ) → Agree (level_at bytes) (level_refusals bytes)
 unfolding level_at
@@ -287,7 +287,7 @@ unfolding connect_at
 connect_agrees body =
     agree_then (text_at body) (λ name. cond (bytes_eq name.0 (codes "MQTT")) (level_at name.1) (Err BadBody)) (text_refusals body) ((not (bytes_eq (front_counted body) (codes "MQTT")), BadBody) ∷ level_refusals (after_counted body)) (text_agrees body)
     (λ x e. subst (λ (y : List ℕ × List ℕ). Agree (cond (bytes_eq y.0 (codes "MQTT")) (level_at y.1) (Err BadBody)) ((not (bytes_eq (front_counted body) (codes "MQTT")), BadBody) ∷ level_refusals (after_counted body))) (sym (text_value body x e))
-      (agree_pass (bytes_eq (front_counted body) (codes "MQTT")) BadBody (level_at (after_counted body)) (level_refusals (after_counted body)) (level_agrees (after_counted body))))
+    (agree_pass (bytes_eq (front_counted body) (codes "MQTT")) BadBody (level_at (after_counted body)) (level_refusals (after_counted body)) (level_agrees (after_counted body))))
 
 -- ---- the other bodies
 
@@ -308,7 +308,7 @@ unfolding publish_at identified_at
 publish_agrees dup qos retain body =
     agree_then (text_at body) (λ topic. identified_at qos topic.1 >>= λ id. Ok (Publish dup qos retain topic.0 id.0 id.1)) (text_refusals body) (only_if (qos == 1) (id_refusals (after_counted body))) (text_agrees body)
     (λ x e. agree_mapped (identified_at qos x.1) (λ id. Publish dup qos retain x.0 id.0 id.1) (only_if (qos == 1) (id_refusals (after_counted body)))
-      (subst (λ (rest : List ℕ). Agree (identified_at qos rest) (only_if (qos == 1) (id_refusals (after_counted body)))) (sym (text_after body x e)) (identified_agrees (qos == 1) (after_counted body))))
+    (subst (λ (rest : List ℕ). Agree (identified_at qos rest) (only_if (qos == 1) (id_refusals (after_counted body)))) (sym (text_after body x e)) (identified_agrees (qos == 1) (after_counted body))))
 
 id_alone_agrees : (body : List ℕ) → Agree (id_alone_at body) (id_alone_refusals body)
 unfolding id_alone_at
@@ -323,8 +323,8 @@ subscribe_agrees body =
     let each = each_refusals request_refusals after_request (length rest) rest in
     agree_then (id_at body) (λ id. some_at id.1 >>= λ some. each_at request_at id.1 >>= λ filters. Ok (Subscribe id.0 filters)) (id_refusals body) (none_refusals rest ++ each) (id_agrees body)
     (λ x e. subst (λ (y : ℕ × List ℕ). Agree (some_at y.1 >>= λ some. each_at request_at y.1 >>= λ filters. Ok (Subscribe y.0 filters)) (none_refusals rest ++ each)) (sym (id_value body x e))
-      (agree_then (some_at rest) (λ some. each_at request_at rest >>= λ filters. Ok (Subscribe (front_number body) filters)) (none_refusals rest) each (some_agrees rest)
-        (λ u s. agree_mapped (each_at request_at rest) (λ filters. Subscribe (front_number body) filters) each (each_agrees request_at request_refusals after_request request_agrees request_value (length rest) rest))))
+    (agree_then (some_at rest) (λ some. each_at request_at rest >>= λ filters. Ok (Subscribe (front_number body) filters)) (none_refusals rest) each (some_agrees rest)
+    (λ u s. agree_mapped (each_at request_at rest) (λ filters. Subscribe (front_number body) filters) each (each_agrees request_at request_refusals after_request request_agrees request_value (length rest) rest))))
 
 unsubscribe_agrees : (body : List ℕ) → Agree (unsubscribe_at body) (unsubscribe_refusals body)
 unfolding unsubscribe_at
@@ -333,8 +333,8 @@ unsubscribe_agrees body =
     let each = each_refusals text_refusals after_counted (length rest) rest in
     agree_then (id_at body) (λ id. some_at id.1 >>= λ some. each_at text_at id.1 >>= λ filters. Ok (Unsubscribe id.0 filters)) (id_refusals body) (none_refusals rest ++ each) (id_agrees body)
     (λ x e. subst (λ (y : ℕ × List ℕ). Agree (some_at y.1 >>= λ some. each_at text_at y.1 >>= λ filters. Ok (Unsubscribe y.0 filters)) (none_refusals rest ++ each)) (sym (id_value body x e))
-      (agree_then (some_at rest) (λ some. each_at text_at rest >>= λ filters. Ok (Unsubscribe (front_number body) filters)) (none_refusals rest) each (some_agrees rest)
-        (λ u s. agree_mapped (each_at text_at rest) (λ filters. Unsubscribe (front_number body) filters) each (each_agrees text_at text_refusals after_counted text_agrees text_after (length rest) rest))))
+    (agree_then (some_at rest) (λ some. each_at text_at rest >>= λ filters. Ok (Unsubscribe (front_number body) filters)) (none_refusals rest) each (some_agrees rest)
+    (λ u s. agree_mapped (each_at text_at rest) (λ filters. Unsubscribe (front_number body) filters) each (each_agrees text_at text_refusals after_counted text_agrees text_after (length rest) rest))))
 
 suback_agrees : (body : List ℕ) → Agree (suback_at body) (suback_refusals body)
 unfolding suback_at
@@ -343,8 +343,8 @@ suback_agrees body =
     let last : Refusals = (not (list_all is_grant rest), BadBody) ∷ [] in
     agree_then (id_at body) (λ id. some_at id.1 >>= λ some. cond (list_all is_grant id.1) (Ok (SubAck id.0 id.1)) (Err BadBody)) (id_refusals body) (none_refusals rest ++ last) (id_agrees body)
     (λ x e. subst (λ (y : ℕ × List ℕ). Agree (some_at y.1 >>= λ some. cond (list_all is_grant y.1) (Ok (SubAck y.0 y.1)) (Err BadBody)) (none_refusals rest ++ last)) (sym (id_value body x e))
-      (agree_then (some_at rest) (λ some. cond (list_all is_grant rest) (Ok (SubAck (front_number body) rest)) (Err BadBody)) (none_refusals rest) last (some_agrees rest)
-        (λ u s. agree_pass (list_all is_grant rest) BadBody (Ok (SubAck (front_number body) rest)) [] refl)))
+    (agree_then (some_at rest) (λ some. cond (list_all is_grant rest) (Ok (SubAck (front_number body) rest)) (Err BadBody)) (none_refusals rest) last (some_agrees rest)
+    (λ u s. agree_pass (list_all is_grant rest) BadBody (Ok (SubAck (front_number body) rest)) [] refl)))
 
 publish_table : (dup : Bool) (qos : ℕ) (retain : Bool) (body : List ℕ) → qos ≤ 1 → body_refusals (48 + 8 * bit dup + 2 * qos + bit retain) body ≡ publish_refusals qos body
 publish_table true zero true body le = refl
@@ -461,7 +461,7 @@ cut_agrees first rest lt =
     let size_part : Refusals = (ltb largest (whole_len rest), TooLarge) ∷ (ltb (1 + length rest) (whole_len rest), More) ∷ [] in
     agree_then (kind_of first) (kind_step rest) (first_refusals first) (length_refusals rest ++ size_part) (first_agrees first lt)
     (λ kind k. agree_then (length_at rest) (size_step rest kind) (length_refusals rest) size_part (length_agrees 4 rest)
-      (λ x e. subst (λ (y : ℕ × ℕ). Agree (size_step rest kind y) size_part) (sym (length_values 4 rest x e)) (size_agrees rest kind)))
+    (λ x e. subst (λ (y : ℕ × ℕ). Agree (size_step rest kind y) size_part) (sym (length_values 4 rest x e)) (size_agrees rest kind)))
 
 -- the kind of the first byte, and the body behind the length
 cut_value : (first : ℕ) (rest : List ℕ) (x : Kind × (List ℕ × ℕ)) → cut_at (first ∷ rest) ≡ Ok x → (kind_of first ≡ Ok x.0) × (x.1.0 ≡ body_of rest)
@@ -480,10 +480,10 @@ unfolding packet_at refusals
 packet_agrees first rest lt =
     agree_then (cut_at (first ∷ rest)) (λ cut. body_at cut.0 cut.1.0 >>= λ message. Ok (message, cut.1.1)) (head_refusals (first ∷ rest)) (body_refusals first (body_of rest)) (cut_agrees first rest lt)
     (λ x e. let v = cut_value first rest x e in
-      let k = kind_takes first x.0 lt v.0 in
-      agree_mapped (body_at x.0 x.1.0) (λ message. (message, x.1.1)) (body_refusals first (body_of rest))
-      (subst (λ (b : List ℕ). Agree (body_at x.0 b) (body_refusals first (body_of rest))) (sym v.1)
-        (subst (λ (n : ℕ). Agree (body_at x.0 (body_of rest)) (body_refusals n (body_of rest))) (sym k.0) (body_agrees x.0 (body_of rest) k.1))))
+    let k = kind_takes first x.0 lt v.0 in
+    agree_mapped (body_at x.0 x.1.0) (λ message. (message, x.1.1)) (body_refusals first (body_of rest))
+    (subst (λ (b : List ℕ). Agree (body_at x.0 b) (body_refusals first (body_of rest))) (sym v.1)
+    (subst (λ (n : ℕ). Agree (body_at x.0 (body_of rest)) (body_refusals n (body_of rest))) (sym k.0) (body_agrees x.0 (body_of rest) k.1))))
 
 -- The fault that reading gives is the one that the order names.
 pub packet_refused : (bytes : List ℕ) → IsBytes bytes → fault_of (packet_at bytes) ≡ first_of (refusals bytes)

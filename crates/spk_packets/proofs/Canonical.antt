@@ -88,10 +88,13 @@ request_spells entry e low u = (counted entry.0, text_spells entry.0 e u, ltb-fa
 requests_spell : (entries : List (List ℕ × ℕ)) → list_any (λ entry. is_bad_text entry.0) entries ≡ false → list_any (λ entry. nat_lt 2 entry.1) entries ≡ false → AreRequestsUtf8 entries
     → AreEach IsRequest (flat_map request entries) entries
 requests_spell [] e low u = refl
-requests_spell (x ∷ xs) e low u =
-    (request x, flat_map request xs,
-     request_spells x (no_left (is_bad_text x.0) (list_any (λ entry. is_bad_text entry.0) xs) e) (no_left (nat_lt 2 x.1) (list_any (λ entry. nat_lt 2 entry.1) xs) low) u.0,
-     requests_spell xs (no_right (is_bad_text x.0) (list_any (λ entry. is_bad_text entry.0) xs) e) (no_right (nat_lt 2 x.1) (list_any (λ entry. nat_lt 2 entry.1) xs) low) u.1, refl)
+requests_spell (x ∷ xs) e low u = (
+  request x,
+  flat_map request xs,
+  request_spells x (no_left (is_bad_text x.0) (list_any (λ entry. is_bad_text entry.0) xs) e) (no_left (nat_lt 2 x.1) (list_any (λ entry. nat_lt 2 entry.1) xs) low) u.0,
+  requests_spell xs (no_right (is_bad_text x.0) (list_any (λ entry. is_bad_text entry.0) xs) e) (no_right (nat_lt 2 x.1) (list_any (λ entry. nat_lt 2 entry.1) xs) low) u.1,
+  refl,
+)
 
 some_items : {X : Type 0} (xs : List X) → is_empty xs ≡ false → 0 < length xs
 some_items [] e = absurd cc
@@ -155,9 +158,14 @@ packet_utf8 packets.Disconnect = tt
 
 will_spells : (will : Option WillData) → has_bad_topic will ≡ false → has_bad_will will ≡ false → will_is_of_qos_two will ≡ false → WillIsUtf8 will → IsWillPart (will_part will) will
 will_spells None t b two u = refl
-will_spells (Some will) t b two u =
-    (counted will.topic, counted will.message, text_spells will.topic t u, counted_spells will.message (no_left (nat_lt 65535 (length will.message)) (nat_lt 2 will.qos) b),
-     low_qos will.qos (no_right (nat_lt 65535 (length will.message)) (nat_lt 2 will.qos) b) two, refl)
+will_spells (Some will) t b two u = (
+  counted will.topic,
+  counted will.message,
+  text_spells will.topic t u,
+  counted_spells will.message (no_left (nat_lt 65535 (length will.message)) (nat_lt 2 will.qos) b),
+  low_qos will.qos (no_right (nat_lt 65535 (length will.message)) (nat_lt 2 will.qos) b) two,
+  refl,
+)
 
 bit_low : (b : Bool) → bit b ≤ 1
 bit_low true = omega arith
@@ -193,26 +201,50 @@ unfolding body has_bad_text has_bad_body is_qos_two HasWords
 body_spells (Connect client clean keep will) t b two words u =
     let part = will_spells will (no_right (is_bad_text client) (has_bad_topic will) t) b two u.1 in
     record {
-      user = None; password = None; keep_text = number keep; client_text = counted client; will_text = will_part will; user_text = []; password_text = [];
-      is_keep = number_spells keep words; is_client = text_spells client (no_left (is_bad_text client) (has_bad_topic will) t) u.0; is_will = part;
-      is_user = refl; is_password = refl; no_password_alone = λ e. e;
-      parts = connect_parts client clean keep will part
+      user = None;
+      password = None;
+      keep_text = number keep;
+      client_text = counted client;
+      will_text = will_part will;
+      user_text = [];
+      password_text = [];
+      is_keep = number_spells keep words;
+      is_client = text_spells client (no_left (is_bad_text client) (has_bad_topic will) t) u.0;
+      is_will = part;
+      is_user = refl;
+      is_password = refl;
+      no_password_alone = λ e. e;
+      parts = connect_parts client clean keep will part;
     }
 body_spells (ConnAck present code) t b two words u = (ltb-false _ _ b, refl)
 body_spells (Publish dup qos retain topic id payload) t b two words u =
     let high = no_left (nat_lt 2 qos) (dup && eqb qos 0) (no_left (nat_lt 2 qos || (dup && eqb qos 0)) (has_bad_id qos id) b) in
-    let low : qos ≤ 1 = low_qos qos high two in
-    (counted topic, id_part id, text_spells topic t u, id_part_spells qos id low (no_right (nat_lt 2 qos || (dup && eqb qos 0)) (has_bad_id qos id) b) words,
-     dup_one dup qos low (no_right (nat_lt 2 qos) (dup && eqb qos 0) (no_left (nat_lt 2 qos || (dup && eqb qos 0)) (has_bad_id qos id) b)), refl)
+    let low : qos ≤ 1 = low_qos qos high two in (
+      counted topic,
+      id_part id,
+      text_spells topic t u,
+      id_part_spells qos id low (no_right (nat_lt 2 qos || (dup && eqb qos 0)) (has_bad_id qos id) b) words,
+      dup_one dup qos low (no_right (nat_lt 2 qos) (dup && eqb qos 0) (no_left (nat_lt 2 qos || (dup && eqb qos 0)) (has_bad_id qos id) b)),
+      refl,
+    )
 body_spells (PubAck id) t b two words u = id_spells id words b
 body_spells (Subscribe id filters) t b two words u =
-    let first = no_left (eqb id 0 || is_empty filters) (list_any (λ entry. nat_lt 2 entry.1) filters) b in
-    (number id, flat_map request filters, id_spells id words (no_left (eqb id 0) (is_empty filters) first), some_items filters (no_right (eqb id 0) (is_empty filters) first),
-     requests_spell filters t (no_right (eqb id 0 || is_empty filters) (list_any (λ entry. nat_lt 2 entry.1) filters) b) u, refl)
+    let first = no_left (eqb id 0 || is_empty filters) (list_any (λ entry. nat_lt 2 entry.1) filters) b in (
+      number id,
+      flat_map request filters,
+      id_spells id words (no_left (eqb id 0) (is_empty filters) first),
+      some_items filters (no_right (eqb id 0) (is_empty filters) first),
+      requests_spell filters t (no_right (eqb id 0 || is_empty filters) (list_any (λ entry. nat_lt 2 entry.1) filters) b) u,
+      refl,
+    )
 body_spells (SubAck id given) t b two words u =
-    let first = no_left (eqb id 0 || is_empty given) (not (list_all is_grant given)) b in
-    (number id, id_spells id words (no_left (eqb id 0) (is_empty given) first), some_items given (no_right (eqb id 0) (is_empty given) first),
-     not_none (list_all is_grant given) (no_right (eqb id 0 || is_empty given) (not (list_all is_grant given)) b), refl)
+    let first = no_left (eqb id 0 || is_empty given) (not (list_all is_grant given)) b in (
+      number id,
+      id_spells id words (no_left (eqb id 0) (is_empty given) first),
+      some_items given (no_right (eqb id 0) (is_empty given) first),
+      not_none (list_all is_grant given) (no_right (eqb id 0 || is_empty given) (not (list_all is_grant given)) b),
+      refl,
+    )
 body_spells (Unsubscribe id filters) t b two words u =
     (number id, flat_map counted filters, id_spells id words (no_left (eqb id 0) (is_empty filters) b), some_items filters (no_right (eqb id 0) (is_empty filters) b), texts_spell filters t u, refl)
 body_spells (UnsubAck id) t b two words u = id_spells id words b
@@ -282,11 +314,12 @@ spelling_spells p none words u =
     let small : length (spelling p) ≤ largest = ltb-false _ _ l.0 in
     let len = length-spelling p in
     record {
-      size = shortest (length (body p)); body = body p;
+      size = shortest (length (body p));
+      body = body p;
       is_size = shortest_spells (length (body p)) (omega arith);
       is_body = body_spells p t.0 b.0 q.0 words u;
       parts = ap (λ (x : ℕ). x ∷ (shortest (length (body p)) ++ body p)) (first_low p q.0 b.0);
-      small = small
+      small = small;
     }
 
 -- the same for what a call answered

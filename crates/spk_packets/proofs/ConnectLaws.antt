@@ -52,9 +52,10 @@ pub record AreFlags (f : FlagsData) : Type 0 where
 pub flags_takes : (b : ℕ) (f : FlagsData) → b < 256 → flags_at b ≡ Ok f → (flags_byte f ≡ b) × AreFlags f
 flags_takes b f lt e =
     let holds : flags_hold b (Ok f) ≡ true = subst (λ (r : Result FlagsData PacketFault). flags_hold b r ≡ true) e (at_each_below 256 (λ k. flags_hold k (flags_at k)) all_flags_hold b lt) in
-    let rest = right_of (flags_byte f == b) (low_qos f.will && has_user f.user f.password) holds in
-    (eqb-true _ _ (left_of (flags_byte f == b) (low_qos f.will && has_user f.user f.password) holds),
-     record { low = left_of (low_qos f.will) (has_user f.user f.password) rest; named = right_of (low_qos f.will) (has_user f.user f.password) rest })
+    let rest = right_of (flags_byte f == b) (low_qos f.will && has_user f.user f.password) holds in (
+      eqb-true _ _ (left_of (flags_byte f == b) (low_qos f.will && has_user f.user f.password) holds),
+      record { low = left_of (low_qos f.will) (has_user f.user f.password) rest; named = right_of (low_qos f.will) (has_user f.user f.password) rest },
+    )
 
 abbrev flags_of_parts : Bool → Bool → Option (ℕ × Bool) → Bool → FlagsData
 flags_of_parts user password will clean = record { user = user; password = password; will = will; clean = clean }
@@ -259,14 +260,27 @@ flagged_takes (b ∷ rest) p fits e =
     let tl = login_takes f.0.user f.0.password w.0.1 l.0 l.1 in
     let first : b ≡ connect_flags (is_there tl.name) (is_there tl.secret) w.0.0 f.0.clean = rw (tl.has_name, tl.has_secret, tw.2) (sym tf.0) in
     let tail : rest ≡ tk.0 ++ (tc.0 ++ (tw.0 ++ (tl.name_text ++ tl.secret_text))) =
-      tk.2 ∙ ap (λ (r : List ℕ). tk.0 ++ r) (tc.2 ∙ ap (λ (r : List ℕ). tc.0 ++ r) (tw.3 ∙ ap (λ (r : List ℕ). tw.0 ++ r) tl.parts)) in
+    tk.2 ∙ ap (λ (r : List ℕ). tk.0 ++ r) (tc.2 ∙ ap (λ (r : List ℕ). tc.0 ++ r) (tw.3 ∙ ap (λ (r : List ℕ). tw.0 ++ r) tl.parts)) in
     record {
-      client = c.0.0; clean = f.0.clean; keep = k.0.0; will = w.0.0; user = tl.name; password = tl.secret;
-      keep_text = tk.0; client_text = tc.0; will_text = tw.0; user_text = tl.name_text; password_text = tl.secret_text;
+      client = c.0.0;
+      clean = f.0.clean;
+      keep = k.0.0;
+      will = w.0.0;
+      user = tl.name;
+      password = tl.secret;
+      keep_text = tk.0;
+      client_text = tc.0;
+      will_text = tw.0;
+      user_text = tl.name_text;
+      password_text = tl.secret_text;
       is_packet = sym (ok_is (Connect c.0.0 f.0.clean k.0.0 w.0.0) p l.2);
-      is_keep = tk.1; is_client = tc.1; is_will = tw.1; is_user = tl.is_name; is_password = tl.is_secret;
+      is_keep = tk.1;
+      is_client = tc.1;
+      is_will = tw.1;
+      is_user = tl.is_name;
+      is_password = tl.is_secret;
       no_password_alone = λ e. tl.has_name ∙ user_where f.0.user f.0.password tf.1.named (sym tl.has_secret ∙ e);
-      parts = ap (λ (x : ℕ). x ∷ rest) first ∙ ap (λ (r : List ℕ). connect_flags (is_there tl.name) (is_there tl.secret) w.0.0 f.0.clean ∷ r) tail
+      parts = ap (λ (x : ℕ). x ∷ rest) first ∙ ap (λ (r : List ℕ). connect_flags (is_there tl.name) (is_there tl.secret) w.0.0 f.0.clean ∷ r) tail;
     }
 
 level_takes : (bytes : List ℕ) (p : Message) → IsBytes bytes → level_at bytes ≡ Ok p → (rest : List ℕ) × IsFlagged rest p × (bytes ≡ 4 ∷ rest)
@@ -307,12 +321,29 @@ connect_takes body p fits e =
     let t = text_takes body a.0 a.1 in
     let l = level_takes a.0.1 p (IsBytes-after t.0 a.0.1 (subst (λ (r : List ℕ). IsBytes r) t.2 fits)) g.1 in
     let named : IsCounted t.0 (codes "MQTT") = subst (λ (n : List ℕ). IsCounted t.0 n) (bytes_eq-true a.0.0 (codes "MQTT") g.0) t.1.0 in
-    let f = l.1 in
-    (f.client, f.clean, f.keep, f.will, f.is_packet, record {
-      user = f.user; password = f.password; keep_text = f.keep_text; client_text = f.client_text; will_text = f.will_text; user_text = f.user_text; password_text = f.password_text;
-      is_keep = f.is_keep; is_client = f.is_client; is_will = f.is_will; is_user = f.is_user; is_password = f.is_password; no_password_alone = f.no_password_alone;
-      parts = t.2 ∙ ap (λ (n : List ℕ). n ++ a.0.1) (name_is t.0 named) ∙ ap (λ (r : List ℕ). 0 ∷ 4 ∷ 77 ∷ 81 ∷ 84 ∷ 84 ∷ r) (l.2 ∙ ap (λ (r : List ℕ). 4 ∷ r) f.parts)
-    })
+    let f = l.1 in (
+      f.client,
+      f.clean,
+      f.keep,
+      f.will,
+      f.is_packet,
+      record {
+        user = f.user;
+        password = f.password;
+        keep_text = f.keep_text;
+        client_text = f.client_text;
+        will_text = f.will_text;
+        user_text = f.user_text;
+        password_text = f.password_text;
+        is_keep = f.is_keep;
+        is_client = f.is_client;
+        is_will = f.is_will;
+        is_user = f.is_user;
+        is_password = f.is_password;
+        no_password_alone = f.no_password_alone;
+        parts = t.2 ∙ ap (λ (n : List ℕ). n ++ a.0.1) (name_is t.0 named) ∙ ap (λ (r : List ℕ). 0 ∷ 4 ∷ 77 ∷ 81 ∷ 84 ∷ 84 ∷ r) (l.2 ∙ ap (λ (r : List ℕ). 4 ∷ r) f.parts);
+      },
+    )
 
 mqtt_is_text : IsText (0 ∷ 4 ∷ 77 ∷ 81 ∷ 84 ∷ 84 ∷ []) (codes "MQTT")
 unfolding is_utf8 chars encode
@@ -322,11 +353,13 @@ pub flagged_again : (client : List ℕ) (clean : Bool) (keep : ℕ) (will : Opti
     → flagged_at (connect_flags (is_there is.user) (is_there is.password) will clean ∷ (is.keep_text ++ (is.client_text ++ (is.will_text ++ (is.user_text ++ is.password_text))))) ≡ Ok (Connect client clean keep will)
 unfolding flagged_at
 flagged_again client clean keep will body is =
-    rw (flags_again (is_there is.user) (is_there is.password) will clean is.will_text is.is_will is.no_password_alone,
-        number_again is.keep_text keep (is.client_text ++ (is.will_text ++ (is.user_text ++ is.password_text))) is.is_keep,
-        text_again is.client_text client (is.will_text ++ (is.user_text ++ is.password_text)) is.is_client,
-        will_again will is.will_text (is.user_text ++ is.password_text) is.is_will,
-        login_again is.user is.password is.user_text is.password_text is.is_user is.is_password) refl
+    rw (
+      flags_again (is_there is.user) (is_there is.password) will clean is.will_text is.is_will is.no_password_alone,
+      number_again is.keep_text keep (is.client_text ++ (is.will_text ++ (is.user_text ++ is.password_text))) is.is_keep,
+      text_again is.client_text client (is.will_text ++ (is.user_text ++ is.password_text)) is.is_client,
+      will_again will is.will_text (is.user_text ++ is.password_text) is.is_will,
+      login_again is.user is.password is.user_text is.password_text is.is_user is.is_password,
+    ) refl
 
 pub connect_again : (client : List ℕ) (clean : Bool) (keep : ℕ) (will : Option WillData) (body : List ℕ) → IsConnect body client clean keep will → connect_at body ≡ Ok (Connect client clean keep will)
 unfolding connect_at level_at

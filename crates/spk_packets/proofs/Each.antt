@@ -28,7 +28,7 @@ module _ {X : Type 0} (at : List ℕ → Result (X × List ℕ) PacketFault) (sh
   each_within-any (suc n) (suc m) (x ∷ xs) a b =
       bind_same (at (x ∷ xs)) (λ first. each_within at n first.1 >>= λ others. Ok (first.0 ∷ others)) (λ first. each_within at m first.1 >>= λ others. Ok (first.0 ∷ others))
       (λ first e. let less : length first.1 < length (x ∷ xs) = shortens (x ∷ xs) first e in
-        ap (λ (r : Result (List X) PacketFault). r >>= λ others. Ok (first.0 ∷ others)) (each_within-any n m first.1 (omega arith) (omega arith)))
+      ap (λ (r : Result (List X) PacketFault). r >>= λ others. Ok (first.0 ∷ others)) (each_within-any n m first.1 (omega arith) (omega arith)))
 
   pub each_at-nil : each_at at [] ≡ Ok []
   unfolding each_within
@@ -39,7 +39,7 @@ module _ {X : Type 0} (at : List ℕ → Result (X × List ℕ) PacketFault) (sh
   each_at-cons b bs =
       bind_same (at (b ∷ bs)) (λ first. each_within at (length bs) first.1 >>= λ others. Ok (first.0 ∷ others)) (λ first. each_at at first.1 >>= λ others. Ok (first.0 ∷ others))
       (λ first e. let less : length first.1 < length (b ∷ bs) = shortens (b ∷ bs) first e in
-        ap (λ (r : Result (List X) PacketFault). r >>= λ others. Ok (first.0 ∷ others)) (each_within-any (length bs) (length first.1) first.1 (omega arith) (omega arith)))
+      ap (λ (r : Result (List X) PacketFault). r >>= λ others. Ok (first.0 ∷ others)) (each_within-any (length bs) (length first.1) first.1 (omega arith) (omega arith)))
 
   -- what was read before, and what is still read
   abbrev pub with_front : List X → Result (List X) PacketFault → Result (List X) PacketFault

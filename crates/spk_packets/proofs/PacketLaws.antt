@@ -232,9 +232,9 @@ cut_from first rest found n m kind body whole is_kind t small long e =
     let head : length (first ∷ (t.text ++ take n t.rest)) ≡ 1 + m + n = omega (arith, length-append t.text (take n t.rest)) in
     let is : IsLength t.text (length (take n t.rest)) = (t.short, subst (λ (k : ℕ). AreSevens t.text k) (sym len) t.are) in
     let joined : first ∷ rest ≡ (first ∷ (t.text ++ take n t.rest)) ++ drop n t.rest =
-      ap (λ (r : List ℕ). first ∷ r) (t.parts ∙ ap (λ (r : List ℕ). t.text ++ r) (sym (take-append-drop n t.rest)) ∙ sym (append_assoc t.text (take n t.rest) (drop n t.rest))) in
+    ap (λ (r : List ℕ). first ∷ r) (t.parts ∙ ap (λ (r : List ℕ). t.text ++ r) (sym (take-append-drop n t.rest)) ∙ sym (append_assoc t.text (take n t.rest) (drop n t.rest))) in
     let made : Cuts (first ∷ rest) found (take n t.rest) (1 + m + n) =
-      record { first = first; size = t.text; rest = drop n t.rest; is_kind = is_kind; is_size = is; small = small; len = head; parts = joined } in
+    record { first = first; size = t.text; rest = drop n t.rest; is_kind = is_kind; is_size = is; small = small; len = head; parts = joined } in
     subst (λ (c : Kind × (List ℕ × ℕ)). Cuts (first ∷ rest) c.0 c.1.0 c.1.1) (sym (ap (λ (b : List ℕ). cut_of found b (1 + m + n)) is_body) ∙ e) made
 
 pub cut_takes : (bytes : List ℕ) (kind : Kind) (body : List ℕ) (whole : ℕ) → cut_at bytes ≡ Ok (kind, (body, whole)) → Cuts bytes kind body whole

@@ -23,7 +23,7 @@ run_spells (Gave p ∷ events) old new run =
     record {
       text = front ++ s.text;
       are = (front, s.text, run.1.1, s.are, refl);
-      parts = ap (λ (r : List ℕ). r ++ fed events) run.1.2 ∙ append_assoc front run.0 (fed events) ∙ ap (λ (r : List ℕ). front ++ r) s.parts ∙ sym (append_assoc front s.text new)
+      parts = ap (λ (r : List ℕ). r ++ fed events) run.1.2 ∙ append_assoc front run.0 (fed events) ∙ ap (λ (r : List ℕ). front ++ r) s.parts ∙ sym (append_assoc front s.text new);
     }
 run_spells (Rested ∷ events) old new run = run_spells events old new run
 
@@ -43,7 +43,7 @@ one_reading (p ∷ ps) [] a b x y are_a are_b no_x no_y e =
     absurd (no_y are_a.0 (are_a.1 ++ x) p are_a.2 (sym (ap (λ (r : List ℕ). r ++ y) are_b) ∙ sym e ∙ ap (λ (r : List ℕ). r ++ x) are_a.4 ∙ append_assoc are_a.0 are_a.1 x))
 one_reading (p ∷ ps) (q ∷ qs) a b x y are_a are_b no_x no_y e =
     let whole : are_a.0 ++ (are_a.1 ++ x) ≡ are_b.0 ++ (are_b.1 ++ y) =
-      sym (append_assoc are_a.0 are_a.1 x) ∙ sym (ap (λ (r : List ℕ). r ++ x) are_a.4) ∙ e ∙ ap (λ (r : List ℕ). r ++ y) are_b.4 ∙ append_assoc are_b.0 are_b.1 y in
+    sym (append_assoc are_a.0 are_a.1 x) ∙ sym (ap (λ (r : List ℕ). r ++ x) are_a.4) ∙ e ∙ ap (λ (r : List ℕ). r ++ y) are_b.4 ∙ append_assoc are_b.0 are_b.1 y in
     let first = prefix_is are_a.0 are_b.0 (are_a.1 ++ x) (are_b.1 ++ y) p q are_a.2 are_b.2 whole in
     let others = one_reading ps qs are_a.1 are_b.1 x y are_a.3 are_b.3 no_x no_y (tails are_a.0 are_b.0 (are_a.1 ++ x) (are_b.1 ++ y) first.0 whole) in
     (heads p q ps qs first.1 others.0, others.1)

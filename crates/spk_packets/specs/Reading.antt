@@ -20,30 +20,30 @@ abbrev pub ◌>>=◌ : {A B : Type 0} → Result A PacketFault → (A → Result
 
 unfoldable pub kind_of : ℕ → Result Kind PacketFault
 kind_of b = if nat_lt b 16 then Err BadType else if nat_le 240 b then Err BadType
-  else if b == 16 then Ok kinds.Connect
-  else if b == 32 then Ok kinds.ConnAck
-  else if b == 48 then Ok (kinds.Publish false 0 false)
-  else if b == 49 then Ok (kinds.Publish false 0 true)
-  else if b == 50 then Ok (kinds.Publish false 1 false)
-  else if b == 51 then Ok (kinds.Publish false 1 true)
-  else if b == 58 then Ok (kinds.Publish true 1 false)
-  else if b == 59 then Ok (kinds.Publish true 1 true)
-  else if b == 64 then Ok kinds.PubAck
-  else if b == 130 then Ok kinds.Subscribe
-  else if b == 144 then Ok kinds.SubAck
-  else if b == 162 then Ok kinds.Unsubscribe
-  else if b == 176 then Ok kinds.UnsubAck
-  else if b == 192 then Ok kinds.PingReq
-  else if b == 208 then Ok kinds.PingResp
-  else if b == 224 then Ok kinds.Disconnect
-  else if b == 52 then Err QosTwo
-  else if b == 53 then Err QosTwo
-  else if b == 60 then Err QosTwo
-  else if b == 61 then Err QosTwo
-  else if b == 80 then Err QosTwo
-  else if b == 98 then Err QosTwo
-  else if b == 112 then Err QosTwo
-  else Err BadFlags
+    else if b == 16 then Ok kinds.Connect
+    else if b == 32 then Ok kinds.ConnAck
+    else if b == 48 then Ok (kinds.Publish false 0 false)
+    else if b == 49 then Ok (kinds.Publish false 0 true)
+    else if b == 50 then Ok (kinds.Publish false 1 false)
+    else if b == 51 then Ok (kinds.Publish false 1 true)
+    else if b == 58 then Ok (kinds.Publish true 1 false)
+    else if b == 59 then Ok (kinds.Publish true 1 true)
+    else if b == 64 then Ok kinds.PubAck
+    else if b == 130 then Ok kinds.Subscribe
+    else if b == 144 then Ok kinds.SubAck
+    else if b == 162 then Ok kinds.Unsubscribe
+    else if b == 176 then Ok kinds.UnsubAck
+    else if b == 192 then Ok kinds.PingReq
+    else if b == 208 then Ok kinds.PingResp
+    else if b == 224 then Ok kinds.Disconnect
+    else if b == 52 then Err QosTwo
+    else if b == 53 then Err QosTwo
+    else if b == 60 then Err QosTwo
+    else if b == 61 then Err QosTwo
+    else if b == 80 then Err QosTwo
+    else if b == 98 then Err QosTwo
+    else if b == 112 then Err QosTwo
+    else Err BadFlags
 
 -- ---- the remaining length
 
@@ -164,11 +164,11 @@ pub record FlagsData : Type 0 where
 -- what stands behind the name and the level
 unfoldable pub flags_at : ℕ → Result FlagsData PacketFault
 flags_at b = if has_reserved_bit b then Err BadBody
-  else if will_qos b == 3 then Err BadBody
-  else if has_will_bits_alone b then Err BadBody
-  else if has_password_alone b then Err BadBody
-  else if will_qos b == 2 then Err QosTwo
-  else Ok (record { user = flag 128 b; password = flag 64 b; will = if flag 4 b then Some (will_qos b, flag 32 b) else None; clean = flag 2 b })
+    else if will_qos b == 3 then Err BadBody
+    else if has_will_bits_alone b then Err BadBody
+    else if has_password_alone b then Err BadBody
+    else if will_qos b == 2 then Err QosTwo
+    else Ok (record { user = flag 128 b; password = flag 64 b; will = if flag 4 b then Some (will_qos b, flag 32 b) else None; clean = flag 2 b })
 
 unfoldable pub will_at : Option (ℕ × Bool) → List ℕ → Result (Option WillData × List ℕ) PacketFault
 will_at None bytes = Ok (None, bytes)

@@ -204,8 +204,8 @@ asked_flags type = if type == 6 || type == 8 || type == 10 then 2 else 0
 -- Flags other than the table's; for PUBLISH QoS 3, or DUP with QoS 0 (MQTT-2.2.2-2, MQTT-3.3.1-2, MQTT-3.3.1-4).
 abbrev pub has_wrong_flags : ℕ → Bool
 has_wrong_flags first = if type_of first == 3
-  then qos_of first == 3 || (flag 8 first && qos_of first == 0)
-  else not (flags_of first == asked_flags (type_of first))
+    then qos_of first == 3 || (flag 8 first && qos_of first == 0)
+    else not (flags_of first == asked_flags (type_of first))
 
 -- QoS 2, or PUBREC, PUBREL, PUBCOMP (own rule)
 abbrev pub is_of_qos_two : ℕ → Bool
@@ -252,14 +252,14 @@ body_of rest = take (length_value rest) (drop (length_len rest) rest)
 
 abbrev pub body_refusals : ℕ → List ℕ → Refusals
 body_refusals first body = if type_of first == 1 then connect_refusals body
-  else if type_of first == 2 then connack_refusals body
-  else if type_of first == 3 then publish_refusals (qos_of first) body
-  else if type_of first == 4 then id_alone_refusals body
-  else if type_of first == 8 then subscribe_refusals body
-  else if type_of first == 9 then suback_refusals body
-  else if type_of first == 10 then unsubscribe_refusals body
-  else if type_of first == 11 then id_alone_refusals body
-  else end_refusals body
+    else if type_of first == 2 then connack_refusals body
+    else if type_of first == 3 then publish_refusals (qos_of first) body
+    else if type_of first == 4 then id_alone_refusals body
+    else if type_of first == 8 then subscribe_refusals body
+    else if type_of first == 9 then suback_refusals body
+    else if type_of first == 10 then unsubscribe_refusals body
+    else if type_of first == 11 then id_alone_refusals body
+    else end_refusals body
 
 -- the first byte, the remaining length, more than the greatest packet, less than the whole packet
 abbrev pub head_refusals : List ℕ → Refusals

@@ -44,9 +44,9 @@ body Disconnect = []
 -- the remaining length in as few bytes as it has groups of seven bits
 unfoldable pub shortest : ℕ → List ℕ
 shortest n = if nat_lt n 128 then n ∷ []
-  else if nat_lt n 16384 then (n % 128 + 128) ∷ n / 128 ∷ []
-  else if nat_lt n 2097152 then (n % 128 + 128) ∷ (n / 128 % 128 + 128) ∷ n / 16384 ∷ []
-  else (n % 128 + 128) ∷ (n / 128 % 128 + 128) ∷ (n / 16384 % 128 + 128) ∷ n / 2097152 ∷ []
+    else if nat_lt n 16384 then (n % 128 + 128) ∷ n / 128 ∷ []
+    else if nat_lt n 2097152 then (n % 128 + 128) ∷ (n / 128 % 128 + 128) ∷ n / 16384 ∷ []
+    else (n % 128 + 128) ∷ (n / 128 % 128 + 128) ∷ (n / 16384 % 128 + 128) ∷ n / 2097152 ∷ []
 
 unfoldable pub spelling : Message → List ℕ
 spelling p = first_byte p % 256 ∷ (shortest (length (body p)) ++ body p)

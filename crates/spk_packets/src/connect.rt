@@ -96,14 +96,22 @@ fn flags_in(byte: u8) -> Result<Flags, PacketFault>
     Ok(Flags {
         user,
         password,
-        will: if has_will { Some(WillFlags { qos, retain }) } else { None },
+        will: if has_will {
+            Some(WillFlags { qos, retain })
+        } else {
+            None
+        },
         clean: byte / 2 % 2 == 1,
     })
 }
 
 /// The will topic and the will message, where there is a will.
 #[tactic(auto, unfolding(crate::specs::Reading::will_at))]
-fn will_of(alloc: Global, flags: Option<WillFlags>, bytes: &[u8]) -> Result<(Option<Will>, &[u8]), PacketFault>
+fn will_of(
+    alloc: Global,
+    flags: Option<WillFlags>,
+    bytes: &[u8],
+) -> Result<(Option<Will>, &[u8]), PacketFault>
     ensures { Gives (λ x. (option_map will_view x.0, x.1.now)) result (will_at (option_map (λ f. (f.qos, f.retain)) flags) bytes.now) }
 {
     let Some(WillFlags { qos, retain }) = flags else {
@@ -113,7 +121,15 @@ fn will_of(alloc: Global, flags: Option<WillFlags>, bytes: &[u8]) -> Result<(Opt
     let (message, rest) = counted(rest)?;
     let topic = String::from_str(alloc, topic)?;
     let message = Vec::from_slice(alloc, message)?;
-    Ok((Some(Will { topic, message, qos, retain }), rest))
+    Ok((
+        Some(Will {
+            topic,
+            message,
+            qos,
+            retain,
+        }),
+        rest,
+    ))
 }
 
 /// The user name and the password where they are there, and no more.

@@ -78,7 +78,9 @@ fn bad_body(packet: &Packet) -> bool
     match packet {
         Packet::Connect { will, .. } => bad_will(will),
         Packet::ConnAck { code, .. } => *code > 5,
-        Packet::Publish { dup, qos, id, .. } => *qos > 2 || (*dup && *qos == 0) || bad_id(*qos, *id),
+        Packet::Publish { dup, qos, id, .. } => *qos > 2
+            || (*dup && *qos == 0)
+            || bad_id(*qos, *id),
         Packet::PubAck { id } | Packet::UnsubAck { id } => *id == 0,
         Packet::Subscribe { id, filters } => bad_subscribe(*id, filters),
         Packet::SubAck { id, codes } => *id == 0 || codes.is_empty() || !are_codes(codes),

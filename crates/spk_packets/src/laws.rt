@@ -9,13 +9,11 @@ ghost use Rattle.spk_packets.specs.Stream.{Event, IsRun, HasNoPacket, fed, given
 /// what was written is read again, whatever follows it.
 pub fn prefix_free()
     ensures { (a b x y : List ℕ) (p q : Message) → Spells a p → Spells b q → a ++ x ≡ b ++ y → (a ≡ b) × (p ≡ q) }
-{
-}
+{}
 
 /// Two feeds that took in the same bytes and hold no whole packet any more have given the same packets, and the same
 /// bytes wait: it doesn't matter how the bytes were cut, nor when packets were asked for.
 pub fn any_pieces()
     ensures { (events others : List Event) (x y : List ℕ) → IsRun [] events x → IsRun [] others y
         → fed events ≡ fed others → HasNoPacket x → HasNoPacket y → (given events ≡ given others) × (x ≡ y) }
-{
-}
+{}

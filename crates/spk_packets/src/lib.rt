@@ -21,3 +21,6 @@ pub use feed::Feed;
 pub use packet::{Packet, Request, Will};
 pub use read::{decode, read_length};
 pub use write::encode;
+
+#[cfg(test)]
+mod tests;

@@ -33,7 +33,10 @@ pub enum Packet {
         will: Option<Will>,
     },
     /// Section 3.2. The code is 0 to 5.
-    ConnAck { present: bool, code: u8 },
+    ConnAck {
+        present: bool,
+        code: u8,
+    },
     /// Section 3.3. QoS is 0 or 1, and there is an identifier exactly at QoS 1.
     Publish {
         dup: bool,
@@ -44,15 +47,28 @@ pub enum Packet {
         payload: Vec<u8>,
     },
     /// Section 3.4.
-    PubAck { id: u16 },
+    PubAck {
+        id: u16,
+    },
     /// Section 3.8. At least one entry.
-    Subscribe { id: u16, filters: Vec<Request> },
+    Subscribe {
+        id: u16,
+        filters: Vec<Request>,
+    },
     /// Section 3.9. At least one code: the granted QoS, 0 to 2, or 128 for a refusal.
-    SubAck { id: u16, codes: Vec<u8> },
+    SubAck {
+        id: u16,
+        codes: Vec<u8>,
+    },
     /// Section 3.10. At least one filter.
-    Unsubscribe { id: u16, filters: Vec<String> },
+    Unsubscribe {
+        id: u16,
+        filters: Vec<String>,
+    },
     /// Section 3.11.
-    UnsubAck { id: u16 },
+    UnsubAck {
+        id: u16,
+    },
     /// Section 3.12.
     PingReq,
     /// Section 3.13.

@@ -11,7 +11,13 @@ use std::alloc::Global;
 
 /// The topic name, the packet identifier at QoS 1, and the payload.
 #[tactic(auto, unfolding(crate::specs::Reading::publish_at))]
-pub(crate) fn publish(alloc: Global, dup: bool, qos: u8, retain: bool, body: &[u8]) -> Result<Packet, PacketFault>
+pub(crate) fn publish(
+    alloc: Global,
+    dup: bool,
+    qos: u8,
+    retain: bool,
+    body: &[u8],
+) -> Result<Packet, PacketFault>
     ensures { Gives view result (publish_at dup qos retain body.now) }
 {
     let (topic, rest) = text(body)?;

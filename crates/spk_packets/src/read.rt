@@ -74,11 +74,15 @@ fn packet(alloc: Global, kind: Kind, body: &[u8]) -> Result<Packet, PacketFault>
         Kind::Connect => connect(alloc, body),
         Kind::ConnAck => connack(body),
         Kind::Publish { dup, qos, retain } => publish(alloc, dup, qos, retain, body),
-        Kind::PubAck => Ok(Packet::PubAck { id: id_alone(body)? }),
+        Kind::PubAck => Ok(Packet::PubAck {
+            id: id_alone(body)?,
+        }),
         Kind::Subscribe => subscribe(alloc, body),
         Kind::SubAck => suback(alloc, body),
         Kind::Unsubscribe => unsubscribe(alloc, body),
-        Kind::UnsubAck => Ok(Packet::UnsubAck { id: id_alone(body)? }),
+        Kind::UnsubAck => Ok(Packet::UnsubAck {
+            id: id_alone(body)?,
+        }),
         Kind::PingReq => bare(Packet::PingReq, body),
         Kind::PingResp => bare(Packet::PingResp, body),
         Kind::Disconnect => bare(Packet::Disconnect, body),

@@ -86,7 +86,12 @@ fn body_of(alloc: Global, packet: &Packet) -> Result<Vec<u8>, AllocError>
 {
     let mut out = Vec::new(alloc);
     match packet {
-        Packet::Connect { client, clean, keep, will } => {
+        Packet::Connect {
+            client,
+            clean,
+            keep,
+            will,
+        } => {
             out.extend_from_slice(&[0, 4, 77, 81, 84, 84, 4])?;
             out.push(flags(*clean, will))?;
             put_number(&mut out, usize::from(*keep))?;
@@ -97,7 +102,12 @@ fn body_of(alloc: Global, packet: &Packet) -> Result<Vec<u8>, AllocError>
             out.push(u8::from(*present))?;
             out.push(*code)?;
         }
-        Packet::Publish { topic, id, payload, .. } => {
+        Packet::Publish {
+            topic,
+            id,
+            payload,
+            ..
+        } => {
             put_counted(&mut out, topic.as_bytes())?;
             put_id(&mut out, *id)?;
             out.extend_from_slice(payload)?;
@@ -146,7 +156,12 @@ fn first(packet: &Packet) -> u8
     match packet {
         Packet::Connect { .. } => 0x10,
         Packet::ConnAck { .. } => 0x20,
-        Packet::Publish { dup, qos, retain, .. } => {
+        Packet::Publish {
+            dup,
+            qos,
+            retain,
+            ..
+        } => {
             let flags = 8 * u16::from(*dup) + 2 * u16::from(*qos) + u16::from(*retain);
             ((0x30 + flags) % 256) as u8
         }

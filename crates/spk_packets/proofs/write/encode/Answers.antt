@@ -17,7 +17,7 @@ returns-clause-spells c =
     let is = c.deref.ensures.value ∙ c.in_ok-body.ensures.body in
     if_spells c.args.packet.now c.join.result
     (if_join_spelled (view c.args.packet.now) c.join.result c.deref.result.now is
-      (subst (λ b. IfOk c.join.result (λ v. v.items ≡ b ∷ (shortest (length c.deref.result.now) ++ c.deref.result.now))) c.first.ensures c.join.ensures.ok))
+    (subst (λ b. IfOk c.join.result (λ v. v.items ≡ b ∷ (shortest (length c.deref.result.now) ++ c.deref.result.now))) c.first.ensures c.join.ensures.ok))
     (if_join_writable (view c.args.packet.now) c.join.result c.deref.result.now is c.in_ok-judge.ensures.ok c.join.ensures.within)
     c.in_ok-body.ensures.words
 
