@@ -1,9 +1,9 @@
 -- The fault that reading gives is the first of the ordered conditions that holds.
-use Rattle.std.proofs.Common.{◌≡◌, ℕ, zero, suc, ◌+◌, ◌*◌, ◌%◌, ◌<◌, ◌≤◌, eqb, ltb, Bool, true, false, not, cond, List, [], ◌∷◌, ◌++◌, length, take, drop, Option, Some, None, Result, Ok, Err, refl, sym, ap, subst, ◌∙◌, inl, inr, ◌⊎◌, arith, codes}
-use Rattle.std.specs.Prelude.{◌&&◌, ◌||◌, nat_le, ◌==◌, bytes_eq}
+use Rattle.std.proofs.Common.{◌≡◌, ℕ, zero, suc, ◌+◌, ◌*◌, ◌%◌, ◌<◌, ◌≤◌, eqb, ltb, Bool, true, false, not, cond, List, [], ◌∷◌, ◌++◌, length, take, drop, Option, Some, None, Result, Ok, Err, refl, sym, ap, subst, ◌∙◌, inl, inr, arith, codes, leb, ◌/◌}
+use Rattle.std.specs.Prelude.{◌&&◌, nat_le, ◌==◌, bytes_eq, ◌||◌}
 use Rattle.std.specs.List.{list_all}
 use Rattle.std.specs.Str.{is_utf8}
-use Rattle.std.proofs.lemmas.Bool.{eqb-true, leb-true}
+use Rattle.std.proofs.lemmas.Bool.{eqb-true, leb-true, cases_lt, le-ltb, le-leb}
 use Rattle.spk_packets.specs.declared.fault.PacketFault.{PacketFault}
 use Rattle.spk_packets.specs.declared.fault.PacketFault.TheVariants.{NoMemory, More, BadLength, BadFlags, BadType, BadText, BadBody, TooLarge, QosTwo, BadLevel}
 use Rattle.spk_packets.specs.declared.table.Kind.{Kind}
@@ -11,10 +11,10 @@ use Rattle.spk_packets.specs.declared.table.Kind.TheVariants as kinds
 use Rattle.spk_packets.specs.Fault.{number_of, first_of}
 use Rattle.spk_packets.specs.Message.{WillData, Message, Connect, ConnAck, Publish, PubAck, Subscribe, SubAck, Unsubscribe, UnsubAck, PingReq, PingResp, Disconnect}
 use Rattle.spk_packets.specs.Grammar.{bit, is_grant, has_zero, largest}
-use Rattle.spk_packets.specs.Refusals.{Refusals, is_nothing, number_is_cut, front_number, after_number, number_refusals, id_refusals, front_counted, after_counted, counted_refusals, text_refusals, end_refusals, none_refusals, qos_refusals, request_refusals, after_request, each_refusals, flag, will_qos, has_reserved_bit, has_will_bits_alone, has_password_alone, flags_refusals, only_if, after_if, after_client, after_will, after_user, after_password, will_refusals, login_refusals, flagged_refusals, level_refusals, connect_refusals, connack_refusals, publish_refusals, id_alone_refusals, subscribe_refusals, suback_refusals, unsubscribe_refusals, first_refusals, length_is_cut, length_is_long, length_refusals, length_len, length_value, whole_len, body_of, body_refusals, head_refusals, rest_refusals, refusals}
+use Rattle.spk_packets.specs.Refusals.{Refusals, front_number, after_number, number_refusals, id_refusals, front_counted, after_counted, counted_refusals, text_refusals, end_refusals, none_refusals, qos_refusals, request_refusals, after_request, each_refusals, flag, will_qos, has_reserved_bit, has_will_bits_alone, has_password_alone, flags_refusals, only_if, after_if, after_client, after_will, after_user, after_password, will_refusals, login_refusals, flagged_refusals, level_refusals, connect_refusals, connack_refusals, publish_refusals, id_alone_refusals, subscribe_refusals, suback_refusals, unsubscribe_refusals, first_refusals, length_is_cut, length_is_long, length_refusals, length_len, length_value, whole_len, body_of, body_refusals, head_refusals, refusals}
 use Rattle.spk_packets.specs.Reading.{◌>>=◌, number_at, id_at, counted_at, text_at, ended, each_within, each_at, qos_at, request_at, some_at, FlagsData, flags_at, will_at, user_at, password_at, login_at, flagged_at, level_at, connect_at, connack_at, identified_at, publish_at, id_alone_at, subscribe_at, suback_at, unsubscribe_at, kind_of, length_within, length_at, body_at, cut_at, packet_at}
-use Rattle.spk_packets.proofs.Faults.{bind_ok, guard_ok, pass_ok, chosen, ok_is}
-use Rattle.spk_packets.proofs.Bytes.{all_below, at_each_below, left_of, right_of, IsBytes}
+use Rattle.spk_packets.proofs.Faults.{bind_ok, guard_ok, chosen, ok_is}
+use Rattle.spk_packets.proofs.Bytes.{all_below, at_each_below, left_of}
 use Rattle.spk_packets.proofs.PacketLaws.{byte_of, flags_fit, dup_fits, kind_takes}
 
 -- the fault, where there is one
@@ -54,6 +54,10 @@ agree_test false d r xs a = a
 agree_pass : {A : Type 0} (b : Bool) (d : PacketFault) (r : Result A PacketFault) (xs : Refusals) → Agree r xs → Agree (cond b r (Err d)) ((not b, d) ∷ xs)
 agree_pass true d r xs a = a
 agree_pass false d r xs a = refl
+
+or_true : (b : Bool) → (b || true) ≡ true
+or_true true = refl
+or_true false = refl
 
 abbrev pair : ℕ → List ℕ → ℕ × List ℕ
 pair n rest = (n, rest)
@@ -443,7 +447,7 @@ length_values (suc n) (b ∷ bs) x e =
     ]
 
 -- what `cut_at` does behind the length
-abbrev size_step : List ℕ → Kind → ℕ × ℕ → Result (Kind × (List ℕ × ℕ)) PacketFault
+abbrev pub size_step : List ℕ → Kind → ℕ × ℕ → Result (Kind × (List ℕ × ℕ)) PacketFault
 size_step rest kind size = cond (ltb largest (1 + size.1 + size.0)) (Err TooLarge) (cond (ltb (1 + length rest) (1 + size.1 + size.0)) (Err More) (Ok (kind, (take size.0 (drop size.1 rest), 1 + size.1 + size.0))))
 
 size_agrees : (rest : List ℕ) (kind : Kind) → Agree (size_step rest kind (length_of rest)) ((ltb largest (whole_len rest), TooLarge) ∷ (ltb (1 + length rest) (whole_len rest), More) ∷ [])
@@ -452,7 +456,7 @@ size_agrees rest kind =
     agree_test (ltb largest (whole_len rest)) TooLarge (cond (ltb (1 + length rest) (whole_len rest)) (Err More) (Ok (kind, (body_of rest, whole_len rest)))) ((ltb (1 + length rest) (whole_len rest), More) ∷ [])
     (agree_test (ltb (1 + length rest) (whole_len rest)) More (Ok (kind, (body_of rest, whole_len rest))) [] refl)
 
-abbrev kind_step : List ℕ → Kind → Result (Kind × (List ℕ × ℕ)) PacketFault
+abbrev pub kind_step : List ℕ → Kind → Result (Kind × (List ℕ × ℕ)) PacketFault
 kind_step rest kind = length_at rest >>= size_step rest kind
 
 cut_agrees : (first : ℕ) (rest : List ℕ) → first < 256 → Agree (cut_at (first ∷ rest)) (head_refusals (first ∷ rest))
@@ -485,11 +489,28 @@ packet_agrees first rest lt =
     (subst (λ (b : List ℕ). Agree (body_at x.0 b) (body_refusals first (body_of rest))) (sym v.1)
     (subst (λ (n : ℕ). Agree (body_at x.0 (body_of rest)) (body_refusals n (body_of rest))) (sym k.0) (body_agrees x.0 (body_of rest) k.1))))
 
+-- a first byte past 255 has a reserved type, too
+reserved : (k : ℕ) → 16 ≤ k → (eqb k 0 || leb 15 k) ≡ true
+reserved zero le = absurd (omega arith)
+reserved (suc k) le = let high : leb 15 (suc k) ≡ true = le-leb _ _ (omega arith) in rw high (or_true (eqb (suc k) 0))
+
+packet_high : (first : ℕ) (rest : List ℕ) → 256 ≤ first → Agree (packet_at (first ∷ rest)) (refusals (first ∷ rest))
+unfolding packet_at cut_at kind_of refusals
+packet_high first rest le =
+    let low : ltb first 16 ≡ false = le-ltb _ _ (omega arith) in
+    let high : leb 240 first ≡ true = le-leb _ _ (omega arith) in
+    let kind : (eqb (first / 16) 0 || leb 15 (first / 16)) ≡ true = reserved (first / 16) (omega arith) in
+    rw (low, high, kind) refl
+
 -- The fault that reading gives is the one that the order names.
-pub packet_refused : (bytes : List ℕ) → IsBytes bytes → fault_of (packet_at bytes) ≡ first_of (refusals bytes)
+pub packet_refused : (bytes : List ℕ) → fault_of (packet_at bytes) ≡ first_of (refusals bytes)
 unfolding packet_at cut_at refusals
-packet_refused [] fits = refl
-packet_refused (first ∷ rest) fits = packet_agrees first rest (fits 0)
+packet_refused [] = refl
+packet_refused (first ∷ rest) =
+    elim (cases_lt first 256) [
+      | inl lt ↦ packet_agrees first rest lt
+      | inr le ↦ packet_high first rest le
+    ]
 
 pub length_refused : (bytes : List ℕ) → fault_of (length_at bytes) ≡ first_of (length_refusals bytes)
 length_refused bytes = length_agrees 4 bytes

@@ -1,11 +1,10 @@
 -- A body that is read is the body of the packet that was given, and a packet's body is read as it.
-use Rattle.std.proofs.Common.{◌≡◌, ℕ, zero, suc, ◌+◌, ◌*◌, ◌<◌, ◌≤◌, eqb, ltb, Bool, true, false, cond, List, [], ◌∷◌, ◌++◌, length, Option, Some, None, Result, Ok, Err, refl, sym, ap, subst, ◌∙◌, append_assoc, inl, inr, ◌⊎◌, arith}
+use Rattle.std.proofs.Common.{◌≡◌, ℕ, zero, suc, ◌<◌, ◌≤◌, eqb, ltb, Bool, true, false, cond, List, [], ◌∷◌, ◌++◌, length, Option, Some, None, Ok, Err, refl, sym, ap, subst, ◌∙◌, inl, inr, arith}
 use Rattle.std.specs.List.{list_all}
 use Rattle.std.proofs.lemmas.Bool.{eqb-true, ltb-false, le-ltb}
 use Rattle.std.proofs.lemmas.List.{append-nil}
-use Rattle.spk_packets.specs.declared.fault.PacketFault.{PacketFault}
 use Rattle.spk_packets.specs.declared.fault.PacketFault.TheVariants.{BadBody}
-use Rattle.spk_packets.specs.Message.{Message, ConnAck, Publish, PubAck, Subscribe, SubAck, Unsubscribe, UnsubAck}
+use Rattle.spk_packets.specs.Message.{Message, ConnAck, Publish, Subscribe, SubAck, Unsubscribe}
 use Rattle.spk_packets.specs.Grammar.{bit, is_grant, IsId, IsText, IsRequest, IsIdPart, IsBody, AreEach}
 use Rattle.spk_packets.specs.Reading.{◌>>=◌, id_at, text_at, request_at, each_at, ended, some_at, connack_at, identified_at, publish_at, id_alone_at, subscribe_at, suback_at, unsubscribe_at}
 use Rattle.spk_packets.proofs.Faults.{bind_ok, guard_ok, pass_ok, chosen, ok_is}

@@ -1,6 +1,6 @@
 -- The canonical spelling of a packet that is not refused spells it.
-use Rattle.std.proofs.Common.{◌≡◌, ℕ, zero, suc, ◌+◌, ◌*◌, ◌/◌, ◌%◌, ◌<◌, ◌≤◌, eqb, ltb, Bool, true, false, not, cond, List, [], ◌∷◌, ◌++◌, length, map, Option, Some, None, Result, Ok, Err, Vec, refl, sym, ap, subst, ◌∙◌, inl, inr, ◌⊎◌, arith, string_bytes, String, Global}
-use Rattle.std.specs.Prelude.{◌&&◌, ◌||◌, nat_le, ◌==◌, nat_lt, IfOk, OnOk}
+use Rattle.std.proofs.Common.{◌≡◌, ℕ, zero, suc, ◌+◌, ◌*◌, ◌/◌, ◌%◌, ◌<◌, ◌≤◌, eqb, Bool, true, false, not, List, [], ◌∷◌, ◌++◌, length, map, Option, Some, None, Result, Ok, Err, Vec, refl, sym, ap, subst, ◌∙◌, inl, inr, ◌⊎◌, arith, string_bytes, String, Global}
+use Rattle.std.specs.Prelude.{◌&&◌, ◌||◌, nat_lt, IfOk, OnOk}
 use Rattle.std.specs.Option.{option_map}
 use Rattle.std.specs.List.{list_any, list_all, flat_map}
 use Rattle.std.specs.Str.{IsUtf8}
@@ -15,9 +15,9 @@ use Rattle.spk_packets.specs.declared.fault.PacketFault.{PacketFault}
 use Rattle.spk_packets.specs.declared.fault.PacketFault.TheVariants.{BadText, BadBody, QosTwo, TooLarge}
 use Rattle.spk_packets.specs.Fault.{first_of}
 use Rattle.spk_packets.specs.Message.{WillData, Message, Connect, ConnAck, Publish, PubAck, Subscribe, SubAck, Unsubscribe, UnsubAck, PingReq, PingResp, Disconnect}
-use Rattle.spk_packets.specs.Grammar.{bit, has_zero, is_there, is_grant, will_bits, connect_flags, protocol, first_byte, largest, IsNumber, IsId, IsCounted, IsText, IsRequest, IsIdPart, IsWillPart, IsConnect, IsBody, AreEach, AreSevens, IsLength, Spells}
+use Rattle.spk_packets.specs.Grammar.{bit, has_zero, is_grant, connect_flags, protocol, first_byte, largest, IsNumber, IsId, IsCounted, IsText, IsRequest, IsIdPart, IsWillPart, IsBody, AreEach, AreSevens, IsLength, Spells}
 use Rattle.spk_packets.specs.Refusals.{Refusals}
-use Rattle.spk_packets.specs.Spelling.{number, counted, request, id_part, will_part, body, shortest, spelling, is_bad_text, has_bad_topic, has_bad_text, is_empty, has_bad_will, has_bad_id, has_bad_body, will_is_of_qos_two, is_qos_two, content_refusals, unwritable, IsWord, HasWords}
+use Rattle.spk_packets.specs.Spelling.{number, counted, request, id_part, will_part, body, shortest, spelling, is_bad_text, has_bad_topic, has_bad_text, is_empty, has_bad_will, has_bad_id, has_bad_body, will_is_of_qos_two, is_qos_two, unwritable, IsWord, HasWords}
 use Rattle.spk_packets.specs.View.{view, will_view, request_view}
 use Rattle.spk_packets.proofs.Written.{length-spelling}
 

@@ -1,19 +1,17 @@
 -- CONNECT: what is read is spelled so, and what is spelled so is read.
 use lib.Utf8.{encode}
-use Rattle.std.proofs.Common.{◌≡◌, ℕ, zero, suc, ◌+◌, ◌*◌, ◌<◌, ◌≤◌, eqb, ltb, Bool, true, false, not, cond, List, [], ◌∷◌, ◌++◌, length, Option, Some, None, Result, Ok, Err, refl, sym, ap, subst, ◌∙◌, append_assoc, inl, inr, ◌⊎◌, arith, codes}
+use Rattle.std.proofs.Common.{◌≡◌, ℕ, zero, suc, ◌+◌, ◌*◌, ◌<◌, ◌≤◌, eqb, Bool, true, false, cond, List, [], ◌∷◌, ◌++◌, Option, Some, None, Result, Ok, Err, refl, sym, ap, subst, ◌∙◌, append_assoc, arith, codes}
 use Rattle.std.specs.Prelude.{◌&&◌, nat_le, ◌==◌, bytes_eq}
-use Rattle.std.specs.Option.{option_map}
-use Rattle.std.specs.Str.{IsUtf8, is_utf8, chars}
-use Rattle.std.proofs.lemmas.Bool.{eqb-true, ltb-false, leb-true}
+use Rattle.std.specs.Str.{is_utf8, chars}
+use Rattle.std.proofs.lemmas.Bool.{eqb-true, leb-true}
 use Rattle.std.proofs.lemmas.List.{append-nil}
 use Rattle.std.proofs.lemmas.Str.{IsUtf8-from_is_utf8}
 use Rattle.spk_packets.specs.declared.fault.PacketFault.{PacketFault}
 use Rattle.spk_packets.specs.declared.fault.PacketFault.TheVariants.{BadBody, BadLevel}
 use Rattle.spk_packets.specs.Message.{WillData, Message, Connect}
-use Rattle.spk_packets.specs.Grammar.{bit, is_there, will_bits, connect_flags, protocol, IsNumber, IsCounted, IsText, IsWillPart, IsUserPart, IsPasswordPart, IsConnect, has_zero}
-use Rattle.spk_packets.specs.Refusals.{flag, will_qos, has_reserved_bit, has_will_bits_alone, has_password_alone}
+use Rattle.spk_packets.specs.Grammar.{bit, is_there, will_bits, connect_flags, IsNumber, IsCounted, IsText, IsWillPart, IsUserPart, IsPasswordPart, IsConnect}
 use Rattle.spk_packets.specs.Reading.{◌>>=◌, FlagsData, number_at, counted_at, text_at, flags_at, will_at, user_at, password_at, login_at, flagged_at, level_at, connect_at, ended}
-use Rattle.spk_packets.proofs.Faults.{bind_ok, guard_ok, pass_ok, chosen, ok_is}
+use Rattle.spk_packets.proofs.Faults.{bind_ok, pass_ok, ok_is}
 use Rattle.spk_packets.proofs.Bytes.{all_below, at_each_below, left_of, right_of, IsBytes, IsBytes-rest, IsBytes-after}
 use Rattle.spk_packets.proofs.PartLaws.{number_takes, number_again, counted_takes, counted_again, text_takes, text_again}
 use Rattle.spk_packets.proofs.BodyLaws.{ended_takes}

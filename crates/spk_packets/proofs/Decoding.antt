@@ -1,5 +1,5 @@
 -- From what the private readers give to the grammar and the order of faults.
-use Rattle.std.proofs.Common.{◌≡◌, ℕ, ◌+◌, ◌≤◌, List, ◌++◌, length, take, drop, Option, Some, None, Result, Ok, Err, refl, sym, ap, subst, ◌∙◌, arith}
+use Rattle.std.proofs.Common.{◌≡◌, ℕ, ◌+◌, ◌≤◌, List, ◌++◌, length, take, drop, Option, Some, Result, Ok, Err, sym, ap, subst, ◌∙◌, arith}
 use Rattle.std.specs.Prelude.{IfOk, IfErr}
 use Rattle.std.proofs.lemmas.List.{take_at, take-append-drop, length-append, length-take}
 use Rattle.spk_packets.specs.declared.fault.PacketFault.{PacketFault}
@@ -7,12 +7,12 @@ use Rattle.spk_packets.specs.declared.fault.PacketFault.TheVariants.{NoMemory, M
 use Rattle.spk_packets.specs.declared.packet.Packet.{Packet}
 use Rattle.spk_packets.specs.Fault.{first_of, IsNamed, Fails, Gives}
 use Rattle.spk_packets.specs.Message.{Message}
-use Rattle.spk_packets.specs.Grammar.{IsLength, AreSevens, Spells}
+use Rattle.spk_packets.specs.Grammar.{IsLength, Spells}
 use Rattle.spk_packets.specs.Refusals.{refusals, length_refusals}
 use Rattle.spk_packets.specs.Reading.{length_at, packet_at}
 use Rattle.spk_packets.specs.View.{view, front_view}
 use Rattle.spk_packets.proofs.Bytes.{IsBytes}
-use Rattle.spk_packets.proofs.PacketLaws.{TakesPacket, TakesLength, packet_takes, packet_again, length_takes, length_again}
+use Rattle.spk_packets.proofs.PacketLaws.{packet_takes, packet_again, length_takes, length_again}
 use Rattle.spk_packets.proofs.Agreement.{fault_of, packet_refused, length_refused}
 
 abbrev pub length_read : ℕ → ℕ → Result (ℕ × ℕ) PacketFault
@@ -56,7 +56,7 @@ is_only bytes p n le is =
 
 pub is_named : (bytes : List ℕ) (r : Result (Packet × ℕ) PacketFault) → IsBytes bytes → Gives front_view r (packet_at bytes) → IfErr r (λ e. IsNamed e (first_of (refusals bytes)))
 is_named bytes (Ok x) fits given = tt
-is_named bytes (Err e) fits given = named_from e (packet_at bytes) (first_of (refusals bytes)) (packet_refused bytes fits) given
+is_named bytes (Err e) fits given = named_from e (packet_at bytes) (first_of (refusals bytes)) (packet_refused bytes) given
 
 pub length_found : (bytes : List ℕ) (r : Result (ℕ × ℕ) PacketFault) → r ≡ length_at bytes → IfOk r (λ x. (x.1 ≤ length bytes) × IsLength (take x.1 bytes) x.0)
 length_found bytes (Ok x) given =

@@ -14,3 +14,4 @@ pub mod Written
 pub mod Waiting
 pub mod Pieces
 pub mod Canonical
+pub mod Stays

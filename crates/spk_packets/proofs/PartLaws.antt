@@ -1,13 +1,13 @@
 -- What a reader of a part took spells what it gave, and what spells a value is read as it, whatever follows.
 use Rattle.std.proofs.Common.{◌≡◌, ℕ, zero, suc, ◌+◌, ◌*◌, ◌<◌, ◌≤◌, eqb, ltb, Bool, true, false, not, cond, List, [], ◌∷◌, ◌++◌, length, take, drop, Result, Ok, Err, refl, sym, ap, subst, ◌∙◌, append_assoc, arith}
-use Rattle.std.specs.Str.{IsUtf8, is_utf8}
-use Rattle.std.proofs.lemmas.Bool.{eqb-true, ltb-false, le-ltb}
+use Rattle.std.specs.Str.{is_utf8}
+use Rattle.std.proofs.lemmas.Bool.{ltb-false, le-ltb}
 use Rattle.std.proofs.lemmas.List.{take_at, drop_at, take-append-drop, length-append, length-take}
 use Rattle.std.proofs.lemmas.Str.{IsUtf8-from_is_utf8, is_utf8-from_IsUtf8}
 use Rattle.spk_packets.specs.declared.fault.PacketFault.{PacketFault}
 use Rattle.spk_packets.specs.declared.fault.PacketFault.TheVariants.{BadText, BadBody}
 use Rattle.spk_packets.specs.Grammar.{IsNumber, IsId, IsCounted, IsText, IsRequest, AreEach, has_zero}
-use Rattle.spk_packets.specs.Reading.{◌>>=◌, number_at, id_at, counted_at, text_at, qos_at, request_at, each_at, each_within, ended}
+use Rattle.spk_packets.specs.Reading.{◌>>=◌, number_at, id_at, counted_at, text_at, qos_at, request_at, each_at, each_within}
 use Rattle.spk_packets.proofs.Faults.{bind_ok, guard_ok, ok_is}
 use Rattle.spk_packets.proofs.Each.{Shortens, each_at-cons, each_at-nil}
 

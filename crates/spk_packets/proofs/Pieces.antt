@@ -1,5 +1,5 @@
 -- What a feed gives depends on the bytes, and not on how they were cut or when packets were asked for.
-use Rattle.std.proofs.Common.{◌≡◌, ℕ, List, [], ◌∷◌, ◌++◌, length, drop, refl, sym, ap, subst, ◌∙◌, append_assoc}
+use Rattle.std.proofs.Common.{◌≡◌, ℕ, List, [], ◌∷◌, ◌++◌, length, drop, refl, sym, ap, ◌∙◌, append_assoc}
 use Rattle.std.proofs.lemmas.List.{append-nil, drop_at}
 use Rattle.spk_packets.specs.Message.{Message}
 use Rattle.spk_packets.specs.Grammar.{Spells, AreEach}

@@ -1,7 +1,6 @@
 -- No spelling of a packet begins another.
-use Rattle.std.proofs.Common.{◌≡◌, ℕ, List, ◌++◌, length, take, Result, Ok, Err, refl, sym, ap, ◌∙◌}
+use Rattle.std.proofs.Common.{◌≡◌, ℕ, List, ◌++◌, length, take, refl, sym, ap, ◌∙◌}
 use Rattle.std.proofs.lemmas.List.{take_at}
-use Rattle.spk_packets.specs.declared.fault.PacketFault.{PacketFault}
 use Rattle.spk_packets.specs.Message.{Message}
 use Rattle.spk_packets.specs.Grammar.{Spells}
 use Rattle.spk_packets.specs.Reading.{packet_at}

@@ -1,12 +1,10 @@
 -- Each part takes at least a byte.
-use Rattle.std.proofs.Common.{◌≡◌, ℕ, suc, ◌<◌, ltb, Bool, true, false, not, cond, List, [], ◌∷◌, length, take, drop, Result, Ok, Err, refl, sym, ap, subst, ◌∙◌, arith}
-use Rattle.std.specs.Prelude.{nat_lt}
+use Rattle.std.proofs.Common.{◌≡◌, ℕ, ◌<◌, ltb, not, cond, List, [], ◌∷◌, length, take, drop, Ok, Err, subst, arith}
 use Rattle.std.specs.Str.{is_utf8}
 use Rattle.std.proofs.lemmas.List.{length-drop}
-use Rattle.spk_packets.specs.declared.fault.PacketFault.{PacketFault}
 use Rattle.spk_packets.specs.declared.fault.PacketFault.TheVariants.{BadBody, BadText}
 use Rattle.spk_packets.specs.Grammar.{has_zero}
-use Rattle.spk_packets.specs.Reading.{◌>>=◌, number_at, counted_at, text_at, qos_at, request_at}
+use Rattle.spk_packets.specs.Reading.{number_at, counted_at, text_at, qos_at, request_at}
 use Rattle.spk_packets.proofs.Faults.{bind_ok, guard_ok, ok_is}
 use Rattle.spk_packets.proofs.Each.{Shortens}
 

@@ -1,7 +1,7 @@
 -- Which fault is answered: for each part of a packet the conditions under which it is refused, each with its fault,
 -- in the order in which they are tried. The first that holds is the answer. A condition is only asked where none
 -- before it holds. Bodies are tried by position, front to back (own rule; the standard asks for a closed connection).
-use Rattle.std.specs.Prelude.{◌≡◌, ℕ, zero, suc, ◌+◌, ◌*◌, ◌/◌, ◌%◌, Bool, true, false, not, ◌&&◌, ◌||◌, List, [], ◌∷◌, ◌++◌, length, take, drop, nat_lt, nat_le, ◌==◌, if◌then◌else◌, bytes_eq, codes}
+use Rattle.std.specs.Prelude.{ℕ, zero, suc, ◌+◌, ◌*◌, ◌/◌, ◌%◌, Bool, true, false, not, ◌&&◌, ◌||◌, List, [], ◌∷◌, ◌++◌, length, take, drop, nat_lt, nat_le, ◌==◌, if◌then◌else◌, bytes_eq, codes}
 use Rattle.std.specs.List.{list_all}
 use Rattle.std.specs.Str.{is_utf8}
 use Rattle.spk_packets.specs.declared.fault.PacketFault.{PacketFault}

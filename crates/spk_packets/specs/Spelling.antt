@@ -1,10 +1,10 @@
 -- The canonical spelling of a packet: the shortest remaining length, and no user name or password. And why a packet
 -- has none, in the order in which the causes are tried (own rule).
-use Rattle.std.specs.Prelude.{◌≡◌, ℕ, ◌+◌, ◌*◌, ◌/◌, ◌%◌, ◌<◌, Bool, true, false, not, ◌&&◌, ◌||◌, List, [], ◌∷◌, ◌++◌, length, Option, Some, None, nat_lt, ◌==◌, if◌then◌else◌}
+use Rattle.std.specs.Prelude.{ℕ, ◌+◌, ◌/◌, ◌%◌, ◌<◌, Bool, true, false, not, ◌&&◌, ◌||◌, List, [], ◌∷◌, ◌++◌, length, Option, Some, None, nat_lt, ◌==◌, if◌then◌else◌}
 use Rattle.std.specs.List.{list_any, list_all, flat_map}
 use Rattle.spk_packets.specs.declared.fault.PacketFault.TheVariants.{BadText, BadBody, TooLarge, QosTwo}
 use Rattle.spk_packets.specs.Message.{WillData, Message, Connect, ConnAck, Publish, PubAck, Subscribe, SubAck, Unsubscribe, UnsubAck, PingReq, PingResp, Disconnect}
-use Rattle.spk_packets.specs.Grammar.{bit, has_zero, is_grant, is_there, connect_flags, protocol, first_byte, largest}
+use Rattle.spk_packets.specs.Grammar.{bit, has_zero, is_grant, connect_flags, protocol, first_byte, largest}
 use Rattle.spk_packets.specs.Refusals.{Refusals}
 
 -- Bytes are the low eight bits of what they stand for, and lengths and numbers the low sixteen, so that each packet

@@ -1,5 +1,5 @@
 -- A packet as contracts see it.
-use Rattle.std.specs.Prelude.{ℕ, List, map, Option, Some, None, string_bytes, String}
+use Rattle.std.specs.Prelude.{ℕ, List, map, string_bytes}
 use Rattle.std.specs.Option.{option_map}
 use Rattle.spk_packets.specs.declared.packet.Packet.{Packet}
 use Rattle.spk_packets.specs.declared.packet.Packet.TheVariants as packets

@@ -295,5 +295,6 @@ fn a_feed_holds_two_megabytes(rt: HostRuntime) -> Result<(), Fail> {
 fn the_laws_cost_nothing(rt: HostRuntime) {
     laws::prefix_free();
     laws::any_pieces();
+    laws::fault_stays();
     assert_eq!(rt; PacketFault::TooLarge.number(), 16);
 }

@@ -1,4 +1,4 @@
-use Rattle.std.proofs.Common.{subst, sym, ◌∙◌}
+use Rattle.std.proofs.Common.{sym, ◌∙◌}
 use Rattle.spk_packets.proofs.Texts.{text_at_ok, text_at_bytes}
 use Rattle.spk_packets.proofs.parts.text.Goals as goal
 

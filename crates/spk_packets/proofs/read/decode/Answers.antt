@@ -1,4 +1,4 @@
-use Rattle.std.proofs.Common.{Result, subst, arith}
+use Rattle.std.proofs.Common.{subst, arith}
 use Rattle.spk_packets.specs.Fault.{Gives}
 use Rattle.spk_packets.specs.View.{front_view}
 use Rattle.spk_packets.proofs.Decoding.{is_found, is_only, is_named}

@@ -1,4 +1,4 @@
-use Rattle.std.proofs.Common.{◌≡◌, ◌∷◌, [], ◌++◌, map, ◌<◌, length, sym, ◌∙◌, arith, string_bytes}
+use Rattle.std.proofs.Common.{◌≡◌, ◌∷◌, [], ◌++◌, map, ◌<◌, length, sym, ◌∙◌, string_bytes}
 use Rattle.std.proofs.lemmas.Result.{err_from_is_err_and}
 use Rattle.std.proofs.lemmas.List.{map_push}
 use Rattle.spk_packets.specs.Reading.{text_at, each_at}

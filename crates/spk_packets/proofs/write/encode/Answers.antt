@@ -1,6 +1,6 @@
 use Rattle.std.proofs.Common.{◌≡◌, ◌∙◌, ◌++◌, ◌∷◌, subst, length}
 use Rattle.std.specs.Prelude.{IfOk}
-use Rattle.spk_packets.specs.Spelling.{body, shortest}
+use Rattle.spk_packets.specs.Spelling.{shortest}
 use Rattle.spk_packets.specs.View.{view}
 use Rattle.spk_packets.proofs.Written.{if_join_spelled, if_join_refused, if_join_writable}
 use Rattle.spk_packets.proofs.Canonical.{if_spells}

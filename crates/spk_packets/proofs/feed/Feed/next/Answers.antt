@@ -1,4 +1,4 @@
-use Rattle.std.proofs.Common.{◌≡◌, ◌∙◌, sym, ap, length}
+use Rattle.std.proofs.Common.{◌≡◌, ◌∙◌, sym}
 use Rattle.spk_packets.specs.declared.fault.PacketFault.TheVariants.{NoMemory, More}
 use Rattle.spk_packets.specs.View.{view}
 use Rattle.spk_packets.proofs.Waiting.{took, stands_ok, stands_err}
