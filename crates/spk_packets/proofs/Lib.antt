@@ -1,0 +1,17 @@
+pub mod Texts
+pub mod Faults
+pub mod Each
+pub mod Shorter
+pub mod PartLaws
+pub mod Bytes
+pub mod BodyLaws
+pub mod ConnectLaws
+pub mod PacketLaws
+pub mod Agreement
+pub mod Decoding
+pub mod Prefix
+pub mod Written
+pub mod Waiting
+pub mod Pieces
+pub mod Canonical
+pub mod Stays

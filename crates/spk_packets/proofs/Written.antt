@@ -1,0 +1,92 @@
+-- Tests of lists as the code has them, and as contracts see them.
+use Rattle.std.proofs.Common.{◌≡◌, ℕ, ◌+◌, ◌%◌, ◌<◌, ◌≤◌, ◌++◌, ◌⊎◌, inl, inr, Result, Ok, Err, sym, subst, Vec, Bool, true, false, List, [], ◌∷◌, length, map, Option, Some, None, refl, ap, ◌∙◌, string_bytes, String, Global, arith}
+use Rattle.std.specs.Prelude.{nat_lt, ◌||◌, IfOk, IfErr, OnOk}
+use Rattle.std.specs.List.{list_any}
+use Rattle.std.proofs.lemmas.Bool.{lt-ltb, le-ltb}
+use Rattle.std.proofs.lemmas.List.{length-append}
+use Rattle.spk_packets.specs.declared.packet.Request.{Request}
+use Rattle.spk_packets.specs.declared.fault.PacketFault.{PacketFault}
+use Rattle.spk_packets.specs.declared.fault.PacketFault.TheVariants.{NoMemory, More, BadLength, BadFlags, BadType, BadText, BadBody, TooLarge, QosTwo, BadLevel}
+use Rattle.spk_packets.specs.Fault.{first_of, IsNamed}
+use Rattle.spk_packets.specs.Message.{Message}
+use Rattle.spk_packets.specs.Grammar.{first_byte, largest}
+use Rattle.spk_packets.proofs.Agreement.{first_of-some, first_of-none}
+use Rattle.spk_packets.specs.Spelling.{is_bad_text, is_empty, body, shortest, spelling, content_refusals, unwritable}
+use Rattle.spk_packets.specs.View.{request_view}
+
+is_named_some : (e : PacketFault) (named : Option PacketFault) → named ≡ Some e → IsNamed e named
+is_named_some NoMemory named h = tt
+is_named_some More named h = h
+is_named_some BadLength named h = h
+is_named_some BadFlags named h = h
+is_named_some BadType named h = h
+is_named_some BadText named h = h
+is_named_some BadBody named h = h
+is_named_some TooLarge named h = h
+is_named_some QosTwo named h = h
+is_named_some BadLevel named h = h
+
+pub requests_bad : (requests : List Request) → list_any (λ request. is_bad_text (string_bytes request.filter)) requests ≡ list_any (λ entry. is_bad_text entry.0) (map request_view requests)
+requests_bad [] = refl
+requests_bad (x ∷ xs) = ap (λ (b : Bool). is_bad_text (string_bytes x.filter) || b) (requests_bad xs)
+
+pub requests_high : (requests : List Request) → list_any (λ request. nat_lt 2 request.qos) requests ≡ list_any (λ entry. nat_lt 2 entry.1) (map request_view requests)
+requests_high [] = refl
+requests_high (x ∷ xs) = ap (λ (b : Bool). nat_lt 2 x.qos || b) (requests_high xs)
+
+pub requests_none : (requests : List Request) → is_empty requests ≡ is_empty (map request_view requests)
+requests_none [] = refl
+requests_none (x ∷ xs) = refl
+
+pub filters_bad : (filters : List (String Global)) → list_any (λ filter. is_bad_text (string_bytes filter)) filters ≡ list_any is_bad_text (map (λ filter. string_bytes filter) filters)
+filters_bad [] = refl
+filters_bad (x ∷ xs) = ap (λ (b : Bool). is_bad_text (string_bytes x) || b) (filters_bad xs)
+
+pub length-spelling : (p : Message) → length (spelling p) ≡ 1 + length (shortest (length (body p))) + length (body p)
+unfolding spelling
+length-spelling p = omega (arith, length-append (shortest (length (body p))) (body p))
+
+pub is_too_large : (p : Message) → first_of (content_refusals p) ≡ None → largest < 1 + length (shortest (length (body p))) + length (body p) → first_of (unwritable p) ≡ Some TooLarge
+is_too_large p none over =
+    let long : nat_lt largest (length (spelling p)) ≡ true = lt-ltb _ _ (omega (arith, length-spelling p, over)) in
+    first_of-none (content_refusals p) ((nat_lt largest (length (spelling p)), TooLarge) ∷ []) none ∙ rw long refl
+
+pub is_writable : (p : Message) → first_of (content_refusals p) ≡ None → 1 + length (shortest (length (body p))) + length (body p) ≤ largest → first_of (unwritable p) ≡ None
+is_writable p none within =
+    let short : nat_lt largest (length (spelling p)) ≡ false = le-ltb _ _ (omega (arith, length-spelling p, within)) in
+    first_of-none (content_refusals p) ((nat_lt largest (length (spelling p)), TooLarge) ∷ []) none ∙ rw short refl
+
+pub named_early : (p : Message) (e : PacketFault) → first_of (content_refusals p) ≡ Some e → IsNamed e (first_of (unwritable p))
+named_early p e some = is_named_some e (first_of (unwritable p)) (first_of-some (content_refusals p) ((nat_lt largest (length (spelling p)), TooLarge) ∷ []) e some)
+
+-- From what the header and the body make to what a packet spells.
+pub join_spelled : (p : Message) (v : List ℕ) (whole_body : List ℕ) → whole_body ≡ body p → v ≡ first_byte p % 256 ∷ (shortest (length whole_body) ++ whole_body) → v ≡ spelling p
+unfolding spelling
+join_spelled p v whole_body is e = e ∙ ap (λ (b : List ℕ). first_byte p % 256 ∷ (shortest (length b) ++ b)) is
+
+pub join_refused : (p : Message) (e : PacketFault) (whole_body : List ℕ) → whole_body ≡ body p → first_of (content_refusals p) ≡ None
+    → (e ≡ NoMemory) ⊎ ((e ≡ TooLarge) × (largest < 1 + length (shortest (length whole_body)) + length whole_body)) → IsNamed e (first_of (unwritable p))
+join_refused p e whole_body is none (inl h) = subst (λ (f : PacketFault). IsNamed f (first_of (unwritable p))) (sym h) tt
+join_refused p e whole_body is none (inr h) =
+    let over : largest < 1 + length (shortest (length (body p))) + length (body p) = subst (λ (b : List ℕ). largest < 1 + length (shortest (length b)) + length b) is h.1 in
+    subst (λ (f : PacketFault). IsNamed f (first_of (unwritable p))) (sym h.0) (is_too_large p none over)
+
+pub join_writable : (p : Message) (whole_body : List ℕ) → whole_body ≡ body p → first_of (content_refusals p) ≡ None
+    → 1 + length (shortest (length whole_body)) + length whole_body ≤ largest → first_of (unwritable p) ≡ None
+join_writable p whole_body is none within = is_writable p none (subst (λ (b : List ℕ). 1 + length (shortest (length b)) + length b ≤ largest) is within)
+
+-- the same for what a call answered
+pub if_join_spelled : (p : Message) (r : Result (Vec ℕ Global) PacketFault) (whole_body : List ℕ) → whole_body ≡ body p
+    → IfOk r (λ v. v.items ≡ first_byte p % 256 ∷ (shortest (length whole_body) ++ whole_body)) → IfOk r (λ v. v.items ≡ spelling p)
+if_join_spelled p (Ok v) whole_body is h = join_spelled p v.items whole_body is h
+if_join_spelled p (Err e) whole_body is h = tt
+
+pub if_join_refused : (p : Message) (r : Result (Vec ℕ Global) PacketFault) (whole_body : List ℕ) → whole_body ≡ body p → first_of (content_refusals p) ≡ None
+    → IfErr r (λ e. (e ≡ NoMemory) ⊎ ((e ≡ TooLarge) × (largest < 1 + length (shortest (length whole_body)) + length whole_body))) → IfErr r (λ e. IsNamed e (first_of (unwritable p)))
+if_join_refused p (Ok v) whole_body is none h = tt
+if_join_refused p (Err e) whole_body is none h = join_refused p e whole_body is none h
+
+pub if_join_writable : (p : Message) (r : Result (Vec ℕ Global) PacketFault) (whole_body : List ℕ) → whole_body ≡ body p → first_of (content_refusals p) ≡ None
+    → OnOk r (1 + length (shortest (length whole_body)) + length whole_body ≤ largest) → OnOk r (first_of (unwritable p) ≡ None)
+if_join_writable p (Ok v) whole_body is none h = join_writable p whole_body is none h
+if_join_writable p (Err e) whole_body is none h = tt

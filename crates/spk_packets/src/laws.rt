@@ -1,0 +1,28 @@
+//! What holds of the grammar alone, for all bytes and packets.
+
+ghost use Rattle.std.specs.Prelude.{◌≡◌, ◌≢◌, Some, ℕ, List, [], ◌++◌};
+ghost use Rattle.spk_packets.specs.Fault.{first_of};
+ghost use Rattle.spk_packets.specs.Refusals.{refusals};
+ghost use Rattle.spk_packets.specs.Message.{Message};
+ghost use Rattle.spk_packets.specs.Grammar.{Spells};
+ghost use Rattle.spk_packets.specs.Stream.{Event, IsRun, HasNoPacket, fed, given};
+ghost use Rattle.spk_packets.specs.declared.fault.PacketFault.{PacketFault};
+
+/// No spelling of a packet begins a spelling of a packet, the same or another, and one spelling spells one packet. So
+/// what was written is read again, whatever follows it.
+pub fn prefix_free()
+    ensures { (a b x y : List ℕ) (p q : Message) → Spells a p → Spells b q → a ++ x ≡ b ++ y → (a ≡ b) × (p ≡ q) }
+{}
+
+/// Two feeds that took in the same bytes and hold no whole packet any more have given the same packets, and the same
+/// bytes wait: it doesn't matter how the bytes were cut, nor when packets were asked for.
+pub fn any_pieces()
+    ensures { (events others : List Event) (x y : List ℕ) → IsRun [] events x → IsRun [] others y
+        → fed events ≡ fed others → HasNoPacket x → HasNoPacket y → (given events ≡ given others) × (x ≡ y) }
+{}
+
+/// A fault other than More stays, whatever follows: bytes that are refused are refused at once, and for good.
+pub fn fault_stays()
+    ensures { (bytes more : List ℕ) (fault : PacketFault) → first_of (refusals bytes) ≡ Some fault
+        → fault ≢ PacketFault.More → first_of (refusals (bytes ++ more)) ≡ Some fault }
+{}

@@ -1,0 +1,26 @@
+//! MQTT 3.1.1 control packets (OASIS, 2014, chapters 2 and 3), at QoS 0 and 1: read, written, and taken from a
+//! stream in any pieces.
+#![tactic(auto)]
+
+mod connect;
+mod fault;
+mod feed;
+mod judge;
+pub mod laws;
+mod packet;
+mod parts;
+mod publish;
+mod read;
+mod small;
+mod subscribe;
+mod table;
+mod write;
+
+pub use fault::PacketFault;
+pub use feed::Feed;
+pub use packet::{Packet, Request, Will};
+pub use read::{decode, read_length};
+pub use write::encode;
+
+#[cfg(test)]
+mod tests;
