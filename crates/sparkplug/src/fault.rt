@@ -1,5 +1,6 @@
 //! Why a command ends without having done its work.
 
+use spk_packets::PacketFault;
 use spk_payload::PayloadFault;
 use std::alloc::{AllocError, AllocFailed};
 use std::io;
@@ -13,6 +14,8 @@ pub(crate) enum Fault {
     NoMemory,
     #[error(transparent)]
     Payload(PayloadFault),
+    #[error(transparent)]
+    Packet(PacketFault),
     /// A file is longer than 1,048,576 bytes, or isn't UTF-8.
     #[error("BadPlan")]
     BadPlan,
@@ -29,6 +32,7 @@ impl Fault {
         match self {
             Fault::NoMemory => 1,
             Fault::Payload(fault) => fault.number(),
+            Fault::Packet(fault) => fault.number(),
             Fault::BadPlan => 92,
             Fault::BadHex => 97,
             Fault::BadFile => 98,
@@ -46,6 +50,12 @@ pub(crate) enum Stop {
     Writer,
 }
 
+impl Stop {
+    pub(crate) fn no_memory() -> Stop {
+        Stop::Fault(Fault::NoMemory)
+    }
+}
+
 impl From<Fault> for Stop {
     fn from(fault: Fault) -> Stop {
         Stop::Fault(fault)
@@ -58,15 +68,21 @@ impl From<PayloadFault> for Stop {
     }
 }
 
+impl From<PacketFault> for Stop {
+    fn from(fault: PacketFault) -> Stop {
+        Stop::Fault(Fault::Packet(fault))
+    }
+}
+
 impl From<AllocError> for Stop {
     fn from(_refused: AllocError) -> Stop {
-        Stop::Fault(Fault::NoMemory)
+        Stop::no_memory()
     }
 }
 
 impl<T: Drop> From<AllocFailed<T>> for Stop {
     fn from(_refused: AllocFailed<T>) -> Stop {
-        Stop::Fault(Fault::NoMemory)
+        Stop::no_memory()
     }
 }
 

@@ -1,8 +1,9 @@
-//! The program `sparkplug`: Sparkplug B payloads on the command line.
+//! The program `sparkplug`: Sparkplug B payloads and MQTT packets on the command line.
 #![tactic(auto)]
 
 mod fault;
 mod files;
+mod packets;
 mod run;
 mod show;
 mod texts;

@@ -17,7 +17,10 @@ fn connect_line<W: Write>(
     will: Option<Will>,
 ) -> Result<(), Stop> {
     let client = json_text(alloc, client)?;
-    write!(out, "CONNECT client {client} clean {clean} keep {keep} will ")?;
+    write!(
+        out,
+        "CONNECT client {client} clean {clean} keep {keep} will "
+    )?;
     match will {
         Some(will) => {
             let Will {
@@ -139,7 +142,10 @@ fn packet_line<W: Write>(alloc: Global, out: &mut W, packet: Packet) -> Result<(
             keep,
             will,
         } => connect_line(alloc, out, client, clean, keep, will)?,
-        Packet::ConnAck { present, code } => writeln!(out, "CONNACK present {present} code {code}")?,
+        Packet::ConnAck { present, code } => writeln!(
+            out,
+            "CONNACK present {present} code {code}"
+        )?,
         Packet::Publish {
             dup,
             qos,
@@ -152,7 +158,10 @@ fn packet_line<W: Write>(alloc: Global, out: &mut W, packet: Packet) -> Result<(
             let topic = json_text(alloc, topic)?;
             let id = OrDash(id);
             let payload = hex_text(alloc, &payload)?;
-            write!(out, "PUBLISH topic {topic} qos {qos} retain {retain} dup {dup} ")?;
+            write!(
+                out,
+                "PUBLISH topic {topic} qos {qos} retain {retain} dup {dup} "
+            )?;
             write!(out, "id {id} {payload}")?;
             if let Some(spark) = spark {
                 spark_text(alloc, out, spark)?;
@@ -175,7 +184,11 @@ fn packet_line<W: Write>(alloc: Global, out: &mut W, packet: Packet) -> Result<(
 pub(crate) fn packets<W: Write>(alloc: Global, out: &mut W, digits: &str) -> Result<(), Stop> {
     let bytes = bytes_of(alloc, digits)?;
     let mut rest = bytes.as_slice();
-    while !rest.is_empty() {
+    // a packet takes a byte at least
+    for _ in 0..bytes.len() {
+        if rest.is_empty() {
+            break;
+        }
         let (packet, count) = decode(alloc, rest)?;
         packet_line(alloc, out, packet)?;
         rest = &rest[count..];

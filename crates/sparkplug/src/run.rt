@@ -1,7 +1,8 @@
 //! A run of the program: words in, lines and a status out.
 
-use crate::fault::{Fault, Stop};
+use crate::fault::Stop;
 use crate::files::{Files, text_of};
+use crate::packets::packets;
 use crate::show::show;
 use crate::words::command_line;
 use clap::ArgMatches;
@@ -9,23 +10,24 @@ use clap::error::ErrorKind;
 use std::alloc::Global;
 use std::io::{self, BufWriter, Write};
 
-fn show_command<F: Files, W: Write>(
+/// The hexadecimal digits that a command is given: its word, or a file's text without the white space at its end.
+fn digits_of<F: Files>(
     alloc: Global,
     matches: &ArgMatches<'_>,
     files: &mut F,
-    out: &mut W,
-) -> Result<(), Stop> {
+) -> Result<String, Stop> {
     if let Some(name) = matches.get_str("file") {
         let text = text_of(alloc, files, name)?;
-        return show(alloc, out, text.as_str().trim_end());
+        return Ok(String::from_str(alloc, text.as_str().trim_end())?);
     }
-    show(alloc, out, matches.get_str("hex").unwrap_or(""))
+    let digits = matches.get_str("hex").unwrap_or("");
+    Ok(String::from_str(alloc, digits)?)
 }
 
 /// What clap says of the words: its text and status, or want of memory.
 fn refusal(alloc: Global, error: &clap::Error) -> Result<Stop, Stop> {
     if matches!(error.kind(), ErrorKind::OutOfMemory) {
-        return Ok(Stop::Fault(Fault::NoMemory));
+        return Ok(Stop::no_memory());
     }
     let text = format!(in alloc; "{error}")?;
     let status = if error.use_stderr() { 2 } else { 0 };
@@ -42,10 +44,15 @@ fn command<F: Files, W: Write>(
         Ok(matches) => matches,
         Err(error) => return Err(refusal(alloc, &error)?),
     };
-    match matches.subcommand_matches("show") {
-        Some(given) => show_command(alloc, given, files, out),
-        None => Ok(()),
+    if let Some(given) = matches.subcommand_matches("show") {
+        let digits = digits_of(alloc, given, files)?;
+        return show(alloc, out, digits.as_str());
     }
+    if let Some(given) = matches.subcommand_matches("packets") {
+        let digits = digits_of(alloc, given, files)?;
+        return packets(alloc, out, digits.as_str());
+    }
+    Ok(())
 }
 
 /// The last lines of a command, and its status.

@@ -11,7 +11,7 @@ use std::io::Write;
 pub(crate) fn bytes_of(alloc: Global, digits: &str) -> Result<Vec<u8>, Stop> {
     match hex::decode(alloc, digits) {
         Ok(bytes) => Ok(bytes),
-        Err(FromHexError::OutOfMemory) => Err(Stop::Fault(Fault::NoMemory)),
+        Err(FromHexError::OutOfMemory) => Err(Stop::no_memory()),
         Err(_) => Err(Stop::Fault(Fault::BadHex)),
     }
 }

@@ -3,7 +3,7 @@
 use clap::{Arg, ArgAction, Command};
 use std::alloc::{AllocError, Global};
 
-const ABOUT: &str = "Sparkplug B: what payloads say, over decoders that are proved";
+const ABOUT: &str = "Sparkplug B: what payloads and packets say, over decoders that are proved";
 
 const STATUSES: &str = "\
 Status: 0 is done; 1 is a fault, printed as `fault NAME (number)`, or output that could not be written;
@@ -24,10 +24,24 @@ is in the birth certificate), so each of their values is `mistyped` here.
 Status: 0 is done; 1 is a fault, printed as `fault NAME (number)`, or output that could not be written;
 2 is a command line that isn't one. docs/FAULTS.md tells each fault by its number.";
 
-fn show<'a>(alloc: Global) -> Result<Command<'a>, AllocError> {
+const PACKETS: &str = "\
+Example:
+  sparkplug packets c000e000
+prints
+  PINGREQ
+  DISCONNECT
+
+A packet identifier that isn't there is `-`. A message is `hex:` and digits. After a PUBLISH on a topic of
+Sparkplug stand `sparkplug`, its kind and its names. What stands before a fault is printed first.
+
+Status: 0 is done; 1 is a fault, printed as `fault NAME (number)`, or output that could not be written;
+2 is a command line that isn't one. docs/FAULTS.md tells each fault by its number.";
+
+/// A command that takes hexadecimal digits, as a word or in a file.
+fn on_digits<'a>(alloc: Global, name: &'a str, digits: &'a str) -> Result<Command<'a>, AllocError> {
     let hex = Arg::new(alloc, "hex")
         .value_name("HEX")
-        .help("The payload's bytes in hexadecimal, of either case")
+        .help(digits)
         .required_unless_present("file")?
         .action(ArgAction::Set);
     let file = Arg::new(alloc, "file")
@@ -38,10 +52,27 @@ fn show<'a>(alloc: Global) -> Result<Command<'a>, AllocError> {
         )
         .conflicts_with("hex")?
         .action(ArgAction::Set);
-    let command = Command::new(alloc, "show")
-        .about("Prints a payload and its metrics")
-        .after_help(SHOW);
-    command.arg(hex)?.arg(file)
+    Command::new(alloc, name).arg(hex)?.arg(file)
+}
+
+fn show<'a>(alloc: Global) -> Result<Command<'a>, AllocError> {
+    let digits = "The payload's bytes in hexadecimal, of either case";
+    let command = on_digits(alloc, "show", digits)?;
+    Ok(
+        command
+            .about("Prints a payload and its metrics")
+            .after_help(SHOW),
+    )
+}
+
+fn packets<'a>(alloc: Global) -> Result<Command<'a>, AllocError> {
+    let digits = "The packets' bytes in hexadecimal, of either case";
+    let command = on_digits(alloc, "packets", digits)?;
+    Ok(
+        command
+            .about("Prints MQTT packets, a line for each")
+            .after_help(PACKETS),
+    )
 }
 
 /// The commands that there are.
@@ -52,5 +83,7 @@ pub(crate) fn command_line<'a>(alloc: Global) -> Result<Command<'a>, AllocError>
         .after_help(STATUSES)
         .subcommand_required(true)
         .arg_required_else_help(true);
-    command.subcommand(show(alloc)?)
+    command
+        .subcommand(show(alloc)?)?
+        .subcommand(packets(alloc)?)
 }
