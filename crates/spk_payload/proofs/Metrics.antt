@@ -1,21 +1,18 @@
 -- A metric is read exactly where its text means one, and else its first fault is found.
-use Rattle.std.proofs.Common.{◌≡◌, ◌↔◌, ℕ, ◌%◌, ◌^◌, ◌⊎◌, Bool, true, false, not, eqb, cond, List, [], ◌∷◌, ◌++◌, map, All, Option, Some, None, Result, Ok, Err, refl, sym, ap, subst, ◌∙◌, inl, inr}
-use Rattle.std.specs.Prelude.{IfSome}
+use Rattle.std.proofs.Common.{◌≡◌, ℕ, ◌%◌, ◌^◌, ◌⊎◌, Bool, true, false, not, eqb, cond, List, [], ◌∷◌, map, All, Option, Some, None, Result, Ok, Err, refl, sym, ap, subst, ◌∙◌, inl, inr}
 use Rattle.std.specs.Option.{option_map, option_or}
 use Rattle.std.specs.Str.{IsUtf8, is_utf8}
 use Rattle.std.proofs.lemmas.Bool.Decides.{eqb_tells}
 use Rattle.std.proofs.lemmas.Str.{is_utf8-from_IsUtf8, IsUtf8-from_is_utf8}
 use Rattle.std.proofs.lemmas.List.Elements.{All-nil, All-cons, All-head, All-tail}
 use Rattle.spk_protobuf.specs.declared.fault.WireFault.{WireFault}
-use Rattle.spk_protobuf.specs.Grammar.{Shape, Varint, Eight, Bytes, Four, Entry, FieldList}
-use Rattle.spk_protobuf.specs.Faults.{AreItems}
+use Rattle.spk_protobuf.specs.Grammar.{Shape, Varint, Eight, Bytes, Four, Entry}
 use Rattle.spk_protobuf.specs.Reading.{items_of}
-use Rattle.spk_protobuf.proofs.Items.{items_are, items_only, same_fields}
+use Rattle.spk_protobuf.proofs.Items.{same_fields}
 use Rattle.spk_payload.specs.declared.fault.PayloadFault.{PayloadFault}
-use Rattle.spk_payload.specs.declared.fault.PayloadFault.TheVariants.{NoMemory, Wire, NotText}
+use Rattle.spk_payload.specs.declared.fault.PayloadFault.TheVariants.{Wire, NotText}
 use Rattle.spk_payload.specs.Meaning.{Content, MetricData, number_in, bytes_in, content_in, last, metric_of, HasText, MeansMetric}
-use Rattle.spk_payload.specs.Faults.{IsSoundField, IsFieldFault, IsMetricFault}
-use Rattle.spk_payload.specs.Reading.{◌>>=◌, each_item, text_at, no_metric, metric_entry, metric_at}
+use Rattle.spk_payload.specs.Reading.{◌>>=◌, each_item, no_metric, metric_entry, metric_at}
 use Rattle.spk_payload.proofs.Texts.{text_at-text, text_at-other}
 
 pub at_or_not : (P : ℕ → Type 0) (k n : ℕ) → P k → (eqb n k ≡ false → P n) → P n
@@ -134,10 +131,10 @@ with_all m es = record {
   value = option_or (last content_in es) m.value;
 }
 
-abbrev metric_with : Option (List ℕ) → Option ℕ → Option ℕ → Option ℕ → Option Bool → Option Bool → Option Bool → Option Content → MetricData
+abbrev pub metric_with : Option (List ℕ) → Option ℕ → Option ℕ → Option ℕ → Option Bool → Option Bool → Option Bool → Option Content → MetricData
 metric_with name alias timestamp datatype historical transient null value = record { name = name; alias = alias; timestamp = timestamp; datatype = datatype; historical = historical; transient = transient; null = null; value = value }
 
-same_metric : {n n' : Option (List ℕ)} {a a' : Option ℕ} {t t' : Option ℕ} {d d' : Option ℕ} {h h' : Option Bool} {r r' : Option Bool} {u u' : Option Bool} {v v' : Option Content}
+pub same_metric : {n n' : Option (List ℕ)} {a a' : Option ℕ} {t t' : Option ℕ} {d d' : Option ℕ} {h h' : Option Bool} {r r' : Option Bool} {u u' : Option Bool} {v v' : Option Content}
     → n ≡ n' → a ≡ a' → t ≡ t' → d ≡ d' → h ≡ h' → r ≡ r' → u ≡ u' → v ≡ v' → metric_with n a t d h r u v ≡ metric_with n' a' t' d' h' r' u' v'
 same_metric n a t d h r u v = cc
 

@@ -1,24 +1,24 @@
 -- A payload is read exactly where its bytes mean one, and else its first fault is found.
-use Rattle.std.proofs.Common.{◌≡◌, ◌↔◌, ℕ, ◌⊎◌, Bool, true, false, eqb, cond, List, [], ◌∷◌, ◌++◌, map, All, Option, Some, None, Result, Ok, Err, refl, sym, ap, subst, ◌∙◌, append_assoc, inl, inr}
+use Rattle.std.proofs.Common.{◌≡◌, ℕ, ◌⊎◌, false, eqb, List, [], ◌∷◌, ◌++◌, map, Option, Some, None, Result, Ok, Err, refl, sym, ap, subst, ◌∙◌, append_assoc, inl, inr}
 use Rattle.std.specs.Prelude.{IfSome, MatchOption, IfOk, IfErr}
 use Rattle.std.specs.Option.{option_or}
 use Rattle.std.specs.List.{filter_map, cons_option}
 use Rattle.std.proofs.lemmas.List.{append-nil}
 use Rattle.std.proofs.lemmas.List.Elements.{All-weaker}
 use Rattle.spk_protobuf.specs.declared.fault.WireFault.{WireFault}
-use Rattle.spk_protobuf.specs.Grammar.{Shape, Varint, Eight, Bytes, Four, Entry, FieldList}
+use Rattle.spk_protobuf.specs.Grammar.{Shape, Varint, Eight, Bytes, Four, Entry}
 use Rattle.spk_protobuf.specs.Faults.{AreItems}
 use Rattle.spk_protobuf.specs.Reading.{items_of}
 use Rattle.spk_protobuf.proofs.Items.{items_are, items_only, same_fields}
 use Rattle.spk_payload.specs.declared.fault.PayloadFault.{PayloadFault}
-use Rattle.spk_payload.specs.declared.fault.PayloadFault.TheVariants.{NoMemory, Wire, NotText}
+use Rattle.spk_payload.specs.declared.fault.PayloadFault.TheVariants.{NoMemory, Wire, NotText, HasOther, Mistyped}
 use Rattle.spk_payload.specs.declared.payload.Payload.{Payload}
 use Rattle.spk_payload.specs.Meaning.{MetricData, PayloadData, number_in, bytes_in, last, HasText, MeansMetric, MeanEach, MeansPayload}
 use Rattle.spk_payload.specs.Faults.{IsSoundField, IsFieldFault, IsMetricFault, IsSoundEntry, IsEntryFault, IsPayloadFault}
 use Rattle.spk_payload.specs.Reading.{◌>>=◌, each_item, no_metric, metric_entry, metric_at, no_payload, payload_entry, payload_at}
-use Rattle.spk_payload.specs.View.{payload_view, Fails, Gives}
+use Rattle.spk_payload.specs.View.{payload_view, Gives}
 use Rattle.spk_payload.proofs.Metrics.{at_or_not, Items, fields, done, failed, ok_is, err_no_ok, or_assoc, or_none, entry_ok, entry_or_not, with_more, metric_takes, metric_again}
-use Rattle.spk_payload.proofs.FirstFault.{Judges, FirstFault, IsSoundBy, IsFaultBy, first_fault, stops_there}
+use Rattle.spk_payload.proofs.FirstFault.{Judges, IsSoundBy, IsFaultBy, first_fault, stops_there}
 
 -- ---- faults of a metric
 
@@ -282,3 +282,5 @@ fault_is text (Ok p) h = tt
 fault_is text (Err NoMemory) h = inl refl
 fault_is text (Err (Wire w)) h = inr (payload_fault text (Wire w) h)
 fault_is text (Err NotText) h = inr (payload_fault text NotText h)
+fault_is text (Err HasOther) h = inr (payload_fault text HasOther h)
+fault_is text (Err Mistyped) h = inr (payload_fault text Mistyped h)

@@ -1,7 +1,6 @@
 -- A text is read where the bytes are UTF-8, and else it is NotText.
 use Rattle.std.proofs.Common.{◌≡◌, ℕ, Bool, true, false, List, Result, Ok, Err, refl}
 use Rattle.std.specs.Str.{IsUtf8, is_utf8}
-use Rattle.std.proofs.lemmas.Bool.{false≢true}
 use Rattle.std.proofs.lemmas.Str.{is_utf8-from_IsUtf8, IsUtf8-from_is_utf8}
 use Rattle.spk_payload.specs.declared.fault.PayloadFault.{PayloadFault}
 use Rattle.spk_payload.specs.declared.fault.PayloadFault.TheVariants.{NotText}

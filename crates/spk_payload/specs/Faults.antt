@@ -1,10 +1,10 @@
 -- Why bytes mean no payload: the first item of the text that is a fault, or an entry that holds one.
-use Rattle.std.specs.Prelude.{◌≡◌, ℕ, List, [], ◌∷◌, ◌++◌, All, Option, Result, Ok, Err, IfSome, MatchOption}
+use Rattle.std.specs.Prelude.{◌≡◌, ℕ, List, ◌∷◌, ◌++◌, All, Result, Ok, Err, IfSome, MatchOption}
 use Rattle.spk_protobuf.specs.declared.fault.WireFault.{WireFault}
 use Rattle.spk_protobuf.specs.Grammar.{Entry}
 use Rattle.spk_protobuf.specs.Faults.{AreItems}
 use Rattle.spk_payload.specs.declared.fault.PayloadFault.{PayloadFault}
-use Rattle.spk_payload.specs.declared.fault.PayloadFault.TheVariants.{NoMemory, Wire, NotText}
+use Rattle.spk_payload.specs.declared.fault.PayloadFault.TheVariants.{Wire, NotText}
 use Rattle.spk_payload.specs.Meaning.{MetricData, bytes_in, HasText, MeansMetric}
 
 -- An item of a metric's text that is no fault, and one that is.

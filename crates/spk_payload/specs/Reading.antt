@@ -1,13 +1,13 @@
 -- Reading item by item, as the code does. Private clauses and proofs alone rest on it: public clauses say what
 -- it gives by Meaning and Faults.
-use Rattle.std.specs.Prelude.{ℕ, ◌%◌, ◌^◌, not, List, [], ◌∷◌, ◌++◌, Option, Some, None, Result, Ok, Err, ◌==◌, if◌then◌else◌}
+use Rattle.std.specs.Prelude.{ℕ, ◌%◌, ◌^◌, not, List, [], ◌∷◌, ◌++◌, Some, None, Result, Ok, Err, ◌==◌, if◌then◌else◌}
 use Rattle.std.specs.Str.{is_utf8}
 use Rattle.spk_protobuf.specs.declared.fault.WireFault.{WireFault}
 use Rattle.spk_protobuf.specs.Grammar.{Shape, Varint, Eight, Bytes, Four, Entry}
 use Rattle.spk_protobuf.specs.Reading.{items_of}
 use Rattle.spk_payload.specs.declared.fault.PayloadFault.{PayloadFault}
 use Rattle.spk_payload.specs.declared.fault.PayloadFault.TheVariants.{Wire, NotText}
-use Rattle.spk_payload.specs.Meaning.{Content, Int, Long, Flag, Words, Octets, Other, MetricData, PayloadData}
+use Rattle.spk_payload.specs.Meaning.{Int, Long, Flag, Words, Octets, Other, MetricData, PayloadData}
 
 infixl 10 ◌>>=◌
 abbrev pub ◌>>=◌ : {A B : Type 0} → Result A PayloadFault → (A → Result B PayloadFault) → Result B PayloadFault

@@ -1,4 +1,4 @@
-use Rattle.std.proofs.Common.{◌≡◌, Result, Ok, Err, subst, sym}
+use Rattle.std.proofs.Common.{Result, subst}
 use Rattle.spk_payload.specs.View.{payload_view, Gives}
 use Rattle.spk_payload.specs.Meaning.{PayloadData}
 use Rattle.spk_payload.specs.declared.fault.PayloadFault.{PayloadFault}
