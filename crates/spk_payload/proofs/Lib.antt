@@ -3,3 +3,6 @@ mod Turns
 mod Metrics
 mod FirstFault
 mod Payloads
+mod Canonical
+mod Appended
+mod Typings

@@ -131,10 +131,10 @@ with_all m es = record {
   value = option_or (last content_in es) m.value;
 }
 
-abbrev metric_with : Option (List ℕ) → Option ℕ → Option ℕ → Option ℕ → Option Bool → Option Bool → Option Bool → Option Content → MetricData
+abbrev pub metric_with : Option (List ℕ) → Option ℕ → Option ℕ → Option ℕ → Option Bool → Option Bool → Option Bool → Option Content → MetricData
 metric_with name alias timestamp datatype historical transient null value = record { name = name; alias = alias; timestamp = timestamp; datatype = datatype; historical = historical; transient = transient; null = null; value = value }
 
-same_metric : {n n' : Option (List ℕ)} {a a' : Option ℕ} {t t' : Option ℕ} {d d' : Option ℕ} {h h' : Option Bool} {r r' : Option Bool} {u u' : Option Bool} {v v' : Option Content}
+pub same_metric : {n n' : Option (List ℕ)} {a a' : Option ℕ} {t t' : Option ℕ} {d d' : Option ℕ} {h h' : Option Bool} {r r' : Option Bool} {u u' : Option Bool} {v v' : Option Content}
     → n ≡ n' → a ≡ a' → t ≡ t' → d ≡ d' → h ≡ h' → r ≡ r' → u ≡ u' → v ≡ v' → metric_with n a t d h r u v ≡ metric_with n' a' t' d' h' r' u' v'
 same_metric n a t d h r u v = cc
 

@@ -11,7 +11,7 @@ use Rattle.spk_protobuf.specs.Faults.{AreItems}
 use Rattle.spk_protobuf.specs.Reading.{items_of}
 use Rattle.spk_protobuf.proofs.Items.{items_are, items_only, same_fields}
 use Rattle.spk_payload.specs.declared.fault.PayloadFault.{PayloadFault}
-use Rattle.spk_payload.specs.declared.fault.PayloadFault.TheVariants.{NoMemory, Wire, NotText}
+use Rattle.spk_payload.specs.declared.fault.PayloadFault.TheVariants.{NoMemory, Wire, NotText, HasOther, Mistyped}
 use Rattle.spk_payload.specs.declared.payload.Payload.{Payload}
 use Rattle.spk_payload.specs.Meaning.{MetricData, PayloadData, number_in, bytes_in, last, HasText, MeansMetric, MeanEach, MeansPayload}
 use Rattle.spk_payload.specs.Faults.{IsSoundField, IsFieldFault, IsMetricFault, IsSoundEntry, IsEntryFault, IsPayloadFault}
@@ -282,3 +282,5 @@ fault_is text (Ok p) h = tt
 fault_is text (Err NoMemory) h = inl refl
 fault_is text (Err (Wire w)) h = inr (payload_fault text (Wire w) h)
 fault_is text (Err NotText) h = inr (payload_fault text NotText h)
+fault_is text (Err HasOther) h = inr (payload_fault text HasOther h)
+fault_is text (Err Mistyped) h = inr (payload_fault text Mistyped h)

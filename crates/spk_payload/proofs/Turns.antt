@@ -5,7 +5,7 @@ use Rattle.spk_protobuf.specs.declared.field.Field.{Field}
 use Rattle.spk_protobuf.specs.Grammar.{Entry}
 use Rattle.spk_protobuf.specs.View.{item_of, entry_of}
 use Rattle.spk_payload.specs.declared.fault.PayloadFault.{PayloadFault}
-use Rattle.spk_payload.specs.declared.fault.PayloadFault.TheVariants.{NoMemory, Wire, NotText}
+use Rattle.spk_payload.specs.declared.fault.PayloadFault.TheVariants.{NoMemory, Wire, NotText, HasOther, Mistyped}
 use Rattle.spk_payload.specs.Reading.{◌>>=◌, each_item}
 use Rattle.spk_payload.specs.View.{Fails}
 
@@ -32,11 +32,15 @@ module _ {S : Type 0} (step : S → Entry → Result S PayloadFault) where
   fails_on NoMemory r others h = tt
   fails_on (Wire w) r others h = rw h refl
   fails_on NotText r others h = rw h refl
+  fails_on HasOther r others h = rw h refl
+  fails_on Mistyped r others h = rw h refl
 
   same_fails : (f : PayloadFault) (a b : Result S PayloadFault) → a ≡ b → Fails f a → Fails f b
   same_fails NoMemory a b e h = tt
   same_fails (Wire w) a b e h = sym e ∙ h
   same_fails NotText a b e h = sym e ∙ h
+  same_fails HasOther a b e h = sym e ∙ h
+  same_fails Mistyped a b e h = sym e ∙ h
 
   -- a field that the step refused
   pub turns_fail : (f : PayloadFault) (s : S) (items others : Items) (item : Result Field WireFault) (x : Field) (total : Result S PayloadFault) → items ≡ item_of item ∷ others → item ≡ Ok x → Fails f (step s (entry_of x)) → each_item step s items ≡ total → Fails f total

@@ -4,3 +4,4 @@ pub mod Faults
 pub mod Reading
 pub mod View
 pub mod Typing
+pub mod Spelling

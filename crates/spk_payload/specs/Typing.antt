@@ -1,6 +1,6 @@
 -- What a value is by its datatype (Sparkplug 3.0.0, 6.4.16 "Datatype Details"). Which field a datatype is read
 -- from, and the readings of a narrow signed number from one byte or two, are the project's own.
-use Rattle.std.specs.Prelude.{ℕ, ℤ, pos, ◌-ℤ◌, ◌-◌, ◌*◌, ◌^◌, Bool, List, Option, Some, None, nat_lt, option_and_then, ◌==◌, if◌then◌else◌}
+use Rattle.std.specs.Prelude.{ℕ, suc, ℤ, pos, negsuc, ◌-ℤ◌, ◌-◌, ◌*◌, ◌^◌, ◌<◌, Bool, List, Option, Some, None, nat_lt, option_and_then, ◌==◌, if◌then◌else◌}
 use Rattle.std.specs.Option.{option_map}
 use Rattle.spk_payload.specs.declared.typing.Value.{Value}
 use Rattle.spk_payload.specs.declared.typing.Value.TheVariants as value
@@ -108,3 +108,97 @@ typed_of datatype c =
     if datatype == 15 then text_in c else (
     if datatype == 17 then bytes_in c else (
     if datatype == 18 then bytes_in c else None))))))))))))))
+
+-- ---- what is written
+
+-- Two's complement on 32 and on 64 bits.
+abbrev pub bits_32 : ℤ → ℕ
+bits_32 (pos n) = n
+bits_32 (negsuc n) = 2 ^ 32 - suc n
+
+abbrev pub bits_64 : ℤ → ℕ
+bits_64 (pos n) = n
+bits_64 (negsuc n) = 2 ^ 64 - suc n
+
+-- A signed number from -half to half - 1.
+abbrev pub is_signed_below : ℕ → ℤ → Bool
+is_signed_below half (pos n) = nat_lt n half
+is_signed_below half (negsuc n) = nat_lt n half
+
+abbrev pub int_of_signed : ℕ → Typed → Option Content
+int_of_signed half (Signed z) = if is_signed_below half z then Some (Int (bits_32 z)) else None
+int_of_signed half (Unsigned n) = None
+int_of_signed half (Truth b) = None
+int_of_signed half (Text bytes) = None
+int_of_signed half (Bytes bytes) = None
+
+abbrev pub long_of_signed : Typed → Option Content
+long_of_signed (Signed z) = Some (Long (bits_64 z))
+long_of_signed (Unsigned n) = None
+long_of_signed (Truth b) = None
+long_of_signed (Text bytes) = None
+long_of_signed (Bytes bytes) = None
+
+abbrev pub int_of_unsigned : ℕ → Typed → Option Content
+int_of_unsigned limit (Signed z) = None
+int_of_unsigned limit (Unsigned n) = if nat_lt n limit then Some (Int n) else None
+int_of_unsigned limit (Truth b) = None
+int_of_unsigned limit (Text bytes) = None
+int_of_unsigned limit (Bytes bytes) = None
+
+abbrev pub long_of_unsigned : Typed → Option Content
+long_of_unsigned (Signed z) = None
+long_of_unsigned (Unsigned n) = Some (Long n)
+long_of_unsigned (Truth b) = None
+long_of_unsigned (Text bytes) = None
+long_of_unsigned (Bytes bytes) = None
+
+abbrev pub flag_of : Typed → Option Content
+flag_of (Signed z) = None
+flag_of (Unsigned n) = None
+flag_of (Truth b) = Some (Flag b)
+flag_of (Text bytes) = None
+flag_of (Bytes bytes) = None
+
+abbrev pub words_of : Typed → Option Content
+words_of (Signed z) = None
+words_of (Unsigned n) = None
+words_of (Truth b) = None
+words_of (Text bytes) = Some (Words bytes)
+words_of (Bytes bytes) = None
+
+abbrev pub octets_of : Typed → Option Content
+octets_of (Signed z) = None
+octets_of (Unsigned n) = None
+octets_of (Truth b) = None
+octets_of (Text bytes) = None
+octets_of (Bytes bytes) = Some (Octets bytes)
+
+-- How a value of a datatype is written: signed numbers of up to 32 bits as int in 32 bits of two's complement, Int64 as
+-- long, UInt8 to UInt32 as int, UInt64 and DateTime as long, Boolean, texts and bytes as they are. Nothing else is.
+abbrev pub written_of : ℕ → Typed → Option Content
+written_of datatype v =
+    if datatype == 1 then int_of_signed (2 ^ 7) v else (
+    if datatype == 2 then int_of_signed (2 ^ 15) v else (
+    if datatype == 3 then int_of_signed (2 ^ 31) v else (
+    if datatype == 4 then long_of_signed v else (
+    if datatype == 5 then int_of_unsigned (2 ^ 8) v else (
+    if datatype == 6 then int_of_unsigned (2 ^ 16) v else (
+    if datatype == 7 then int_of_unsigned (2 ^ 32) v else (
+    if datatype == 8 then long_of_unsigned v else (
+    if datatype == 11 then flag_of v else (
+    if datatype == 12 then words_of v else (
+    if datatype == 13 then long_of_unsigned v else (
+    if datatype == 14 then words_of v else (
+    if datatype == 15 then words_of v else (
+    if datatype == 17 then octets_of v else (
+    if datatype == 18 then octets_of v else None))))))))))))))
+
+-- The numbers of a value have 64 bits.
+abbrev pub TypedFits : Typed → Type 0
+TypedFits (Signed (pos n)) = n < 2 ^ 63
+TypedFits (Signed (negsuc n)) = n < 2 ^ 63
+TypedFits (Unsigned n) = n < 2 ^ 64
+TypedFits (Truth b) = Unit {0}
+TypedFits (Text bytes) = Unit {0}
+TypedFits (Bytes bytes) = Unit {0}

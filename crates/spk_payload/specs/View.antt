@@ -1,9 +1,9 @@
 -- What contracts see of the crate's types.
-use Rattle.std.specs.Prelude.{◌≡◌, map, Result, Ok, Err}
+use Rattle.std.specs.Prelude.{◌≡◌, map, Option, Some, None, Result, Ok, Err}
 use Rattle.std.specs.Option.{option_map}
 use Rattle.std.specs.String.{string_bytes}
 use Rattle.spk_payload.specs.declared.fault.PayloadFault.{PayloadFault}
-use Rattle.spk_payload.specs.declared.fault.PayloadFault.TheVariants.{NoMemory, Wire, NotText}
+use Rattle.spk_payload.specs.declared.fault.PayloadFault.TheVariants.{NoMemory, Wire, NotText, HasOther, Mistyped}
 use Rattle.spk_payload.specs.declared.metric.Raw.{Raw}
 use Rattle.spk_payload.specs.declared.metric.Raw.TheVariants as raw
 use Rattle.spk_payload.specs.declared.metric.Metric.{Metric}
@@ -38,6 +38,8 @@ abbrev pub Fails : {Y : Type 0} → PayloadFault → Result Y PayloadFault → T
 Fails NoMemory due = Unit {0}
 Fails (Wire w) due = due ≡ Err (Wire w)
 Fails NotText due = due ≡ Err NotText
+Fails HasOther due = due ≡ Err HasOther
+Fails Mistyped due = due ≡ Err Mistyped
 
 -- What was answered, seen by view, is the answer that is due, unless memory was refused.
 abbrev pub Gives : {X Y : Type 0} → (X → Y) → Result X PayloadFault → Result Y PayloadFault → Type 0
@@ -48,3 +50,12 @@ Gives view (Err f) due = Fails f due
 abbrev pub Turns : {X Y : Type 0} → (X → Y) → Result (Unit {0}) PayloadFault → X → Result Y PayloadFault → Type 0
 Turns view (Ok x) new due = due ≡ Ok (view new)
 Turns view (Err f) new due = Fails f due
+
+-- What was written is what is due, or nothing is due, unless memory was refused.
+abbrev pub Writes : Result Raw PayloadFault → Option Content → Type 0
+Writes (Ok r) due = due ≡ Some (content_of r)
+Writes (Err NoMemory) due = (c : Content) × (due ≡ Some c)
+Writes (Err (Wire w)) due = ⊥
+Writes (Err NotText) due = ⊥
+Writes (Err HasOther) due = ⊥
+Writes (Err Mistyped) due = due ≡ None

@@ -19,6 +19,12 @@ pub enum PayloadFault {
     /// A metric's name or a string value isn't UTF-8.
     #[error("NotText")]
     NotText,
+    /// A value that was read as `Raw::Other` can't be written.
+    #[error("HasOther")]
+    HasOther,
+    /// A value isn't of the datatype that it is to be written as, or the datatype isn't written.
+    #[error("Mistyped")]
+    Mistyped,
 }
 
 impl PayloadFault {
@@ -32,6 +38,8 @@ impl PayloadFault {
             PayloadFault::NoMemory => 1,
             PayloadFault::Wire(fault) => fault.number(),
             PayloadFault::NotText => 7,
+            PayloadFault::HasOther => 8,
+            PayloadFault::Mistyped => 9,
         }
     }
 }

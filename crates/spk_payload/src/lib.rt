@@ -3,15 +3,19 @@
 //! Follows the Sparkplug specification 3.0.0, chapter 6 "Sparkplug Payloads" (its protobuf schema and datatypes).
 #![tactic(auto)]
 
+mod copying;
 mod fault;
+pub mod laws;
 mod metric;
 mod payload;
 mod typing;
+mod writing;
 
 pub use fault::PayloadFault;
 pub use metric::{Metric, Raw};
 pub use payload::{Payload, decode};
-pub use typing::{Value, typed};
+pub use typing::{Value, typed, written};
+pub use writing::encode;
 
 #[cfg(test)]
 mod tests;

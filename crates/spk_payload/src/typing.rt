@@ -1,11 +1,13 @@
 //! What a value is by its datatype.
 
-ghost use Rattle.std.specs.Prelude.{◌≡◌, ◌*◌, ◌^◌, ◌≤◌, Option, Some, None, MatchResult, option_map};
+ghost use Rattle.std.specs.Prelude.{◌≡◌, ◌⊎◌, ◌*◌, ◌^◌, ◌≤◌, Option, Some, None, Err, IfOk, IfErr, MatchResult, option_map};
 ghost use Rattle.spk_payload.specs.Meaning.{Int, Long};
 ghost use Rattle.spk_payload.specs.Typing as spec;
-ghost use Rattle.spk_payload.specs.View.{content_of};
+ghost use Rattle.spk_payload.specs.View.{content_of, Writes};
 
+use crate::fault::PayloadFault;
 use crate::metric::Raw;
+use std::alloc::Global;
 
 /// A value with its type.
 #[derive(Debug, Drop, PartialEq)]
@@ -98,4 +100,93 @@ pub fn typed(datatype: u32, raw: Raw) -> Result<Value, Raw>
         },
         Raw::Other => Err(Raw::Other),
     }
+}
+
+/// A signed number of 8, 16 or 32 bits, in 32 bits of two's complement.
+fn int_of_signed(half: u32, value: &Value) -> Option<Raw>
+    requires { half ≤ 2 ^ 31 }
+    ensures { option_map content_of result ≡ spec.int_of_signed half (spec.typed_view value.now) }
+{
+    let Value::Signed(number) = value else {
+        return None;
+    };
+    let half = i64::from(half);
+    if -half <= *number && *number < half {
+        Some(Raw::Int((*number as i32).cast_unsigned()))
+    } else {
+        None
+    }
+}
+
+fn long_of_signed(value: &Value) -> Option<Raw>
+    ensures { option_map content_of result ≡ spec.long_of_signed (spec.typed_view value.now) }
+{
+    match value {
+        Value::Signed(number) => Some(Raw::Long(number.cast_unsigned())),
+        _ => None,
+    }
+}
+
+fn int_of_unsigned(limit: u64, value: &Value) -> Option<Raw>
+    requires { limit ≤ 2 ^ 32 }
+    ensures { option_map content_of result ≡ spec.int_of_unsigned limit (spec.typed_view value.now) }
+{
+    match value {
+        Value::Unsigned(number) if *number < limit => Some(Raw::Int(*number as u32)),
+        _ => None,
+    }
+}
+
+fn long_of_unsigned(value: &Value) -> Option<Raw>
+    ensures { option_map content_of result ≡ spec.long_of_unsigned (spec.typed_view value.now) }
+{
+    match value {
+        Value::Unsigned(number) => Some(Raw::Long(*number)),
+        _ => None,
+    }
+}
+
+#[tactic(auto)]
+fn written_as(alloc: Global, datatype: u32, value: &Value) -> Result<Raw, PayloadFault>
+    ensures { Writes result (spec.written_of datatype (spec.typed_view value.now)) }
+{
+    match datatype {
+        1 => int_of_signed(1 << 7, value).ok_or(PayloadFault::Mistyped),
+        2 => int_of_signed(1 << 15, value).ok_or(PayloadFault::Mistyped),
+        3 => int_of_signed(1 << 31, value).ok_or(PayloadFault::Mistyped),
+        4 => long_of_signed(value).ok_or(PayloadFault::Mistyped),
+        5 => int_of_unsigned(1 << 8, value).ok_or(PayloadFault::Mistyped),
+        6 => int_of_unsigned(1 << 16, value).ok_or(PayloadFault::Mistyped),
+        7 => int_of_unsigned(1 << 32, value).ok_or(PayloadFault::Mistyped),
+        8 | 13 => long_of_unsigned(value).ok_or(PayloadFault::Mistyped),
+        11 => match value {
+            Value::Flag(flag) => Ok(Raw::Flag(*flag)),
+            _ => Err(PayloadFault::Mistyped),
+        },
+        12 | 14 | 15 => match value {
+            Value::Words(text) => Ok(Raw::Words(String::from_str(alloc, text.as_str())?)),
+            _ => Err(PayloadFault::Mistyped),
+        },
+        17 | 18 => match value {
+            Value::Octets(bytes) => Ok(Raw::Octets(Vec::from_slice(alloc, bytes)?)),
+            _ => Err(PayloadFault::Mistyped),
+        },
+        _ => Err(PayloadFault::Mistyped),
+    }
+}
+
+/// How a value of a datatype is written (own rule; docs/DEFINITIONS.md has the table). What is written, `typed` reads as
+/// the same value: `laws::written_again`.
+///
+/// Mistyped (9) exactly where the datatype isn't written or the value isn't of it. NoMemory comes for texts and bytes
+/// alone.
+pub fn written(alloc: Global, datatype: u32, value: &Value) -> Result<Raw, PayloadFault>
+    ensures ok { IfOk result (λ raw.
+        spec.written_of datatype (spec.typed_view value.now) ≡ Some (content_of raw)) }
+    ensures mistyped { spec.written_of datatype (spec.typed_view value.now) ≡ None
+        → result ≡ Err PayloadFault.Mistyped }
+    ensures fault { IfErr result (λ f. (f ≡ PayloadFault.NoMemory)
+        ⊎ ((f ≡ PayloadFault.Mistyped) × (spec.written_of datatype (spec.typed_view value.now) ≡ None))) }
+{
+    written_as(alloc, datatype, value)
 }

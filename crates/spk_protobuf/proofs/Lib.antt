@@ -2,4 +2,4 @@ mod Groups
 mod Values
 pub mod Items
 mod Loops
-mod Shortest
+pub mod Shortest

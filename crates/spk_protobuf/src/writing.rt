@@ -10,6 +10,7 @@ use std::alloc::AllocError;
 fn shortest(number: u64) -> ([u8; 10], usize)
     ensures len { result.1 ≤ 10 }
     ensures bytes { take result.1 result.0 ≡ varint number }
+    ensures size { result.1 ≡ length (varint number) }
 {
     let mut bytes = [0u8; 10];
     let mut rest = number;
@@ -37,6 +38,14 @@ pub fn put_varint(out: &mut Vec<u8>, number: u64) -> Result<(), AllocError>
 {
     let (bytes, len) = shortest(number);
     out.extend_from_slice(&bytes[..len])
+}
+
+/// How many bytes the shortest varint of the number has, 1 to 10. Takes no memory.
+pub fn varint_size(number: u64) -> usize
+    ensures size { result ≡ length (varint number) }
+    ensures bound { result ≤ 10 }
+{
+    shortest(number).1
 }
 
 /// The tag of a length-delimited field, the length, and the bytes. After an `Err` some of it may stand in `out`.

@@ -1,4 +1,4 @@
-use Rattle.std.proofs.Common.{◌≡◌, ℕ, ◌+◌, ◌-◌, ◌%◌, ◌<◌, ◌++◌, length, take, refl, ◌∙◌, subst, rules, arith, length-set}
+use Rattle.std.proofs.Common.{◌≡◌, ℕ, ◌+◌, ◌-◌, ◌%◌, ◌<◌, ◌≤◌, ◌++◌, List, length, take, slice_set, refl, sym, ap, ◌∙◌, subst, rules, arith, length-set, length-take}
 use Rattle.spk_protobuf.specs.Spelling.{groups_of, varint}
 use Rattle.std.proofs.lemmas.List.{take_more_set}
 use Rattle.spk_protobuf.proofs.Shortest.{shrinks, one_more, last_one, tenth, tenth-below, varint-groups}
@@ -34,3 +34,19 @@ returns-clause-bytes c =
     let at : l.i ≡ 9 = omega (arith, c.loop-i-test.false, l.auto.i-end) in
     let room : 9 < length l.bytes = omega (arith, l.invariant.len) in
     take_more_set l.bytes 9 l.rest room ∙ tenth l.i l.rest c.args.number (take 9 l.bytes) c.loop-i-test.false (subst (λ (j : ℕ). take j l.bytes ++ groups_of (9 - l.i) l.rest ≡ varint c.args.number) at l.invariant.whole)
+
+-- so many bytes are the front of ten
+fits : (n : ℕ) (bytes text : List ℕ) → length bytes ≡ 10 → n ≤ 10 → take n bytes ≡ text → n ≡ length text
+fits n bytes text len le e = let k : length (take n bytes) ≡ n = omega (arith, length-take n bytes) in sym k ∙ ap length e
+
+pub returns-then-rest-lt128-clause-size : goal.returns-then-rest-lt128-clause-size
+returns-then-rest-lt128-clause-size c =
+    let l = c.loop-i in
+    let whole = returns-then-rest-lt128-clause-bytes c in
+    fits (l.i + 1) (slice_set l.bytes l.i l.rest) (varint c.args.number) (omega (arith, length-set {A = ℕ}, l.invariant.len)) (omega (arith, c.loop-i-test.true)) whole
+
+pub returns-clause-size : goal.returns-clause-size
+returns-clause-size c =
+    let l = c.loop-i in
+    let whole = returns-clause-bytes c in
+    fits 10 (slice_set l.bytes 9 l.rest) (varint c.args.number) (omega (arith, length-set {A = ℕ}, l.invariant.len)) (omega arith) whole
