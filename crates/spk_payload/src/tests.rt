@@ -1,6 +1,8 @@
 use super::*;
 use spk_protobuf::WireFault;
+use std::alloc::AllocError;
 use std::process::Abort;
+use std::test::Fail;
 
 /// The payload of the bytes. Where memory was refused, nothing was made, and the call is made again.
 fn decoded(rt: &(impl Abort + AllocGlobal), bytes: &[u8]) -> Payload {
@@ -183,7 +185,7 @@ fn only_names_and_strings_must_be_texts(rt: HostRuntime) {
 // Each prefix has an answer, and none but the whole means what the whole means.
 #[test]
 fn no_prefix_means_the_whole(rt: HostRuntime) {
-    for bytes in [BIRTH, FLOAT, DRAINED, REBIRTH] {
+    for bytes in [BIRTH, FLOAT, DRAINED, REBIRTH, NODE_BIRTH, NODE_DATA] {
         let whole = decoded(&rt, bytes);
         for end in 0..bytes.len() {
             let mut answer = decode(rt.alloc(), &bytes[..end]);
@@ -392,4 +394,42 @@ fn copied_value(rt: &(impl Abort + AllocGlobal), value: &Value) -> Value {
         Err(_) => value.copy(rt.alloc()).expect(rt, "memory is there again"),
         Ok(copy) => copy,
     }
+}
+
+/// The NBIRTH's payload without seq, field by field.
+fn built(rt: &impl AllocGlobal) -> Result<Payload, AllocError> {
+    let mut metrics = Vec::new(rt.alloc());
+    metrics.push(Metric {
+        name: Some(String::from_str(rt.alloc(), "bdSeq")?),
+        alias: None,
+        timestamp: None,
+        datatype: Some(4),
+        historical: None,
+        transient: None,
+        null: None,
+        value: Some(Raw::Long(0)),
+    })?;
+    Ok(Payload {
+        timestamp: Some(5),
+        metrics,
+        seq: None,
+    })
+}
+
+#[test]
+fn a_payload_is_written_from_its_fields(rt: HostRuntime) -> Result<(), Fail> {
+    let payload = match built(&rt) {
+        Ok(payload) => payload,
+        Err(_) => built(&rt)?,
+    };
+    let written = encoded(&rt, &payload);
+    assert_eq!(rt; written.as_slice(), BIRTH);
+    for metric in &payload.metrics {
+        let copy = match metric.copy(rt.alloc()) {
+            Ok(copy) => copy,
+            Err(_) => metric.copy(rt.alloc())?,
+        };
+        assert!(rt; copy == *metric);
+    }
+    Ok(())
 }
