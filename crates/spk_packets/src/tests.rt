@@ -1,7 +1,7 @@
 //! Worked packets as tables. Out of memory is a right answer wherever memory is asked for: the call is made again.
 
 use super::*;
-use std::alloc::Global;
+use std::alloc::{AllocError, Global};
 use std::test::Fail;
 
 /// One packet of each kind in its canonical spelling, by hand from the sections of the standard.
@@ -248,6 +248,44 @@ fn a_stream_is_cut_anywhere(rt: HostRuntime) -> Result<(), Fail> {
             }
             assert_eq!(rt; next(&mut feed)?.is_none(), true);
         }
+    }
+    Ok(())
+}
+
+/// All packets of the table, one behind the other.
+fn stream_of(alloc: Global) -> Result<Vec<u8>, AllocError> {
+    let mut stream = Vec::new(alloc);
+    for bytes in PACKETS {
+        stream.extend_from_slice(bytes)?;
+    }
+    Ok(stream)
+}
+
+/// How many packets the feed gives until none is whole.
+fn drained(feed: &mut Feed) -> Result<usize, PacketFault> {
+    let mut count = 0usize;
+    for _ in 0..100u32 {
+        if next(feed)?.is_none() {
+            break;
+        }
+        count = count.saturating_add(1);
+    }
+    Ok(count)
+}
+
+#[test]
+fn one_stream_of_all_kinds_is_cut_anywhere(rt: HostRuntime) -> Result<(), Fail> {
+    let stream = match stream_of(rt.alloc()) {
+        Ok(stream) => stream,
+        Err(_) => stream_of(rt.alloc())?,
+    };
+    for cut in 0..stream.len() {
+        let mut feed = Feed::new(rt.alloc());
+        put(&mut feed, &stream[..cut])?;
+        let first = drained(&mut feed)?;
+        put(&mut feed, &stream[cut..])?;
+        let second = drained(&mut feed)?;
+        assert_eq!(rt; first.saturating_add(second), PACKETS.len(), "cut at {cut}");
     }
     Ok(())
 }
