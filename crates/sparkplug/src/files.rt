@@ -30,7 +30,8 @@ impl Files for MachineFiles<'_> {
     }
 }
 
-/// What the reader gives up to its end, or up to the first byte past the limit.
+/// What the reader gives up to its end. More bytes than the limit are BadPlan. A reader that fails is BadFile, and so
+/// is one that is interrupted so often that its end isn't reached.
 fn bytes_of<R: Read>(alloc: Global, reader: &mut R) -> Result<Vec<u8>, Stop> {
     let mut bytes = Vec::new(alloc);
     let mut piece = [0u8; 4096];
@@ -46,7 +47,7 @@ fn bytes_of<R: Read>(alloc: Global, reader: &mut R) -> Result<Vec<u8>, Stop> {
             return Err(Stop::Fault(Fault::BadPlan));
         }
     }
-    Ok(bytes)
+    Err(Stop::Fault(Fault::BadFile))
 }
 
 /// The text of a file. A file that can't be read is BadFile; one that is too long or isn't UTF-8 is BadPlan.

@@ -38,21 +38,13 @@ fn connect_line<W: Write>(
     Ok(())
 }
 
-fn node_type(kind: Verb) -> &'static str {
+/// The level TYPE of a topic behind its first letter, which is N of an edge node and D of a device.
+fn verb_text(kind: Verb) -> &'static str {
     match kind {
-        Verb::Birth => "NBIRTH",
-        Verb::Death => "NDEATH",
-        Verb::Data => "NDATA",
-        Verb::Command => "NCMD",
-    }
-}
-
-fn device_type(kind: Verb) -> &'static str {
-    match kind {
-        Verb::Birth => "DBIRTH",
-        Verb::Death => "DDEATH",
-        Verb::Data => "DDATA",
-        Verb::Command => "DCMD",
+        Verb::Birth => "BIRTH",
+        Verb::Death => "DEATH",
+        Verb::Data => "DATA",
+        Verb::Command => "CMD",
     }
 }
 
@@ -60,10 +52,10 @@ fn device_type(kind: Verb) -> &'static str {
 fn spark_text<W: Write>(alloc: Global, out: &mut W, spark: Spark) -> Result<(), Stop> {
     match spark {
         Spark::Node { group, kind, node } => {
-            let kind = node_type(kind);
+            let kind = verb_text(kind);
             let group = json_text(alloc, group)?;
             let node = json_text(alloc, node)?;
-            write!(out, " sparkplug {kind} {group} {node}")?;
+            write!(out, " sparkplug N{kind} {group} {node}")?;
         }
         Spark::Device {
             group,
@@ -71,11 +63,11 @@ fn spark_text<W: Write>(alloc: Global, out: &mut W, spark: Spark) -> Result<(), 
             node,
             device,
         } => {
-            let kind = device_type(kind);
+            let kind = verb_text(kind);
             let group = json_text(alloc, group)?;
             let node = json_text(alloc, node)?;
             let device = json_text(alloc, device)?;
-            write!(out, " sparkplug {kind} {group} {node} {device}")?;
+            write!(out, " sparkplug D{kind} {group} {node} {device}")?;
         }
         Spark::State { host } => {
             let host = json_text(alloc, host)?;

@@ -3,8 +3,8 @@ use crate::run::run;
 use std::io::{self, Read, Write};
 use std::process::Abort;
 
-/// A file in memory: its text comes in pieces of at most `piece` bytes, `turns` times over, and reading fails once
-/// `good` bytes were read.
+/// A file in memory: its text comes in pieces of at most `piece` bytes, `turns` times over, and once `good` bytes were
+/// read, reading fails, or is interrupted for ever.
 #[derive(Drop)]
 struct Memory {
     text: &'static [u8],
@@ -12,6 +12,7 @@ struct Memory {
     turns: usize,
     piece: usize,
     good: usize,
+    is_interrupted: bool,
 }
 
 impl Read for Memory {
@@ -26,7 +27,12 @@ impl Read for Memory {
         let rest = &self.text[self.at..];
         let count = self.piece.min(self.good).min(buf.len()).min(rest.len());
         if count == 0 {
-            return Err(io::Error::from(io::ErrorKind::Other));
+            let kind = if self.is_interrupted {
+                io::ErrorKind::Interrupted
+            } else {
+                io::ErrorKind::Other
+            };
+            return Err(io::Error::from(kind));
         }
         buf[..count].copy_from_slice(&rest[..count]);
         self.at = self.at.saturating_add(count);
@@ -50,7 +56,7 @@ impl Files for Texts {
             "payload" => (b"08050807", 1, whole, whole),
             "lines" => (b"08050807 \n\n", 1, 1, whole),
             "two lines" => (b"0805\n0807\n", 1, 3, whole),
-            "fails" => (b"08050807", 1, 2, 4),
+            "fails" | "interrupted" => (b"08050807", 1, 2, 4),
             "not a text" => (b"08\xff", 1, whole, whole),
             "empty" => (b"", 1, whole, whole),
             "longest" => (DIGITS, 16_384, whole, whole),
@@ -63,6 +69,7 @@ impl Files for Texts {
             turns,
             piece,
             good,
+            is_interrupted: name == "interrupted",
         })
     }
 }
@@ -277,6 +284,7 @@ fn digits_come_from_a_file(rt: HostRuntime) {
         ("empty", "timestamp - seq - metrics 0\n", 0),
         ("two lines", "fault BadHex (97)\n", 1),
         ("fails", "fault BadFile (98)\n", 1),
+        ("interrupted", "fault BadFile (98)\n", 1),
         ("missing", "fault BadFile (98)\n", 1),
         ("not a text", "fault BadPlan (92)\n", 1),
         ("too long", "fault BadPlan (92)\n", 1),
@@ -384,6 +392,40 @@ fn a_will_and_sparkplug_topics_are_told(rt: HostRuntime) {
         "PUBLISH topic \"spBv1.0/STATE/H0\" qos 0 retain true dup false id - hex: sparkplug STATE \"H0\"\n",
         0,
     );
+}
+
+// Topics of each kind (Sparkplug 3.0.0, 4.1): messages without a payload.
+#[test]
+fn each_kind_of_topic_is_told(rt: HostRuntime) {
+    let table = [
+        (
+            "3014001273704276312e302f472f4e42495254482f4e",
+            "PUBLISH topic \"spBv1.0/G/NBIRTH/N\" qos 0 retain false dup false id - hex: sparkplug NBIRTH \"G\" \"N\"\n",
+        ),
+        (
+            "3014001273704276312e302f472f4e44454154482f4e",
+            "PUBLISH topic \"spBv1.0/G/NDEATH/N\" qos 0 retain false dup false id - hex: sparkplug NDEATH \"G\" \"N\"\n",
+        ),
+        (
+            "3012001073704276312e302f472f4e434d442f4e",
+            "PUBLISH topic \"spBv1.0/G/NCMD/N\" qos 0 retain false dup false id - hex: sparkplug NCMD \"G\" \"N\"\n",
+        ),
+        (
+            "3016001473704276312e302f472f4442495254482f4e2f44",
+            "PUBLISH topic \"spBv1.0/G/DBIRTH/N/D\" qos 0 retain false dup false id - hex: sparkplug DBIRTH \"G\" \"N\" \"D\"\n",
+        ),
+        (
+            "3016001473704276312e302f472f4444454154482f4e2f44",
+            "PUBLISH topic \"spBv1.0/G/DDEATH/N/D\" qos 0 retain false dup false id - hex: sparkplug DDEATH \"G\" \"N\" \"D\"\n",
+        ),
+        (
+            "3014001273704276312e302f472f44434d442f4e2f44",
+            "PUBLISH topic \"spBv1.0/G/DCMD/N/D\" qos 0 retain false dup false id - hex: sparkplug DCMD \"G\" \"N\" \"D\"\n",
+        ),
+    ];
+    for (digits, text) in table {
+        lists(&rt, digits, text, 0);
+    }
 }
 
 // The lines before a fault stand first.
