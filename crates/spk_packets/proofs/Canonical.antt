@@ -323,7 +323,7 @@ spelling_spells p none words u =
     }
 
 -- the same for what a call answered
-pub if_spells : (packet : Packet) (r : Result (Vec ℕ Global) PacketFault) → IfOk r (λ v. v.items ≡ spelling (view packet)) → OnOk r (first_of (unwritable (view packet)) ≡ None) → HasWords (view packet)
+pub if_spells : (packet : Packet) (r : Result (Vec ℕ Global) PacketFault) → IfOk r (λ v. v.items ≡ spelling (view packet)) → OnOk r (first_of (unwritable (view packet)) ≡ None) → OnOk r (HasWords (view packet))
     → IfOk r (λ v. Spells v.items (view packet))
 if_spells packet (Ok v) is none words = subst (λ (b : List ℕ). Spells b (view packet)) (sym is) (spelling_spells (view packet) none words (packet_utf8 packet))
 if_spells packet (Err e) is none words = tt

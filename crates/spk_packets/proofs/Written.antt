@@ -1,7 +1,7 @@
 -- Tests of lists as the code has them, and as contracts see them.
-use Rattle.std.proofs.Common.{◌≡◌, ℕ, ◌+◌, ◌%◌, ◌<◌, ◌≤◌, ◌++◌, ◌⊎◌, inl, inr, Result, Ok, Err, sym, subst, Vec, Bool, true, false, List, [], ◌∷◌, length, map, Option, Some, None, refl, ap, ◌∙◌, string_bytes, String, Global, arith}
+use Rattle.std.proofs.Common.{◌≡◌, ℕ, ◌+◌, ◌%◌, ◌^◌, ◌<◌, ◌≤◌, ◌++◌, ◌⊎◌, inl, inr, Result, Ok, Err, sym, subst, Vec, Bool, true, false, List, [], ◌∷◌, length, map, Option, Some, None, refl, ap, ◌∙◌, append_assoc, string_bytes, String, Global, arith}
 use Rattle.std.specs.Prelude.{nat_lt, ◌||◌, IfOk, IfErr, OnOk}
-use Rattle.std.specs.List.{list_any}
+use Rattle.std.specs.List.{list_any, flat_map}
 use Rattle.std.proofs.lemmas.Bool.{lt-ltb, le-ltb}
 use Rattle.std.proofs.lemmas.List.{length-append}
 use Rattle.spk_packets.specs.declared.packet.Request.{Request}
@@ -11,7 +11,7 @@ use Rattle.spk_packets.specs.Fault.{first_of, IsNamed}
 use Rattle.spk_packets.specs.Message.{Message}
 use Rattle.spk_packets.specs.Grammar.{first_byte, largest}
 use Rattle.spk_packets.proofs.Agreement.{first_of-some, first_of-none}
-use Rattle.spk_packets.specs.Spelling.{is_bad_text, is_empty, body, shortest, spelling, content_refusals, unwritable}
+use Rattle.spk_packets.specs.Spelling.{number, counted, is_bad_text, is_empty, body, shortest, spelling, content_refusals, unwritable}
 use Rattle.spk_packets.specs.View.{request_view}
 
 is_named_some : (e : PacketFault) (named : Option PacketFault) → named ≡ Some e → IsNamed e named
@@ -90,3 +90,14 @@ pub if_join_writable : (p : Message) (r : Result (Vec ℕ Global) PacketFault) (
     → OnOk r (1 + length (shortest (length whole_body)) + length whole_body ≤ largest) → OnOk r (first_of (unwritable p) ≡ None)
 if_join_writable p (Ok v) whole_body is none h = join_writable p whole_body is none h
 if_join_writable p (Err e) whole_body is none h = tt
+
+-- A CONNECT part by part.
+pub connect_parts : (old a k c w x1 x2 x3 x4 x5 : List ℕ) (f : ℕ) → x1 ≡ old ++ a → x2 ≡ x1 ++ f ∷ [] → x3 ≡ x2 ++ k → x4 ≡ x3 ++ c → x5 ≡ x4 ++ w → x5 ≡ old ++ (a ++ (f ∷ (k ++ (c ++ w))))
+connect_parts old a k c w x1 x2 x3 x4 x5 f e1 e2 e3 e4 e5 =
+    e5 ∙ ap (λ (x : List ℕ). x ++ w) (e4 ∙ ap (λ (x : List ℕ). x ++ c) (e3 ∙ ap (λ (x : List ℕ). x ++ k) (e2 ∙ ap (λ (x : List ℕ). x ++ f ∷ []) e1)))
+    ∙ append_assoc ((((old ++ a) ++ f ∷ []) ++ k)) c w ∙ append_assoc ((old ++ a) ++ f ∷ []) k (c ++ w) ∙ append_assoc (old ++ a) (f ∷ []) (k ++ (c ++ w)) ∙ append_assoc old a (f ∷ (k ++ (c ++ w)))
+
+pub unsubscribe_size : (id n : ℕ) (filters slice : List (String Global)) → slice ≡ filters → n ≡ length (flat_map counted (map (λ filter. string_bytes filter) slice)) % 2 ^ 64
+    → (n + 2) % 2 ^ 64 ≡ length (number id ++ flat_map counted (map (λ filter. string_bytes filter) filters)) % 2 ^ 64
+unsubscribe_size id n filters slice same is =
+    subst (λ (xs : List (String Global)). (n + 2) % 2 ^ 64 ≡ length (number id ++ flat_map counted (map (λ filter. string_bytes filter) xs)) % 2 ^ 64) same (omega (arith, is))

@@ -1,10 +1,10 @@
 //! Writing a packet (chapters 2 and 3), canonically.
 
-ghost use Rattle.std.specs.Prelude.{◌≡◌, ◌⊎◌, ◌∷◌, ◌%◌, ◌+◌, ◌++◌, ◌<◌, ◌≤◌, Some, length, string_bytes, map, false, None, IfOk, IfErr, OnOk};
+ghost use Rattle.std.specs.Prelude.{◌≡◌, ◌⊎◌, ◌∷◌, ◌%◌, ◌^◌, ◌+◌, ◌++◌, ◌<◌, ◌≤◌, Some, length, string_bytes, map, false, None, IfOk, IfErr, OnOk};
 ghost use Rattle.std.specs.Option.{option_map};
 ghost use Rattle.std.specs.List.{flat_map};
 ghost use Rattle.spk_packets.specs.Fault.{first_of, IsNamed};
-ghost use Rattle.spk_packets.specs.Grammar.{Spells, connect_flags, will_bits, first_byte, largest};
+ghost use Rattle.spk_packets.specs.Grammar.{Spells, connect_flags, will_bits, first_byte, largest, protocol};
 ghost use Rattle.spk_packets.specs.Spelling.{number, counted, request, id_part, will_part, body, shortest, spelling, unwritable, IsWord, HasWords};
 ghost use Rattle.spk_packets.specs.View.{view, will_view, request_view};
 
@@ -78,13 +78,32 @@ fn put_id(out: &mut Vec<u8>, id: Option<u16>) -> Result<(), AllocError>
     }
 }
 
+/// What stands behind the header of a CONNECT.
+fn put_connect(
+    out: &mut Vec<u8>,
+    client: &str,
+    clean: bool,
+    keep: u16,
+    will: &Option<Will>,
+) -> Result<(), AllocError>
+    ensures { OnOk result (out.new.items ≡ out.old.items
+        ++ (protocol ++ (connect_flags false false (option_map will_view will.now) clean % 256
+        ∷ (number keep ++ (counted client.now ++ will_part (option_map will_view will.now)))))) }
+{
+    out.extend_from_slice(&[0, 4, 77, 81, 84, 84, 4])?;
+    out.push(flags(clean, will))?;
+    put_number(out, usize::from(keep))?;
+    put_counted(out, client.as_bytes())?;
+    put_will(out, will)?;
+    Ok(())
+}
+
 /// What stands behind the header.
 #[tactic(auto, unfolding(crate::specs::Spelling::body, crate::specs::Spelling::HasWords))]
-fn body_of(alloc: Global, packet: &Packet) -> Result<Vec<u8>, AllocError>
-    ensures body { IfOk result (λ v. v.items ≡ body (view packet.now)) }
+fn put_body(out: &mut Vec<u8>, packet: &Packet) -> Result<(), AllocError>
+    ensures body { OnOk result (out.new.items ≡ out.old.items ++ body (view packet.now)) }
     ensures words { OnOk result (HasWords (view packet.now)) }
 {
-    let mut out = Vec::new(alloc);
     match packet {
         Packet::Connect {
             client,
@@ -92,11 +111,7 @@ fn body_of(alloc: Global, packet: &Packet) -> Result<Vec<u8>, AllocError>
             keep,
             will,
         } => {
-            out.extend_from_slice(&[0, 4, 77, 81, 84, 84, 4])?;
-            out.push(flags(*clean, will))?;
-            put_number(&mut out, usize::from(*keep))?;
-            put_counted(&mut out, client.as_bytes())?;
-            put_will(&mut out, will)?;
+            put_connect(out, client.as_str(), *clean, *keep, will)?;
         }
         Packet::ConnAck { present, code } => {
             out.push(u8::from(*present))?;
@@ -108,26 +123,99 @@ fn body_of(alloc: Global, packet: &Packet) -> Result<Vec<u8>, AllocError>
             payload,
             ..
         } => {
-            put_counted(&mut out, topic.as_bytes())?;
-            put_id(&mut out, *id)?;
+            put_counted(out, topic.as_bytes())?;
+            put_id(out, *id)?;
             out.extend_from_slice(payload)?;
         }
-        Packet::PubAck { id } | Packet::UnsubAck { id } => put_number(&mut out, usize::from(*id))?,
+        Packet::PubAck { id } | Packet::UnsubAck { id } => put_number(out, usize::from(*id))?,
         Packet::Subscribe { id, filters } => {
-            put_number(&mut out, usize::from(*id))?;
-            put_requests(&mut out, filters)?;
+            put_number(out, usize::from(*id))?;
+            put_requests(out, filters)?;
         }
         Packet::SubAck { id, codes } => {
-            put_number(&mut out, usize::from(*id))?;
+            put_number(out, usize::from(*id))?;
             out.extend_from_slice(codes)?;
         }
         Packet::Unsubscribe { id, filters } => {
-            put_number(&mut out, usize::from(*id))?;
-            put_filters(&mut out, filters)?;
+            put_number(out, usize::from(*id))?;
+            put_filters(out, filters)?;
         }
         Packet::PingReq | Packet::PingResp | Packet::Disconnect => {}
     }
-    Ok(out)
+    Ok(())
+}
+
+// ---- sizes, modulo 2^64: a vector has fewer bytes than 2^63, so where a size wraps no packet of it is written
+
+fn counted_size(bytes: &[u8]) -> usize
+    ensures { result ≡ length (counted bytes.now) % 2 ^ 64 }
+{
+    bytes.len().wrapping_add(2)
+}
+
+fn requests_size(requests: &[Request]) -> usize
+    ensures { result ≡ length (flat_map request (map request_view requests.now)) % 2 ^ 64 }
+{
+    let mut sum = 0usize;
+    for entry in requests {
+        sum = sum
+            .wrapping_add(counted_size(entry.filter.as_bytes()))
+            .wrapping_add(1);
+    }
+    sum
+}
+
+fn filters_size(filters: &[String]) -> usize
+    ensures { result ≡ length (flat_map counted (map (λ filter. string_bytes filter) filters.now)) % 2 ^ 64 }
+{
+    let mut sum = 0usize;
+    for filter in filters {
+        sum = sum.wrapping_add(counted_size(filter.as_bytes()));
+    }
+    sum
+}
+
+fn will_size(will: &Option<Will>) -> usize
+    ensures { result ≡ length (will_part (option_map will_view will.now)) % 2 ^ 64 }
+{
+    match will {
+        Some(will) => counted_size(will.topic.as_bytes()).wrapping_add(counted_size(&will.message)),
+        None => 0,
+    }
+}
+
+fn id_size(id: Option<u16>) -> usize
+    ensures { result ≡ length (id_part id) }
+{
+    match id {
+        Some(_) => 2,
+        None => 0,
+    }
+}
+
+/// How many bytes stand behind the header.
+#[tactic(auto, unfolding(crate::specs::Spelling::body))]
+fn body_size(packet: &Packet) -> usize
+    ensures { result ≡ length (body (view packet.now)) % 2 ^ 64 }
+{
+    match packet {
+        Packet::Connect { client, will, .. } => counted_size(client.as_bytes())
+            .wrapping_add(will_size(will))
+            .wrapping_add(10),
+        Packet::ConnAck { .. } | Packet::PubAck { .. } | Packet::UnsubAck { .. } => 2,
+        Packet::Publish {
+            topic,
+            id,
+            payload,
+            ..
+        } => counted_size(topic.as_bytes())
+            .wrapping_add(id_size(*id))
+            .wrapping_add(payload.len()),
+        Packet::Subscribe { filters, .. } => requests_size(filters).wrapping_add(2),
+        Packet::SubAck { codes, .. } => codes.len().wrapping_add(2),
+        Packet::Unsubscribe { filters, .. } => filters_size(filters).wrapping_add(2),
+        Packet::PingReq | Packet::PingResp | Packet::Disconnect => 0,
+    }
 }
 
 /// The low eight bits of the connect flags, without user name and password.
@@ -228,17 +316,20 @@ fn whole_of(len: usize) -> Result<usize, PacketFault>
 }
 
 /// The header and the body.
-fn join(alloc: Global, first: u8, body: &[u8]) -> Result<Vec<u8>, PacketFault>
-    ensures ok { IfOk result (λ v. v.items ≡ first ∷ (shortest (length body.now) ++ body.now)) }
-    ensures within { OnOk result (1 + length (shortest (length body.now)) + length body.now ≤ largest) }
-    ensures over { IfErr result (λ e. (e ≡ PacketFault.NoMemory)
-        ⊎ ((e ≡ PacketFault.TooLarge) × (largest < 1 + length (shortest (length body.now)) + length body.now))) }
+fn join(alloc: Global, packet: &Packet) -> Result<Vec<u8>, PacketFault>
+    ensures ok { IfOk result (λ v. v.items ≡ first_byte (view packet.now) % 256
+        ∷ (shortest (length (body (view packet.now))) ++ body (view packet.now))) }
+    ensures words { OnOk result (HasWords (view packet.now)) }
+    ensures within { OnOk result (1 + length (shortest (length (body (view packet.now)))) + length (body (view packet.now)) ≤ largest) }
+    ensures over { IfErr result (λ e. (e ≡ PacketFault.NoMemory) ⊎ ((e ≡ PacketFault.TooLarge)
+        × (largest < 1 + length (shortest (length (body (view packet.now)))) + length (body (view packet.now))))) }
 {
-    let whole = whole_of(body.len())?;
+    let len = body_size(packet);
+    let whole = whole_of(len)?;
     let mut out = Vec::with_capacity(alloc, whole)?;
-    out.push(first)?;
-    put_length(&mut out, body.len())?;
-    out.extend_from_slice(body)?;
+    out.push(first(packet))?;
+    put_length(&mut out, len)?;
+    put_body(&mut out, packet)?;
     Ok(out)
 }
 
@@ -256,6 +347,5 @@ pub fn encode(alloc: Global, packet: &Packet) -> Result<Vec<u8>, PacketFault>
     ensures not_refused { OnOk result (first_of (unwritable (view packet.now)) ≡ None) }
 {
     judge(packet)?;
-    let body = body_of(alloc, packet)?;
-    join(alloc, first(packet), &body)
+    join(alloc, packet)
 }

@@ -252,6 +252,9 @@ fn put_metrics(out: &mut Vec<u8>, metrics: &[Metric]) -> Result<(), PayloadFault
     Ok(())
 }
 
+/// The bytes that are asked for at first, enough for a payload of one metric without a name.
+const FEW: usize = 64;
+
 /// The one canonical spelling of a payload (docs/DEFINITIONS.md): fields in ascending number, each that is there,
 /// zero and false too, shortest varints, metrics in order. `laws::canonical` says that it means the payload and
 /// nothing else, so `decode` reads it as what was written.
@@ -266,7 +269,7 @@ pub fn encode(alloc: Global, payload: &Payload) -> Result<Vec<u8>, PayloadFault>
     ensures fault { IfErr result (λ f. (f ≡ PayloadFault.NoMemory)
         ⊎ ((f ≡ PayloadFault.HasOther) × spec.HoldsOther (payload_view payload.now).metrics)) }
 {
-    let mut out = Vec::new(alloc);
+    let mut out = Vec::with_capacity(alloc, FEW)?;
     put_long(&mut out, 8, payload.timestamp)?;
     put_metrics(&mut out, &payload.metrics)?;
     put_long(&mut out, 3 * 8, payload.seq)?;

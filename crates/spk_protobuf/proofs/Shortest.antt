@@ -16,6 +16,11 @@ groups_of-length (suc k) n =
       | inr le ↦ let t : ltb n 128 ≡ false = le-ltb _ _ le in rw t (omega (arith, groups_of-length k (n / 128)))
     ]
 
+-- a number below 128 is its own varint
+pub varint_small : (n : ℕ) → n < 128 → varint n ≡ n ∷ []
+unfolding varint groups_of
+varint_small n below = ap (λ b. cond b (n ∷ []) ((n % 128 + 128) ∷ groups_of 8 (n / 128))) (lt-ltb n 128 below)
+
 groups_of-are : (k n : ℕ) → n < 128 ^ suc k → AreGroups (groups_of k n) n
 unfolding groups_of
 groups_of-are zero n lt = (omega arith, refl)

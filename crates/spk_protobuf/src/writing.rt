@@ -26,6 +26,27 @@ fn shortest(number: u64) -> ([u8; 10], usize)
     (bytes, 10)
 }
 
+/// A number below 128 is its own varint.
+#[tactic(auto, using(crate::proofs::Shortest::varint_small))]
+fn put_byte(out: &mut Vec<u8>, number: u64) -> Result<(), AllocError>
+    requires { number < 128 }
+    ensures ok { OnOk result (out.new.items ≡ out.old.items ++ varint number) }
+    ensures err { OnErr result (out.new.items ≡ out.old.items) }
+{
+    match out.push(number as u8) {
+        Ok(()) => Ok(()),
+        Err(_) => Err(AllocError),
+    }
+}
+
+fn put_shortest(out: &mut Vec<u8>, number: u64) -> Result<(), AllocError>
+    ensures ok { OnOk result (out.new.items ≡ out.old.items ++ varint number) }
+    ensures err { OnErr result (out.new.items ≡ out.old.items) }
+{
+    let (bytes, len) = shortest(number);
+    out.extend_from_slice(&bytes[..len])
+}
+
 /// Appends the number as the shortest varint, 1 to 10 bytes (protobuf encoding, "Base 128 Varints").
 ///
 /// Where no memory is given, `out` is as it was.
@@ -36,15 +57,21 @@ pub fn put_varint(out: &mut Vec<u8>, number: u64) -> Result<(), AllocError>
     ensures shortest { (text : List ℕ) → IsVarint text number → length (varint number) ≤ length text }
     ensures err { OnErr result (out.new.items ≡ out.old.items) }
 {
-    let (bytes, len) = shortest(number);
-    out.extend_from_slice(&bytes[..len])
+    if number < 128 {
+        return put_byte(out, number);
+    }
+    put_shortest(out, number)
 }
 
 /// How many bytes the shortest varint of the number has, 1 to 10. Takes no memory.
+#[tactic(auto, using(crate::proofs::Shortest::varint_small))]
 pub fn varint_size(number: u64) -> usize
     ensures size { result ≡ length (varint number) }
     ensures bound { result ≤ 10 }
 {
+    if number < 128 {
+        return 1;
+    }
     shortest(number).1
 }
 

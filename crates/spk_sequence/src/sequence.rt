@@ -303,8 +303,7 @@ impl Sequence {
         ensures whole { IsWhole self.new }
     {
         let first = number.wrapping_add(1);
-        let run = self.slots.run(first, self.width.get());
-        self.slots.clear_run(first, run);
+        let run = self.slots.take_run(first, self.width.get());
         self.phase = Phase::Live;
         self.next = first.wrapping_add(run);
         self.since = now;

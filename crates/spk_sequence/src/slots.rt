@@ -74,29 +74,22 @@ impl Slots {
         self.mask == 0
     }
 
-    /// How many slots in a row are full from a number on, at most so many.
-    pub(crate) fn run(&self, from: u8, width: u8) -> u8
-        requires { width ≤ 128 }
-        ensures count { result ≡ run_of (places_of self.now from width) }
+    /// Empties the slots that are full in a row from a number on, and says how many they are, at most so many.
+    pub(crate) fn take_run(&mut self, from: u8, width: u8) -> u8
+        requires few { width ≤ 128 }
+        requires sized { length self.old ≡ 128 }
+        ensures count { result ≡ run_of (places_of self.old from width) }
         ensures bounded { result ≤ width }
+        ensures cleared { IsClearedTo self.old self.new from result }
     {
         for place in 0..width {
-            if self.get(from.wrapping_add(place) % 128).is_none() {
+            let slot = from.wrapping_add(place) % 128;
+            if self.get(slot).is_none() {
                 return place;
             }
+            self.clear(slot);
         }
         width
-    }
-
-    /// Empties so many slots from a number on.
-    pub(crate) fn clear_run(&mut self, from: u8, count: u8)
-        requires few { count ≤ 128 }
-        requires sized { length self.old ≡ 128 }
-        ensures { IsClearedTo self.old self.new from count }
-    {
-        for place in 0..count {
-            self.clear(from.wrapping_add(place) % 128);
-        }
     }
 
     /// Whether a birth of this stamp keeps what a slot holds.

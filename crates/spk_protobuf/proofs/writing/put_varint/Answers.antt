@@ -6,3 +6,9 @@ returns-clause-reads c = varint_is c.args.number c.ranges.number.fits
 
 pub returns-clause-shortest : goal.returns-clause-shortest
 returns-clause-shortest c = λ text h. varint_shortest c.args.number text h
+
+pub returns-then-number-lt128-clause-reads : goal.returns-then-number-lt128-clause-reads
+returns-then-number-lt128-clause-reads c = varint_is c.args.number c.ranges.number.fits
+
+pub returns-then-number-lt128-clause-shortest : goal.returns-then-number-lt128-clause-shortest
+returns-then-number-lt128-clause-shortest c = λ text h. varint_shortest c.args.number text h

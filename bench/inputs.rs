@@ -1,0 +1,130 @@
+//! What is measured on: payloads, packets, filters and topics, each made the same way at each run.
+
+fn varint(out: &mut Vec<u8>, mut n: u64) {
+    while n > 127 {
+        out.push(n as u8 | 128);
+        n >>= 7;
+    }
+    out.push(n as u8);
+}
+
+fn number(out: &mut Vec<u8>, field: u64, n: u64) {
+    varint(out, field << 3);
+    varint(out, n);
+}
+
+fn bytes(out: &mut Vec<u8>, field: u64, text: &[u8]) {
+    varint(out, field << 3 | 2);
+    varint(out, text.len() as u64);
+    out.extend_from_slice(text);
+}
+
+const NOW: u64 = 1_763_812_800_000;
+
+/// The value of metric n: an int, a long, a Boolean or a text, with the datatype Int32, UInt64, Boolean or String.
+fn value(out: &mut Vec<u8>, n: u64) {
+    match n % 4 {
+        0 => number(out, 10, 20 + n),
+        1 => number(out, 11, NOW + n),
+        2 => number(out, 14, n / 4 % 2),
+        _ => bytes(out, 15, b"running at full speed"),
+    }
+}
+
+fn metric(n: u64, is_birth: bool) -> Vec<u8> {
+    let mut out = Vec::new();
+    if is_birth {
+        bytes(&mut out, 1, format!("Line 3/Motor {n}/Winding Temperature").as_bytes());
+    }
+    number(&mut out, 2, n + 1);
+    number(&mut out, 3, NOW);
+    if is_birth {
+        number(&mut out, 4, [3, 8, 11, 12][n as usize % 4]);
+    }
+    value(&mut out, n);
+    out
+}
+
+/// A payload of so many metrics: of data, with aliases alone, or of a birth, with names and datatypes.
+pub fn payload(metrics: u64, is_birth: bool) -> Vec<u8> {
+    let mut out = Vec::new();
+    number(&mut out, 1, NOW);
+    for n in 0..metrics {
+        bytes(&mut out, 2, &metric(n, is_birth));
+    }
+    number(&mut out, 3, 17);
+    out
+}
+
+fn text(out: &mut Vec<u8>, text: &[u8]) {
+    out.extend_from_slice(&(text.len() as u16).to_be_bytes());
+    out.extend_from_slice(text);
+}
+
+fn packet(first: u8, body: &[u8]) -> Vec<u8> {
+    let mut out = vec![first];
+    varint(&mut out, body.len() as u64);
+    out.extend_from_slice(body);
+    out
+}
+
+pub fn publish(size: usize) -> Vec<u8> {
+    let mut body = Vec::new();
+    text(&mut body, b"spBv1.0/Plant 4/DDATA/Line 3/Motor 17");
+    body.resize(body.len() + size, 7);
+    packet(0x30, &body)
+}
+
+pub fn connect() -> Vec<u8> {
+    let mut body = Vec::new();
+    text(&mut body, b"MQTT");
+    body.extend_from_slice(&[4, 2, 0, 60]);
+    text(&mut body, b"Plant 4/Line 3");
+    packet(0x10, &body)
+}
+
+pub fn subscribe() -> Vec<u8> {
+    let mut body = vec![0, 1];
+    for n in 0..8 {
+        text(&mut body, format!("spBv1.0/Plant 4/+/Line {n}/#").as_bytes());
+        body.push(1);
+    }
+    packet(0x82, &body)
+}
+
+/// About so many bytes of PUBLISH packets with 64 bytes.
+pub fn stream(size: usize) -> Vec<u8> {
+    let one = publish(64);
+    one.repeat(size / one.len())
+}
+
+/// Filters as brokers of a plant have them: of each ten, one for a whole node and nine for one topic. There are a tenth
+/// as many nodes as filters.
+pub fn plant_filters(count: usize) -> String {
+    let line = |n: usize| {
+        let node = n / 10;
+        match n % 10 {
+            0 => format!("spBv1.0/Plant 4/+/Node {node}/#"),
+            d => format!("spBv1.0/Plant 4/DDATA/Node {node}/Device {d}"),
+        }
+    };
+    (0..count).map(line).collect::<Vec<_>>().join("\n")
+}
+
+pub const PLANT_TOPIC: &str = "spBv1.0/Plant 4/DDATA/Node 0/Device 3";
+
+/// Filters of which each has a wildcard in one level or in two, and names from a small set in the others.
+pub fn wild_filters(count: usize) -> String {
+    let line = |n: usize| {
+        let name = |k: usize| format!("level {}", n / k % 22);
+        match n % 4 {
+            0 => format!("a/+/{}/{}/{}", name(4), name(88), name(1936)),
+            1 => format!("a/{}/+/{}/{}", name(4), name(88), name(1936)),
+            2 => format!("a/{}/{}/+/{}", name(4), name(88), name(1936)),
+            _ => format!("a/{}/{}/{}/#", name(4), name(88), name(1936)),
+        }
+    };
+    (0..count).map(line).collect::<Vec<_>>().join("\n")
+}
+
+pub const WILD_TOPIC: &str = "a/level 0/level 0/level 0/level 0";

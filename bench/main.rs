@@ -1,0 +1,256 @@
+//! Measures the proved crates beside peers: `bench table` by the clock, `bench counts` by instructions under valgrind.
+mod inputs;
+#[path = "peers/order.rs"]
+mod order;
+#[path = "peers/packets.rs"]
+mod packets;
+#[path = "peers/payload.rs"]
+mod payload;
+#[path = "peers/topics.rs"]
+mod topics;
+
+use std::process::Command;
+use std::time::Instant;
+
+extern "C" {
+    fn spk_bench_payload_decode(bytes: *const u8, length: usize, rounds: u64) -> u64;
+    fn spk_bench_payload_encode(bytes: *const u8, length: usize, rounds: u64) -> u64;
+    fn spk_bench_packet_decode(bytes: *const u8, length: usize, rounds: u64) -> u64;
+    fn spk_bench_packet_encode(bytes: *const u8, length: usize, rounds: u64) -> u64;
+    fn spk_bench_feed(bytes: *const u8, length: usize, cut: usize, rounds: u64) -> u64;
+    fn spk_bench_find(filters: *const u8, length: usize, topic: *const u8, topic_length: usize, rounds: u64) -> u64;
+    fn spk_bench_hand_in_line(rounds: u64) -> u64;
+    fn spk_bench_hand_with_holes(rounds: u64) -> u64;
+    fn spk_bench_hand_births(rounds: u64) -> u64;
+    fn cpp_payload_decode(bytes: *const u8, length: usize, rounds: u64) -> u64;
+    fn cpp_payload_encode(bytes: *const u8, length: usize, rounds: u64) -> u64;
+}
+
+type Body = Box<dyn Fn(u64) -> u64>;
+type OnBytes = unsafe extern "C" fn(*const u8, usize, u64) -> u64;
+
+/// A row: a name, what a round counts as, our body and those of the peers.
+struct Row {
+    name: String,
+    calls: u64,
+    ours: Body,
+    peers: Vec<(&'static str, Body)>,
+}
+
+/// A body of C's over bytes of its own.
+fn on_bytes(body: OnBytes, bytes: &[u8]) -> Body {
+    let bytes = bytes.to_vec();
+    // The length is that of the bytes, which the closure keeps.
+    Box::new(move |rounds| unsafe { body(bytes.as_ptr(), bytes.len(), rounds) })
+}
+
+fn rust_on_bytes(body: fn(&[u8], u64) -> u64, bytes: &[u8]) -> Body {
+    let bytes = bytes.to_vec();
+    Box::new(move |rounds| body(&bytes, rounds))
+}
+
+fn payload_rows(rows: &mut Vec<Row>) {
+    for (name, metrics, is_birth) in [("NDATA, 1 metric", 1, false), ("NDATA, 32 metrics", 32, false), ("NBIRTH, 32 metrics", 32, true)] {
+        let bytes = inputs::payload(metrics, is_birth);
+        rows.push(Row {
+            name: format!("payload decode, {name} ({} bytes)", bytes.len()),
+            calls: 1,
+            ours: on_bytes(spk_bench_payload_decode, &bytes),
+            peers: vec![
+                ("quick-protobuf", rust_on_bytes(payload::decode, &bytes)),
+                ("protobuf C++", on_bytes(cpp_payload_decode, &bytes)),
+            ],
+        });
+        rows.push(Row {
+            name: format!("payload encode, {name}"),
+            calls: 1,
+            ours: on_bytes(spk_bench_payload_encode, &bytes),
+            peers: vec![
+                ("quick-protobuf", rust_on_bytes(payload::encode, &bytes)),
+                ("protobuf C++", on_bytes(cpp_payload_encode, &bytes)),
+            ],
+        });
+    }
+}
+
+fn packet_rows(rows: &mut Vec<Row>) {
+    let inputs = [
+        ("PUBLISH, 64 bytes", inputs::publish(64)),
+        ("PUBLISH, 64 KiB", inputs::publish(65_536)),
+        ("CONNECT", inputs::connect()),
+        ("SUBSCRIBE, 8 filters", inputs::subscribe()),
+    ];
+    for (name, bytes) in inputs {
+        rows.push(Row {
+            name: format!("packet decode, {name}"),
+            calls: 1,
+            ours: on_bytes(spk_bench_packet_decode, &bytes),
+            peers: vec![("plain Rust", rust_on_bytes(packets::decode, &bytes))],
+        });
+        rows.push(Row {
+            name: format!("packet encode, {name}"),
+            calls: 1,
+            ours: on_bytes(spk_bench_packet_encode, &bytes),
+            peers: vec![("plain Rust", rust_on_bytes(packets::encode, &bytes))],
+        });
+    }
+    let stream = inputs::stream(1 << 20);
+    for cut in [1, 7, 1460] {
+        let (ours, peer) = (stream.clone(), stream.clone());
+        rows.push(Row {
+            name: format!("Feed, 1 MiB cut at {cut} (per KiB)"),
+            calls: 1024,
+            // The length is that of the bytes, which the closure keeps.
+            ours: Box::new(move |rounds| unsafe { spk_bench_feed(ours.as_ptr(), ours.len(), cut, rounds) }),
+            peers: vec![("plain Rust", Box::new(move |rounds| packets::feed(&peer, cut, rounds)))],
+        });
+    }
+}
+
+fn topic_rows(rows: &mut Vec<Row>) {
+    for count in [10, 1000, 10_000] {
+        let sets = [
+            ("Sparkplug-like", inputs::plant_filters(count), inputs::PLANT_TOPIC),
+            ("wildcard-heavy", inputs::wild_filters(count), inputs::WILD_TOPIC),
+        ];
+        for (name, filters, topic) in sets {
+            let list = filters.clone();
+            rows.push(Row {
+                name: format!("Tree::find, {count} grants, {name}"),
+                calls: 1,
+                // The lengths are those of the texts, which the closure keeps.
+                ours: Box::new(move |rounds| unsafe {
+                    spk_bench_find(filters.as_ptr(), filters.len(), topic.as_ptr(), topic.len(), rounds)
+                }),
+                peers: vec![("linear list", Box::new(move |rounds| topics::find(list.as_bytes(), topic.as_bytes(), rounds)))],
+            });
+        }
+    }
+}
+
+fn order_rows(rows: &mut Vec<Row>) {
+    // These take numbers alone.
+    rows.push(Row {
+        name: "Sequence::hand, in line".to_owned(),
+        calls: 1,
+        ours: Box::new(|rounds| unsafe { spk_bench_hand_in_line(rounds) }),
+        peers: vec![("plain Rust", Box::new(order::in_line))],
+    });
+    rows.push(Row {
+        name: "Sequence::hand, with holes".to_owned(),
+        calls: 2,
+        ours: Box::new(|rounds| unsafe { spk_bench_hand_with_holes(rounds) }),
+        peers: vec![("plain Rust", Box::new(order::with_holes))],
+    });
+    rows.push(Row {
+        name: "Sequence::hand, 95 held and a birth".to_owned(),
+        calls: 96,
+        ours: Box::new(|rounds| unsafe { spk_bench_hand_births(rounds) }),
+        peers: vec![("plain Rust", Box::new(order::births))],
+    });
+}
+
+fn rows() -> Vec<Row> {
+    let mut rows = Vec::new();
+    payload_rows(&mut rows);
+    packet_rows(&mut rows);
+    topic_rows(&mut rows);
+    order_rows(&mut rows);
+    rows
+}
+
+fn seconds(body: &Body, rounds: u64) -> f64 {
+    let start = Instant::now();
+    std::hint::black_box(body(rounds));
+    start.elapsed().as_secs_f64()
+}
+
+/// So many rounds that they take five milliseconds beyond the set-up, and at least as long as the set-up.
+fn enough(body: &Body) -> u64 {
+    let set_up = seconds(body, 0);
+    let mut rounds = 1;
+    while rounds < 1 << 24 && seconds(body, rounds) - set_up < 0.005f64.max(set_up) {
+        rounds *= 2;
+    }
+    rounds
+}
+
+fn median(mut list: Vec<f64>) -> f64 {
+    list.sort_by(f64::total_cmp);
+    list[list.len() / 2]
+}
+
+/// Nanoseconds of one call.
+fn sample(body: &Body, rounds: u64, calls: u64) -> f64 {
+    (seconds(body, rounds) - seconds(body, 0)) * 1e9 / (rounds * calls) as f64
+}
+
+const SAMPLES: usize = 31;
+
+/// Rows whose names have the word.
+fn table(word: &str) {
+    println!("| Row | ours, ns | peer | peer, ns | ours : peer |");
+    println!("|---|---|---|---|---|");
+    for row in rows().iter().filter(|row| row.name.contains(word)) {
+        let ours = enough(&row.ours);
+        for (peer, body) in &row.peers {
+            assert_eq!((row.ours)(3), body(3), "the answers of {} and {peer} differ", row.name);
+            let rounds = enough(body);
+            let pairs: Vec<(f64, f64)> =
+                (0..SAMPLES).map(|_| (sample(&row.ours, ours, row.calls), sample(body, rounds, row.calls))).collect();
+            let (mine, theirs) = (median(pairs.iter().map(|p| p.0).collect()), median(pairs.iter().map(|p| p.1).collect()));
+            let ratio = median(pairs.iter().map(|p| p.0 / p.1).collect());
+            println!("| {} | {mine:.0} | {peer} | {theirs:.0} | {ratio:.2} |", row.name);
+        }
+    }
+}
+
+/// The body of a row that is ours, or a peer's by its number.
+fn body_of(row: &Row, who: usize) -> &Body {
+    if who == 0 { &row.ours } else { &row.peers[who - 1].1 }
+}
+
+/// The instructions that valgrind counts for so many rounds.
+fn counted(row: usize, who: usize, rounds: u64) -> f64 {
+    let own = std::env::current_exe().expect("the program's own name");
+    let output = Command::new("valgrind")
+        .args(["--tool=callgrind", "--callgrind-out-file=/dev/null"])
+        .arg(own)
+        .args(["one", &row.to_string(), &who.to_string(), &rounds.to_string()])
+        .output()
+        .expect("valgrind runs");
+    let text = String::from_utf8_lossy(&output.stderr).into_owned();
+    let line = text.lines().find(|l| l.contains("Collected :")).expect("valgrind's count");
+    line.rsplit(' ').next().and_then(|n| n.parse().ok()).expect("a number")
+}
+
+fn instructions(row: usize, who: usize, calls: u64) -> f64 {
+    let rounds = if calls > 500 { 1 } else { 64 };
+    (counted(row, who, 2 * rounds) - counted(row, who, rounds)) / (rounds * calls) as f64
+}
+
+fn counts(word: &str) {
+    println!("| Row | ours, instructions | peer | peer, instructions | ours : peer |");
+    println!("|---|---|---|---|---|");
+    for (n, row) in rows().iter().enumerate().filter(|(_, row)| row.name.contains(word)) {
+        let ours = instructions(n, 0, row.calls);
+        for (who, (peer, _)) in row.peers.iter().enumerate() {
+            let theirs = instructions(n, who + 1, row.calls);
+            println!("| {} | {ours:.0} | {peer} | {theirs:.0} | {:.2} |", row.name, ours / theirs);
+        }
+    }
+}
+
+fn main() {
+    let words: Vec<String> = std::env::args().skip(1).collect();
+    let number = |n: usize| words.get(n).and_then(|w| w.parse::<u64>().ok());
+    let word = words.get(1).map_or("", String::as_str);
+    match (words.first().map(String::as_str), number(1), number(2), number(3)) {
+        (Some("table"), ..) => table(word),
+        (Some("counts"), ..) => counts(word),
+        (Some("one"), Some(row), Some(who), Some(rounds)) => {
+            println!("{}", body_of(&rows()[row as usize], who as usize)(rounds));
+        }
+        _ => eprintln!("usage: bench table [WORD] | counts [WORD] | one ROW WHO ROUNDS"),
+    }
+}
