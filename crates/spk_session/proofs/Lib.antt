@@ -1,0 +1,5 @@
+pub mod CircleLemmas
+pub mod Histories
+pub mod IdLemmas
+pub mod Rows
+pub mod Undone

@@ -1,0 +1,4 @@
+pub mod Listening
+pub mod Meanings
+pub mod Rows
+pub mod Spelled

@@ -1,0 +1,4 @@
+pub mod Fault
+pub mod Past
+pub mod Step
+pub mod Text
