@@ -45,9 +45,6 @@ or_right : (a b : Bool) → b ≡ true → (a || b) ≡ true
 or_right true b h = refl
 or_right false b h = h
 
-or_left : (a b : Bool) → a ≡ true → (a || b) ≡ true
-or_left a b h = rw h refl
-
 rest_fits : (rest : List (List ℕ)) → fits ((35 ∷ []) ∷ []) rest ≡ true
 rest_fits [] = refl
 rest_fits (name ∷ rest) = refl
@@ -60,20 +57,12 @@ fits-of _ _ (same_level level filter topic f) =
     or_right (bytes_eq level (35 ∷ []) && is_empty filter) ((bytes_eq level (43 ∷ []) || bytes_eq level level) && fits filter topic)
     (and_both (bytes_eq level (43 ∷ []) || bytes_eq level level) (fits filter topic) (or_right (bytes_eq level (43 ∷ [])) (bytes_eq level level) (bytes_self level)) (fits-of filter topic f))
 
-first_is : (ls : List (List ℕ)) → starts_with_wildcard ls ≡ true → StartsWithWildcard ls
-first_is [] h = cc
-first_is (level ∷ rest) h = either (or_cases _ _ h)
-  where
-    either : (bytes_eq level (43 ∷ []) ≡ true) ⊎ (bytes_eq level (35 ∷ []) ≡ true) → StartsWithWildcard (level ∷ rest)
-    either (inl p) = inl (bytes_same _ _ p)
-    either (inr p) = inr (bytes_same _ _ p)
-
 first_was : (ls : List (List ℕ)) → StartsWithWildcard ls → starts_with_wildcard ls ≡ true
 first_was [] h = absurd h
 first_was (level ∷ rest) (inl e) = rw e refl
 first_was (level ∷ rest) (inr e) = rw e refl
 
-dollar_is : (topic : List ℕ) → begins_with_dollar topic ≡ true → BeginsWithDollar topic
+pub dollar_is : (topic : List ℕ) → begins_with_dollar topic ≡ true → BeginsWithDollar topic
 dollar_is [] h = cc
 dollar_is (b ∷ bs) h = eqb-true b 36 h
 
@@ -81,13 +70,10 @@ dollar_was : (topic : List ℕ) → BeginsWithDollar topic → begins_with_dolla
 dollar_was [] h = absurd h
 dollar_was (b ∷ bs) e = rw e refl
 
-pub IsBarred-of : (filter topic : List ℕ) → is_barred filter topic ≡ true → IsBarred filter topic
-IsBarred-of filter topic h = let (w, d) = and_parts _ _ h in (first_is _ w, dollar_is _ d)
-
 pub barred-of : (filter topic : List ℕ) → IsBarred filter topic → is_barred filter topic ≡ true
 barred-of filter topic h = and_both _ _ (first_was _ h.0) (dollar_was _ h.1)
 
-not_both : (b : Bool) → b ≡ false → b ≡ true → ⊥
+pub not_both : (b : Bool) → b ≡ false → b ≡ true → ⊥
 not_both b h k = cc
 
 -- where the bar doesn't stand, the levels decide
@@ -96,6 +82,3 @@ open_matches filter topic b h e = (
   (λ t. record { allowed = (λ bar. not_both _ h (barred-of filter topic bar)); fits = Fits-of _ _ (sym e ∙ t) }),
   (λ m. e ∙ fits-of _ _ m.fits),
 )
-
-pub barred_never : (filter topic : List ℕ) → is_barred filter topic ≡ true → Matches filter topic → ⊥
-barred_never filter topic h m = m.allowed (IsBarred-of filter topic h)

@@ -1,9 +1,14 @@
 pub mod BoolLemmas
+pub mod EdgeLemmas
 pub mod FindLemmas
 pub mod FitLemmas
 pub mod FoundLemmas
+pub mod GrowthLemmas
 pub mod LevelLemmas
 pub mod ListLemmas
+pub mod PathLemmas
 pub mod RowLemmas
-pub mod SeatLemmas
+pub mod NodeLemmas
 pub mod SparkLemmas
+pub mod TreeLemmas
+pub mod WalkLemmas

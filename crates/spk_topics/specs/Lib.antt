@@ -1,12 +1,15 @@
+pub mod Edges
 pub mod Fault
 pub mod Fitting
 pub mod Found
 pub mod Grants
 pub mod Levels
 pub mod Matching
+pub mod Nodes
+pub mod Paths
 pub mod Reached
 pub mod Rows
-pub mod Seats
 pub mod Spark
 pub mod SparkReading
 pub mod Text
+pub mod Walk

@@ -2,18 +2,24 @@
 //! and the grants of a broker, by filter and key.
 #![tactic(auto)]
 
+mod edges;
 mod fault;
 mod filter;
 mod found;
+mod growth;
 pub mod laws;
 mod levels;
 mod matching;
-mod seats;
+mod node;
+mod nodes;
 mod spark;
 #[cfg(test)]
 mod tests;
 mod topic;
 mod tree;
+#[cfg(test)]
+mod tree_tests;
+mod walk;
 
 pub use fault::TopicFault;
 pub use filter::Filter;

@@ -28,7 +28,14 @@ pub(crate) fn is_barred(filter: &str, topic: &str) -> bool
     ensures { result ≡ is_barred filter.now topic.now }
 {
     let (first, _) = cut(filter);
-    (first == "+" || first == "#") && topic.starts_with('$')
+    (first == "+" || first == "#") && begins_with_dollar(topic)
+}
+
+/// Whether a topic begins with `$`.
+pub(crate) fn begins_with_dollar(topic: &str) -> bool
+    ensures { result ≡ begins_with_dollar topic.now }
+{
+    topic.starts_with('$')
 }
 
 // Whether the levels of a filter fit those of a topic.

@@ -1,28 +1,31 @@
 //! The grants of a broker: who gets a publish, and with which quality of service.
-ghost use Rattle.std.specs.Prelude.{◌≡◌, ◌≢◌, ℕ, slice_get, IfOk, OnOk, OnErr, IfErr, Some, None, is_none, is_some};
+ghost use Rattle.std.specs.Prelude.{◌≡◌, ◌≢◌, ◌<◌, ℕ, slice_get, IfOk, OnOk, OnErr, IfErr, Some, None, is_none, is_some, vec_len};
 ghost use Rattle.std.specs.FinMap as map;
 ghost use Rattle.spk_topics.specs.Grants.{Finds};
-ghost use Rattle.spk_topics.specs.Reached.{FindsAll};
+ghost use Rattle.spk_topics.specs.Levels.{levels};
+ghost use Rattle.spk_topics.specs.Nodes.{IsWhole, child_of, rows_of};
+ghost use Rattle.spk_topics.specs.Paths.{descend};
 ghost use Rattle.spk_topics.specs.Rows.{Absent, IsPlace, grants_of};
-ghost use Rattle.spk_topics.specs.Seats.{AreApart, rows_of};
 
 use crate::fault::TopicFault;
 use crate::filter::Filter;
-use crate::found::{gather, listed};
-use crate::matching::matches_text;
-use crate::seats::{Seat, empty_place, place_of, push_seat, put_at, take_at};
+use crate::found::listed;
+use crate::nodes::Nodes;
 use crate::topic::Topic;
 use std::alloc::Global;
-use std::collections::BTreeMap;
 use std::marker::Model;
 
 /// The grants that stand: for a filter and a key, a QoS. Contracts see them as the finite map from pairs
 /// of a filter's bytes and a key to a QoS.
-/// For now each call looks at each filter.
+///
+/// They stand in a tree of levels: the levels of a filter lead from the root, edge by edge, to the node of
+/// its grants. `grant` and `take_back` walk that way, `find` the ways that fit the topic, by the level
+/// itself, `+` and `#`. The nodes stand in one vector and name each other by number, and every walk is a
+/// loop, so a filter of many levels costs no stack. A node that carries nothing any more is used again.
 #[derive(Drop)]
 pub struct Tree {
     alloc: Global,
-    seats: Vec<Seat>,
+    pub(crate) nodes: Nodes,
 }
 
 impl Model for Tree {
@@ -36,11 +39,11 @@ impl Model for Tree {
     ghost coded = { map.code (coded× (coded_list coded_ℕ) coded_ℕ) coded_ℕ };
 
     ghost use Rattle.spk_topics.specs.Rows.{grants_of};
-    ghost use Rattle.spk_topics.specs.Seats.{rows_of, AreApart};
+    ghost use Rattle.spk_topics.specs.Nodes.{rows_of, IsWhole};
 
-    ghost view = { λ a. grants_of (rows_of a.seats.items) };
+    ghost view = { λ a. grants_of (rows_of a.nodes) };
 
-    ghost invariant = { λ a. AreApart (rows_of a.seats.items) };
+    ghost invariant = { λ a. IsWhole a.nodes };
 }
 
 impl Tree {
@@ -50,7 +53,7 @@ impl Tree {
     {
         Tree {
             alloc,
-            seats: Vec::new(alloc),
+            nodes: Nodes::new(alloc),
         }
     }
 
@@ -63,7 +66,7 @@ impl Tree {
         ensures fails_new { OnErr result (map.get self.old (filter.now, key) ≡ None) }
         ensures err { OnErr result (self.new ≡ self.old) }
     {
-        grant_in(self.alloc, &mut self.seats, filter.text(), key, qos)
+        grant_in(self.alloc, &mut self.nodes, filter.text(), key, qos)
     }
 
     /// Takes the grant of a filter and a key back, and says whether it stood. It takes no memory.
@@ -71,7 +74,7 @@ impl Tree {
         ensures stood { result ≡ is_some (map.get self.old (filter.now, key)) }
         ensures gone { self.new ≡ map.remove self.old (filter.now, key) }
     {
-        take_in(&mut self.seats, filter.text(), key)
+        take_in(&mut self.nodes, filter.text(), key)
     }
 
     /// Each key that has a filter which matches the topic, once, in ascending keys, with its greatest QoS.
@@ -79,23 +82,16 @@ impl Tree {
         ensures ok { IfOk result (λ found. Finds self.now topic.now found.items) }
         ensures fault { IfErr result (λ e. e ≡ TopicFault.NoMemory) }
     {
-        find_in(self.alloc, &self.seats, topic.text())
+        find_in(self.alloc, &self.nodes, topic.text())
     }
 }
 
-// Looks at each filter.
-fn find_in(alloc: Global, seats: &[Seat], topic: &str) -> Result<Vec<(u64, u8)>, TopicFault>
-    requires { AreApart (rows_of seats.now) }
-    ensures ok { IfOk result (λ found. Finds (grants_of (rows_of seats.now)) topic.now found.items) }
+fn find_in(alloc: Global, nodes: &Nodes, topic: &str) -> Result<Vec<(u64, u8)>, TopicFault>
+    requires { IsWhole nodes.now }
+    ensures ok { IfOk result (λ found. Finds (grants_of (rows_of nodes.now)) topic.now found.items) }
     ensures fault { IfErr result (λ e. e ≡ TopicFault.NoMemory) }
 {
-    let mut found = BTreeMap::new(alloc);
-    for n in 0..seats.len() {
-        let seat = &seats[n];
-        if matches_text(&seat.filter, topic) {
-            gather(&mut found, &seat.grants)?;
-        }
-    }
+    let found = nodes.find(alloc, topic)?;
     match listed(alloc, &found) {
         Ok(list) => Ok(list),
         Err(fault) => Err(fault),
@@ -104,55 +100,60 @@ fn find_in(alloc: Global, seats: &[Seat], topic: &str) -> Result<Vec<(u64, u8)>,
 
 fn grant_in(
     alloc: Global,
-    seats: &mut Vec<Seat>,
+    nodes: &mut Nodes,
     filter: &str,
     key: u64,
     qos: u8,
 ) -> Result<bool, TopicFault>
-    requires { AreApart (rows_of seats.old.items) }
-    ensures apart { AreApart (rows_of seats.new.items) }
-    ensures is_new { IfOk result (λ is_new. is_new ≡ is_none (map.get (grants_of (rows_of seats.old.items)) (filter.now, key))) }
-    ensures ok { OnOk result (grants_of (rows_of seats.new.items) ≡ map.insert (grants_of (rows_of seats.old.items)) (filter.now, key) qos) }
+    requires { IsWhole nodes.old }
+    ensures whole { IsWhole nodes.new }
+    ensures is_new { IfOk result (λ is_new. is_new ≡ is_none (map.get (grants_of (rows_of nodes.old)) (filter.now, key))) }
+    ensures ok { OnOk result (grants_of (rows_of nodes.new) ≡ map.insert (grants_of (rows_of nodes.old)) (filter.now, key) qos) }
     ensures fault { IfErr result (λ e. e ≡ TopicFault.NoMemory) }
-    ensures fails_new { OnErr result (map.get (grants_of (rows_of seats.old.items)) (filter.now, key) ≡ None) }
-    ensures err { OnErr result (grants_of (rows_of seats.new.items) ≡ grants_of (rows_of seats.old.items)) }
+    ensures fails_new { OnErr result (map.get (grants_of (rows_of nodes.old)) (filter.now, key) ≡ None) }
+    ensures err { OnErr result (grants_of (rows_of nodes.new) ≡ grants_of (rows_of nodes.old)) }
 {
-    match place_for(alloc, seats, filter) {
-        Ok(n) => put_at(alloc, seats, n, filter, key, qos),
+    let place = place_for(alloc, nodes, filter)?;
+    match nodes.put_at(alloc, place, filter, key, qos) {
+        Ok(is_new) => Ok(is_new),
+        Err(fault) => {
+            nodes.prune(place);
+            Err(fault)
+        }
+    }
+}
+
+// The node of a filter's grants, or a new one for them.
+fn place_for(alloc: Global, nodes: &mut Nodes, filter: &str) -> Result<usize, TopicFault>
+    requires { IsWhole nodes.old }
+    ensures whole { IsWhole nodes.new }
+    ensures same { grants_of (rows_of nodes.new) ≡ grants_of (rows_of nodes.old) }
+    ensures place { IfOk result (IsPlace (rows_of nodes.new) filter.now) }
+    ensures led { IfOk result (λ n. descend (child_of nodes.new) 0 (levels filter.now) ≡ Some n) }
+    ensures fault { IfErr result (λ e. e ≡ TopicFault.NoMemory) }
+    ensures fails_new { OnErr result (Absent (rows_of nodes.old) filter.now) }
+{
+    if let Some(place) = nodes.place_of(filter) {
+        return Ok(place);
+    }
+    match nodes.grow(alloc, filter) {
+        Ok(place) => Ok(place),
         Err(fault) => Err(fault),
     }
 }
 
-// The place of a filter's grants, or an empty one for them.
-fn place_for(alloc: Global, seats: &mut Vec<Seat>, filter: &str) -> Result<usize, TopicFault>
-    requires { AreApart (rows_of seats.old.items) }
-    ensures apart { AreApart (rows_of seats.new.items) }
-    ensures same { grants_of (rows_of seats.new.items) ≡ grants_of (rows_of seats.old.items) }
-    ensures place { IfOk result (IsPlace (rows_of seats.new.items) filter.now) }
-    ensures fault { IfErr result (λ e. e ≡ TopicFault.NoMemory) }
-    ensures fails_new { OnErr result (Absent (rows_of seats.old.items) filter.now) }
+fn take_in(nodes: &mut Nodes, filter: &str, key: u64) -> bool
+    requires { IsWhole nodes.old }
+    ensures whole { IsWhole nodes.new }
+    ensures stood { result ≡ is_some (map.get (grants_of (rows_of nodes.old)) (filter.now, key)) }
+    ensures gone { grants_of (rows_of nodes.new) ≡ map.remove (grants_of (rows_of nodes.old)) (filter.now, key) }
 {
-    if let Some(n) = place_of(seats, filter) {
-        return Ok(n);
-    }
-    if let Some(n) = empty_place(seats) {
-        return Ok(n);
-    }
-    let n = seats.len();
-    match push_seat(alloc, seats, "") {
-        Ok(()) => Ok(n),
-        Err(fault) => Err(fault),
-    }
-}
-
-fn take_in(seats: &mut Vec<Seat>, filter: &str, key: u64) -> bool
-    requires { AreApart (rows_of seats.old.items) }
-    ensures apart { AreApart (rows_of seats.new.items) }
-    ensures stood { result ≡ is_some (map.get (grants_of (rows_of seats.old.items)) (filter.now, key)) }
-    ensures gone { grants_of (rows_of seats.new.items) ≡ map.remove (grants_of (rows_of seats.old.items)) (filter.now, key) }
-{
-    match place_of(seats, filter) {
-        Some(n) => take_at(seats, n, filter, key),
+    match nodes.place_of(filter) {
+        Some(place) => {
+            let stood = nodes.take_at(place, filter, key);
+            nodes.prune(place);
+            stood
+        }
         None => false,
     }
 }

@@ -1,0 +1,25 @@
+use Rattle.std.proofs.Common.{arith, Some}
+use Rattle.spk_topics.proofs.NodeLemmas.{same_rows, same_links}
+use Rattle.spk_topics.proofs.EdgeLemmas.{node_ups_stay, node_child_set}
+use Rattle.spk_topics.proofs.nodes.Nodes.add_child.Goals as goal
+
+pub returns-in-Ok-clause-rows : goal.returns-in-Ok-clause-rows
+returns-in-Ok-clause-rows c = same_rows c.args.self.now.list.items c.args.number c.index_mut.result.now c.add_child.new.self c.index_mut.ensures.value c.in-Ok.ensures.row
+
+pub returns-in-Ok-clause-up : goal.returns-in-Ok-clause-up
+returns-in-Ok-clause-up c =
+    node_ups_stay c.args.self.now.list.items c.args.number c.index_mut.result.now c.add_child.new.self (omega (arith, c.args.self.now.list.ok.0)) c.index_mut.ensures.value c.in-Ok.ensures.up
+
+pub returns-in-Ok-clause-child : goal.returns-in-Ok-clause-child
+returns-in-Ok-clause-child c =
+    node_child_set c.args.self.now.list.items c.args.number c.index_mut.result.now c.add_child.new.self c.args.level.now (Some c.args.child) (omega (arith, c.args.self.now.list.ok.0)) c.index_mut.ensures.value c.in-Ok.ensures.ok
+
+pub returns-in-Err-clause-rows : goal.returns-in-Err-clause-rows
+returns-in-Err-clause-rows c = same_rows c.args.self.now.list.items c.args.number c.index_mut.result.now c.add_child.new.self c.index_mut.ensures.value c.in-Err.ensures.row
+
+pub returns-in-Err-clause-up : goal.returns-in-Err-clause-up
+returns-in-Err-clause-up c =
+    node_ups_stay c.args.self.now.list.items c.args.number c.index_mut.result.now c.add_child.new.self (omega (arith, c.args.self.now.list.ok.0)) c.index_mut.ensures.value c.in-Err.ensures.up
+
+pub returns-in-Err-clause-err : goal.returns-in-Err-clause-err
+returns-in-Err-clause-err c = same_links c.args.self.now.list.items c.args.number c.index_mut.result.now c.add_child.new.self c.index_mut.ensures.value c.in-Err.ensures.err

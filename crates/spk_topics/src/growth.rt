@@ -1,0 +1,158 @@
+//! How the tree of levels grows for a filter, and loses the nodes that carry nothing any more.
+ghost use Rattle.std.specs.Prelude.{◌≡◌, ◌≢◌, ◌<◌, ◌≤◌, ℕ, List, Some, None, IfOk, IfErr, OnOk, vec_len};
+ghost use Rattle.spk_topics.specs.Edges.{GrowsTo};
+ghost use Rattle.spk_topics.specs.Levels.{levels};
+ghost use Rattle.spk_topics.specs.Nodes.{IsWhole, child_of, rows_of, up_of};
+ghost use Rattle.spk_topics.specs.Paths.{descend};
+ghost use Rattle.spk_topics.specs.Rows.{Absent, grants_of};
+
+use crate::fault::TopicFault;
+use crate::levels::cut;
+use crate::node::Edge;
+use crate::nodes::Nodes;
+use std::alloc::Global;
+
+impl Nodes {
+    /// The node to which a filter's levels lead, with new edges where they lead nowhere yet. Where it
+    /// fails, the edges that it made are gone again.
+    pub(crate) fn grow(&mut self, alloc: Global, filter: &str) -> Result<usize, TopicFault>
+        requires { IsWhole self.old }
+        ensures whole { IsWhole self.new }
+        ensures same { grants_of (rows_of self.new) ≡ grants_of (rows_of self.old) }
+        ensures absent { (f : List ℕ) → Absent (rows_of self.old) f → Absent (rows_of self.new) f }
+        ensures led { IfOk result (λ n. descend (child_of self.new) 0 (levels filter.now) ≡ Some n) }
+        ensures within { IfOk result (λ n. n < vec_len self.new.list) }
+        ensures fault { IfErr result (λ e. e ≡ TopicFault.NoMemory) }
+    {
+        self.plant(alloc)?;
+        let mut number = 0;
+        let mut left = Some(filter);
+        while let Some(text) = left {
+            let (level, rest) = cut(text);
+            match self.child_for(alloc, number, level) {
+                Ok(child) => number = child,
+                Err(fault) => {
+                    self.prune(number);
+                    return Err(fault);
+                }
+            }
+            left = rest;
+        }
+        Ok(number)
+    }
+
+    // Makes the root, if it isn't there yet.
+    fn plant(&mut self, alloc: Global) -> Result<(), TopicFault>
+        requires { IsWhole self.old }
+        ensures whole { IsWhole self.new }
+        ensures grows { GrowsTo self.old self.new }
+        ensures rooted { OnOk result (0 < vec_len self.new.list) }
+        ensures fault { IfErr result (λ e. e ≡ TopicFault.NoMemory) }
+    {
+        if self.list.is_empty() {
+            self.push(alloc)?;
+        }
+        Ok(())
+    }
+
+    // The node to which a level leads from a node, by a new edge if it leads nowhere yet.
+    fn child_for(&mut self, alloc: Global, number: usize, level: &str) -> Result<usize, TopicFault>
+        requires whole { IsWhole self.old }
+        requires within { number < vec_len self.old.list }
+        ensures whole { IsWhole self.new }
+        ensures grows { GrowsTo self.old self.new }
+        ensures led { IfOk result (λ n. child_of self.new number level.now ≡ Some n) }
+        ensures within { IfOk result (λ n. n < vec_len self.new.list) }
+        ensures fault { IfErr result (λ e. e ≡ TopicFault.NoMemory) }
+    {
+        if let Some(child) = self.child(number, level) {
+            return Ok(child);
+        }
+        let child = self.unused_node(alloc)?;
+        match self.link(alloc, number, level, child) {
+            Ok(()) => Ok(child),
+            Err(fault) => Err(fault),
+        }
+    }
+
+    // A node beside the root to which no edge leads.
+    fn unused_node(&mut self, alloc: Global) -> Result<usize, TopicFault>
+        requires whole { IsWhole self.old }
+        requires rooted { 0 < vec_len self.old.list }
+        ensures whole { IsWhole self.new }
+        ensures grows { GrowsTo self.old self.new }
+        ensures child { child_of self.new ≡ child_of self.old }
+        ensures root { IfOk result (λ n. n ≢ 0) }
+        ensures up { IfOk result (λ n. up_of self.new n ≡ None) }
+        ensures within { IfOk result (λ n. n < vec_len self.new.list) }
+        ensures longer { vec_len self.old.list ≤ vec_len self.new.list }
+        ensures fault { IfErr result (λ e. e ≡ TopicFault.NoMemory) }
+    {
+        if let Some(number) = self.unused {
+            if self.is_unused(number) {
+                return Ok(number);
+            }
+        }
+        let number = self.list.len();
+        self.push(alloc)?;
+        self.unused = Some(number);
+        Ok(number)
+    }
+
+    // Lets a level that leads nowhere yet lead from a node to an unused one.
+    fn link(
+        &mut self,
+        alloc: Global,
+        number: usize,
+        level: &str,
+        child: usize,
+    ) -> Result<(), TopicFault>
+        requires whole { IsWhole self.old }
+        requires within { number < vec_len self.old.list }
+        requires leads_nowhere { child_of self.old number level.now ≡ None }
+        requires child_within { child < vec_len self.old.list }
+        requires child_root { child ≢ 0 }
+        requires child_up { up_of self.old child ≡ None }
+        ensures whole { IsWhole self.new }
+        ensures grows { GrowsTo self.old self.new }
+        ensures led { OnOk result (child_of self.new number level.now ≡ Some child) }
+        ensures len { vec_len self.new.list ≡ vec_len self.old.list }
+        ensures fault { IfErr result (λ e. e ≡ TopicFault.NoMemory) }
+    {
+        let text = String::from_str(alloc, level)?;
+        self.add_child(alloc, number, level, child)?;
+        let edge = Edge {
+            parent: number,
+            level: text,
+        };
+        self.put_edge(child, edge);
+        Ok(())
+    }
+
+    /// Takes a node off the tree if it carries nothing, and then those above it as far as they carry
+    /// nothing any more. It takes no memory.
+    pub(crate) fn prune(&mut self, number: usize)
+        requires { IsWhole self.old }
+        ensures whole { IsWhole self.new }
+        ensures rows { rows_of self.new ≡ rows_of self.old }
+    {
+        let mut number = number;
+        for _ in 0..self.list.len() {
+            match self.free_leaf(number) {
+                Some(parent) => number = parent,
+                None => return,
+            }
+        }
+    }
+
+    // Takes a node off the tree if it has no grants and no child, and says which one was above it.
+    fn free_leaf(&mut self, number: usize) -> Option<usize>
+        requires { IsWhole self.old }
+        ensures whole { IsWhole self.new }
+        ensures rows { rows_of self.new ≡ rows_of self.old }
+    {
+        let edge = self.take_edge(number)?;
+        self.drop_child(edge.parent, edge.level.as_str());
+        Some(edge.parent)
+    }
+}
