@@ -11,6 +11,7 @@ mod packet;
 mod parts;
 mod publish;
 mod read;
+mod size;
 mod small;
 mod subscribe;
 mod table;

@@ -12,6 +12,7 @@ use crate::fault::PacketFault;
 use crate::judge::judge;
 use crate::packet::{Packet, Request, Will};
 use crate::read::LARGEST;
+use crate::size::body_size;
 use std::alloc::{AllocError, Global};
 
 /// The low 16 bits at the end, the most significant byte first.
@@ -143,79 +144,6 @@ fn put_body(out: &mut Vec<u8>, packet: &Packet) -> Result<(), AllocError>
         Packet::PingReq | Packet::PingResp | Packet::Disconnect => {}
     }
     Ok(())
-}
-
-// ---- sizes, modulo 2^64: a vector has fewer bytes than 2^63, so where a size wraps no packet of it is written
-
-fn counted_size(bytes: &[u8]) -> usize
-    ensures { result ≡ length (counted bytes.now) % 2 ^ 64 }
-{
-    bytes.len().wrapping_add(2)
-}
-
-fn requests_size(requests: &[Request]) -> usize
-    ensures { result ≡ length (flat_map request (map request_view requests.now)) % 2 ^ 64 }
-{
-    let mut sum = 0usize;
-    for entry in requests {
-        sum = sum
-            .wrapping_add(counted_size(entry.filter.as_bytes()))
-            .wrapping_add(1);
-    }
-    sum
-}
-
-fn filters_size(filters: &[String]) -> usize
-    ensures { result ≡ length (flat_map counted (map (λ filter. string_bytes filter) filters.now)) % 2 ^ 64 }
-{
-    let mut sum = 0usize;
-    for filter in filters {
-        sum = sum.wrapping_add(counted_size(filter.as_bytes()));
-    }
-    sum
-}
-
-fn will_size(will: &Option<Will>) -> usize
-    ensures { result ≡ length (will_part (option_map will_view will.now)) % 2 ^ 64 }
-{
-    match will {
-        Some(will) => counted_size(will.topic.as_bytes()).wrapping_add(counted_size(&will.message)),
-        None => 0,
-    }
-}
-
-fn id_size(id: Option<u16>) -> usize
-    ensures { result ≡ length (id_part id) }
-{
-    match id {
-        Some(_) => 2,
-        None => 0,
-    }
-}
-
-/// How many bytes stand behind the header.
-#[tactic(auto, unfolding(crate::specs::Spelling::body))]
-fn body_size(packet: &Packet) -> usize
-    ensures { result ≡ length (body (view packet.now)) % 2 ^ 64 }
-{
-    match packet {
-        Packet::Connect { client, will, .. } => counted_size(client.as_bytes())
-            .wrapping_add(will_size(will))
-            .wrapping_add(10),
-        Packet::ConnAck { .. } | Packet::PubAck { .. } | Packet::UnsubAck { .. } => 2,
-        Packet::Publish {
-            topic,
-            id,
-            payload,
-            ..
-        } => counted_size(topic.as_bytes())
-            .wrapping_add(id_size(*id))
-            .wrapping_add(payload.len()),
-        Packet::Subscribe { filters, .. } => requests_size(filters).wrapping_add(2),
-        Packet::SubAck { codes, .. } => codes.len().wrapping_add(2),
-        Packet::Unsubscribe { filters, .. } => filters_size(filters).wrapping_add(2),
-        Packet::PingReq | Packet::PingResp | Packet::Disconnect => 0,
-    }
 }
 
 /// The low eight bits of the connect flags, without user name and password.

@@ -2,7 +2,7 @@ use Rattle.std.proofs.Common.{◌≡◌, ◌+◌, ◌%◌, ◌^◌, length, subs
 use Rattle.spk_packets.specs.Spelling.{body}
 use Rattle.spk_packets.specs.View.{view}
 use Rattle.spk_packets.proofs.Written.{unsubscribe_size}
-use Rattle.spk_packets.proofs.write.body_size.Goals as goal
+use Rattle.spk_packets.proofs.size.body_size.Goals as goal
 
 pub returns-in-Unsubscribe : goal.returns-in-Unsubscribe
 unfolding body
