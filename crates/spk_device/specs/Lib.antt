@@ -1,0 +1,10 @@
+pub mod Fault
+pub mod Names
+pub mod Values
+pub mod Book
+pub mod View
+pub mod Step
+pub mod Lawful
+pub mod Inside
+pub mod Calls
+pub mod Queries

@@ -1,0 +1,29 @@
+//! A device as the registry keeps it.
+ghost use Rattle.std.specs.Prelude.{◌≡◌};
+ghost use Rattle.spk_device.specs.Step.{change_unless};
+ghost use Rattle.spk_device.specs.Values.{flag_eq};
+
+use crate::change::Change;
+use crate::names::Names;
+
+/// A device: its name, whether it is up, and the places of its metrics, by name.
+#[derive(Drop)]
+pub(crate) struct Device {
+    pub(crate) name: String,
+    pub(crate) up: bool,
+    pub(crate) metrics: Names,
+}
+
+impl Device {
+    /// The device is up or down from now on.
+    pub(crate) fn turn(&mut self, up: bool) -> Change
+        ensures change { result ≡ change_unless (flag_eq self.old.up up) }
+        ensures data { self.new ≡ record self.old { up = up } }
+    {
+        if self.up == up {
+            return Change::Same;
+        }
+        self.up = up;
+        Change::Changed
+    }
+}

@@ -1,0 +1,26 @@
+//! The devices and metrics of one edge node: names, aliases, datatypes and the values last set.
+//!
+//! Follows the Sparkplug specification 3.0.0, chapter 6 "Sparkplug Payloads", on metrics, aliases and births.
+#![tactic(auto)]
+
+mod adding;
+mod births;
+mod change;
+mod device;
+mod fault;
+mod gauge;
+pub mod laws;
+mod names;
+mod owner;
+mod registry;
+mod setting;
+mod values;
+
+pub use change::Change;
+pub use fault::{DeviceFault, Refusal};
+pub use gauge::Gauge;
+pub use owner::Owner;
+pub use registry::{Alias, Registry};
+
+#[cfg(test)]
+mod tests;

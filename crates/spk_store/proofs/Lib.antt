@@ -1,0 +1,3 @@
+mod Rows
+mod Runs
+pub mod Suffixes
