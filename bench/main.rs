@@ -180,6 +180,11 @@ fn median(mut list: Vec<f64>) -> f64 {
     list[list.len() / 2]
 }
 
+/// A ratio in two digits behind the point, or in two that aren't 0.
+fn shown(ratio: f64) -> String {
+    if ratio < 0.1 { format!("{ratio:.4}") } else { format!("{ratio:.2}") }
+}
+
 /// Nanoseconds of one call.
 fn sample(body: &Body, rounds: u64, calls: u64) -> f64 {
     (seconds(body, rounds) - seconds(body, 0)) * 1e9 / (rounds * calls) as f64
@@ -200,7 +205,7 @@ fn table(word: &str) {
                 (0..SAMPLES).map(|_| (sample(&row.ours, ours, row.calls), sample(body, rounds, row.calls))).collect();
             let (mine, theirs) = (median(pairs.iter().map(|p| p.0).collect()), median(pairs.iter().map(|p| p.1).collect()));
             let ratio = median(pairs.iter().map(|p| p.0 / p.1).collect());
-            println!("| {} | {mine:.0} | {peer} | {theirs:.0} | {ratio:.2} |", row.name);
+            println!("| {} | {mine:.0} | {peer} | {theirs:.0} | {} |", row.name, shown(ratio));
         }
     }
 }
@@ -236,7 +241,7 @@ fn counts(word: &str) {
         let ours = instructions(n, 0, row.calls);
         for (who, (peer, _)) in row.peers.iter().enumerate() {
             let theirs = instructions(n, who + 1, row.calls);
-            println!("| {} | {ours:.0} | {peer} | {theirs:.0} | {:.2} |", row.name, ours / theirs);
+            println!("| {} | {ours:.0} | {peer} | {theirs:.0} | {} |", row.name, shown(ours / theirs));
         }
     }
 }
