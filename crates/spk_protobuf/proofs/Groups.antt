@@ -192,3 +192,11 @@ varint_fault bytes w e =
 pub varint_fault_again : (bytes : List ℕ) (w : WireFault) → IsVarintFault bytes w → varint_at bytes ≡ Err w
 unfolding varint_at
 varint_fault_again bytes w h = rw (groups_fault_again 10 bytes w (to_groups_fault bytes w h)) refl
+
+-- a byte below 128 is a whole varint
+pub varint_at_small : (b : ℕ) (rest : List ℕ) → b < 128 → varint_at (b ∷ rest) ≡ Ok (b, rest)
+unfolding varint_at groups_at
+varint_at_small b rest below =
+    let t : ltb b 128 ≡ true = lt-ltb _ _ below in
+    let m : b % 2 ^ 64 ≡ b = omega (arith, below) in
+    rw t (ap (λ (n : ℕ). done (n, rest)) m)

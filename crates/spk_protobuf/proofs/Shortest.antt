@@ -1,8 +1,9 @@
 -- The canonical spelling of a number is a varint of it, and none is shorter.
-use Rattle.std.proofs.Common.{◌≡◌, ℕ, zero, suc, ◌+◌, ◌-◌, ◌*◌, ◌/◌, ◌%◌, ◌^◌, ◌<◌, ◌≤◌, true, false, cond, ltb, List, [], ◌∷◌, ◌++◌, length, refl, sym, ap, subst, ◌∙◌, append_assoc, arith, inl, inr}
+use Rattle.std.proofs.Common.{◌≡◌, ℕ, zero, suc, ◌+◌, ◌-◌, ◌*◌, ◌/◌, ◌%◌, ◌^◌, ◌<◌, ◌≤◌, true, false, cond, ltb, List, [], ◌∷◌, ◌++◌, length, refl, sym, ap, subst, ◌∙◌, append_assoc, append-nil, take, arith, inl, inr}
 use Rattle.std.proofs.lemmas.Bool.{lt-ltb, le-ltb, cases_lt}
 use Rattle.std.proofs.lemmas.Nat.{pow-add}
-use Rattle.std.specs.Prelude.{Result, Ok, Err, is_ok, OnOk}
+use Rattle.std.proofs.Math.Seq.{take-append_seam}
+use Rattle.std.specs.Prelude.{Result, Ok, Err, is_ok, OnOk, OnErr}
 use Rattle.spk_protobuf.specs.Grammar.{Bytes, AreGroups, IsVarint, IsField}
 use Rattle.spk_protobuf.specs.Spelling.{groups_of, varint, bytes_field}
 use Rattle.spk_protobuf.proofs.Groups.{AreGroups-more}
@@ -132,6 +133,83 @@ tenth-below i rest a b below =
 pub varint-groups : (n : ℕ) → groups_of (9 - 0) n ≡ varint n
 unfolding varint
 varint-groups n = refl
+
+-- ---- the loop that appends them
+
+-- what was appended so far, with the groups of what is left, is the whole
+pub record Put (old items : List ℕ) (i rest number : ℕ) : Type 0 where
+  pub so_far : List ℕ
+  pub grown : items ≡ old ++ so_far
+  pub whole : so_far ++ groups_of (9 - i) rest ≡ varint number
+  pub below : rest < 2 ^ (64 - 7 * i)
+
+pub put-init : (old : List ℕ) (number : ℕ) → number < 2 ^ 64 → Put old old 0 number number
+put-init old number below = record { so_far = []; grown = sym (append-nil old); whole = varint-groups number; below = below }
+
+pub put-more : (old items next : List ℕ) (i rest number : ℕ) → i < 9 → 128 ≤ rest → next ≡ items ++ (rest % 128 + 128) ∷ [] → Put old items i rest number → Put old next (i + 1) (rest / 128) number
+put-more old items next i rest number lt le e p = record {
+  so_far = p.so_far ++ (rest % 128 + 128) ∷ [];
+  grown = e ∙ ap (λ (x : List ℕ). x ++ (rest % 128 + 128) ∷ []) p.grown ∙ append_assoc old p.so_far ((rest % 128 + 128) ∷ []);
+  whole = one_more i rest number p.so_far lt le p.whole;
+  below = shrinks i rest lt p.below;
+}
+
+put-all : (old items next : List ℕ) (i rest number : ℕ) → Put old items i rest number → ((so_far : List ℕ) → so_far ++ groups_of (9 - i) rest ≡ varint number → so_far ++ rest ∷ [] ≡ varint number) → next ≡ items ++ rest ∷ [] → next ≡ old ++ varint number
+put-all old items next i rest number p ends e =
+    e ∙ ap (λ (x : List ℕ). x ++ rest ∷ []) p.grown ∙ append_assoc old p.so_far (rest ∷ []) ∙ ap (λ (x : List ℕ). old ++ x) (ends p.so_far p.whole)
+
+pub put-last : {E : Type 0} (r : Result (Unit {0}) E) (old items next : List ℕ) (i rest number : ℕ) → i < 9 → rest < 128 → Put old items i rest number → OnOk r (next ≡ items ++ rest ∷ []) → OnOk r (next ≡ old ++ varint number)
+put-last (Err w) old items next i rest number lt below p e = tt
+put-last (Ok x) old items next i rest number lt below p e = put-all old items next i rest number p (λ so_far. last_one i rest number so_far lt below) e
+
+pub put-tenth : {E : Type 0} (r : Result (Unit {0}) E) (old items next : List ℕ) (i rest number : ℕ) → 9 ≤ i → Put old items i rest number → OnOk r (next ≡ items ++ rest ∷ []) → OnOk r (next ≡ old ++ varint number)
+put-tenth (Err w) old items next i rest number le p e = tt
+put-tenth (Ok x) old items next i rest number le p e = put-all old items next i rest number p (λ so_far. tenth i rest number so_far le) e
+
+put-kept : (old items next : List ℕ) (i rest number : ℕ) → Put old items i rest number → next ≡ items → take (length old) next ≡ old
+put-kept old items next i rest number p e = ap (λ (x : List ℕ). take (length old) x) (e ∙ p.grown) ∙ take-append_seam old p.so_far
+
+pub put-failed : {X E : Type 0} (r : Result X E) (old items next : List ℕ) (i rest number : ℕ) → Put old items i rest number → OnErr r (next ≡ items) → OnErr r (take (length old) next ≡ old)
+put-failed (Ok x) old items next i rest number p e = tt
+put-failed (Err w) old items next i rest number p e = put-kept old items next i rest number p e
+
+pub put-stopped : {X E : Type 0} (r : Result X E) (old items next : List ℕ) (i rest number : ℕ) → Put old items i rest number → next ≡ items → OnErr r (take (length old) next ≡ old)
+put-stopped (Ok x) old items next i rest number p e = tt
+put-stopped (Err w) old items next i rest number p e = put-kept old items next i rest number p e
+
+pub put-below : (old items : List ℕ) (i rest number : ℕ) → i ≤ 9 → 9 ≤ i → Put old items i rest number → rest < 256
+put-below old items i rest number a b p = tenth-below i rest a b p.below
+
+-- ---- the loop that counts them: those so far, with the groups of what is left, are as many as the whole
+
+pub count-init : (number : ℕ) → 0 + length (groups_of (9 - 0) number) ≡ length (varint number)
+count-init number = let e : length (groups_of (9 - 0) number) ≡ length (varint number) = ap (λ (x : List ℕ). length x) (varint-groups number) in omega (arith, e)
+
+pub count-more : (i rest n : ℕ) → i < 9 → 128 ≤ rest → i + length (groups_of (9 - i) rest) ≡ n → i + 1 + length (groups_of (9 - (i + 1)) (rest / 128)) ≡ n
+unfolding groups_of
+count-more i rest n lt le e =
+    let k : 9 - i ≡ suc (9 - (i + 1)) = omega arith in
+    let t : ltb rest 128 ≡ false = le-ltb _ _ le in
+    let one : groups_of (9 - i) rest ≡ (rest % 128 + 128) ∷ groups_of (9 - (i + 1)) (rest / 128) = rw (k, t) refl in
+    let many : length (groups_of (9 - i) rest) ≡ suc (length (groups_of (9 - (i + 1)) (rest / 128))) = ap (λ (x : List ℕ). length x) one in
+    omega (arith, e, many)
+
+pub count-last : (i rest n : ℕ) → i < 9 → rest < 128 → i + length (groups_of (9 - i) rest) ≡ n → i + 1 ≡ n
+unfolding groups_of
+count-last i rest n lt below e =
+    let k : 9 - i ≡ suc (9 - (i + 1)) = omega arith in
+    let t : ltb rest 128 ≡ true = lt-ltb _ _ below in
+    let one : groups_of (9 - i) rest ≡ rest ∷ [] = rw (k, t) refl in
+    let many : length (groups_of (9 - i) rest) ≡ 1 = ap (λ (x : List ℕ). length x) one in
+    omega (arith, e, many)
+
+pub count-tenth : (i rest n : ℕ) → i ≤ 9 → 9 ≤ i → i + length (groups_of (9 - i) rest) ≡ n → 10 ≡ n
+unfolding groups_of
+count-tenth i rest n le ge e =
+    let k : 9 - i ≡ 0 = omega arith in
+    let one : groups_of (9 - i) rest ≡ rest ∷ [] = rw k refl in
+    let many : length (groups_of (9 - i) rest) ≡ 1 = ap (λ (x : List ℕ). length x) one in
+    omega (arith, e, many)
 
 -- ---- what was appended
 

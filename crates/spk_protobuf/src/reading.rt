@@ -7,8 +7,20 @@ ghost use Rattle.spk_protobuf.specs.View.{Gives, shape_of, entry_of};
 use crate::fault::WireFault;
 use crate::field::{Field, Wire};
 
-/// The varint at the front, and the bytes after it.
+/// The varint at the front, and the bytes after it. Most have one byte, which is its own number.
+#[inline(always)]
+#[tactic(auto, using(crate::proofs::Groups::varint_at_small))]
 fn varint_at(bytes: &[u8]) -> Result<(u64, &[u8]), WireFault>
+    ensures { Gives (λ x. (x.0, x.1.now)) result (spec.varint_at bytes.now) }
+{
+    match bytes.split_first() {
+        Some((byte, rest)) if *byte < 128 => Ok((u64::from(*byte), rest)),
+        _ => any_varint_at(bytes),
+    }
+}
+
+/// The same, of any length.
+fn any_varint_at(bytes: &[u8]) -> Result<(u64, &[u8]), WireFault>
     ensures { Gives (λ x. (x.0, x.1.now)) result (spec.varint_at bytes.now) }
 {
     let mut value: u64 = 0;
@@ -29,6 +41,7 @@ fn varint_at(bytes: &[u8]) -> Result<(u64, &[u8]), WireFault>
 }
 
 /// So many bytes from the front, and the bytes after them.
+#[inline(always)]
 #[tactic(auto, unfolding(crate::specs::Reading::some_at))]
 fn some_at(len: u64, bytes: &[u8]) -> Result<(&[u8], &[u8]), WireFault>
     ensures { Gives (λ x. (x.0.now, x.1.now)) result (spec.some_at len bytes.now) }
@@ -39,6 +52,7 @@ fn some_at(len: u64, bytes: &[u8]) -> Result<(&[u8], &[u8]), WireFault>
     Ok(bytes.split_at(len as usize))
 }
 
+#[inline(always)]
 #[tactic(auto, unfolding(crate::specs::Reading::some_at))]
 fn eight_at(bytes: &[u8]) -> Result<([u8; 8], &[u8]), WireFault>
     ensures { Gives (λ x. (x.0, x.1.now)) result (spec.some_at 8 bytes.now) }
@@ -49,6 +63,7 @@ fn eight_at(bytes: &[u8]) -> Result<([u8; 8], &[u8]), WireFault>
     }
 }
 
+#[inline(always)]
 #[tactic(auto, unfolding(crate::specs::Reading::some_at))]
 fn four_at(bytes: &[u8]) -> Result<([u8; 4], &[u8]), WireFault>
     ensures { Gives (λ x. (x.0, x.1.now)) result (spec.some_at 4 bytes.now) }
@@ -60,6 +75,7 @@ fn four_at(bytes: &[u8]) -> Result<([u8; 4], &[u8]), WireFault>
 }
 
 /// The value of a wire type.
+#[inline(always)]
 #[tactic(auto, unfolding(crate::specs::Reading::value_at))]
 fn value_at(kind: u64, bytes: &[u8]) -> Result<(Wire<'_>, &[u8]), WireFault>
     ensures { Gives (λ x. (shape_of x.0, x.1.now)) result (spec.value_at kind bytes.now) }
@@ -88,6 +104,7 @@ fn value_at(kind: u64, bytes: &[u8]) -> Result<(Wire<'_>, &[u8]), WireFault>
 }
 
 /// The field at the front, and the bytes after it.
+#[inline(always)]
 #[tactic(auto, unfolding(crate::specs::Reading::field_at))]
 pub(crate) fn field_at(bytes: &[u8]) -> Result<(Field<'_>, &[u8]), WireFault>
     ensures { Gives (λ x. (entry_of x.0, x.1.now)) result (spec.field_at bytes.now) }

@@ -1,55 +1,56 @@
 //! Varints and length-delimited fields, appended.
 
-ghost use Rattle.std.specs.Prelude.{◌≡◌, ℕ, ◌+◌, ◌*◌, ◌-◌, ◌/◌, ◌%◌, ◌^◌, ◌<◌, ◌≤◌, ◌++◌, List, length, take, OnOk, OnErr};
+ghost use Rattle.std.specs.Prelude.{◌≡◌, ℕ, ◌+◌, ◌*◌, ◌-◌, ◌/◌, ◌%◌, ◌^◌, ◌<◌, ◌≤◌, ◌++◌, ◌∷◌, [], List, length, take, OnOk, OnErr};
 ghost use Rattle.spk_protobuf.specs.Grammar.{Entry, Bytes, IsVarint, IsField};
 ghost use Rattle.spk_protobuf.specs.Spelling.{varint, bytes_field};
 
 use std::alloc::AllocError;
 
-/// The bytes of the shortest varint, and how many they are.
-fn shortest(number: u64) -> ([u8; 10], usize)
-    ensures len { result.1 ≤ 10 }
-    ensures bytes { take result.1 result.0 ≡ varint number }
-    ensures size { result.1 ≡ length (varint number) }
-{
-    let mut bytes = [0u8; 10];
-    let mut rest = number;
-    for i in 0..9usize {
-        if rest < 128 {
-            bytes[i] = rest as u8;
-            return (bytes, i + 1);
-        }
-        bytes[i] = (rest % 128) as u8 + 128;
-        rest /= 128;
-    }
-    bytes[9] = rest as u8;
-    (bytes, 10)
-}
-
-/// A number below 128 is its own varint.
-#[tactic(auto, using(crate::proofs::Shortest::varint_small))]
-fn put_byte(out: &mut Vec<u8>, number: u64) -> Result<(), AllocError>
-    requires { number < 128 }
-    ensures ok { OnOk result (out.new.items ≡ out.old.items ++ varint number) }
+#[inline(always)]
+fn put_byte(out: &mut Vec<u8>, byte: u8) -> Result<(), AllocError>
+    ensures ok { OnOk result (out.new.items ≡ out.old.items ++ byte ∷ []) }
     ensures err { OnErr result (out.new.items ≡ out.old.items) }
 {
-    match out.push(number as u8) {
+    match out.push(byte) {
         Ok(()) => Ok(()),
         Err(_) => Err(AllocError),
     }
 }
 
-fn put_shortest(out: &mut Vec<u8>, number: u64) -> Result<(), AllocError>
+/// The groups of a number, the least significant first. After an `Err` some of them may stand in `out`.
+fn put_groups(out: &mut Vec<u8>, number: u64) -> Result<(), AllocError>
+    ensures ok { OnOk result (out.new.items ≡ out.old.items ++ varint number) }
+    ensures err { OnErr result (take (length out.old.items) out.new.items ≡ out.old.items) }
+{
+    let mut rest = number;
+    for _ in 0..9u32 {
+        if rest < 128 {
+            return put_byte(out, rest as u8);
+        }
+        put_byte(out, (rest % 128) as u8 + 128)?;
+        rest /= 128;
+    }
+    put_byte(out, rest as u8)
+}
+
+/// A varint of any length.
+fn put_any_varint(out: &mut Vec<u8>, number: u64) -> Result<(), AllocError>
     ensures ok { OnOk result (out.new.items ≡ out.old.items ++ varint number) }
     ensures err { OnErr result (out.new.items ≡ out.old.items) }
 {
-    let (bytes, len) = shortest(number);
-    out.extend_from_slice(&bytes[..len])
+    let length = out.len();
+    let put = put_groups(out, number);
+    if put.is_err() {
+        out.truncate(length);
+    }
+    put
 }
 
 /// Appends the number as the shortest varint, 1 to 10 bytes (protobuf encoding, "Base 128 Varints").
 ///
 /// Where no memory is given, `out` is as it was.
+#[inline(always)]
+#[tactic(auto, using(crate::proofs::Shortest::varint_small))]
 pub fn put_varint(out: &mut Vec<u8>, number: u64) -> Result<(), AllocError>
     ensures ok { OnOk result (out.new.items ≡ out.old.items ++ varint number) }
     // What is appended is a varint of the number, and none is shorter.
@@ -57,22 +58,26 @@ pub fn put_varint(out: &mut Vec<u8>, number: u64) -> Result<(), AllocError>
     ensures shortest { (text : List ℕ) → IsVarint text number → length (varint number) ≤ length text }
     ensures err { OnErr result (out.new.items ≡ out.old.items) }
 {
+    // A number below 128 is its own varint.
     if number < 128 {
-        return put_byte(out, number);
+        return put_byte(out, number as u8);
     }
-    put_shortest(out, number)
+    put_any_varint(out, number)
 }
 
 /// How many bytes the shortest varint of the number has, 1 to 10. Takes no memory.
-#[tactic(auto, using(crate::proofs::Shortest::varint_small))]
 pub fn varint_size(number: u64) -> usize
     ensures size { result ≡ length (varint number) }
     ensures bound { result ≤ 10 }
 {
-    if number < 128 {
-        return 1;
+    let mut left = number;
+    for i in 0..9usize {
+        if left < 128 {
+            return i + 1;
+        }
+        left /= 128;
     }
-    shortest(number).1
+    10
 }
 
 /// The tag of a length-delimited field, the length, and the bytes. After an `Err` some of it may stand in `out`.

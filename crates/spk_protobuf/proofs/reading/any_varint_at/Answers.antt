@@ -1,6 +1,6 @@
 use Rattle.spk_protobuf.specs.Reading.{varint_at}
 use Rattle.spk_protobuf.proofs.Loops.{with_low-start, goes_on, ends_with, ends_short, ends_long}
-use Rattle.spk_protobuf.proofs.reading.varint_at.Goals as goal
+use Rattle.spk_protobuf.proofs.reading.any_varint_at.Goals as goal
 
 pub loop-init : goal.loop-init
 loop-init c = with_low-start c.args.bytes.now

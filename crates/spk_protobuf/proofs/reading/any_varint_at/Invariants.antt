@@ -1,7 +1,7 @@
 use Rattle.std.proofs.Common.{◌≡◌, ◌-◌}
 use Rattle.spk_protobuf.specs.Reading.{groups_at, varint_at}
 use Rattle.spk_protobuf.proofs.Loops.{with_low}
-use Rattle.spk_protobuf.proofs.reading.varint_at.Given as goal
+use Rattle.spk_protobuf.proofs.reading.any_varint_at.Given as goal
 
 -- what was read, with the groups that are still to come, is the whole
 abbrev pub invariant-loop : goal.invariant-loop
