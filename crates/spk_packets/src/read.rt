@@ -65,7 +65,8 @@ fn cut(bytes: &[u8]) -> Result<(Kind, &[u8], usize), PacketFault>
     Ok((kind, &rest[size..size + len], whole))
 }
 
-/// The packet of this kind with this body.
+/// The packet of this kind with this body. Not inlined: a caller that finds no whole packet pays for no packet's room.
+#[inline(never)]
 #[tactic(auto, unfolding(crate::specs::Reading::body_at, crate::specs::Reading::ended))]
 fn packet(alloc: Global, kind: Kind, body: &[u8]) -> Result<Packet, PacketFault>
     ensures { Gives view result (body_at kind body.now) }

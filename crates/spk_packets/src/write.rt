@@ -16,6 +16,7 @@ use crate::size::body_size;
 use std::alloc::{AllocError, Global};
 
 /// The low 16 bits at the end, the most significant byte first.
+#[inline(always)]
 fn put_number(out: &mut Vec<u8>, n: usize) -> Result<(), AllocError>
     ensures { OnOk result (out.new.items ≡ out.old.items ++ number n) }
 {
@@ -25,6 +26,7 @@ fn put_number(out: &mut Vec<u8>, n: usize) -> Result<(), AllocError>
 }
 
 /// Bytes behind their length.
+#[inline(always)]
 fn put_counted(out: &mut Vec<u8>, bytes: &[u8]) -> Result<(), AllocError>
     ensures { OnOk result (out.new.items ≡ out.old.items ++ counted bytes.now) }
 {
