@@ -1,4 +1,5 @@
-//! Measures the proved crates beside peers: `bench table` by the clock, `bench counts` by instructions under valgrind.
+//! Measures the proved crates beside peers: `bench table` by the clock, `bench counts` by instructions under valgrind,
+//! and `bench profile` says where the instructions of ours are.
 mod inputs;
 #[path = "peers/order.rs"]
 mod order;
@@ -6,6 +7,7 @@ mod order;
 mod packets;
 #[path = "peers/payload.rs"]
 mod payload;
+mod profile;
 #[path = "peers/topics.rs"]
 mod topics;
 
@@ -29,10 +31,11 @@ extern "C" {
 type Body = Box<dyn Fn(u64) -> u64>;
 type OnBytes = unsafe extern "C" fn(*const u8, usize, u64) -> u64;
 
-/// A row: a name, what a round counts as, our body and those of the peers.
+/// A row: a name, what a round counts as, the export that is measured, our body and those of the peers.
 struct Row {
     name: String,
     calls: u64,
+    export: &'static str,
     ours: Body,
     peers: Vec<(&'static str, Body)>,
 }
@@ -55,18 +58,20 @@ fn payload_rows(rows: &mut Vec<Row>) {
         rows.push(Row {
             name: format!("payload decode, {name} ({} bytes)", bytes.len()),
             calls: 1,
+            export: "spk_bench_payload_decode",
             ours: on_bytes(spk_bench_payload_decode, &bytes),
             peers: vec![
-                ("quick-protobuf", rust_on_bytes(payload::decode, &bytes)),
+                ("quick-protobuf, borrows", rust_on_bytes(payload::decode, &bytes)),
                 ("protobuf C++", on_bytes(cpp_payload_decode, &bytes)),
             ],
         });
         rows.push(Row {
             name: format!("payload encode, {name}"),
             calls: 1,
+            export: "spk_bench_payload_encode",
             ours: on_bytes(spk_bench_payload_encode, &bytes),
             peers: vec![
-                ("quick-protobuf", rust_on_bytes(payload::encode, &bytes)),
+                ("quick-protobuf, borrows", rust_on_bytes(payload::encode, &bytes)),
                 ("protobuf C++", on_bytes(cpp_payload_encode, &bytes)),
             ],
         });
@@ -84,14 +89,19 @@ fn packet_rows(rows: &mut Vec<Row>) {
         rows.push(Row {
             name: format!("packet decode, {name}"),
             calls: 1,
+            export: "spk_bench_packet_decode",
             ours: on_bytes(spk_bench_packet_decode, &bytes),
             peers: vec![("plain Rust", rust_on_bytes(packets::decode, &bytes))],
         });
         rows.push(Row {
             name: format!("packet encode, {name}"),
             calls: 1,
+            export: "spk_bench_packet_encode",
             ours: on_bytes(spk_bench_packet_encode, &bytes),
-            peers: vec![("plain Rust", rust_on_bytes(packets::encode, &bytes))],
+            peers: vec![
+                ("plain Rust", rust_on_bytes(packets::encode, &bytes)),
+                ("plain Rust, judges", rust_on_bytes(packets::encode_lawful, &bytes)),
+            ],
         });
     }
     let stream = inputs::stream(1 << 20);
@@ -100,6 +110,7 @@ fn packet_rows(rows: &mut Vec<Row>) {
         rows.push(Row {
             name: format!("Feed, 1 MiB cut at {cut} (per KiB)"),
             calls: 1024,
+            export: "spk_bench_feed",
             // The length is that of the bytes, which the closure keeps.
             ours: Box::new(move |rounds| unsafe { spk_bench_feed(ours.as_ptr(), ours.len(), cut, rounds) }),
             peers: vec![("plain Rust", Box::new(move |rounds| packets::feed(&peer, cut, rounds)))],
@@ -118,6 +129,7 @@ fn topic_rows(rows: &mut Vec<Row>) {
             rows.push(Row {
                 name: format!("Tree::find, {count} grants, {name}"),
                 calls: 1,
+                export: "spk_bench_find",
                 // The lengths are those of the texts, which the closure keeps.
                 ours: Box::new(move |rounds| unsafe {
                     spk_bench_find(filters.as_ptr(), filters.len(), topic.as_ptr(), topic.len(), rounds)
@@ -133,18 +145,21 @@ fn order_rows(rows: &mut Vec<Row>) {
     rows.push(Row {
         name: "Sequence::hand, in line".to_owned(),
         calls: 1,
+        export: "spk_bench_hand_in_line",
         ours: Box::new(|rounds| unsafe { spk_bench_hand_in_line(rounds) }),
         peers: vec![("plain Rust", Box::new(order::in_line))],
     });
     rows.push(Row {
         name: "Sequence::hand, with holes".to_owned(),
         calls: 2,
+        export: "spk_bench_hand_with_holes",
         ours: Box::new(|rounds| unsafe { spk_bench_hand_with_holes(rounds) }),
         peers: vec![("plain Rust", Box::new(order::with_holes))],
     });
     rows.push(Row {
         name: "Sequence::hand, 95 held and a birth".to_owned(),
         calls: 96,
+        export: "spk_bench_hand_births",
         ours: Box::new(|rounds| unsafe { spk_bench_hand_births(rounds) }),
         peers: vec![("plain Rust", Box::new(order::births))],
     });
@@ -246,6 +261,14 @@ fn counts(word: &str) {
     }
 }
 
+/// Where the instructions of ours are, row by row whose name has the word: by function, then the hot loop by instruction.
+fn profile(word: &str) {
+    for (n, row) in rows().iter().enumerate().filter(|(_, row)| row.name.contains(word)) {
+        let rounds = if row.calls > 500 { 1 } else { 64 };
+        profile::print(&row.name, row.export, n, rounds, rounds * row.calls);
+    }
+}
+
 fn main() {
     let words: Vec<String> = std::env::args().skip(1).collect();
     let number = |n: usize| words.get(n).and_then(|w| w.parse::<u64>().ok());
@@ -253,9 +276,10 @@ fn main() {
     match (words.first().map(String::as_str), number(1), number(2), number(3)) {
         (Some("table"), ..) => table(word),
         (Some("counts"), ..) => counts(word),
+        (Some("profile"), ..) => profile(word),
         (Some("one"), Some(row), Some(who), Some(rounds)) => {
             println!("{}", body_of(&rows()[row as usize], who as usize)(rounds));
         }
-        _ => eprintln!("usage: bench table [WORD] | counts [WORD] | one ROW WHO ROUNDS"),
+        _ => eprintln!("usage: bench table [WORD] | counts [WORD] | profile [WORD] | one ROW WHO ROUNDS"),
     }
 }

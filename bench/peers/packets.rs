@@ -145,6 +145,24 @@ fn write(packet: &Packet) -> Vec<u8> {
     }
 }
 
+/// Whether a text may be written: at most 65,535 bytes, and no U+0000.
+fn is_text(text: &str) -> bool {
+    text.len() <= 65_535 && !text.as_bytes().contains(&0)
+}
+
+/// Whether MQTT lets the packet be written, as ours judges it.
+fn is_lawful(packet: &Packet) -> bool {
+    match packet {
+        Packet::Connect { client, .. } => is_text(client),
+        Packet::Publish { topic, qos, dup, id, .. } => {
+            is_text(topic) && *qos <= 1 && (*qos == 1) == id.is_some() && *id != Some(0) && (!dup || *qos == 1)
+        }
+        Packet::Subscribe { id, filters } => {
+            *id != 0 && !filters.is_empty() && filters.iter().all(|(filter, qos)| is_text(filter) && *qos <= 2)
+        }
+    }
+}
+
 pub fn decode(bytes: &[u8], rounds: u64) -> u64 {
     let mut sum = 0;
     for _ in 0..rounds {
@@ -161,6 +179,18 @@ pub fn encode(bytes: &[u8], rounds: u64) -> u64 {
     let mut sum = 0;
     for _ in 0..rounds {
         sum += black_box(write(black_box(&packet))).len() as u64;
+    }
+    sum
+}
+
+pub fn encode_lawful(bytes: &[u8], rounds: u64) -> u64 {
+    let Some((packet, _)) = read(bytes) else { return 0 };
+    let mut sum = 0;
+    for _ in 0..rounds {
+        let packet = black_box(&packet);
+        if is_lawful(packet) {
+            sum += black_box(write(packet)).len() as u64;
+        }
     }
     sum
 }
