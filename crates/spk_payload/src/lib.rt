@@ -19,3 +19,7 @@ pub use writing::encode;
 
 #[cfg(test)]
 mod tests;
+#[cfg(test)]
+mod typing_tests;
+#[cfg(test)]
+mod writing_tests;
