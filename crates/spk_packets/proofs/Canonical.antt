@@ -254,7 +254,7 @@ body_spells Disconnect t b two words u = refl
 
 -- ---- the remaining length and the whole
 
-split : (b : Bool) → (b ≡ true) ⊎ (b ≡ false)
+pub split : (b : Bool) → (b ≡ true) ⊎ (b ≡ false)
 split true = inl refl
 split false = inr refl
 

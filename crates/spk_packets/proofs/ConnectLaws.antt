@@ -242,44 +242,80 @@ user_where : (user password : Bool) → has_user user password ≡ true → pass
 user_where user true h e = h
 user_where user false h e = absurd cc
 
+-- What a CONNECT behind its level is read by, from each of its parts on. The lemmas below go part by part, so that what
+-- was read stands in each as a plain variable.
+abbrev from_will : FlagsData → ℕ × List ℕ → List ℕ × List ℕ → Option WillData × List ℕ → Result Message PacketFault
+from_will flags keep client will = login_at flags.user flags.password will.1 >>= λ login. Ok (Connect client.0 flags.clean keep.0 will.0)
+
+abbrev from_client : FlagsData → ℕ × List ℕ → List ℕ × List ℕ → Result Message PacketFault
+from_client flags keep client = will_at flags.will client.1 >>= λ will. from_will flags keep client will
+
+abbrev from_keep : FlagsData → ℕ × List ℕ → Result Message PacketFault
+from_keep flags keep = text_at keep.1 >>= λ client. from_client flags keep client
+
+abbrev from_flags : List ℕ → FlagsData → Result Message PacketFault
+from_flags rest flags = number_at rest >>= λ keep. from_keep flags keep
+
+-- the first byte, from what the parts say
+byte_is : (b : ℕ) (f : FlagsData) (name secret : Option (List ℕ)) (will : Option WillData) → flags_byte f ≡ b → is_there name ≡ f.user → is_there secret ≡ f.password → will_bits will ≡ promised_bits f.will
+    → b ≡ connect_flags (is_there name) (is_there secret) will f.clean
+byte_is b f name secret will is named kept bits = rw (named, kept, bits) (sym is)
+
+-- one part behind the other
+tail_is : (rest k c w u s x y z : List ℕ) → rest ≡ k ++ x → x ≡ c ++ y → y ≡ w ++ z → z ≡ u ++ s → rest ≡ k ++ (c ++ (w ++ (u ++ s)))
+tail_is rest k c w u s x y z first second third last =
+    first ∙ ap (λ (r : List ℕ). k ++ r) (second ∙ ap (λ (r : List ℕ). c ++ r) (third ∙ ap (λ (r : List ℕ). w ++ r) last))
+
+module _ (b : ℕ) (rest : List ℕ) (p : Message) where
+  will_goes : (f : FlagsData) (k : ℕ × List ℕ) (c : List ℕ × List ℕ) (w : Option WillData × List ℕ) (kept client_text : List ℕ) → (flags_byte f ≡ b) × AreFlags f → IsNumber kept k.0 → rest ≡ kept ++ k.1
+      → IsText client_text c.0 → k.1 ≡ client_text ++ c.1 → (text : List ℕ) × IsWillPart text w.0 × (will_bits w.0 ≡ promised_bits f.will) × (c.1 ≡ text ++ w.1) → from_will f k c w ≡ Ok p → IsFlagged (b ∷ rest) p
+  will_goes f k c w kept client_text flags is_keep keep_parts is_client client_parts will e =
+      let l = bind_ok (login_at f.user f.password w.1) (λ login. Ok (Connect c.0 f.clean k.0 w.0)) p e in
+      let login = login_takes f.user f.password w.1 l.0 l.1 in
+      record {
+        client = c.0;
+        clean = f.clean;
+        keep = k.0;
+        will = w.0;
+        user = login.name;
+        password = login.secret;
+        keep_text = kept;
+        client_text = client_text;
+        will_text = will.0;
+        user_text = login.name_text;
+        password_text = login.secret_text;
+        is_packet = sym (ok_is (Connect c.0 f.clean k.0 w.0) p l.2);
+        is_keep = is_keep;
+        is_client = is_client;
+        is_will = will.1;
+        is_user = login.is_name;
+        is_password = login.is_secret;
+        no_password_alone = λ e. login.has_name ∙ user_where f.user f.password flags.1.named (sym login.has_secret ∙ e);
+        parts = ap (λ (x : ℕ). x ∷ rest) (byte_is b f login.name login.secret w.0 flags.0 login.has_name login.has_secret will.2) ∙ ap (λ (r : List ℕ). connect_flags (is_there login.name) (is_there login.secret) w.0 f.clean ∷ r) (tail_is rest kept client_text will.0 login.name_text login.secret_text k.1 c.1 w.1 keep_parts client_parts will.3 login.parts);
+      }
+
+  client_goes : (f : FlagsData) (k : ℕ × List ℕ) (c : List ℕ × List ℕ) (kept : List ℕ) → (flags_byte f ≡ b) × AreFlags f → IsNumber kept k.0 → rest ≡ kept ++ k.1
+      → (text : List ℕ) × IsText text c.0 × (k.1 ≡ text ++ c.1) → from_client f k c ≡ Ok p → IsFlagged (b ∷ rest) p
+  client_goes f k c kept flags is_keep keep_parts client e =
+      let w = bind_ok (will_at f.will c.1) (λ will. from_will f k c will) p e in
+      will_goes f k c w.0 kept client.0 flags is_keep keep_parts client.1 client.2 (will_takes f.will c.1 w.0 flags.1.low w.1) w.2
+
+  keep_goes : (f : FlagsData) (k : ℕ × List ℕ) → (flags_byte f ≡ b) × AreFlags f → (text : List ℕ) × IsNumber text k.0 × (rest ≡ text ++ k.1) → from_keep f k ≡ Ok p → IsFlagged (b ∷ rest) p
+  keep_goes f k flags keep e =
+      let c = bind_ok (text_at k.1) (λ client. from_client f k client) p e in
+      client_goes f k c.0 keep.0 flags keep.1 keep.2 (text_takes k.1 c.0 c.1) c.2
+
+  flags_go : (f : FlagsData) → (flags_byte f ≡ b) × AreFlags f → from_flags rest f ≡ Ok p → IsFlagged (b ∷ rest) p
+  flags_go f flags e =
+      let k = bind_ok (number_at rest) (λ keep. from_keep f keep) p e in
+      keep_goes f k.0 flags (number_takes rest k.0 k.1) k.2
+
 pub flagged_takes : (bytes : List ℕ) (p : Message) → IsBytes bytes → flagged_at bytes ≡ Ok p → IsFlagged bytes p
 unfolding flagged_at
 flagged_takes [] p fits e = absurd cc
 flagged_takes (b ∷ rest) p fits e =
-    let f = bind_ok (flags_at b) (λ flags. number_at rest >>= λ keep. text_at keep.1 >>= λ client. will_at flags.will client.1 >>= λ will. login_at flags.user flags.password will.1 >>= λ login. Ok (Connect client.0 flags.clean keep.0 will.0)) p e in
-    let k = bind_ok (number_at rest) (λ keep. text_at keep.1 >>= λ client. will_at f.0.will client.1 >>= λ will. login_at f.0.user f.0.password will.1 >>= λ login. Ok (Connect client.0 f.0.clean keep.0 will.0)) p f.2 in
-    let c = bind_ok (text_at k.0.1) (λ client. will_at f.0.will client.1 >>= λ will. login_at f.0.user f.0.password will.1 >>= λ login. Ok (Connect client.0 f.0.clean k.0.0 will.0)) p k.2 in
-    let w = bind_ok (will_at f.0.will c.0.1) (λ will. login_at f.0.user f.0.password will.1 >>= λ login. Ok (Connect c.0.0 f.0.clean k.0.0 will.0)) p c.2 in
-    let l = bind_ok (login_at f.0.user f.0.password w.0.1) (λ login. Ok (Connect c.0.0 f.0.clean k.0.0 w.0.0)) p w.2 in
-    let tf = flags_takes b f.0 (fits 0) f.1 in
-    let tk = number_takes rest k.0 k.1 in
-    let tc = text_takes k.0.1 c.0 c.1 in
-    let tw = will_takes f.0.will c.0.1 w.0 tf.1.low w.1 in
-    let tl = login_takes f.0.user f.0.password w.0.1 l.0 l.1 in
-    let first : b ≡ connect_flags (is_there tl.name) (is_there tl.secret) w.0.0 f.0.clean = rw (tl.has_name, tl.has_secret, tw.2) (sym tf.0) in
-    let tail : rest ≡ tk.0 ++ (tc.0 ++ (tw.0 ++ (tl.name_text ++ tl.secret_text))) =
-    tk.2 ∙ ap (λ (r : List ℕ). tk.0 ++ r) (tc.2 ∙ ap (λ (r : List ℕ). tc.0 ++ r) (tw.3 ∙ ap (λ (r : List ℕ). tw.0 ++ r) tl.parts)) in
-    record {
-      client = c.0.0;
-      clean = f.0.clean;
-      keep = k.0.0;
-      will = w.0.0;
-      user = tl.name;
-      password = tl.secret;
-      keep_text = tk.0;
-      client_text = tc.0;
-      will_text = tw.0;
-      user_text = tl.name_text;
-      password_text = tl.secret_text;
-      is_packet = sym (ok_is (Connect c.0.0 f.0.clean k.0.0 w.0.0) p l.2);
-      is_keep = tk.1;
-      is_client = tc.1;
-      is_will = tw.1;
-      is_user = tl.is_name;
-      is_password = tl.is_secret;
-      no_password_alone = λ e. tl.has_name ∙ user_where f.0.user f.0.password tf.1.named (sym tl.has_secret ∙ e);
-      parts = ap (λ (x : ℕ). x ∷ rest) first ∙ ap (λ (r : List ℕ). connect_flags (is_there tl.name) (is_there tl.secret) w.0.0 f.0.clean ∷ r) tail;
-    }
+    let f = bind_ok (flags_at b) (λ flags. from_flags rest flags) p e in
+    flags_go b rest p f.0 (flags_takes b f.0 (fits 0) f.1) f.2
 
 level_takes : (bytes : List ℕ) (p : Message) → IsBytes bytes → level_at bytes ≡ Ok p → (rest : List ℕ) × IsFlagged rest p × (bytes ≡ 4 ∷ rest)
 unfolding level_at
@@ -310,6 +346,37 @@ name_is text is =
     let front : is.0 ≡ 0 ∷ 4 ∷ [] = name_front is.0 is.1.0 is.1.1 is.1.2 f.0 f.1 in
     is.2 ∙ ap (λ (t : List ℕ). t ++ 77 ∷ 81 ∷ 84 ∷ 84 ∷ []) front
 
+-- the name and the level in front of what is behind them
+head_is : (body name tail rest parts : List ℕ) → body ≡ name ++ tail → IsCounted name (codes "MQTT") → tail ≡ 4 ∷ rest → rest ≡ parts → body ≡ 0 ∷ 4 ∷ 77 ∷ 81 ∷ 84 ∷ 84 ∷ 4 ∷ parts
+head_is body name tail rest parts named is level e =
+    named ∙ ap (λ (n : List ℕ). n ++ tail) (name_is name is) ∙ ap (λ (r : List ℕ). 0 ∷ 4 ∷ 77 ∷ 81 ∷ 84 ∷ 84 ∷ r) (level ∙ ap (λ (r : List ℕ). 4 ∷ r) e)
+
+connect_made : (body name tail rest : List ℕ) (p : Message) → body ≡ name ++ tail → IsCounted name (codes "MQTT") → tail ≡ 4 ∷ rest → IsFlagged rest p
+    → (client : List ℕ) × (clean : Bool) × (keep : ℕ) × (will : Option WillData) × (p ≡ Connect client clean keep will) × IsConnect body client clean keep will
+connect_made body name tail rest p named is level f = (
+  f.client,
+  f.clean,
+  f.keep,
+  f.will,
+  f.is_packet,
+  record {
+    user = f.user;
+    password = f.password;
+    keep_text = f.keep_text;
+    client_text = f.client_text;
+    will_text = f.will_text;
+    user_text = f.user_text;
+    password_text = f.password_text;
+    is_keep = f.is_keep;
+    is_client = f.is_client;
+    is_will = f.is_will;
+    is_user = f.is_user;
+    is_password = f.is_password;
+    no_password_alone = f.no_password_alone;
+    parts = head_is body name tail rest _ named is level f.parts;
+  },
+)
+
 pub connect_takes : (body : List ℕ) (p : Message) → IsBytes body → connect_at body ≡ Ok p
     → (client : List ℕ) × (clean : Bool) × (keep : ℕ) × (will : Option WillData) × (p ≡ Connect client clean keep will) × IsConnect body client clean keep will
 unfolding connect_at
@@ -319,29 +386,7 @@ connect_takes body p fits e =
     let t = text_takes body a.0 a.1 in
     let l = level_takes a.0.1 p (IsBytes-after t.0 a.0.1 (subst (λ (r : List ℕ). IsBytes r) t.2 fits)) g.1 in
     let named : IsCounted t.0 (codes "MQTT") = subst (λ (n : List ℕ). IsCounted t.0 n) (bytes_eq-true a.0.0 (codes "MQTT") g.0) t.1.0 in
-    let f = l.1 in (
-      f.client,
-      f.clean,
-      f.keep,
-      f.will,
-      f.is_packet,
-      record {
-        user = f.user;
-        password = f.password;
-        keep_text = f.keep_text;
-        client_text = f.client_text;
-        will_text = f.will_text;
-        user_text = f.user_text;
-        password_text = f.password_text;
-        is_keep = f.is_keep;
-        is_client = f.is_client;
-        is_will = f.is_will;
-        is_user = f.is_user;
-        is_password = f.is_password;
-        no_password_alone = f.no_password_alone;
-        parts = t.2 ∙ ap (λ (n : List ℕ). n ++ a.0.1) (name_is t.0 named) ∙ ap (λ (r : List ℕ). 0 ∷ 4 ∷ 77 ∷ 81 ∷ 84 ∷ 84 ∷ r) (l.2 ∙ ap (λ (r : List ℕ). 4 ∷ r) f.parts);
-      },
-    )
+    connect_made body t.0 a.0.1 l.0 p t.2 named l.2 l.1
 
 mqtt_is_text : IsText (0 ∷ 4 ∷ 77 ∷ 81 ∷ 84 ∷ 84 ∷ []) (codes "MQTT")
 unfolding is_utf8 chars encode

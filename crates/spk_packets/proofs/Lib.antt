@@ -15,3 +15,4 @@ pub mod Waiting
 pub mod Pieces
 pub mod Canonical
 pub mod Stays
+pub mod Refused

@@ -35,7 +35,7 @@ above_zero : (n : ℕ) → eqb n 0 ≡ false → 0 < n
 above_zero zero e = absurd cc
 above_zero (suc n) e = omega arith
 
-not_zero : (n : ℕ) → 0 < n → eqb n 0 ≡ false
+pub not_zero : (n : ℕ) → 0 < n → eqb n 0 ≡ false
 not_zero zero h = absurd (omega arith)
 not_zero (suc n) h = grind arith
 

@@ -1,10 +1,11 @@
-//! What holds of the grammar alone, for all bytes and packets.
+//! What holds of the grammar and the orders of refusals alone, for all bytes and packets.
 
-ghost use Rattle.std.specs.Prelude.{◌≡◌, ◌≢◌, Some, ℕ, List, [], ◌++◌};
+ghost use Rattle.std.specs.Prelude.{◌≡◌, ◌≢◌, ◌<◌, Some, None, ℕ, List, [], ◌++◌, All};
 ghost use Rattle.spk_packets.specs.Fault.{first_of};
 ghost use Rattle.spk_packets.specs.Refusals.{refusals};
 ghost use Rattle.spk_packets.specs.Message.{Message};
 ghost use Rattle.spk_packets.specs.Grammar.{Spells};
+ghost use Rattle.spk_packets.specs.Spelling.{unwritable};
 ghost use Rattle.spk_packets.specs.Stream.{Event, IsRun, HasNoPacket, fed, given};
 ghost use Rattle.spk_packets.specs.declared.fault.PacketFault.{PacketFault};
 
@@ -12,6 +13,12 @@ ghost use Rattle.spk_packets.specs.declared.fault.PacketFault.{PacketFault};
 /// what was written is read again, whatever follows it.
 pub fn prefix_free()
     ensures { (a b x y : List ℕ) (p q : Message) → Spells a p → Spells b q → a ++ x ≡ b ++ y → (a ≡ b) × (p ≡ q) }
+{}
+
+/// Bytes that spell a packet spell one that `encode` writes: what it refuses, no bytes spell.
+pub fn refused_has_no_spelling()
+    ensures { (text : List ℕ) (p : Message) → All (λ b. b < 256) text → Spells text p
+        → first_of (unwritable p) ≡ None }
 {}
 
 /// Two feeds that took in the same bytes and hold no whole packet any more have given the same packets, and the same

@@ -24,4 +24,6 @@ pub use read::{decode, read_length};
 pub use write::encode;
 
 #[cfg(test)]
+mod stream_tests;
+#[cfg(test)]
 mod tests;
