@@ -9,7 +9,7 @@ use Rattle.spk_packets.specs.declared.fault.PacketFault.{PacketFault}
 use Rattle.spk_packets.specs.Fault.{first_of}
 use Rattle.spk_packets.specs.Message.{WillData, Message, Connect, ConnAck, Publish, PubAck, Subscribe, SubAck, Unsubscribe, UnsubAck, PingReq, PingResp, Disconnect}
 use Rattle.spk_packets.specs.Grammar.{is_there, connect_flags, protocol, first_byte, has_zero, is_grant, IsNumber, IsCounted, IsText, IsRequest, IsIdPart, IsWillPart, IsConnect, IsBody, AreEach, AreSevens, Spells}
-use Rattle.spk_packets.specs.Spelling.{counted, request, id_part, will_part, body, shortest, is_bad_text, has_bad_topic, has_bad_text, is_empty, has_bad_will, has_bad_id, has_bad_body, will_is_of_qos_two, is_qos_two, content_refusals, unwritable}
+use Rattle.spk_packets.specs.Spelling.{counted, request, id_part, will_part, body, shortest, spelling, is_bad_text, has_bad_topic, has_bad_text, is_empty, has_bad_will, has_bad_id, has_bad_body, will_is_of_qos_two, is_qos_two, content_refusals, unwritable}
 use Rattle.spk_packets.proofs.Bytes.{IsBytes, IsBytes-rest, IsBytes-after, IsBytes-before}
 use Rattle.spk_packets.proofs.PartLaws.{not_zero}
 use Rattle.spk_packets.proofs.Canonical.{split}
@@ -267,3 +267,12 @@ spelled_is_writable text p all is =
     let whole : length text ≡ length (first_byte p ∷ (is.size ++ is.body)) = ap length is.parts in
     let shorter = shortest_no_longer is.size (length (body p)) (length is.body) good.no_longer is.is_size.1 in
     is_writable p (contents_good p is.body good) (omega (arith, good.no_longer, shorter, is.small, length-append is.size is.body))
+
+pub spelled_is_no_shorter : (text : List ℕ) (p : Message) → All (λ b. b < 256) text → Spells text p → length (spelling p) ≤ length text
+unfolding spelling
+spelled_is_no_shorter text p all is =
+    let from_size = behind text (first_byte p ∷ []) (is.size ++ is.body) (IsBytes-from_all text all) is.parts in
+    let good = body_good p is.body (IsBytes-after is.size is.body from_size) is.is_body in
+    let whole : length text ≡ length (first_byte p ∷ (is.size ++ is.body)) = ap length is.parts in
+    let shorter = shortest_no_longer is.size (length (body p)) (length is.body) good.no_longer is.is_size.1 in
+    omega (arith, good.no_longer, shorter, length-append is.size is.body, length-append (shortest (length (body p))) (body p))

@@ -1,11 +1,11 @@
 //! What holds of the grammar and the orders of refusals alone, for all bytes and packets.
 
-ghost use Rattle.std.specs.Prelude.{◌≡◌, ◌≢◌, ◌<◌, Some, None, ℕ, List, [], ◌++◌, All};
+ghost use Rattle.std.specs.Prelude.{◌≡◌, ◌≢◌, ◌<◌, ◌≤◌, length, Some, None, ℕ, List, [], ◌++◌, All};
 ghost use Rattle.spk_packets.specs.Fault.{first_of};
 ghost use Rattle.spk_packets.specs.Refusals.{refusals};
 ghost use Rattle.spk_packets.specs.Message.{Message};
 ghost use Rattle.spk_packets.specs.Grammar.{Spells};
-ghost use Rattle.spk_packets.specs.Spelling.{unwritable};
+ghost use Rattle.spk_packets.specs.Spelling.{spelling, unwritable};
 ghost use Rattle.spk_packets.specs.Stream.{Event, IsRun, HasNoPacket, fed, given};
 ghost use Rattle.spk_packets.specs.declared.fault.PacketFault.{PacketFault};
 
@@ -19,6 +19,12 @@ pub fn prefix_free()
 pub fn refused_has_no_spelling()
     ensures { (text : List ℕ) (p : Message) → All (λ b. b < 256) text → Spells text p
         → first_of (unwritable p) ≡ None }
+{}
+
+/// What `encode` writes is the shortest of a packet's spellings.
+pub fn written_is_shortest()
+    ensures { (text : List ℕ) (p : Message) → All (λ b. b < 256) text → Spells text p
+        → length (spelling p) ≤ length text }
 {}
 
 /// Two feeds that took in the same bytes and hold no whole packet any more have given the same packets, and the same

@@ -223,6 +223,7 @@ fn a_packet_without_a_spelling_is_refused(rt: HostRuntime) -> Result<(), Fail> {
 fn the_laws_cost_nothing(rt: HostRuntime) {
     laws::prefix_free();
     laws::refused_has_no_spelling();
+    laws::written_is_shortest();
     laws::any_pieces();
     laws::fault_stays();
     assert_eq!(rt; PacketFault::TooLarge.number(), 16);
