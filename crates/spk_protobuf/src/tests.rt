@@ -144,6 +144,26 @@ fn shortest_varints_are_put(rt: HostRuntime) -> Result<(), Fail> {
     Ok(())
 }
 
+// The growth that is refused may come within a varint: then none of it stands.
+#[test]
+fn a_varint_is_put_whole_or_not_at_all(rt: HostRuntime) -> Result<(), Fail> {
+    let mut out = Vec::new(rt.alloc());
+    if out.extend_from_slice(&[7; 5]).is_err() {
+        out.extend_from_slice(&[7; 5])?;
+    }
+    for _ in 0..6u32 {
+        let before = out.len();
+        if put_varint(&mut out, u64::MAX).is_err() {
+            assert_eq!(rt; out.len(), before);
+            put_varint(&mut out, u64::MAX)?;
+        }
+        assert_eq!(rt; out.len(), before + 10);
+        assert_eq!(rt; out[before], 0xff);
+        assert_eq!(rt; out[before + 9], 0x01);
+    }
+    Ok(())
+}
+
 #[test]
 fn bytes_are_put_behind_their_tag_and_length(rt: HostRuntime) -> Result<(), Fail> {
     let mut out = Vec::new(rt.alloc());
