@@ -14,6 +14,10 @@ use std::process::ExitCode;
 use std::{env, io};
 
 #[cfg(test)]
+mod fixtures;
+#[cfg(test)]
+mod packets_tests;
+#[cfg(test)]
 mod tests;
 
 fn main(rt: HostRuntime) -> io::Result<ExitCode> {
