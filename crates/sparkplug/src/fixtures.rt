@@ -8,7 +8,7 @@ use std::process::Abort;
 /// A file in memory: its text comes in pieces of at most `piece` bytes, `turns` times over, and once `good` bytes were
 /// read, reading fails, or is interrupted for ever.
 #[derive(Drop)]
-pub(crate) struct Memory {
+struct Memory {
     text: &'static [u8],
     at: usize,
     turns: usize,
@@ -47,7 +47,7 @@ const DIGITS: &[u8; 64] = b"0000000000000000000000000000000000000000000000000000
 
 /// Files by their names.
 #[derive(Drop)]
-pub(crate) struct Texts;
+struct Texts;
 
 impl Files for Texts {
     type Reader = Memory;
@@ -78,9 +78,9 @@ impl Files for Texts {
 
 /// A writer that holds what it is given up to `room` bytes, and fails at the next.
 #[derive(Drop)]
-pub(crate) struct Narrow {
-    pub(crate) held: Vec<u8>,
-    pub(crate) room: usize,
+struct Narrow {
+    held: Vec<u8>,
+    room: usize,
 }
 
 impl Write for Narrow {
@@ -99,13 +99,62 @@ impl Write for Narrow {
     }
 }
 
-/// What a run prints, and its status.
-pub(crate) fn printed(rt: &(impl Abort + AllocGlobal), words: &[&str]) -> (Vec<u8>, u8) {
-    let mut held = Vec::new(rt.alloc());
-    let status = run(rt, words, &mut Texts, &mut held);
+/// The last line of a run that was refused memory.
+const REFUSED: &[u8; 19] = b"fault NoMemory (1)\n";
+
+/// Room for more than any run here prints, so that no write wants memory. Where memory was refused it is made again.
+fn empty(rt: &(impl Abort + AllocGlobal)) -> Vec<u8> {
+    match Vec::with_capacity(rt.alloc(), 8_192) {
+        Ok(held) => held,
+        Err(_) => Vec::with_capacity(rt.alloc(), 8_192).expect(rt, "memory is there again"),
+    }
+}
+
+/// What a writer with this room holds after a run, and the status.
+fn once(rt: &(impl Abort + AllocGlobal), words: &[&str], room: usize) -> (Vec<u8>, u8) {
+    let held = empty(rt);
+    let mut narrow = Narrow { held, room };
+    let status = run(rt, words, &mut Texts, &mut narrow);
+    let Narrow { held, room: _ } = narrow;
     (held, status)
 }
 
+/// What a run prints, and its status. Where memory was refused, that fault stands behind whole lines of what is
+/// printed, but not behind all of it, and the status is 1; the run is made again.
+pub(crate) fn printed(rt: &(impl Abort + AllocGlobal), words: &[&str]) -> (Vec<u8>, u8) {
+    let (held, status) = once(rt, words, usize::MAX);
+    if !held.ends_with(REFUSED) {
+        return (held, status);
+    }
+    let (whole, again) = once(rt, words, usize::MAX);
+    let front = &held[..held.len().saturating_sub(REFUSED.len())];
+    assert_eq!(rt; status, 1, "of {words:?}");
+    assert!(rt; front.is_empty() || front.ends_with(b"\n"), "of {words:?}");
+    assert!(rt; whole.starts_with(front), "of {words:?}");
+    assert!(rt;
+        front.is_empty() || front.len() < whole.len(),
+        "of {words:?}"
+    );
+    (whole, again)
+}
+
+/// What a writer with this room holds after a run, and the status. Where memory was refused it holds what it has room
+/// for of that fault, and the status is 1; the run is made again.
+pub(crate) fn printed_into(
+    rt: &(impl Abort + AllocGlobal),
+    words: &[&str],
+    room: usize,
+) -> (Vec<u8>, u8) {
+    let (held, status) = once(rt, words, room);
+    if held.is_empty() || !REFUSED.starts_with(&held) {
+        return (held, status);
+    }
+    assert_eq!(rt; status, 1, "room {room}");
+    assert_eq!(rt; held.len(), room.min(REFUSED.len()), "room {room}");
+    once(rt, words, room)
+}
+
+/// Checks what a run prints, and its status.
 pub(crate) fn expect(rt: &(impl Abort + AllocGlobal), words: &[&str], text: &str, status: u8) {
     let (held, answer) = printed(rt, words);
     assert_eq!(rt; held.as_slice(), text.as_bytes(), "of {words:?}");

@@ -1,5 +1,4 @@
-use crate::fixtures::{Narrow, Texts, expect, printed};
-use crate::run::run;
+use crate::fixtures::{expect, printed, printed_into};
 use std::process::Abort;
 
 /// Checks what `show` prints of these digits, with status 0.
@@ -191,17 +190,11 @@ fn digits_come_from_a_file(rt: HostRuntime) {
 #[test]
 fn a_writer_that_fails_makes_the_status_1(rt: HostRuntime) {
     let words = ["sparkplug", "show", "08050807"];
-    for room in [0, 1, 27] {
-        let held = Vec::new(rt.alloc());
-        let mut narrow = Narrow { held, room };
-        assert_eq!(rt; run(&rt, &words, &mut Texts, &mut narrow), 1, "room {room}");
-        assert_eq!(rt; narrow.held.len(), room);
+    let text = b"timestamp 7 seq - metrics 0\n";
+    for (room, want) in [(0, 1), (1, 1), (27, 1), (28, 0)] {
+        let (held, status) = printed_into(&rt, &words, room);
+        assert_eq!(rt; status, want, "room {room}");
+        assert_eq!(rt; held.len(), room);
+        assert!(rt; text.starts_with(&held), "room {room}");
     }
-    let held = Vec::new(rt.alloc());
-    let mut wide = Narrow { held, room: 28 };
-    assert_eq!(rt; run(&rt, &words, &mut Texts, &mut wide), 0);
-    assert_eq!(rt;
-        wide.held.as_slice(),
-        b"timestamp 7 seq - metrics 0\n".as_slice()
-    );
 }
