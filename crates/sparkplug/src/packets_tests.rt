@@ -8,77 +8,62 @@ fn lists(rt: &(impl Abort + AllocGlobal), digits: &str, text: &str, status: u8) 
 
 #[test]
 fn packets_are_listed(rt: HostRuntime) {
-    lists(&rt, "", "", 0);
-    lists(&rt, "c000e000", "PINGREQ\nDISCONNECT\n", 0);
-    lists(
-        &rt,
-        "3003000161",
-        "PUBLISH topic \"a\" qos 0 retain false dup false id - hex:\n",
-        0,
-    );
-    lists(
-        &rt,
-        "3206000161000778",
-        "PUBLISH topic \"a\" qos 1 retain false dup false id 7 hex:78\n",
-        0,
-    );
-    lists(
-        &rt,
-        "100c00044d5154540402003c0000",
-        "CONNECT client \"\" clean true keep 60 will -\n",
-        0,
-    );
-    lists(
-        &rt,
-        "82060001000123018206000200012300",
-        "SUBSCRIBE 1 \"#\" 1\nSUBSCRIBE 2 \"#\" 0\n",
-        0,
-    );
-    lists(
-        &rt,
-        "9003000101a2050001000123",
-        "SUBACK 1 1\nUNSUBSCRIBE 1 \"#\"\n",
-        0,
-    );
-    lists(
-        &rt,
-        "20020002b002000140020007d000",
-        "CONNACK present false code 2\nUNSUBACK 1\nPUBACK 7\nPINGRESP\n",
-        0,
-    );
+    let table = [
+        ("", ""),
+        ("c000e000", "PINGREQ\nDISCONNECT\n"),
+        (
+            "3003000161",
+            "PUBLISH topic \"a\" qos 0 retain false dup false id - hex:\n",
+        ),
+        (
+            "3206000161000778",
+            "PUBLISH topic \"a\" qos 1 retain false dup false id 7 hex:78\n",
+        ),
+        (
+            "100c00044d5154540402003c0000",
+            "CONNECT client \"\" clean true keep 60 will -\n",
+        ),
+        (
+            "82060001000123018206000200012300",
+            "SUBSCRIBE 1 \"#\" 1\nSUBSCRIBE 2 \"#\" 0\n",
+        ),
+        (
+            "9003000101a2050001000123",
+            "SUBACK 1 1\nUNSUBSCRIBE 1 \"#\"\n",
+        ),
+        (
+            "20020002b002000140020007d000",
+            "CONNACK present false code 2\nUNSUBACK 1\nPUBACK 7\nPINGRESP\n",
+        ),
+    ];
+    for (digits, text) in table {
+        lists(&rt, digits, text, 0);
+    }
 }
 
 #[test]
 fn a_will_and_sparkplug_topics_are_told(rt: HostRuntime) {
-    let open =
-        "103400044d515454040e003c0003472f4e001273704276312e302f472f4e44454154482f4e000f0805120b0a05626453657120045800";
-    lists(
-        &rt,
-        open,
-        "CONNECT client \"G/N\" clean true keep 60 will \"spBv1.0/G/NDEATH/N\" qos 1 retain false hex:0805120b0a05626453657120045800\n",
-        0,
-    );
-    let data = "301f001173704276312e302f472f4e444154412f4e080712061001180750081801";
-    lists(
-        &rt,
-        data,
-        "PUBLISH topic \"spBv1.0/G/NDATA/N\" qos 0 retain false dup false id - hex:080712061001180750081801 sparkplug NDATA \"G\" \"N\"\n",
-        0,
-    );
-    let device = "3015001373704276312e302f472f44444154412f4e2f44";
-    lists(
-        &rt,
-        device,
-        "PUBLISH topic \"spBv1.0/G/DDATA/N/D\" qos 0 retain false dup false id - hex: sparkplug DDATA \"G\" \"N\" \"D\"\n",
-        0,
-    );
-    let state = "3112001073704276312e302f53544154452f4830";
-    lists(
-        &rt,
-        state,
-        "PUBLISH topic \"spBv1.0/STATE/H0\" qos 0 retain true dup false id - hex: sparkplug STATE \"H0\"\n",
-        0,
-    );
+    let table = [
+        (
+            "103400044d515454040e003c0003472f4e001273704276312e302f472f4e44454154482f4e000f0805120b0a05626453657120045800",
+            "CONNECT client \"G/N\" clean true keep 60 will \"spBv1.0/G/NDEATH/N\" qos 1 retain false hex:0805120b0a05626453657120045800\n",
+        ),
+        (
+            "301f001173704276312e302f472f4e444154412f4e080712061001180750081801",
+            "PUBLISH topic \"spBv1.0/G/NDATA/N\" qos 0 retain false dup false id - hex:080712061001180750081801 sparkplug NDATA \"G\" \"N\"\n",
+        ),
+        (
+            "3015001373704276312e302f472f44444154412f4e2f44",
+            "PUBLISH topic \"spBv1.0/G/DDATA/N/D\" qos 0 retain false dup false id - hex: sparkplug DDATA \"G\" \"N\" \"D\"\n",
+        ),
+        (
+            "3112001073704276312e302f53544154452f4830",
+            "PUBLISH topic \"spBv1.0/STATE/H0\" qos 0 retain true dup false id - hex: sparkplug STATE \"H0\"\n",
+        ),
+    ];
+    for (digits, text) in table {
+        lists(&rt, digits, text, 0);
+    }
 }
 
 // Topics of each kind (Sparkplug 3.0.0, 4.1): messages without a payload.
@@ -118,20 +103,20 @@ fn each_kind_of_topic_is_told(rt: HostRuntime) {
 // The lines before a fault stand first.
 #[test]
 fn packets_end_at_the_first_fault(rt: HostRuntime) {
-    lists(&rt, "30", "fault More (10)\n", 1);
-    lists(&rt, "c000c0", "PINGREQ\nfault More (10)\n", 1);
-    lists(&rt, "c00034", "PINGREQ\nfault QosTwo (17)\n", 1);
-    lists(&rt, "00", "fault BadType (13)\n", 1);
-    lists(&rt, "36", "fault BadFlags (12)\n", 1);
-    lists(&rt, "3080808080", "fault BadLength (11)\n", 1);
-    lists(&rt, "30ffffff7f", "fault TooLarge (16)\n", 1);
-    lists(&rt, "3003000100", "fault BadText (14)\n", 1);
-    lists(&rt, "82020001", "fault BadBody (15)\n", 1);
-    lists(
-        &rt,
-        "100c00044d5154540502003c0000",
-        "fault BadLevel (18)\n",
-        1,
-    );
-    lists(&rt, "c0000", "fault BadHex (97)\n", 1);
+    let table = [
+        ("30", "fault More (10)\n"),
+        ("c000c0", "PINGREQ\nfault More (10)\n"),
+        ("c00034", "PINGREQ\nfault QosTwo (17)\n"),
+        ("00", "fault BadType (13)\n"),
+        ("36", "fault BadFlags (12)\n"),
+        ("3080808080", "fault BadLength (11)\n"),
+        ("30ffffff7f", "fault TooLarge (16)\n"),
+        ("3003000100", "fault BadText (14)\n"),
+        ("82020001", "fault BadBody (15)\n"),
+        ("100c00044d5154540502003c0000", "fault BadLevel (18)\n"),
+        ("c0000", "fault BadHex (97)\n"),
+    ];
+    for (digits, text) in table {
+        lists(&rt, digits, text, 1);
+    }
 }

@@ -13,26 +13,26 @@ fn faults(rt: &(impl Abort + AllocGlobal), digits: &str, text: &str) {
 
 #[test]
 fn payloads_are_shown(rt: HostRuntime) {
-    let birth = "0805120b0a05626453657120045800";
-    shows(
-        &rt,
-        birth,
-        "timestamp 5 seq - metrics 1\nmetric 0 name \"bdSeq\" alias - time - type 4 historical - transient - null - value 0\n",
-    );
-    shows(&rt, "", "timestamp - seq - metrics 0\n");
-    let float = "4801120a0a01742009650000803f";
-    shows(
-        &rt,
-        float,
-        "timestamp - seq - metrics 1\nmetric 0 name \"t\" alias - time - type 9 historical - transient - null - value other\n",
-    );
-    shows(&rt, "08050807", "timestamp 7 seq - metrics 0\n");
-    shows(&rt, "48010807", "timestamp 7 seq - metrics 0\n");
-    shows(
-        &rt,
-        "0805120B0A05626453657120045800",
-        "timestamp 5 seq - metrics 1\nmetric 0 name \"bdSeq\" alias - time - type 4 historical - transient - null - value 0\n",
-    );
+    let table = [
+        (
+            "0805120b0a05626453657120045800",
+            "timestamp 5 seq - metrics 1\nmetric 0 name \"bdSeq\" alias - time - type 4 historical - transient - null - value 0\n",
+        ),
+        ("", "timestamp - seq - metrics 0\n"),
+        (
+            "4801120a0a01742009650000803f",
+            "timestamp - seq - metrics 1\nmetric 0 name \"t\" alias - time - type 9 historical - transient - null - value other\n",
+        ),
+        ("08050807", "timestamp 7 seq - metrics 0\n"),
+        ("48010807", "timestamp 7 seq - metrics 0\n"),
+        (
+            "0805120B0A05626453657120045800",
+            "timestamp 5 seq - metrics 1\nmetric 0 name \"bdSeq\" alias - time - type 4 historical - transient - null - value 0\n",
+        ),
+    ];
+    for (digits, text) in table {
+        shows(&rt, digits, text);
+    }
 }
 
 #[test]
@@ -113,27 +113,37 @@ fn each_kind_of_value_is_shown(rt: HostRuntime) {
 
 #[test]
 fn bad_payloads_have_their_first_fault(rt: HostRuntime) {
-    faults(&rt, "0805120b", "fault Truncated (2)\n");
-    faults(&rt, "12ff01", "fault Truncated (2)\n");
-    faults(&rt, "12ffffffffffffffffff01", "fault Truncated (2)\n");
-    faults(&rt, "ffffffffffffffffffff", "fault VarintTooLong (3)\n");
-    faults(&rt, "0b", "fault Group (4)\n");
-    faults(&rt, "0c", "fault Group (4)\n");
-    faults(&rt, "00", "fault FieldZero (5)\n");
-    faults(&rt, "03", "fault FieldZero (5)\n");
-    faults(&rt, "0e", "fault WireType (6)\n");
-    faults(&rt, "12020a05", "fault Truncated (2)\n");
-    faults(&rt, "12040a02c328", "fault NotText (7)\n");
-    faults(&rt, "12050a02c328", "fault Truncated (2)\n");
+    let table = [
+        ("0805120b", "fault Truncated (2)\n"),
+        ("12ff01", "fault Truncated (2)\n"),
+        ("12ffffffffffffffffff01", "fault Truncated (2)\n"),
+        ("ffffffffffffffffffff", "fault VarintTooLong (3)\n"),
+        ("0b", "fault Group (4)\n"),
+        ("0c", "fault Group (4)\n"),
+        ("00", "fault FieldZero (5)\n"),
+        ("03", "fault FieldZero (5)\n"),
+        ("0e", "fault WireType (6)\n"),
+        ("12020a05", "fault Truncated (2)\n"),
+        ("12040a02c328", "fault NotText (7)\n"),
+        ("12050a02c328", "fault Truncated (2)\n"),
+    ];
+    for (digits, text) in table {
+        faults(&rt, digits, text);
+    }
 }
 
 #[test]
 fn other_digits_are_no_hexadecimal(rt: HostRuntime) {
-    faults(&rt, "080", "fault BadHex (97)\n");
-    faults(&rt, "0x08", "fault BadHex (97)\n");
-    faults(&rt, "08 05", "fault BadHex (97)\n");
-    faults(&rt, "zz", "fault BadHex (97)\n");
-    faults(&rt, "é", "fault BadHex (97)\n");
+    let table = [
+        ("080", "fault BadHex (97)\n"),
+        ("0x08", "fault BadHex (97)\n"),
+        ("08 05", "fault BadHex (97)\n"),
+        ("zz", "fault BadHex (97)\n"),
+        ("é", "fault BadHex (97)\n"),
+    ];
+    for (digits, text) in table {
+        faults(&rt, digits, text);
+    }
 }
 
 #[test]
