@@ -14,16 +14,31 @@ use std::process::ExitCode;
 use std::{env, io};
 
 #[cfg(test)]
+mod fixtures;
+#[cfg(test)]
+mod packets_tests;
+#[cfg(test)]
 mod tests;
 
-fn main(rt: HostRuntime) -> io::Result<ExitCode> {
-    let given: Vec<String> = env::args(&rt)?.collect(rt.alloc())?;
+/// A run on the machine, and its status.
+fn on_machine(rt: &HostRuntime) -> io::Result<u8> {
+    let given: Vec<String> = env::args(rt)?.collect(rt.alloc())?;
     let mut words = Vec::new(rt.alloc());
     for word in &given {
         words.push(word.as_str())?;
     }
-    let mut files = MachineFiles { rt: &rt };
-    let mut writer = io::writer(&rt);
-    let status = run::run(&rt, &words, &mut files, &mut writer);
+    let mut files = MachineFiles { rt };
+    let mut writer = io::writer(rt);
+    Ok(run::run(rt, &words, &mut files, &mut writer))
+}
+
+fn main(rt: HostRuntime) -> io::Result<ExitCode> {
+    let status = match on_machine(&rt) {
+        Err(error) if error.kind() == io::ErrorKind::OutOfMemory => {
+            println!(rt; "fault NoMemory (1)")?;
+            1
+        }
+        answer => answer?,
+    };
     Ok(ExitCode::from(status))
 }

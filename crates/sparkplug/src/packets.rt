@@ -5,8 +5,24 @@ use crate::show::bytes_of;
 use crate::texts::{OrDash, hex_text, json_text};
 use spk_packets::{Packet, Request, Will, decode};
 use spk_topics::{Spark, TopicFault, Verb};
-use std::alloc::Global;
+use std::alloc::{AllocError, Global};
 use std::io::Write;
+
+/// A will, or `-`.
+fn will_text(alloc: Global, will: Option<Will>) -> Result<String, AllocError> {
+    let Some(will) = will else {
+        return String::from_str(alloc, "-");
+    };
+    let Will {
+        topic,
+        message,
+        qos,
+        retain,
+    } = will;
+    let topic = json_text(alloc, topic)?;
+    let message = hex_text(alloc, &message)?;
+    format!(in alloc; "{topic} qos {qos} retain {retain} {message}")
+}
 
 fn connect_line<W: Write>(
     alloc: Global,
@@ -17,24 +33,9 @@ fn connect_line<W: Write>(
     will: Option<Will>,
 ) -> Result<(), Stop> {
     let client = json_text(alloc, client)?;
-    write!(
-        out,
-        "CONNECT client {client} clean {clean} keep {keep} will "
-    )?;
-    match will {
-        Some(will) => {
-            let Will {
-                topic,
-                message,
-                qos,
-                retain,
-            } = will;
-            let topic = json_text(alloc, topic)?;
-            let message = hex_text(alloc, &message)?;
-            writeln!(out, "{topic} qos {qos} retain {retain} {message}")?;
-        }
-        None => writeln!(out, "-")?,
-    }
+    let will = will_text(alloc, will)?;
+    write!(out, "CONNECT client {client} clean {clean} keep {keep} ")?;
+    writeln!(out, "will {will}")?;
     Ok(())
 }
 
@@ -49,13 +50,13 @@ fn verb_text(kind: Verb) -> &'static str {
 }
 
 /// ` sparkplug`, the level TYPE or `STATE`, and the names in order.
-fn spark_text<W: Write>(alloc: Global, out: &mut W, spark: Spark) -> Result<(), Stop> {
+fn spark_text(alloc: Global, spark: Spark) -> Result<String, AllocError> {
     match spark {
         Spark::Node { group, kind, node } => {
             let kind = verb_text(kind);
             let group = json_text(alloc, group)?;
             let node = json_text(alloc, node)?;
-            write!(out, " sparkplug N{kind} {group} {node}")?;
+            format!(in alloc; " sparkplug N{kind} {group} {node}")
         }
         Spark::Device {
             group,
@@ -67,22 +68,21 @@ fn spark_text<W: Write>(alloc: Global, out: &mut W, spark: Spark) -> Result<(), 
             let group = json_text(alloc, group)?;
             let node = json_text(alloc, node)?;
             let device = json_text(alloc, device)?;
-            write!(out, " sparkplug D{kind} {group} {node} {device}")?;
+            format!(in alloc; " sparkplug D{kind} {group} {node} {device}")
         }
         Spark::State { host } => {
             let host = json_text(alloc, host)?;
-            write!(out, " sparkplug STATE {host}")?;
+            format!(in alloc; " sparkplug STATE {host}")
         }
     }
-    Ok(())
 }
 
-/// What a topic names, where it is a topic of Sparkplug.
-fn spark_of(alloc: Global, topic: &str) -> Result<Option<Spark>, Stop> {
+/// What a topic names, where it is a topic of Sparkplug, and else nothing.
+fn named_by(alloc: Global, topic: &str) -> Result<String, Stop> {
     match Spark::read(alloc, topic) {
-        Ok(spark) => Ok(Some(spark)),
+        Ok(spark) => Ok(spark_text(alloc, spark)?),
         Err(TopicFault::NoMemory) => Err(Stop::no_memory()),
-        Err(_) => Ok(None),
+        Err(_) => Ok(String::new(alloc)),
     }
 }
 
@@ -92,13 +92,14 @@ fn filters_line<W: Write>(
     id: u16,
     filters: Vec<Request>,
 ) -> Result<(), Stop> {
-    write!(out, "SUBSCRIBE {id}")?;
+    let mut texts = String::new(alloc);
     for request in filters {
         let Request { filter, qos } = request;
         let filter = json_text(alloc, filter)?;
-        write!(out, " {filter} {qos}")?;
+        let text = format!(in alloc; " {filter} {qos}")?;
+        texts.push_str(text.as_str())?;
     }
-    writeln!(out)?;
+    writeln!(out, "SUBSCRIBE {id}{texts}")?;
     Ok(())
 }
 
@@ -108,12 +109,13 @@ fn texts_line<W: Write>(
     id: u16,
     filters: Vec<String>,
 ) -> Result<(), Stop> {
-    write!(out, "UNSUBSCRIBE {id}")?;
+    let mut texts = String::new(alloc);
     for filter in filters {
         let filter = json_text(alloc, filter)?;
-        write!(out, " {filter}")?;
+        texts.push_str(" ")?;
+        texts.push_str(filter.as_str())?;
     }
-    writeln!(out)?;
+    writeln!(out, "UNSUBSCRIBE {id}{texts}")?;
     Ok(())
 }
 
@@ -126,6 +128,8 @@ fn codes_line<W: Write>(out: &mut W, id: u16, codes: &[u8]) -> Result<(), Stop> 
     Ok(())
 }
 
+/// Writes the line of a packet. Its texts are made before any of it is written, so that where memory is refused
+/// nothing of it stands before the fault.
 fn packet_line<W: Write>(alloc: Global, out: &mut W, packet: Packet) -> Result<(), Stop> {
     match packet {
         Packet::Connect {
@@ -146,7 +150,7 @@ fn packet_line<W: Write>(alloc: Global, out: &mut W, packet: Packet) -> Result<(
             id,
             payload,
         } => {
-            let spark = spark_of(alloc, topic.as_str())?;
+            let names = named_by(alloc, topic.as_str())?;
             let topic = json_text(alloc, topic)?;
             let id = OrDash(id);
             let payload = hex_text(alloc, &payload)?;
@@ -154,11 +158,7 @@ fn packet_line<W: Write>(alloc: Global, out: &mut W, packet: Packet) -> Result<(
                 out,
                 "PUBLISH topic {topic} qos {qos} retain {retain} dup {dup} "
             )?;
-            write!(out, "id {id} {payload}")?;
-            if let Some(spark) = spark {
-                spark_text(alloc, out, spark)?;
-            }
-            writeln!(out)?;
+            writeln!(out, "id {id} {payload}{names}")?;
         }
         Packet::PubAck { id } => writeln!(out, "PUBACK {id}")?,
         Packet::Subscribe { id, filters } => filters_line(alloc, out, id, filters)?,
