@@ -130,6 +130,8 @@ impl Node {
     }
 
     /// The number of the node to which a level leads.
+    // Inlined, a level that `find` knows beforehand is compared as a constant.
+    #[inline(always)]
     pub(crate) fn child(&self, level: &str) -> Option<usize>
         ensures { result ≡ next_of self.now level.now }
     {

@@ -55,6 +55,7 @@ impl Nodes {
     }
 
     /// The node to which a level leads from a node.
+    #[inline(always)]
     pub(crate) fn child(&self, number: usize, level: &str) -> Option<usize>
         ensures { result ≡ child_of self.now number level.now }
     {
