@@ -1,4 +1,6 @@
+use crate::tests::slashes;
 use crate::{Filter, Topic, TopicFault, Tree, matches};
+use Step::{Find, Grant, Take};
 use std::alloc::{AllocError, Global};
 use std::process::Abort;
 use std::test::Fail;
@@ -42,105 +44,173 @@ fn find(rt: &impl Abort, tree: &Tree, topic: &str) -> Vec<(u64, u8)> {
     }
 }
 
+// A call on a tree, and what it answers.
+#[derive(Clone, Copy)]
+enum Step {
+    // A filter, a key, a QoS, and whether the filter is new for the key.
+    Grant(&'static str, u64, u8, bool),
+    // A filter, a key, and whether the grant stood.
+    Take(&'static str, u64, bool),
+    // A topic, and each key that is found with its QoS.
+    Find(&'static str, &'static [(u64, u8)]),
+}
+
+// Makes the calls in turn, and looks at each answer.
+fn play(rt: &impl Abort, tree: &mut Tree, steps: &[Step]) {
+    for step in steps {
+        match *step {
+            Grant(filter, key, qos, is_new) => {
+                assert_eq!(rt; grant(rt, tree, filter, key, qos), is_new, "{filter}");
+            }
+            Take(filter, key, stood) => {
+                assert_eq!(rt; take(rt, tree, filter, key), stood, "{filter}");
+            }
+            Find(topic, found) => {
+                assert_eq!(rt; find(rt, tree, topic).as_slice(), found, "{topic}");
+            }
+        }
+    }
+}
+
+static GREATEST: [Step; 6] = [
+    Grant("a/#", 2, 0, true),
+    Grant("+/b", 2, 1, true),
+    Grant("#", 1, 0, true),
+    Find("a/b", &[(1, 0), (2, 1)]),
+    Find("a", &[(1, 0), (2, 0)]),
+    Find("$SYS/b", &[]),
+];
+
 #[test]
 fn a_key_is_found_once_with_its_greatest_grant(rt: HostRuntime) -> Result<(), Fail> {
-    let mut tree = Tree::new(rt.alloc());
-    assert!(rt; grant(&rt, &mut tree, "a/#", 2, 0));
-    assert!(rt; grant(&rt, &mut tree, "+/b", 2, 1));
-    assert!(rt; grant(&rt, &mut tree, "#", 1, 0));
-    let found = find(&rt, &tree, "a/b");
-    assert_eq!(rt; found.as_slice(), [(1, 0), (2, 1)].as_slice());
-    let found = find(&rt, &tree, "a");
-    assert_eq!(rt; found.as_slice(), [(1, 0), (2, 0)].as_slice());
-    let found = find(&rt, &tree, "$SYS/b");
-    assert_eq!(rt; found.len(), 0);
+    play(&rt, &mut Tree::new(rt.alloc()), &GREATEST);
     Ok(())
 }
+
+static SET_AGAIN: [Step; 15] = [
+    Grant("a/b", 7, 0, true),
+    Grant("a/b", 7, 1, false),
+    Grant("a/b", 8, 0, true),
+    Grant("a/+", 8, 1, true),
+    Find("a/b", &[(7, 1), (8, 1)]),
+    Take("a/b", 7, true),
+    Take("a/b", 7, false),
+    Take("a/c", 8, false),
+    Take("a", 8, false),
+    Take("a/+", 8, true),
+    Find("a/b", &[(8, 0)]),
+    Take("a/b", 8, true),
+    Find("a/b", &[]),
+    Grant("c", 9, 1, true),
+    Find("c", &[(9, 1)]),
+];
 
 #[test]
 fn a_grant_is_set_again_and_taken_back(rt: HostRuntime) -> Result<(), Fail> {
-    let mut tree = Tree::new(rt.alloc());
-    assert!(rt; grant(&rt, &mut tree, "a/b", 7, 0));
-    assert!(rt; !grant(&rt, &mut tree, "a/b", 7, 1));
-    assert!(rt; grant(&rt, &mut tree, "a/b", 8, 0));
-    assert!(rt; grant(&rt, &mut tree, "a/+", 8, 1));
-    let found = find(&rt, &tree, "a/b");
-    assert_eq!(rt; found.as_slice(), [(7, 1), (8, 1)].as_slice());
-    assert!(rt; take(&rt, &mut tree, "a/b", 7));
-    assert!(rt; !take(&rt, &mut tree, "a/b", 7));
-    assert!(rt; !take(&rt, &mut tree, "a/c", 8));
-    assert!(rt; !take(&rt, &mut tree, "a", 8));
-    assert!(rt; take(&rt, &mut tree, "a/+", 8));
-    let found = find(&rt, &tree, "a/b");
-    assert_eq!(rt; found.as_slice(), [(8, 0)].as_slice());
-    assert!(rt; take(&rt, &mut tree, "a/b", 8));
-    let found = find(&rt, &tree, "a/b");
-    assert_eq!(rt; found.len(), 0);
-    assert!(rt; grant(&rt, &mut tree, "c", 9, 1));
-    let found = find(&rt, &tree, "c");
-    assert_eq!(rt; found.as_slice(), [(9, 1)].as_slice());
+    play(&rt, &mut Tree::new(rt.alloc()), &SET_AGAIN);
     Ok(())
 }
 
+static ABOVE_AND_BELOW: [Step; 10] = [
+    Grant("a", 1, 0, true),
+    Grant("a/b/c", 2, 0, true),
+    Grant("a/b", 3, 0, true),
+    Grant("a/d", 4, 0, true),
+    Take("a", 1, true),
+    Take("a/b", 3, true),
+    Find("a/b/c", &[(2, 0)]),
+    Take("a/b/c", 2, true),
+    Find("a/d", &[(4, 0)]),
+    Find("a/b", &[]),
+];
+
 #[test]
 fn a_filter_stays_when_one_above_or_below_it_goes(rt: HostRuntime) -> Result<(), Fail> {
+    play(&rt, &mut Tree::new(rt.alloc()), &ABOVE_AND_BELOW);
+    Ok(())
+}
+
+// The first level below `a` goes and comes back: alone, beside a second one, and beside a second and a third.
+static FIRST_BELOW: [Step; 28] = [
+    Grant("a", 9, 0, true),
+    Grant("a/b", 1, 0, true),
+    Take("a/b", 1, true),
+    Find("a/b", &[]),
+    Grant("a/b", 1, 1, true),
+    Find("a/b", &[(1, 1)]),
+    Grant("a/c", 2, 0, true),
+    Take("a/b", 1, true),
+    Find("a/b", &[]),
+    Find("a/c", &[(2, 0)]),
+    Grant("a/b", 1, 0, true),
+    Find("a/b", &[(1, 0)]),
+    Find("a/c", &[(2, 0)]),
+    Grant("a/d", 3, 1, true),
+    Take("a/b", 1, true),
+    Find("a/b", &[]),
+    Find("a/c", &[(2, 0)]),
+    Find("a/d", &[(3, 1)]),
+    Grant("a/b", 1, 1, true),
+    Find("a/b", &[(1, 1)]),
+    Find("a/c", &[(2, 0)]),
+    Find("a/d", &[(3, 1)]),
+    Take("a/c", 2, true),
+    Take("a/b", 1, true),
+    Find("a/c", &[]),
+    Find("a/d", &[(3, 1)]),
+    Take("a/d", 3, true),
+    Find("a/d", &[]),
+];
+
+#[test]
+fn the_first_level_below_goes_and_comes_back(rt: HostRuntime) -> Result<(), Fail> {
     let mut tree = Tree::new(rt.alloc());
-    assert!(rt; grant(&rt, &mut tree, "a", 1, 0));
-    assert!(rt; grant(&rt, &mut tree, "a/b/c", 2, 0));
-    assert!(rt; grant(&rt, &mut tree, "a/b", 3, 0));
-    assert!(rt; grant(&rt, &mut tree, "a/d", 4, 0));
-    assert!(rt; take(&rt, &mut tree, "a", 1));
-    assert!(rt; take(&rt, &mut tree, "a/b", 3));
-    assert_eq!(rt; find(&rt, &tree, "a/b/c").as_slice(), [(2, 0)].as_slice());
-    assert!(rt; take(&rt, &mut tree, "a/b/c", 2));
-    assert_eq!(rt; find(&rt, &tree, "a/d").as_slice(), [(4, 0)].as_slice());
-    assert_eq!(rt; find(&rt, &tree, "a/b").len(), 0);
+    play(&rt, &mut tree, &FIRST_BELOW);
+    assert_eq!(rt; linked(&tree), 1);
     Ok(())
 }
 
 #[test]
 fn a_filter_of_65536_levels_is_found_for_its_topic_alone(rt: HostRuntime) -> Result<(), Fail> {
-    let bytes = [b'/'; 65_535];
-    let text = str::from_utf8(&bytes)?;
-    let shorter = &text[1..];
+    let longest = slashes(&rt, 65_535, "");
+    let shorter = slashes(&rt, 65_534, "");
     let mut tree = Tree::new(rt.alloc());
-    assert!(rt; grant(&rt, &mut tree, text, 3, 1));
-    assert_eq!(rt; find(&rt, &tree, text).as_slice(), [(3, 1)].as_slice());
-    assert_eq!(rt; find(&rt, &tree, shorter).len(), 0);
-    assert!(rt; !take(&rt, &mut tree, shorter, 3));
-    assert!(rt; take(&rt, &mut tree, text, 3));
-    assert_eq!(rt; find(&rt, &tree, text).len(), 0);
+    assert!(rt; grant(&rt, &mut tree, &longest, 3, 1));
+    assert_eq!(rt; find(&rt, &tree, &longest).as_slice(), [(3, 1)].as_slice());
+    assert_eq!(rt; find(&rt, &tree, &shorter).len(), 0);
+    assert!(rt; !take(&rt, &mut tree, &shorter, 3));
+    assert!(rt; take(&rt, &mut tree, &longest, 3));
+    assert_eq!(rt; find(&rt, &tree, &longest).len(), 0);
     Ok(())
 }
 
+// A count of slashes, and what is found for so many.
+static ENDINGS: [(usize, &[(u64, u8)]); 4] = [
+    (65_535, &[(1, 0)]),
+    (65_534, &[(1, 0), (2, 1)]),
+    (65_533, &[(1, 0)]),
+    (65_532, &[]),
+];
+
 #[test]
 fn wildcards_at_the_end_of_many_levels_match_what_they_say(rt: HostRuntime) -> Result<(), Fail> {
-    let mut bytes = [b'/'; 65_535];
-    let slashes = bytes;
-    let topic = str::from_utf8(&slashes)?;
-    bytes[65_534] = b'#';
     let mut tree = Tree::new(rt.alloc());
-    assert!(rt; grant(&rt, &mut tree, str::from_utf8(&bytes)?, 1, 0));
-    bytes[65_534] = b'+';
-    assert!(rt; grant(&rt, &mut tree, str::from_utf8(&bytes)?, 2, 1));
-    assert_eq!(rt; find(&rt, &tree, topic).as_slice(), [(1, 0)].as_slice());
-    assert_eq!(rt;
-        find(&rt, &tree, &topic[1..]).as_slice(),
-        [(1, 0), (2, 1)].as_slice()
-    );
-    assert_eq!(rt;
-        find(&rt, &tree, &topic[2..]).as_slice(),
-        [(1, 0)].as_slice()
-    );
-    assert_eq!(rt; find(&rt, &tree, &topic[3..]).len(), 0);
+    assert!(rt; grant(&rt, &mut tree, &slashes(&rt, 65_534, "#"), 1, 0));
+    assert!(rt; grant(&rt, &mut tree, &slashes(&rt, 65_534, "+"), 2, 1));
+    for (count, found) in &ENDINGS {
+        let topic = slashes(&rt, *count, "");
+        assert_eq!(rt; find(&rt, &tree, &topic).as_slice(), *found, "{count}");
+    }
     Ok(())
 }
+
+static FILTERS_IN_TURN: [&str; 6] = ["a/b/c/d", "e/f/g/h", "e/f", "///", "+/+/#", "a/b/c/d"];
 
 #[test]
 fn nodes_that_carry_nothing_are_used_again(rt: HostRuntime) -> Result<(), Fail> {
     let mut tree = Tree::new(rt.alloc());
     assert!(rt; grant(&rt, &mut tree, "a/+", 1, 1));
-    for filter in ["a/b/c/d", "e/f/g/h", "e/f", "///", "+/+/#", "a/b/c/d"] {
+    for filter in &FILTERS_IN_TURN {
         assert!(rt; grant(&rt, &mut tree, filter, 1, 0));
         assert!(rt; take(&rt, &mut tree, filter, 1));
         assert_eq!(rt; linked(&tree), 2, "{filter}");
@@ -221,23 +291,30 @@ fn greatest(rt: &impl Abort, grants: &[Given], topic: &str) -> [Option<u8>; 13] 
     best
 }
 
+static NAMES: [&str; 5] = ["a", "b", "", "$x", "c"];
+
+static ENDS: [&str; 6] = ["", "/b", "/", "/a/c", "/b/c", "//"];
+
 // The tree finds for 150 topics what the plain list says.
 fn compare(rt: &(impl Abort + AllocGlobal), tree: &Tree, grants: &[Given]) {
-    for first in ["a", "b", "", "$x", "c"] {
-        for second in ["a", "b", "", "$x", "c"] {
-            for end in ["", "/b", "/", "/a/c", "/b/c", "//"] {
-                let topic = text(rt, [first, "/", second, end]);
-                let found = find(rt, tree, &topic);
-                let mut rest = found.iter();
-                for (key, best) in greatest(rt, grants, &topic).iter().enumerate() {
-                    if let Some(qos) = best {
-                        assert_eq!(rt; rest.next(), Some(&(key as u64, *qos)), "{topic} {key}");
-                    }
-                }
-                assert!(rt; rest.next().is_none(), "{topic}");
+    for first in &NAMES {
+        for second in &NAMES {
+            for end in &ENDS {
+                compare_at(rt, tree, grants, &text(rt, [first, "/", second, end]));
             }
         }
     }
+}
+
+fn compare_at(rt: &impl Abort, tree: &Tree, grants: &[Given], topic: &str) {
+    let found = find(rt, tree, topic);
+    let mut rest = found.iter();
+    for (key, best) in greatest(rt, grants, topic).iter().enumerate() {
+        if let Some(qos) = best {
+            assert_eq!(rt; rest.next(), Some(&(key as u64, *qos)), "{topic} {key}");
+        }
+    }
+    assert!(rt; rest.next().is_none(), "{topic}");
 }
 
 #[test]
