@@ -46,29 +46,28 @@ fn find(rt: &impl Abort, tree: &Tree, topic: &str) -> Vec<(u64, u8)> {
 
 // A call on a tree, and what it answers.
 #[derive(Clone, Copy)]
-enum Step {
+enum Step<'a> {
     // A filter, a key, a QoS, and whether the filter is new for the key.
-    Grant(&'static str, u64, u8, bool),
+    Grant(&'a str, u64, u8, bool),
     // A filter, a key, and whether the grant stood.
-    Take(&'static str, u64, bool),
+    Take(&'a str, u64, bool),
     // A topic, and each key that is found with its QoS.
-    Find(&'static str, &'static [(u64, u8)]),
+    Find(&'a str, &'a [(u64, u8)]),
 }
 
 // Makes the calls in turn, and looks at each answer.
 fn play(rt: &impl Abort, tree: &mut Tree, steps: &[Step]) {
-    for step in steps {
-        match *step {
-            Grant(filter, key, qos, is_new) => {
-                assert_eq!(rt; grant(rt, tree, filter, key, qos), is_new, "{filter}");
-            }
-            Take(filter, key, stood) => {
-                assert_eq!(rt; take(rt, tree, filter, key), stood, "{filter}");
-            }
-            Find(topic, found) => {
-                assert_eq!(rt; find(rt, tree, topic).as_slice(), found, "{topic}");
-            }
-        }
+    for (place, step) in steps.iter().enumerate() {
+        assert!(rt; is_answered(rt, tree, *step), "step {place}");
+    }
+}
+
+// Makes a call, and says whether it has that answer.
+fn is_answered(rt: &impl Abort, tree: &mut Tree, step: Step) -> bool {
+    match step {
+        Grant(filter, key, qos, is_new) => grant(rt, tree, filter, key, qos) == is_new,
+        Take(filter, key, stood) => take(rt, tree, filter, key) == stood,
+        Find(topic, found) => find(rt, tree, topic).as_slice() == found,
     }
 }
 
@@ -174,13 +173,15 @@ fn the_first_level_below_goes_and_comes_back(rt: HostRuntime) -> Result<(), Fail
 fn a_filter_of_65536_levels_is_found_for_its_topic_alone(rt: HostRuntime) -> Result<(), Fail> {
     let longest = slashes(&rt, 65_535, "");
     let shorter = slashes(&rt, 65_534, "");
-    let mut tree = Tree::new(rt.alloc());
-    assert!(rt; grant(&rt, &mut tree, &longest, 3, 1));
-    assert_eq!(rt; find(&rt, &tree, &longest).as_slice(), [(3, 1)].as_slice());
-    assert_eq!(rt; find(&rt, &tree, &shorter).len(), 0);
-    assert!(rt; !take(&rt, &mut tree, &shorter, 3));
-    assert!(rt; take(&rt, &mut tree, &longest, 3));
-    assert_eq!(rt; find(&rt, &tree, &longest).len(), 0);
+    let steps = [
+        Grant(&longest, 3, 1, true),
+        Find(&longest, &[(3, 1)]),
+        Find(&shorter, &[]),
+        Take(&shorter, 3, false),
+        Take(&longest, 3, true),
+        Find(&longest, &[]),
+    ];
+    play(&rt, &mut Tree::new(rt.alloc()), &steps);
     Ok(())
 }
 
@@ -204,19 +205,22 @@ fn wildcards_at_the_end_of_many_levels_match_what_they_say(rt: HostRuntime) -> R
     Ok(())
 }
 
-static FILTERS_IN_TURN: [&str; 6] = ["a/b/c/d", "e/f/g/h", "e/f", "///", "+/+/#", "a/b/c/d"];
+static IN_TURN: [&str; 6] = ["a/b/c/d", "e/f/g/h", "e/f", "///", "+/+/#", "a/b/c/d"];
 
 #[test]
 fn nodes_that_carry_nothing_are_used_again(rt: HostRuntime) -> Result<(), Fail> {
     let mut tree = Tree::new(rt.alloc());
-    assert!(rt; grant(&rt, &mut tree, "a/+", 1, 1));
-    for filter in &FILTERS_IN_TURN {
-        assert!(rt; grant(&rt, &mut tree, filter, 1, 0));
-        assert!(rt; take(&rt, &mut tree, filter, 1));
+    play(&rt, &mut tree, &[Grant("a/+", 1, 1, true)]);
+    for filter in &IN_TURN {
+        play(
+            &rt,
+            &mut tree,
+            &[Grant(filter, 1, 0, true), Take(filter, 1, true)],
+        );
         assert_eq!(rt; linked(&tree), 2, "{filter}");
         assert!(rt; tree.nodes.list.len() <= 7, "{filter}");
     }
-    assert_eq!(rt; find(&rt, &tree, "a/b").as_slice(), [(1, 1)].as_slice());
+    play(&rt, &mut tree, &[Find("a/b", &[(1, 1)])]);
     Ok(())
 }
 
