@@ -10,7 +10,7 @@ use Rattle.std.proofs.lemmas.List.{length-map, map-set}
 use Rattle.std.proofs.lemmas.Option.{slice_get-map, slice_get_read, slice_get_within}
 use Rattle.spk_topics.specs.declared.node.Node.{Node}
 use Rattle.spk_topics.specs.Edges.{SetsChild, SetsUp}
-use Rattle.spk_topics.specs.Nodes.{row_of, link_of, edge_of}
+use Rattle.spk_topics.specs.Nodes.{row_of, link_of, next_by, next_of, edge_of}
 use Rattle.spk_topics.specs.Paths.{Child, Link, child_in, up_in}
 use Rattle.spk_topics.proofs.NodeLemmas.{rows_in, links_in}
 
@@ -67,7 +67,7 @@ link_at nodes n s h = slice_get-map link_of nodes n ∙ ap (option_map link_of) 
 pub row_at : (nodes : List Node) (n : ℕ) (s : Node) → IsAt nodes n s → slice_get (rows_in nodes) n ≡ Some (row_of s)
 row_at nodes n s h = slice_get-map row_of nodes n ∙ ap (option_map row_of) h
 
-pub child_at : (nodes : List Node) (n : ℕ) (s : Node) (l : List ℕ) → IsAt nodes n s → child_in (links_in nodes) n l ≡ get_by_text s.children l
+pub child_at : (nodes : List Node) (n : ℕ) (s : Node) (l : List ℕ) → IsAt nodes n s → child_in (links_in nodes) n l ≡ next_of s l
 child_at nodes n s l h = ap (λ o. option_and_then (λ (link : Link). link.0 l) o) (link_at nodes n s h)
 
 pub up_at : (nodes : List Node) (n : ℕ) (s : Node) → IsAt nodes n s → up_in (links_in nodes) n ≡ option_map edge_of s.up
@@ -81,14 +81,14 @@ node_ups_stay nodes n s t h is e =
     ap up_in (map-set link_of nodes n t)
     ∙ up_same (links_in nodes) n (link_of t) (within nodes n h) (ap (option_map edge_of) e ∙ sym (up_at nodes n s (slice_get_read nodes (length nodes) n s refl h is)))
 
-pub node_children_stay : (nodes : List Node) (n : ℕ) (s t : Node) → n < length nodes → s ≡ get_or nodes n s → t.children ≡ s.children → child_in (links_in (set nodes n t)) ≡ child_in (links_in nodes)
-node_children_stay nodes n s t h is e =
+pub node_children_stay : (nodes : List Node) (n : ℕ) (s t : Node) → n < length nodes → s ≡ get_or nodes n s → t.first_child ≡ s.first_child → t.other_children ≡ s.other_children → child_in (links_in (set nodes n t)) ≡ child_in (links_in nodes)
+node_children_stay nodes n s t h is e k =
     ap child_in (map-set link_of nodes n t)
     ∙ child_same (links_in nodes) n (link_of t) (within nodes n h)
-    (λ l. ap (λ m. get_by_text m l) e ∙ sym (child_at nodes n s l (slice_get_read nodes (length nodes) n s refl h is)))
+    (λ l. ap (λ o. next_by o (get_by_text t.other_children) l) e ∙ ap (λ m. next_by s.first_child (get_by_text m) l) k ∙ sym (child_at nodes n s l (slice_get_read nodes (length nodes) n s refl h is)))
 
 pub node_child_set : (nodes : List Node) (n : ℕ) (s t : Node) (level : List ℕ) (c : Option ℕ) → n < length nodes → s ≡ get_or nodes n s
-    → ((l : List ℕ) → get_by_text t.children l ≡ cond (bytes_eq level l) c (get_by_text s.children l))
+    → ((l : List ℕ) → next_of t l ≡ cond (bytes_eq level l) c (next_of s l))
     → SetsChild (child_in (links_in nodes)) (child_in (links_in (set nodes n t))) n level c
 node_child_set nodes n s t level c h is e =
     subst (λ ls. SetsChild (child_in (links_in nodes)) (child_in ls) n level c) (sym (map-set link_of nodes n t))

@@ -1,4 +1,5 @@
 pub mod BoolLemmas
+pub mod BranchLemmas
 pub mod EdgeLemmas
 pub mod FindLemmas
 pub mod FitLemmas

@@ -12,6 +12,8 @@ mod levels;
 mod matching;
 mod node;
 mod nodes;
+#[cfg(test)]
+mod plain_list_tests;
 mod spark;
 #[cfg(test)]
 mod tests;

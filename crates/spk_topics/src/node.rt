@@ -3,8 +3,8 @@ ghost use Rattle.std.specs.Prelude.{◌≡◌, ◌≢◌, ◌⊎◌, [], ℕ, Li
 ghost use Rattle.std.specs.Ordering.{nat_cmp, is_eq};
 ghost use Rattle.std.specs.Str.{bytes_eq};
 ghost use Rattle.std.specs.String.{string_bytes};
-ghost use Rattle.std.specs.BTreeMap.{get, get_by_text};
-ghost use Rattle.spk_topics.specs.Nodes.{link_of, row_of};
+ghost use Rattle.std.specs.BTreeMap.{get};
+ghost use Rattle.spk_topics.specs.Nodes.{has_level, link_of, next_of, row_of};
 
 use crate::fault::TopicFault;
 use std::alloc::Global;
@@ -19,6 +19,15 @@ pub(crate) struct Edge {
     pub(crate) level: String,
 }
 
+/// An edge to a node below.
+#[derive(Drop)]
+pub(crate) struct Branch {
+    /// The level that leads there.
+    pub(crate) level: String,
+    /// The number of the node.
+    pub(crate) number: usize,
+}
+
 /// The grants of one filter, and where the tree goes on from here.
 #[derive(Drop)]
 pub(crate) struct Node {
@@ -26,8 +35,11 @@ pub(crate) struct Node {
     pub(crate) filter: String,
     /// The QoS of each key.
     pub(crate) grants: BTreeMap<u64, u8>,
-    /// The numbers of the nodes below, by the level that leads there.
-    pub(crate) children: BTreeMap<String, usize>,
+    /// The first edge to a node below. It stands here since most nodes have no other, and a map of one entry
+    /// takes half a thousand bytes.
+    pub(crate) first_child: Option<Branch>,
+    /// The numbers of the other nodes below, by the level that leads there.
+    pub(crate) other_children: BTreeMap<String, usize>,
     /// The edge that leads here: none to the root, and none to a node that isn't used.
     pub(crate) up: Option<Edge>,
     /// Of a node that isn't used: the next one that isn't.
@@ -43,7 +55,8 @@ impl Node {
         Node {
             filter: String::new(alloc),
             grants: BTreeMap::new(alloc),
-            children: BTreeMap::new(alloc),
+            first_child: None,
+            other_children: BTreeMap::new(alloc),
             up: None,
             next_unused: None,
         }
@@ -51,9 +64,10 @@ impl Node {
 
     /// Whether it has neither grants nor edges to nodes below.
     pub(crate) fn is_bare(&self) -> bool
-        ensures { IsTrue result → (self.now.grants.entries ≡ []) × (self.now.children.entries ≡ []) }
+        ensures grants { IsTrue result → self.now.grants.entries ≡ [] }
+        ensures children { IsTrue result → (l : List ℕ) → next_of self.now l ≡ None }
     {
-        self.grants.is_empty() && self.children.is_empty()
+        self.grants.is_empty() && self.first_child.is_none() && self.other_children.is_empty()
     }
 
     /// Whether some key has a grant of the filter.
@@ -115,6 +129,28 @@ impl Node {
         self.grants.remove(&key).is_some()
     }
 
+    /// The number of the node to which a level leads.
+    // Inlined, a level that `find` knows beforehand is compared as a constant.
+    #[inline(always)]
+    pub(crate) fn child(&self, level: &str) -> Option<usize>
+        ensures { result ≡ next_of self.now level.now }
+    {
+        match &self.first_child {
+            Some(first) if first.level.as_str() == level => Some(first.number),
+            _ => self.other_children.get(level).copied(),
+        }
+    }
+
+    // Whether the first edge is there, and has a level.
+    fn leads_first_by(&self, level: &str) -> bool
+        ensures { result ≡ has_level self.now.first_child level.now }
+    {
+        match &self.first_child {
+            Some(first) => first.level.as_str() == level,
+            None => false,
+        }
+    }
+
     /// Lets a level lead to the node of a number.
     pub(crate) fn add_child(
         &mut self,
@@ -124,12 +160,19 @@ impl Node {
     ) -> Result<(), TopicFault>
         ensures row { row_of self.new ≡ row_of self.old }
         ensures up { self.new.up ≡ self.old.up }
-        ensures ok { OnOk result ((l : List ℕ) → get_by_text self.new.children l ≡ cond (bytes_eq level.now l) (Some number) (get_by_text self.old.children l)) }
+        ensures ok { OnOk result ((l : List ℕ) → next_of self.new l ≡ cond (bytes_eq level.now l) (Some number) (next_of self.old l)) }
         ensures fault { IfErr result (λ e. e ≡ TopicFault.NoMemory) }
         ensures err { OnErr result (link_of self.new ≡ link_of self.old) }
     {
         let text = String::from_str(alloc, level)?;
-        self.children.insert(text, number)?;
+        if self.first_child.is_none() || self.leads_first_by(level) {
+            self.first_child = Some(Branch {
+                level: text,
+                number,
+            });
+            return Ok(());
+        }
+        self.other_children.insert(text, number)?;
         Ok(())
     }
 
@@ -137,8 +180,21 @@ impl Node {
     pub(crate) fn drop_child(&mut self, level: &str)
         ensures row { row_of self.new ≡ row_of self.old }
         ensures up { self.new.up ≡ self.old.up }
-        ensures children { (l : List ℕ) → get_by_text self.new.children l ≡ cond (bytes_eq level.now l) None (get_by_text self.old.children l) }
+        ensures children { (l : List ℕ) → next_of self.new l ≡ cond (bytes_eq level.now l) None (next_of self.old l) }
     {
-        self.children.remove(level);
+        self.drop_first(level);
+        self.other_children.remove(level);
+    }
+
+    // Takes the first edge away, if it has a level.
+    fn drop_first(&mut self, level: &str)
+        ensures row { row_of self.new ≡ row_of self.old }
+        ensures up { self.new.up ≡ self.old.up }
+        ensures first { self.new.first_child ≡ cond (has_level self.old.first_child level.now) None self.old.first_child }
+        ensures others { self.new.other_children ≡ self.old.other_children }
+    {
+        if self.leads_first_by(level) {
+            self.first_child = None;
+        }
     }
 }

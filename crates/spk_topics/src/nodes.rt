@@ -55,10 +55,11 @@ impl Nodes {
     }
 
     /// The node to which a level leads from a node.
+    #[inline(always)]
     pub(crate) fn child(&self, number: usize, level: &str) -> Option<usize>
         ensures { result ≡ child_of self.now number level.now }
     {
-        self.node(number)?.children.get(level).copied()
+        self.node(number)?.child(level)
     }
 
     /// The node to which a filter's levels lead.

@@ -13,7 +13,7 @@ returns-clause-rows c = same_rows c.args.self.now.list.items c.args.number c.ind
 pub returns-clause-child : goal.returns-clause-child
 returns-clause-child c =
     let inside = c.is_leaf.ensures.within c.if-not-is_leaf.false in
-    node_children_stay c.args.self.now.list.items c.args.number c.index_mut-node.result.now _ (omega (arith, c.args.self.now.list.ok.0)) c.index_mut-node.ensures.value refl
+    node_children_stay c.args.self.now.list.items c.args.number c.index_mut-node.result.now _ (omega (arith, c.args.self.now.list.ok.0)) c.index_mut-node.ensures.value refl refl
 
 pub returns-clause-edge : goal.returns-clause-edge
 returns-clause-edge c =
