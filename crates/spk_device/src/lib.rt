@@ -23,4 +23,6 @@ pub use owner::Owner;
 pub use registry::{Alias, Registry};
 
 #[cfg(test)]
+mod births_tests;
+#[cfg(test)]
 mod tests;
