@@ -1,8 +1,8 @@
 -- The data is tied to the record after every list of inputs.
-use Rattle.std.proofs.Common.{◌≡◌, ℕ, suc, ◌+◌, ◌<◌, ◌≤◌, ◌||◌, Bool, true, false, cond, not, List, [], ◌∷◌, refl, ◌∙◌, ap, arith, Option, Some, None, inl, inr}
+use Rattle.std.proofs.Common.{◌≡◌, ℕ, suc, ◌+◌, ◌<◌, ◌≤◌, ◌||◌, Bool, true, false, cond, not, List, [], ◌∷◌, refl, ◌∙◌, ap, arith, Option, Some, None, inl, inr, sym}
 use Rattle.std.specs.List.{range_with_len, list_any}
 use Rattle.std.proofs.lemmas.List.{length-replicate}
-use Rattle.std.proofs.lemmas.Bool.{cases_Bool, or_left}
+use Rattle.std.proofs.lemmas.Bool.{true≢false, cases_Bool, or_left}
 use Rattle.spk_sequence.specs.declared.answer.Step.TheVariants as step
 use Rattle.spk_sequence.specs.Data.{Standing}
 use Rattle.spk_sequence.specs.Step.{fresh_standing}
@@ -49,7 +49,7 @@ tied_fresh s low high = record {
   width = refl;
   live = refl;
   known = refl;
-  dead = refl;
+  dead = λ gone. absurd (true≢false (sym gone));
   fits = omega arith;
   birth = λ b e. absurd (cc);
   followed = λ b e on. absurd (cc);

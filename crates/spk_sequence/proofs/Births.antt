@@ -16,7 +16,7 @@ use Rattle.spk_sequence.specs.Following.{Following, contains, taken, following, 
 use Rattle.spk_sequence.specs.Window.{InWindow, IsNearTo}
 use Rattle.spk_sequence.specs.Positions.{birth_step, message_step, run_after, is_taken_before, is_of_dead}
 use Rattle.spk_sequence.proofs.Places.{held_at-made, held_at-past}
-use Rattle.spk_sequence.proofs.Tied.{Tied, IsTaken, IsFollowed, IsWaiting, InStep, in_step_later, entry_of, number_below}
+use Rattle.spk_sequence.proofs.Tied.{Tied, IsTaken, IsFollowed, IsWaiting, InStep, in_step_later, entry_of, number_below, not_dead}
 use Rattle.spk_sequence.proofs.Quiet.{tied_still, goes_on}
 use Rattle.spk_sequence.proofs.Eaten.{IsReady, tied_eaten, consumed_is_run}
 use Rattle.spk_sequence.proofs.Outcomes.{Outcome, outcome_from, run_after-is, eats_ready}
@@ -173,17 +173,17 @@ ready_off s h d p now t off opening window =
     }
 
 -- the rules for births
-old_birth : (d : Standing) (x stamp bd now : ℕ) → is_known d.phase ≡ true → nat_le stamp d.stamp ≡ true → hand_birth d x stamp bd now ≡ (step.OldBirth, d)
+pub old_birth : (d : Standing) (x stamp bd now : ℕ) → is_known d.phase ≡ true → nat_le stamp d.stamp ≡ true → hand_birth d x stamp bd now ≡ (step.OldBirth, d)
 old_birth d x stamp bd now a b = rw (a, b) refl
 
-dead_birth : (d : Standing) (x stamp bd now : ℕ) → (is_known d.phase && nat_le stamp d.stamp) ≡ false → is_dead d.phase ≡ true → eqb bd d.bd ≡ true → hand_birth d x stamp bd now ≡ (step.DeadSession, d)
+pub dead_birth : (d : Standing) (x stamp bd now : ℕ) → (is_known d.phase && nat_le stamp d.stamp) ≡ false → is_dead d.phase ≡ true → eqb bd d.bd ≡ true → hand_birth d x stamp bd now ≡ (step.DeadSession, d)
 dead_birth d x stamp bd now a b c = rw (a, b, c) refl
 
-new_birth : (d : Standing) (x stamp bd now : ℕ) → (is_known d.phase && nat_le stamp d.stamp) ≡ false → (is_dead d.phase && eqb bd d.bd) ≡ false →
+pub new_birth : (d : Standing) (x stamp bd now : ℕ) → (is_known d.phase && nat_le stamp d.stamp) ≡ false → (is_dead d.phase && eqb bd d.bd) ≡ false →
     hand_birth d x stamp bd now ≡ (step.Consumed (1 + run_of (kept_places d x stamp)), after_birth d x stamp bd now)
 new_birth d x stamp bd now a b = rw (a, b) refl
 
-birth_kind : (s : Setting) (p : ℕ) → opens s.published p ≡ true → kind_of s p ≡ Birth (stamp_at s.published p) (written_session s (session_at s.published p))
+pub birth_kind : (s : Setting) (p : ℕ) → opens s.published p ≡ true → kind_of s p ≡ Birth (stamp_at s.published p) (written_session s (session_at s.published p))
 birth_kind s p opening = ap (λ x. cond x (Birth (stamp_at s.published p) (written_session s (session_at s.published p))) (Other (Some (stamp_at s.published p)))) opening
 
 old_right : (s : Setting) (h : HostRecord) (p : ℕ) → opens s.published p ≡ true → is_taken_before (taken s h) p ≡ true → cond (opens s.published p) (birth_step s h p) (message_step s h p) ≡ step.OldBirth
@@ -244,7 +244,7 @@ first_birth s h d p now t window opening tk =
     (and_left (is_known d.phase) (nat_le (stamp_at s.published p) d.stamp) unknown)
     (and_left (is_dead d.phase) (eqb (written_session s (session_at s.published p)) d.bd) (unknown_is_alive d.phase unknown))
     (ap (λ o. is_taken_before o p) tk)
-    (and_left (is_session_dead s h) (is_session_of s (taken s h) (session_at s.published p)) (sym t.dead ∙ unknown_is_alive d.phase unknown))
+    (and_left (is_session_dead s h) (is_session_of s (taken s h) (session_at s.published p)) (not_dead s h d t (unknown_is_alive d.phase unknown)))
 
 -- sessions less than 256 apart are one where their bytes are
 pub near_sessions : (s : Setting) (j k : ℕ) → j < k + 256 → k < j + 256 → written_session s j ≡ written_session s k → j ≡ k
@@ -286,16 +286,16 @@ later_birth s h d p now b node t window opening tk =
                   | inr off ↦ ready_off s h d p now t off opening window
                 ])
                 fresh (and_left (is_dead d.phase) (eqb bd d.bd) alive) before
-                (and_left (is_session_dead s h) (is_session_of s (taken s h) j) (sym t.dead ∙ alive))
+                (and_left (is_session_dead s h) (is_session_of s (taken s h) j) (not_dead s h d t alive))
             | inl dead ↦
                 let off : (following s h).on ≡ false = sym t.live ∙ dead_is_off d.phase dead in
                 elim (cases_eq bd d.bd) [
                   | inl same ↦ outcome_from s h d d p now (Birth st bd) step.DeadSession [] (birth_kind s p opening) (dead_birth d x st bd now fresh dead (eq-eqb bd d.bd same)) refl
                       (tied_still s h d (MessageComes p now) (Stepped step.DeadSession) t off refl (omega arith))
                       (λ near. dead_right s h p opening before
-                      (let close : IsNearTo s (Some b) j = subst (λ y. IsNearTo s y j) tk (near opening) in
+                      (let close : IsNearTo s (Some b) j = subst (λ y. IsNearTo s y j) tk (near.0 opening) in
                       let one : j ≡ k = near_sessions s j k close.0 close.1 (same ∙ o.bd) in
-                      and_from (is_session_dead s h) (is_session_of s (taken s h) j) (sym t.dead ∙ dead) (of_session ∙ eq-eqb j k one))) refl (inl refl)
+                      and_from (is_session_dead s h) (is_session_of s (taken s h) j) (sym near.2 ∙ dead) (of_session ∙ eq-eqb j k one))) refl (inl refl)
                   | inr other ↦ take_birth s h d p now t opening (ready_off s h d p now t off opening window) fresh
                       (and_right (is_dead d.phase) (eqb bd d.bd) (ne_eqb bd d.bd other)) before
                       (and_right (is_session_dead s h) (is_session_of s (taken s h) j) (of_session ∙ ne_eqb j k (λ e. other (ap (written_session s) e ∙ sym o.bd))))

@@ -140,7 +140,7 @@ after_death_of s h d (MessageComes p now) e node t past ate q there = elim ate [
             let up : session_at s.published old.birth ≤ session_at s.published q = node.sessions old.birth q (omega arith) (omega arith) in
             elim old.below [
               | inl less ↦ omega arith
-              | inr gone ↦ true≢false (sym gone.1 ∙ sym t.dead ∙ live_is_alive d.phase (t.live ∙ next.2))
+              | inr gone ↦ true≢false (sym (t.dead gone.1) ∙ live_is_alive d.phase (t.live ∙ next.2))
             ]
       ])
 ]

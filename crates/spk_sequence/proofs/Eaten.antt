@@ -140,7 +140,7 @@ tied_eaten s h d e p now c held t r wait width stamp bd =
       width = width;
       live = sym (ap (λ (x : Following). x.on) f);
       known = sym (ap is_some (taken_is s h p now c held r));
-      dead = sym (ap (λ x. not x && is_session_dead s h) (takes_is s h p now c held r) ∙ r.alive);
+      dead = λ gone. absurd (true≢false (sym gone ∙ ap (λ x. not x && is_session_dead s h) (takes_is s h p now c held r) ∙ r.alive));
       fits = omega arith;
       birth = λ b tb.
           let same : c ≡ b = (let i : Some c ≡ Some b = sym (taken_is s h p now c held r) ∙ tb in cc) in

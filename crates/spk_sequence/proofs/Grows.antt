@@ -10,7 +10,7 @@ use Rattle.spk_sequence.specs.Calls.{Reply, Stepped, Ticked, Told, reply_of, aft
 use Rattle.spk_sequence.specs.NodeRecord.{Setting, NodeRecord, Message, Numbering, RunsOn, Restarts, IsNodeRecord, message_at, opens, birth_at, session_at, stamp_at, start_of, number_by, written_number}
 use Rattle.spk_sequence.specs.HostRecord.{Input, MessageComes, DeathComes, TickComes, Done, HostRecord, record_of, standing_of, done_at, call_of, kind_of, consumed_by, held_under, is_held_under, position_of, next_after, reach}
 use Rattle.spk_sequence.specs.Following.{Following, contains, taken, takes, following, last_opening, is_matching_death, is_session_of, is_session_dead, dead_sessions, with_dead, is_gap_of}
-use Rattle.spk_sequence.specs.Window.{MayCome, AllMayCome, IsNearTo}
+use Rattle.spk_sequence.specs.Window.{MayCome, AllMayCome, IsNearTo, IsToldApart, IsNearDeath, AllNearDeaths, IsNearBirth, IsAfterOwnBirth, AllAfterBirth, NumbersFit, handed_of}
 use Rattle.spk_sequence.specs.Claims.{with_more, IsSameWithMore}
 use Rattle.spk_sequence.proofs.Ranges.{in_run}
 use Rattle.spk_sequence.proofs.Tied.{Tied, IsTaken}
@@ -19,21 +19,21 @@ use Rattle.spk_sequence.proofs.Outcomes.{Ate}
 use Rattle.spk_sequence.proofs.Always.{AllStep, outcome, tied_always}
 
 -- what was published stays
-message_same : (published more : NodeRecord) (p : ℕ) → p < length published → message_at (published ++ more) p ≡ message_at published p
+pub message_same : (published more : NodeRecord) (p : ℕ) → p < length published → message_at (published ++ more) p ≡ message_at published p
 message_same published more p below = get_or-append published more (record { birth = 0; session = 0; stamp = 0 }) p below
 
-opens_same : (published more : NodeRecord) (p : ℕ) → p < length published → opens (published ++ more) p ≡ opens published p
+pub opens_same : (published more : NodeRecord) (p : ℕ) → p < length published → opens (published ++ more) p ≡ opens published p
 opens_same published more p below =
     ap (λ (m : Message). eqb p 0 || nat_lt (message_at (published ++ more) (p - 1)).birth m.birth) (message_same published more p below)
     ∙ ap (λ (m : Message). eqb p 0 || nat_lt m.birth (birth_at published p)) (message_same published more (p - 1) (omega arith))
 
-start_same : (published more : NodeRecord) (p : ℕ) → p < length published → start_of (published ++ more) p ≡ start_of published p
+pub start_same : (published more : NodeRecord) (p : ℕ) → p < length published → start_of (published ++ more) p ≡ start_of published p
 start_same published more zero below = refl
 start_same published more (suc p) below =
     ap (λ b. cond b (suc p) (start_of (published ++ more) p)) (opens_same published more (suc p) below)
     ∙ ap (λ q. cond (opens published (suc p)) (suc p) q) (start_same published more p (omega arith))
 
-number_same : (s : Setting) (more : NodeRecord) (p : ℕ) → p < length s.published → written_number (with_more s more) p ≡ written_number s p
+pub number_same : (s : Setting) (more : NodeRecord) (p : ℕ) → p < length s.published → written_number (with_more s more) p ≡ written_number s p
 number_same s more p below = go s.numbering
   where
     go : (numbering : Numbering) → number_by numbering (with_more s more) p ≡ number_by numbering s p
@@ -184,26 +184,63 @@ near_same s more None j below near = near
 near_same s more (Some b) j below near =
     subst (λ (m : Message). (j < m.session + 256) × (m.session < j + 256)) (sym (message_same s.published more b (below b refl))) near
 
+apart_same : (s : Setting) (more : NodeRecord) (o : Option ℕ) (j : ℕ) → ((b : ℕ) → o ≡ Some b → b < length s.published) → IsToldApart s o j → IsToldApart (with_more s more) o j
+apart_same s more None j below apart = apart
+apart_same s more (Some b) j below apart =
+    subst (λ (m : Message). (s.bd + j) % 256 ≡ (s.bd + m.session) % 256 → j ≡ m.session) (sym (message_same s.published more b (below b refl))) apart
+
+-- a session that is near still is
+still_near : (s : Setting) (more : NodeRecord) (h : HostRecord) (j : ℕ) → ((b : ℕ) → taken s h ≡ Some b → b < length s.published) → Agrees s more h → IsNearTo s (taken s h) j → IsNearTo (with_more s more) (taken (with_more s more) h) j
+still_near s more h j below a near = subst (λ o. IsNearTo (with_more s more) o j) (sym a.taken) (near_same s more (taken s h) j below near)
+
+near_death_same : (s : Setting) (more : NodeRecord) (h : HostRecord) (input : Input) → ((b : ℕ) → taken s h ≡ Some b → b < length s.published) → Agrees s more h → IsNearDeath s h input → IsNearDeath (with_more s more) h input
+near_death_same s more h (MessageComes p now) below a near = tt
+near_death_same s more h (TickComes now) below a near = tt
+near_death_same s more h (DeathComes j now) below a near = still_near s more h j below a near
+
+-- what a number that restarts asks still holds
+after_same : (s : Setting) (more : NodeRecord) (h : HostRecord) (input : Input) → IsKnown s input → IsAfterOwnBirth s h input → IsAfterOwnBirth (with_more s more) h input
+after_same s more h (DeathComes j now) known after = tt
+after_same s more h (TickComes now) known after = tt
+after_same s more h (MessageComes p now) known after = elim after [
+  | inl opening ↦ inl (opens_same s.published more p known ∙ opening)
+  | inr handed ↦ inr (ap (λ q. contains q (handed_of h)) (start_same s.published more p known) ∙ handed)
+]
+
+near_birth_same : (s : Setting) (more : NodeRecord) (h : HostRecord) (input : Input) → IsKnown s input → ((b : ℕ) → taken s h ≡ Some b → b < length s.published) → Agrees s more h → IsNearBirth s h input → IsNearBirth (with_more s more) h input
+near_birth_same s more h (DeathComes j now) known below a near = tt
+near_birth_same s more h (TickComes now) known below a near = tt
+near_birth_same s more h (MessageComes p now) known below a near = λ opening.
+    let own : opens s.published p ≡ true = sym (opens_same s.published more p known) ∙ opening in
+    subst (λ (m : Message). IsNearTo (with_more s more) (taken (with_more s more) h) m.session) (sym (message_same s.published more p known)) (still_near s more h (session_at s.published p) below a (near own))
+
 may_same : (s : Setting) (more : NodeRecord) (h : HostRecord) (input : Input) → ((b : ℕ) → taken s h ≡ Some b → b < length s.published) → Agrees s more h → MayCome s h input → MayCome (with_more s more) h input
 may_same s more h (TickComes now) below a may = may
-may_same s more h (DeathComes j now) below a may = subst (λ o. IsNearTo (with_more s more) o j) (sym a.taken) (near_same s more (taken s h) j below may)
+may_same s more h (DeathComes j now) below a may = λ on. subst (λ o. IsToldApart (with_more s more) o j) (sym a.taken)
+    (apart_same s more (taken s h) j below (may (sym (ap (λ (f : Following). f.on) a.following) ∙ on)))
 may_same s more h (MessageComes p now) below a may = record {
   published = (let k : p < length s.published = may.published in let e : length (s.published ++ more) ≡ length s.published + length more = length-append s.published more in omega arith);
   not_far_behind = may.not_far_behind;
   not_far_ahead = λ on. may.not_far_ahead (sym (ap (λ (f : Following). f.on) a.following) ∙ on);
 }
 
+-- all of the inputs fit, if they did
+abbrev AllFit : Setting → NodeRecord → List Input → Type 0
+AllFit s more inputs = (AllAfterBirth s inputs → AllAfterBirth (with_more s more) inputs) × (AllNearDeaths s inputs → AllNearDeaths (with_more s more) inputs)
+
 record Grown (s : Setting) (more : NodeRecord) (inputs : List Input) : Type 0 where
   same_record : record_of (with_more s more) inputs ≡ record_of s inputs
   same_standing : standing_of (with_more s more) inputs ≡ standing_of s inputs
   agrees : Agrees s more (record_of s inputs)
   may : AllMayCome (with_more s more) inputs
+  fit : AllFit s more inputs
 
 grown_always : (s : Setting) (more : NodeRecord) → IsNodeRecord s.published → 0 < s.width → s.width ≤ 96 → (inputs : List Input) → AllMayCome s inputs → AllStep s inputs → Grown s more inputs
 grown_always s more node low high [] may steps = record {
   same_record = refl;
   same_standing = refl;
   may = tt;
+  fit = ((λ all. tt), (λ all. tt));
   agrees = record { taken = refl; following = refl; dead = refl; sessions = refl; under = λ x. refl };
 }
 grown_always s more node low high (input ∷ inputs) may steps =
@@ -222,10 +259,22 @@ grown_always s more node low high (input ∷ inputs) may steps =
       same_standing = ap (λ x. after_call x (call_of (with_more s more) input)) g.same_standing ∙ ap (after_call d) (call_same s more input known);
       agrees = agrees_after s more h (done_at s h d input) known (known_consumed s h input (done_at s h d input).consumed ate) below g.agrees;
       may = (subst (λ x. MayCome (with_more s more) x input) (sym g.same_record) (may_same s more h input below g.agrees may.0), g.may);
+      fit = (
+        (λ all. (
+          subst (λ x. IsAfterOwnBirth (with_more s more) x input) (sym g.same_record) (after_same s more h input known all.0),
+          subst (λ x. IsNearBirth (with_more s more) x input) (sym g.same_record) (near_birth_same s more h input known below g.agrees all.1),
+          g.fit.0 all.2,
+        )),
+        (λ all. (subst (λ x. IsNearDeath (with_more s more) x input) (sym g.same_record) (near_death_same s more h input below g.agrees all.0), g.fit.1 all.1)),
+      );
     }
 
-pub grows_always : (s : Setting) (more : NodeRecord) → IsNodeRecord s.published → 0 < s.width → s.width ≤ 96 → (inputs : List Input) → AllMayCome s inputs → AllStep s inputs → IsSameWithMore s more inputs
-grows_always s more node low high inputs may steps =
+numbers_fit : (s : Setting) (more : NodeRecord) (inputs : List Input) (numbering : Numbering) → AllFit s more inputs → NumbersFit numbering s inputs → NumbersFit numbering (with_more s more) inputs
+numbers_fit s more inputs RunsOn all fit = tt
+numbers_fit s more inputs Restarts all fit = all.0 fit
+
+pub grows_always : (s : Setting) (more : NodeRecord) → IsNodeRecord s.published → 0 < s.width → s.width ≤ 96 → (inputs : List Input) → AllMayCome s inputs → AllStep s inputs → NumbersFit s.numbering s inputs → IsSameWithMore s more inputs
+grows_always s more node low high inputs may steps fit =
     let g : Grown s more inputs = grown_always s more node low high inputs may steps in
     record {
       same_record = g.same_record;
@@ -234,5 +283,8 @@ grows_always s more node low high inputs may steps =
       same_following = ap (following (with_more s more)) g.same_record ∙ g.agrees.following;
       same_dead = ap (is_session_dead (with_more s more)) g.same_record ∙ g.agrees.dead;
       same_sessions = ap (dead_sessions (with_more s more)) g.same_record ∙ g.agrees.sessions;
+      same_held = λ x. ap (λ h. held_under (with_more s more) h x) g.same_record ∙ g.agrees.under x;
       may_come = g.may;
+      numbered = numbers_fit s more inputs s.numbering g.fit fit;
+      near_deaths = g.fit.1;
     }

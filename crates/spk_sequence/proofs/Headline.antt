@@ -31,4 +31,4 @@ pub taken_after : (s : Setting) (inputs : List Input) (input : Input) → IsLawf
 taken_after s inputs input l = taken_by_is s (record_of s inputs) input (done_at s (record_of s inputs) (standing_of s inputs) input) (ate_of s inputs input l)
 
 pub grows : (s : Setting) (more : NodeRecord) (inputs : List Input) → IsLawful s inputs → IsSameWithMore s more inputs
-grows s more inputs l = grows_always s more l.node l.some_places l.few_places inputs l.may_come (steps_all s inputs l)
+grows s more inputs l = grows_always s more l.node l.some_places l.few_places inputs l.may_come (steps_all s inputs l) l.numbered

@@ -3,13 +3,14 @@ use Rattle.std.proofs.Common.{◌≡◌, ℕ, List, ◌∷◌, refl, ◌∙◌, 
 use Rattle.spk_sequence.specs.NodeRecord.{Setting, Numbering, RunsOn, Restarts}
 use Rattle.spk_sequence.specs.HostRecord.{Input, MessageComes, record_of, standing_of, done_at}
 use Rattle.spk_sequence.specs.Following.{taken, takes}
-use Rattle.spk_sequence.specs.Window.{NumbersFit, IsNearBirth}
+use Rattle.spk_sequence.specs.Window.{NumbersFit, IsNearBirth, AllNearDeaths}
 use Rattle.spk_sequence.specs.Claims.{IsLawful, SameStep, IsLiveByPositions, TakesBirth, HasCause}
 use Rattle.spk_sequence.proofs.Tied.{Tied}
 use Rattle.spk_sequence.proofs.Outcomes.{Ate}
 use Rattle.spk_sequence.proofs.Messages.{birth_of}
 use Rattle.spk_sequence.proofs.Always.{StepsOf, AllStep, all_step_runs_on, outcome, tied_always, right_takes}
 use Rattle.spk_sequence.proofs.Restarts.{all_step_restarts}
+use Rattle.spk_sequence.proofs.Exact.{exact_always}
 
 -- each message is in step with the birth that is followed, in either numbering
 pub steps_all : (s : Setting) (inputs : List Input) → IsLawful s inputs → AllStep s inputs
@@ -37,9 +38,11 @@ pub ate_of : (s : Setting) (inputs : List Input) (input : Input) → IsLawful s 
 ate_of s inputs input l =
     (outcome s (record_of s inputs) (standing_of s inputs) input l.node (tied_of s inputs (before_of s inputs input l)) l.may_come.0 (steps_of s inputs input l)).ate
 
-pub same_step : (s : Setting) (inputs : List Input) (input : Input) → IsLawful s (input ∷ inputs) → IsNearBirth s (record_of s inputs) input → SameStep s inputs input
-same_step s inputs input l near =
-    (outcome s (record_of s inputs) (standing_of s inputs) input l.node (tied_of s inputs (before_of s inputs input l)) l.may_come.0 (steps_of s inputs input l)).same near
+pub same_step : (s : Setting) (inputs : List Input) (input : Input) → IsLawful s (input ∷ inputs) → AllNearDeaths s (input ∷ inputs) → IsNearBirth s (record_of s inputs) input → SameStep s inputs input
+same_step s inputs input l deaths near =
+    let old : IsLawful s inputs = before_of s inputs input l in
+    (outcome s (record_of s inputs) (standing_of s inputs) input l.node (tied_of s inputs (before_of s inputs input l)) l.may_come.0 (steps_of s inputs input l)).same
+    (near, deaths.0, exact_always s l.node l.some_places l.few_places inputs old.may_come (steps_all s inputs old) deaths.1)
 
 pub live_by_positions : (s : Setting) (inputs : List Input) → IsLawful s inputs → IsLiveByPositions s inputs
 live_by_positions s inputs l =
@@ -52,7 +55,7 @@ has_cause s inputs l on =
     let b : (c : ℕ) × (taken s (record_of s inputs) ≡ Some c) = birth_of s (record_of s inputs) (standing_of s inputs) t on in
     (t.followed b.0 b.1 on).cause
 
-pub takes_birth : (s : Setting) (inputs : List Input) (p now : ℕ) → IsLawful s (MessageComes p now ∷ inputs) → IsNearBirth s (record_of s inputs) (MessageComes p now) →
+pub takes_birth : (s : Setting) (inputs : List Input) (p now : ℕ) → IsLawful s (MessageComes p now ∷ inputs) → AllNearDeaths s (MessageComes p now ∷ inputs) → IsNearBirth s (record_of s inputs) (MessageComes p now) →
     TakesBirth s (record_of s inputs) p (done_at s (record_of s inputs) (standing_of s inputs) (MessageComes p now))
-takes_birth s inputs p now l near opening =
-    ap (takes s) (same_step s inputs (MessageComes p now) l near) ∙ right_takes s (record_of s inputs) p now opening
+takes_birth s inputs p now l deaths near opening =
+    ap (takes s) (same_step s inputs (MessageComes p now) l deaths near) ∙ right_takes s (record_of s inputs) p now opening

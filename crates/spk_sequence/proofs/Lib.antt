@@ -3,6 +3,7 @@ pub mod Births
 pub mod Deaths
 pub mod Eaten
 pub mod Ends
+pub mod Exact
 pub mod FarDeaths
 pub mod Fronts
 pub mod Grows

@@ -14,7 +14,7 @@ use Rattle.spk_sequence.specs.HostRecord.{MessageComes, HostRecord, is_held_unde
 use Rattle.spk_sequence.specs.Following.{Following, contains, taken, following, waits, is_waiting, is_gap}
 use Rattle.spk_sequence.specs.Window.{InWindow}
 use Rattle.spk_sequence.specs.Positions.{birth_step, message_step}
-use Rattle.spk_sequence.proofs.Tied.{Tied, IsTaken, IsFollowed, IsWaiting, InStep, entry_of}
+use Rattle.spk_sequence.proofs.Tied.{Tied, IsTaken, IsFollowed, IsWaiting, InStep, entry_of, not_dead}
 use Rattle.spk_sequence.proofs.Quiet.{quiet, tied_still, tied_on, tied_stops, goes_on_gap}
 use Rattle.spk_sequence.proofs.Held.{tied_held, above_from}
 use Rattle.spk_sequence.proofs.Eaten.{IsReady, tied_eaten, consumed_is_run}
@@ -143,7 +143,7 @@ message_outcome s h d p now node t window closed steps =
                           (too_far d x now (Some st) live not_below (ne_eqb (ahead x d.next) 0 (λ e. absurd (omega arith))) (le-ltb (ahead x d.next) d.width (omega arith)) (lt-ltb (ahead x d.next) (256 - d.width) (omega arith))) refl
                           (tied_stops s h d (MessageComes p now) (Stepped step.Gap) phase.Gap t refl
                           (goes_on_gap s h (MessageComes p now) (and_from (f.on && not (opens s.published p)) (nat_le (n + s.width) p) (and_from f.on (not (opens s.published p)) on (ap not closed)) (le-leb (n + s.width) p outside)))
-                          (sym (live_is_known d.phase live)) (sym (sym t.dead ∙ live_is_alive d.phase live)) (omega arith))
+                          (sym (live_is_known d.phase live)) (λ gone. absurd (true≢false (sym gone ∙ not_dead s h d t (live_is_alive d.phase live)))) (omega arith))
                           (λ near. message_right s h p step.Gap closed (gap_step s h p on (le-ltb p n from_next) (ne_eqb p n later) (le-ltb p (n + s.width) outside))) refl (inl refl)
                     ]
                   ]

@@ -15,11 +15,11 @@ use Rattle.spk_sequence.specs.Calls.{Stepped, after_call}
 use Rattle.spk_sequence.specs.NodeRecord.{Setting, opens, stamp_at, written_number}
 use Rattle.spk_sequence.specs.HostRecord.{Input, MessageComes, Done, HostRecord, kind_of, call_of, consumed_by, done_at, next_after, reach}
 use Rattle.spk_sequence.specs.Following.{Following, contains, taken, following, waits, is_session_dead}
-use Rattle.spk_sequence.specs.Window.{InWindow, IsNearBirth}
+use Rattle.spk_sequence.specs.Window.{InWindow, IsNearBirth, IsNearDeath}
 use Rattle.spk_sequence.specs.Positions.{is_taken_before, is_of_dead, right_at, right_consumed, birth_step, message_step, run_after}
 use Rattle.spk_sequence.proofs.Places.{held_at-past}
 use Rattle.spk_sequence.proofs.WindowLemmas.{held_at-places_from, length-places_from}
-use Rattle.spk_sequence.proofs.Tied.{Tied, IsTaken, IsFollowed, IsWaiting, InStep, entry_of}
+use Rattle.spk_sequence.proofs.Tied.{Tied, IsTaken, IsFollowed, IsWaiting, InStep, entry_of, not_dead}
 use Rattle.spk_sequence.proofs.Quiet.{goes_on, goes_on_true}
 use Rattle.spk_sequence.proofs.Eaten.{IsReady, in_run, closed_run}
 
@@ -35,10 +35,14 @@ abbrev pub Ate : Setting → HostRecord → Input → List ℕ → Type 0
 Ate s h (MessageComes p now) ps = (ps ≡ []) ⊎ ((k : ℕ) × Eats s h p k × (ps ≡ range_with_len p (suc k)))
 Ate s h _ ps = ps ≡ []
 
+-- sessions are near, and the phase is Dead only where the session is dead
+abbrev pub IsExact : Setting → HostRecord → Standing → Input → Type 0
+IsExact s h d input = IsNearBirth s h input × IsNearDeath s h input × (is_dead d.phase ≡ is_session_dead s h)
+
 -- After an event the data is tied to the record again, and the event is that of the positions.
 pub record Outcome (s : Setting) (h : HostRecord) (d : Standing) (input : Input) : Type 0 where
   pub tied : Tied s (done_at s h d input ∷ h) (after_call d (call_of s input))
-  pub same : IsNearBirth s h input → done_at s h d input ≡ right_at s h input
+  pub same : IsExact s h d input → done_at s h d input ≡ right_at s h input
   pub ate : Ate s h input (done_at s h d input).consumed
 
 abbrev pub stepped : ℕ → ℕ → Step → List ℕ → Done
@@ -46,7 +50,7 @@ stepped p now r ps = record { input = MessageComes p now; reply = Stepped r; con
 
 pub outcome_from : (s : Setting) (h : HostRecord) (d e : Standing) (p now : ℕ) (kind : Kind) (r : Step) (ps : List ℕ) → kind_of s p ≡ kind → hand d (written_number s p) kind now ≡ (r, e) →
     consumed_by s h (MessageComes p now) (Stepped r) ≡ ps → Tied s (stepped p now r ps ∷ h) e →
-    (IsNearBirth s h (MessageComes p now) → cond (opens s.published p) (birth_step s h p) (message_step s h p) ≡ r) → right_consumed (MessageComes p now) (Stepped r) ≡ ps →
+    (IsExact s h d (MessageComes p now) → cond (opens s.published p) (birth_step s h p) (message_step s h p) ≡ r) → right_consumed (MessageComes p now) (Stepped r) ≡ ps →
     Ate s h (MessageComes p now) ps → Outcome s h d (MessageComes p now)
 outcome_from s h d e p now kind r ps k x c t right q ate =
     let is : hand d (written_number s p) (kind_of s p) now ≡ (r, e) = ap (λ j. hand d (written_number s p) j now) k ∙ x in
@@ -184,7 +188,7 @@ message_ready s h d p now b t tk on at closed in_step window =
       waiting = waiting;
       low = λ q above there. omega arith;
       follows = ap (λ x. x || goes_on s h (MessageComes p now)) closed ∙ goes_on_true s h (MessageComes p now) on (and_right (f.on && not (opens s.published p)) (nat_le (n + s.width) p) (lt-leb (n + s.width) p (omega arith))) refl;
-      alive = ap (λ x. not x && is_session_dead s h) closed ∙ sym t.dead ∙ live_is_alive d.phase (t.live ∙ on);
+      alive = ap (λ x. not x && is_session_dead s h) closed ∙ not_dead s h d t (live_is_alive d.phase (t.live ∙ on));
     }
   where
     and_true : (b : Bool) → (b && true) ≡ b

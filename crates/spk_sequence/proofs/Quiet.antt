@@ -62,7 +62,7 @@ reach_more (TickComes now) n = omega arith
 -- the host does not follow after the event
 pub tied_off : (s : Setting) (h : HostRecord) (d e : Standing) (input : Input) (reply : Reply) → Tied s h d →
     IsWhole e → e.wait ≡ d.wait → e.width ≡ d.width → e.stamp ≡ d.stamp → e.bd ≡ d.bd → is_live e.phase ≡ false → goes_on s h input ≡ false →
-    is_known e.phase ≡ is_known d.phase → is_dead e.phase ≡ (is_matching_death s h input || is_session_dead s h) → ((i : ℕ) → held_at e.held i ≡ None) → reach_past input (reach h) ≤ length s.published →
+    is_known e.phase ≡ is_known d.phase → ((is_matching_death s h input || is_session_dead s h) ≡ true → is_dead e.phase ≡ true) → ((i : ℕ) → held_at e.held i ≡ None) → reach_past input (reach h) ≤ length s.published →
     Tied s (quiet input reply ∷ h) e
 tied_off s h d e input reply t whole wait width stamp bd live off known dead none fits =
     let f : following s (quiet input reply ∷ h) ≡ following_as false input (following s h) (next_after h) [] = following-quiet s h input reply false off in
@@ -91,7 +91,7 @@ tied_off s h d e input reply t whole wait width stamp bd live off known dead non
 
 -- the host follows no longer: what was held is dropped
 pub tied_stops : (s : Setting) (h : HostRecord) (d : Standing) (input : Input) (reply : Reply) (to : Phase) → Tied s h d → is_live to ≡ false → goes_on s h input ≡ false →
-    is_known to ≡ is_known d.phase → is_dead to ≡ (is_matching_death s h input || is_session_dead s h) → reach_past input (reach h) ≤ length s.published →
+    is_known to ≡ is_known d.phase → ((is_matching_death s h input || is_session_dead s h) ≡ true → is_dead to ≡ true) → reach_past input (reach h) ≤ length s.published →
     Tied s (quiet input reply ∷ h) (after_stop d to)
 tied_stops s h d input reply to t live off known dead fits =
     let w : IsWhole d = t.whole in
@@ -102,7 +102,7 @@ tied_stops s h d input reply to t live off known dead fits =
 -- nothing changes where the host does not follow
 pub tied_still : (s : Setting) (h : HostRecord) (d : Standing) (input : Input) (reply : Reply) → Tied s h d → (following s h).on ≡ false → is_matching_death s h input ≡ false → reach_past input (reach h) ≤ length s.published → Tied s (quiet input reply ∷ h) d
 tied_still s h d input reply t off m fits =
-    tied_off s h d d input reply t t.whole refl refl refl refl (t.live ∙ off) (goes_on_off s h input off) refl (t.dead ∙ sym (ap (λ x. x || is_session_dead s h) m)) (t.off_held off) fits
+    tied_off s h d d input reply t t.whole refl refl refl refl (t.live ∙ off) (goes_on_off s h input off) refl (λ gone. t.dead (sym (ap (λ x. x || is_session_dead s h) m) ∙ gone)) (t.off_held off) fits
 
 pub same_waits : (hs gs : List ℕ) (n q : ℕ) → (n < q → contains q gs ≡ contains q hs) → (contains q gs && nat_lt n q) ≡ (contains q hs && nat_lt n q)
 same_waits hs gs n q same = elim (cases_lt n q) [
@@ -129,7 +129,7 @@ tied_on s h d input reply b t tk on g m unheld same_reach same same_any =
       width = t.width;
       live = t.live ∙ on ∙ sym (ap (λ (x : Following). x.on) f);
       known = t.known;
-      dead = t.dead ∙ sym (ap (λ x. x || is_session_dead s h) m);
+      dead = λ gone. t.dead (sym (ap (λ x. x || is_session_dead s h) m) ∙ gone);
       fits = (let l : reach h ≤ length s.published = t.fits in omega arith);
       birth = λ c tc. let k : IsTaken s h d c = t.birth c tc in record {
         opening = k.opening;

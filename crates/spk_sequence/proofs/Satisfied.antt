@@ -5,6 +5,7 @@ use Rattle.std.proofs.lemmas.List.FromFn.{length-map-range_with_len, get_or-map-
 use Rattle.std.proofs.lemmas.Bool.{true≢false}
 use Rattle.spk_sequence.specs.NodeRecord.{Message, NodeRecord, RunsOn, Restarts, IsNodeRecord, message_at, opens, birth_at, session_at, stamp_at}
 use Rattle.spk_sequence.specs.HostRecord.{Input, MessageComes, DeathComes, TickComes}
+use Rattle.spk_sequence.specs.Window.{AllNearDeaths}
 use Rattle.spk_sequence.specs.Claims.{IsLawful}
 use Rattle.spk_sequence.proofs.Sessions.{message, setting}
 
@@ -118,9 +119,9 @@ lawful_deaths = record {
   some_places = lit< tt;
   few_places = lit≤ tt;
   may_come = (
-    (lit< tt, lit< tt),
+    (λ on same. same),
     (
-      (lit< tt, lit< tt),
+      (λ on same. same),
       (
         record { published = lit< tt; not_far_behind = lit≤ tt; not_far_ahead = λ on. lit< tt },
         (record { published = lit< tt; not_far_behind = lit≤ tt; not_far_ahead = λ on. lit< tt }, tt),
@@ -129,6 +130,9 @@ lawful_deaths = record {
   );
   numbered = tt;
 }
+
+pub near_deaths : AllNearDeaths (setting two_births RunsOn) deaths
+near_deaths = ((lit< tt, lit< tt), ((lit< tt, lit< tt), (tt, (tt, tt))))
 
 -- the same where the number restarts
 pub lawful_gap_restarts : IsLawful (setting (one_birth 3) Restarts) gap
@@ -163,9 +167,9 @@ lawful_deaths_restarts = record {
   some_places = lit< tt;
   few_places = lit≤ tt;
   may_come = (
-    (lit< tt, lit< tt),
+    (λ on same. same),
     (
-      (lit< tt, lit< tt),
+      (λ on same. same),
       (
         record { published = lit< tt; not_far_behind = lit≤ tt; not_far_ahead = λ on. lit< tt },
         (record { published = lit< tt; not_far_behind = lit≤ tt; not_far_ahead = λ on. lit< tt }, tt),

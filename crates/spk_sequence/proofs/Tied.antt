@@ -1,5 +1,6 @@
 -- How the data of numbers stands to the record of positions.
-use Rattle.std.proofs.Common.{◌≡◌, ℕ, ◌+◌, ◌-◌, ◌%◌, ◌<◌, ◌≤◌, Bool, true, false, cond, [], length, ap, arith, Option, Some, None, is_some}
+use Rattle.std.proofs.Common.{◌≡◌, ℕ, ◌+◌, ◌-◌, ◌%◌, ◌<◌, ◌≤◌, Bool, true, false, cond, [], length, ap, arith, Option, Some, None, is_some, sym, ◌∙◌}
+use Rattle.std.proofs.lemmas.Bool.{true≢false, false_from_ne_true}
 use Rattle.spk_sequence.specs.Data.{Standing, IsWhole, held_at}
 use Rattle.spk_sequence.specs.Step.{is_live, is_known, is_dead}
 use Rattle.spk_sequence.specs.NodeRecord.{Setting, Numbering, RunsOn, Restarts, opens, stamp_at, session_at, number_by, written_number, written_session}
@@ -67,9 +68,13 @@ pub record Tied (s : Setting) (h : HostRecord) (d : Standing) : Type 0 where
   pub width : d.width ≡ s.width
   pub live : is_live d.phase ≡ (following s h).on
   pub known : is_known d.phase ≡ is_some (taken s h)
-  pub dead : is_dead d.phase ≡ is_session_dead s h
+  pub dead : is_session_dead s h ≡ true → is_dead d.phase ≡ true
   pub fits : reach h ≤ length s.published
   pub birth : (b : ℕ) → taken s h ≡ Some b → IsTaken s h d b
   pub followed : (b : ℕ) → taken s h ≡ Some b → (following s h).on ≡ true → IsFollowed s h d b
   pub off_held : (following s h).on ≡ false → (i : ℕ) → held_at d.held i ≡ None
   pub off_handed : (following s h).on ≡ false → (following s h).handed ≡ []
+
+-- a session that is not dead by its numbers is not dead
+pub not_dead : (s : Setting) (h : HostRecord) (d : Standing) → Tied s h d → is_dead d.phase ≡ false → is_session_dead s h ≡ false
+not_dead s h d t alive = false_from_ne_true (is_session_dead s h) (λ gone. true≢false (sym (t.dead gone) ∙ alive))

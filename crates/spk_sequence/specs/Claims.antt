@@ -3,9 +3,9 @@ use Rattle.std.specs.Prelude.{◌≡◌, ℕ, ◌+◌, ◌-◌, ◌%◌, ◌<◌
 use Rattle.std.specs.List.{range_with_len}
 use Rattle.spk_sequence.specs.Step.{is_live}
 use Rattle.spk_sequence.specs.NodeRecord.{Setting, NodeRecord, IsNodeRecord, opens, birth_at, session_at, written_number}
-use Rattle.spk_sequence.specs.HostRecord.{Input, MessageComes, Done, HostRecord, standing_of, record_of, done_at, next_after, consumed_of}
+use Rattle.spk_sequence.specs.HostRecord.{Input, MessageComes, Done, HostRecord, standing_of, record_of, done_at, next_after, consumed_of, held_under}
 use Rattle.spk_sequence.specs.Following.{taken, takes, following, contains, is_session_dead, dead_sessions, is_empty}
-use Rattle.spk_sequence.specs.Window.{AllMayCome, NumbersFit}
+use Rattle.spk_sequence.specs.Window.{AllMayCome, AllNearDeaths, NumbersFit}
 use Rattle.spk_sequence.specs.Positions.{right_at, is_taken_before, is_of_dead}
 
 -- What the law asks: a node record, a width of 1 to 96, and inputs each of which may come after the ones before it.
@@ -89,7 +89,8 @@ taken_by s h _ consumed = taken s h
 abbrev pub with_more : Setting → NodeRecord → Setting
 with_more s more = record s { published = s.published ++ more }
 
--- What was done, and each query on it, is the same with more published afterwards, and the inputs still may come.
+-- What was done, each query on it, and what is held under each number is the same with more published afterwards; the
+-- inputs still may come, their numbers fit, and deaths that were near are.
 pub record IsSameWithMore (s : Setting) (more : NodeRecord) (inputs : List Input) : Type 0 where
   pub same_record : record_of (with_more s more) inputs ≡ record_of s inputs
   pub same_standing : standing_of (with_more s more) inputs ≡ standing_of s inputs
@@ -97,4 +98,7 @@ pub record IsSameWithMore (s : Setting) (more : NodeRecord) (inputs : List Input
   pub same_following : following (with_more s more) (record_of (with_more s more) inputs) ≡ following s (record_of s inputs)
   pub same_dead : is_session_dead (with_more s more) (record_of (with_more s more) inputs) ≡ is_session_dead s (record_of s inputs)
   pub same_sessions : dead_sessions (with_more s more) (record_of (with_more s more) inputs) ≡ dead_sessions s (record_of s inputs)
+  pub same_held : (number : ℕ) → held_under (with_more s more) (record_of (with_more s more) inputs) number ≡ held_under s (record_of s inputs) number
   pub may_come : AllMayCome (with_more s more) inputs
+  pub numbered : NumbersFit s.numbering (with_more s more) inputs
+  pub near_deaths : AllNearDeaths s inputs → AllNearDeaths (with_more s more) inputs

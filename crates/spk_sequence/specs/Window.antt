@@ -1,6 +1,6 @@
--- What may be handed over: positions inside the window, and births and deaths of sessions that are near.
+-- What may be handed over: positions inside the window, and births and deaths whose bdSeq is told apart.
 use Rattle.std.specs.Prelude.{◌≡◌, ℕ, ◌+◌, ◌-◌, ◌*◌, ◌<◌, ◌≤◌, ◌⊎◌, true, List, [], ◌∷◌, length, Option, Some, None}
-use Rattle.spk_sequence.specs.NodeRecord.{Setting, Numbering, RunsOn, Restarts, opens, session_at, start_of}
+use Rattle.spk_sequence.specs.NodeRecord.{Setting, Numbering, RunsOn, Restarts, opens, session_at, start_of, written_session}
 use Rattle.spk_sequence.specs.HostRecord.{Input, MessageComes, DeathComes, TickComes, HostRecord, record_of, reach}
 use Rattle.spk_sequence.specs.Following.{taken, following, contains}
 
@@ -32,11 +32,25 @@ handed_of (e ∷ h) = with_handed e.input (handed_of h)
 abbrev pub IsAfterBirth : Setting → HostRecord → ℕ → Type 0
 IsAfterBirth s h p = (opens s.published p ≡ true) ⊎ (contains (start_of s.published p) (handed_of h) ≡ true)
 
--- inside the window; of the deaths, near ones
+-- a session that is that of the birth taken last if its bdSeq is
+abbrev pub IsToldApart : Setting → Option ℕ → ℕ → Type 0
+IsToldApart s None session = Unit {0}
+IsToldApart s (Some b) session = written_session s session ≡ written_session s (session_at s.published b) → session ≡ session_at s.published b
+
+-- inside the window; a death that comes while the host follows is of the birth's session if it has its bdSeq
 abbrev pub MayCome : Setting → HostRecord → Input → Type 0
 MayCome s h (MessageComes p now) = InWindow s h p
-MayCome s h (DeathComes session now) = IsNear s h session
+MayCome s h (DeathComes session now) = (following s h).on ≡ true → IsToldApart s (taken s h) session
 MayCome s h (TickComes now) = Unit {0}
+
+-- deaths are of near sessions
+abbrev pub IsNearDeath : Setting → HostRecord → Input → Type 0
+IsNearDeath s h (DeathComes session now) = IsNear s h session
+IsNearDeath s h _ = Unit {0}
+
+abbrev pub AllNearDeaths : Setting → List Input → Type 0
+AllNearDeaths s [] = Unit {0}
+AllNearDeaths s (input ∷ inputs) = IsNearDeath s (record_of s inputs) input × AllNearDeaths s inputs
 
 -- births too are of near sessions
 abbrev pub IsNearBirth : Setting → HostRecord → Input → Type 0

@@ -8,7 +8,7 @@ ghost use Rattle.spk_sequence.specs.InLine.{IsInLine, replies_in_line};
 ghost use Rattle.spk_sequence.specs.Numbers.{KeepsNumbers, Remains};
 ghost use Rattle.spk_sequence.specs.NodeRecord.{Setting, NodeRecord};
 ghost use Rattle.spk_sequence.specs.HostRecord.{Input, MessageComes, record_of, standing_of, done_at, consumed_of};
-ghost use Rattle.spk_sequence.specs.Window.{IsNearBirth};
+ghost use Rattle.spk_sequence.specs.Window.{IsNearBirth, AllNearDeaths};
 ghost use Rattle.spk_sequence.specs.Following.{taken};
 ghost use Rattle.spk_sequence.specs.Claims.{IsLawful, SameStep, IsLiveByPositions, BirthPrefixes, AfterGap, AfterDeath, TakesBirth, HasCause, taken_by, EndsWithTaken, IsSameWithMore};
 
@@ -22,6 +22,7 @@ use crate::phase::Phase;
 pub fn positions()
     // each event on numbers is the event on positions, if a birth is of a near session
     ensures same_steps { (s : Setting) (inputs : List Input) (input : Input) → IsLawful s (input ∷ inputs) →
+        AllNearDeaths s (input ∷ inputs) →
         IsNearBirth s (record_of s inputs) input → SameStep s inputs input }
 
     // the phase is Live exactly while the host follows, and then `next` is that of the positions
@@ -41,6 +42,7 @@ pub fn positions()
 
     // a birth of a near session is taken but for the two causes
     ensures births { (s : Setting) (inputs : List Input) (p now : ℕ) → IsLawful s (MessageComes p now ∷ inputs) →
+        AllNearDeaths s (MessageComes p now ∷ inputs) →
         IsNearBirth s (record_of s inputs) (MessageComes p now) →
         TakesBirth s (record_of s inputs) p
         (done_at s (record_of s inputs) (standing_of s inputs) (MessageComes p now)) }
