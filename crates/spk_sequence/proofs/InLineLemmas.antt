@@ -1,6 +1,6 @@
 -- Messages in order are consumed one by one.
 use Rattle.std.proofs.Common.{◌≡◌, ℕ, ◌+◌, ◌-◌, ◌%◌, ◌<◌, ◌&&◌, true, false, cond, nat_le, eqb, List, [], ◌∷◌, refl, sym, ◌∙◌, ap, arith, Option, Some, None, inl, inr, subst}
-use Rattle.std.proofs.lemmas.Bool.{cases_lt, cases_Bool, and_left, and_right, ne_eqb, eq-eqb}
+use Rattle.std.proofs.lemmas.Bool.{cases_lt, cases_Bool, le-leb, and_left, and_right, ne_eqb, eq-eqb}
 use Rattle.spk_sequence.specs.declared.phase.Phase.TheVariants as phase
 use Rattle.spk_sequence.specs.declared.message.Kind.TheVariants.{Birth, Other}
 use Rattle.spk_sequence.specs.declared.answer.Step.{Step}
@@ -13,7 +13,8 @@ use Rattle.spk_sequence.specs.InLine.{IsInLine, replies_in_line}
 use Rattle.spk_sequence.specs.Numbers.{KeepsNumbers}
 use Rattle.spk_sequence.proofs.Places.{held_at-past, none_held, none_held-from}
 use Rattle.spk_sequence.proofs.WindowLemmas.{held_at-places_from, length-places_from}
-use Rattle.spk_sequence.proofs.Outcomes.{next_one}
+use Rattle.spk_sequence.proofs.Outcomes.{next_one, live_is_known}
+use Rattle.spk_sequence.proofs.Births.{old_birth}
 use Rattle.spk_sequence.proofs.NumberLemmas.{keeps_numbers}
 
 -- no run where the first place is empty
@@ -37,7 +38,9 @@ consumed_alone s number now own w live none at fresh =
 
 pub line_from : (calls : List Call) (s : Standing) → IsWhole s → is_live s.phase ≡ true → ((i : ℕ) → held_at s.held i ≡ None) → IsInLine s.next s.stamp s.bd calls → replies_of s calls ≡ replies_in_line calls
 line_from [] s w live none line = refl
-line_from (Hand number (Birth other session) now ∷ calls) s w live none line = absurd line
+line_from (Hand number (Birth other session) now ∷ calls) s w live none line =
+    ap (λ (y : Step × Standing). Stepped y.0 ∷ replies_of y.1 calls) (old_birth s number other session now (live_is_known s.phase live) (le-leb other s.stamp line.0))
+    ∙ ap (λ r. Stepped step.OldBirth ∷ r) (line_from calls s w live none line.1)
 line_from (Hand number (Other own) now ∷ calls) s w live none line =
     let rest : List (Option (Option ℕ)) = places_from s.held s.width 1 in
     let t : Standing = after_consumed s number rest now in

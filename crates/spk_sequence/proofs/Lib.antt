@@ -1,5 +1,6 @@
 pub mod Always
 pub mod Births
+pub mod Counts
 pub mod Deaths
 pub mod Eaten
 pub mod Ends
@@ -18,6 +19,7 @@ pub mod Outcomes
 pub mod Places
 pub mod Quiet
 pub mod Ranges
+pub mod RecordLemmas
 pub mod Restarts
 pub mod Rows
 pub mod Satisfied

@@ -3,7 +3,7 @@ use Rattle.std.proofs.Common.{◌≡◌, ℕ, ◌+◌, ◌-◌, ◌%◌, ◌<◌
 use Rattle.std.proofs.lemmas.List.{get_or-set_same, get_or-set_other, length-set, length-replicate}
 use Rattle.std.proofs.lemmas.List.FromFn.{length-map-range_with_len}
 use Rattle.std.proofs.lemmas.List.Sums.{prefix_len_passes, prefix_len_stops, prefix_len-le-length}
-use Rattle.std.proofs.lemmas.Bool.{true≢false, cases_lt, cases_Bool, eqb-true, eqb-false, ltb-true}
+use Rattle.std.proofs.lemmas.Bool.{true≢false, cases_lt, cases_Bool, eqb-true, eqb-false, ltb-true, le-ltb}
 use Rattle.spk_sequence.specs.declared.phase.Phase.{Phase}
 use Rattle.spk_sequence.specs.declared.phase.Phase.TheVariants as phase
 use Rattle.spk_sequence.specs.declared.message.Kind.{Kind}
@@ -83,14 +83,17 @@ none_or : (o : Option (Option ℕ)) → is_some o ≡ false → o ≡ None
 none_or None e = refl
 none_or (Some own) e = absurd (true≢false e)
 
-eaten_numbers : (s t : Standing) (number now : ℕ) (held : List (Option (Option ℕ))) → number < 256 → IsWhole s → t.width ≡ s.width → length held ≡ s.width →
+eaten_numbers : (s t : Standing) (number now : ℕ) (held : List (Option (Option ℕ))) → number < 256 → IsWhole s → t.width ≡ s.width → length held ≡ s.width → held_at held (s.width - 1) ≡ None →
     ((i : ℕ) → i < s.width → (own : Option ℕ) → held_at held i ≡ Some own → held_as s ((number + 1 + i) % 256) ≡ Some own) →
     KeepsNumbers s (after_consumed t number held now) number (step.Consumed (1 + run_of held))
-eaten_numbers s t number now held byte w same sized was =
+eaten_numbers s t number now held byte w same sized last was =
     let k : ℕ = run_of held in
     let some : 0 < s.width = w.some_places in
     let few : s.width ≤ 96 = w.few_places in
-    let short : k ≤ length held = prefix_len-le-length is_some held in
+    let short : k < s.width = elim (cases_lt k s.width) [
+      | inl inside ↦ inside
+      | inr past ↦ absurd (true≢false (sym (prefix_len_passes is_some held (s.width - 1) None (omega arith)) ∙ ap is_some last))
+    ] in
     record {
       whole = record {
         some_places = omega arith;
@@ -140,6 +143,9 @@ birth_numbers s number stamp bd now byte w = elim (cases_Bool (is_known s.phase 
         let next : s.next < 256 = w.one_byte in
         let e : Standing = record s { stamp = stamp; bd = bd } in
         rw (newer, alive) (eaten_numbers s e number now (kept_places s number stamp) byte w refl (length-map-range_with_len (λ i. cond (nat_lt (i + 1) s.width && is_kept (held_at s.held (ahead (number + 1 + i) s.next)) stamp) (held_at s.held (ahead (number + 1 + i) s.next)) None) 0 s.width)
+        (let top : s.width - 1 + 1 ≡ s.width = (let some : 0 < s.width = w.some_places in omega arith) in
+        held_at-made (λ i. cond (nat_lt (i + 1) s.width && is_kept (held_at s.held (ahead (number + 1 + i) s.next)) stamp) (held_at s.held (ahead (number + 1 + i) s.next)) None) s.width (s.width - 1) (let some : 0 < s.width = w.some_places in omega arith)
+        ∙ ap (λ b. cond (b && is_kept (held_at s.held (ahead (number + 1 + (s.width - 1)) s.next)) stamp) (held_at s.held (ahead (number + 1 + (s.width - 1)) s.next)) None) (le-ltb (s.width - 1 + 1) s.width (omega arith)))
         (λ i below own there.
         let at : ahead (number + 1 + i) s.next ≡ ahead ((number + 1 + i) % 256) s.next = omega arith in
         ap (held_at s.held) (sym at) ∙ kept_some (nat_lt (i + 1) s.width && is_kept (held_at s.held (ahead (number + 1 + i) s.next)) stamp) (held_at s.held (ahead (number + 1 + i) s.next)) own
@@ -162,7 +168,8 @@ other_numbers s number now own byte w =
         | inl old ↦ subst (Keeps s number) (sym (too_old s number now own live old)) (same_numbers s number step.Old w (λ e. cc) (λ n e. cc))
         | inr fresh ↦ elim (cases_Bool (eqb place 0)) [
           | inl first ↦ subst (Keeps s number) (sym (next_one s number now own live fresh first))
-              (eaten_numbers s s number now (places_from s.held s.width 1) byte w refl (length-places_from s.held s.width 1) (λ i below mine there.
+              (eaten_numbers s s number now (places_from s.held s.width 1) byte w refl (length-places_from s.held s.width 1)
+              (held_at-places_from s.held s.width 1 (s.width - 1) (let some : 0 < s.width = w.some_places in omega arith) ∙ held_at-past s.held (1 + (s.width - 1)) (omega arith)) (λ i below mine there.
               let zero_place : place ≡ 0 = eqb-true place 0 first in
               let at : ahead ((number + 1 + i) % 256) s.next ≡ 1 + i = omega arith in
               ap (held_at s.held) at ∙ sym (held_at-places_from s.held s.width 1 i below) ∙ there))
@@ -186,6 +193,18 @@ other_numbers s number now own byte w =
 pub keeps_numbers : (s : Standing) (number now : ℕ) (kind : Kind) → number < 256 → IsWhole s → KeepsNumbers s (hand s number kind now).1 number (hand s number kind now).0
 keeps_numbers s number now (Birth stamp bd) byte w = birth_numbers s number stamp bd now byte w
 keeps_numbers s number now (Other own) byte w = other_numbers s number now own byte w
+
+pub tick_whole : (s : Standing) (now : ℕ) → IsWhole s → IsWhole (tick s now)
+tick_whole s now w = elim (cases_Bool (is_over s now)) [
+  | inl over ↦ rw over (whole_stop s phase.Gap w)
+  | inr idle ↦ rw idle w
+]
+
+pub death_whole : (s : Standing) (bd : ℕ) → IsWhole s → IsWhole (death s bd)
+death_whole s bd w = elim (cases_Bool (is_match s bd)) [
+  | inl matched ↦ rw matched (whole_stop s phase.Dead w)
+  | inr ignored ↦ rw ignored w
+]
 
 pub tick_remains : (s : Standing) (now : ℕ) → Remains s (tick s now)
 tick_remains s now = elim (cases_Bool (is_over s now)) [

@@ -85,6 +85,11 @@ abbrev pub taken_by : Setting → HostRecord → Input → List ℕ → Option �
 taken_by s h (MessageComes p now) consumed = if opens s.published p && not (is_empty consumed) then Some p else taken s h
 taken_by s h _ consumed = taken s h
 
+-- a published position whose message is an NBIRTH
+pub record IsOpening (published : NodeRecord) (p : ℕ) : Type 0 where
+  pub within : p < length published
+  pub opening : opens published p ≡ true
+
 -- the setting with more published afterwards
 abbrev pub with_more : Setting → NodeRecord → Setting
 with_more s more = record s { published = s.published ++ more }

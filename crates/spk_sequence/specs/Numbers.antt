@@ -1,5 +1,5 @@
 -- What a call does to what is held, by numbers alone.
-use Rattle.std.specs.Prelude.{◌≡◌, ◌≢◌, ℕ, ◌+◌, ◌%◌, ◌<◌, ◌≤◌, true, Option, Some, None, is_some}
+use Rattle.std.specs.Prelude.{◌≡◌, ◌≢◌, ℕ, suc, ◌+◌, ◌%◌, ◌<◌, ◌≤◌, true, List, [], ◌∷◌, Option, Some, None, is_some, if◌then◌else◌}
 use Rattle.spk_sequence.specs.declared.answer.Step.{Step}
 use Rattle.spk_sequence.specs.declared.answer.Step.TheVariants as step
 use Rattle.spk_sequence.specs.Data.{Standing, IsWhole, held_at}
@@ -9,13 +9,18 @@ use Rattle.spk_sequence.specs.Step.{ahead}
 abbrev pub held_as : Standing → ℕ → Option (Option ℕ)
 held_as s number = held_at s.held (ahead number s.next)
 
+-- how many places hold a message
+unfoldable pub held_count : List (Option (Option ℕ)) → ℕ
+held_count [] = 0
+held_count (place ∷ places) = if is_some place then suc (held_count places) else held_count places
+
 -- what is held afterwards was held before, under the same number
 abbrev pub Remains : Standing → Standing → Type 0
 Remains old new = (number : ℕ) → number < 256 → (own : Option ℕ) → held_as new number ≡ Some own → held_as old number ≡ Some own
 
--- at most 97 are consumed, and those after the one handed were held
+-- at most as many are consumed as there are places, and those after the one handed were held
 pub record IsEaten (old new : Standing) (number count : ℕ) : Type 0 where
-  pub few : count ≤ 97
+  pub few : count ≤ old.width
   pub next : new.next ≡ (number + count) % 256
   pub were_held : (i : ℕ) → 0 < i → i < count → is_some (held_as old ((number + i) % 256)) ≡ true
 

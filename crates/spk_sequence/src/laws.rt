@@ -1,16 +1,16 @@
 //! Laws on lists of calls: functions that do nothing, whose contracts speak of definitions alone.
-ghost use Rattle.std.specs.Prelude.{◌≡◌, ℕ, ◌+◌, ◌%◌, ◌<◌, false, List, ◌∷◌};
+ghost use Rattle.std.specs.Prelude.{◌≡◌, ℕ, ◌+◌, ◌%◌, ◌<◌, ◌≤◌, true, false, List, ◌∷◌, ◌++◌, length, Some};
 ghost use Rattle.spk_sequence.specs.declared.message.Kind.{Kind};
 ghost use Rattle.spk_sequence.specs.Data.{Standing, IsWhole};
 ghost use Rattle.spk_sequence.specs.Step.{is_any_held, hand, tick, death};
 ghost use Rattle.spk_sequence.specs.Calls.{Call, replies_of};
 ghost use Rattle.spk_sequence.specs.InLine.{IsInLine, replies_in_line};
 ghost use Rattle.spk_sequence.specs.Numbers.{KeepsNumbers, Remains};
-ghost use Rattle.spk_sequence.specs.NodeRecord.{Setting, NodeRecord};
+ghost use Rattle.spk_sequence.specs.NodeRecord.{Setting, NodeRecord, message_at, opens, start_of, written_number};
 ghost use Rattle.spk_sequence.specs.HostRecord.{Input, MessageComes, record_of, standing_of, done_at, consumed_of};
-ghost use Rattle.spk_sequence.specs.Window.{IsNearBirth, AllNearDeaths};
-ghost use Rattle.spk_sequence.specs.Following.{taken};
-ghost use Rattle.spk_sequence.specs.Claims.{IsLawful, SameStep, IsLiveByPositions, BirthPrefixes, AfterGap, AfterDeath, TakesBirth, HasCause, taken_by, EndsWithTaken, IsSameWithMore};
+ghost use Rattle.spk_sequence.specs.Window.{IsNearBirth, AllNearDeaths, AllMayCome, handed_of};
+ghost use Rattle.spk_sequence.specs.Following.{taken, contains};
+ghost use Rattle.spk_sequence.specs.Claims.{IsLawful, SameStep, IsLiveByPositions, BirthPrefixes, AfterGap, AfterDeath, TakesBirth, HasCause, taken_by, EndsWithTaken, IsOpening, with_more, IsSameWithMore};
 
 use crate::answer::Step;
 use crate::message::Kind;
@@ -56,6 +56,10 @@ pub fn positions()
         taken_by s (record_of s inputs) input
         (done_at s (record_of s inputs) (standing_of s inputs) input).consumed }
 
+    // the birth taken was published, and is an NBIRTH
+    ensures taken_opens { (s : Setting) (inputs : List Input) (b : ℕ) → IsLawful s inputs →
+        taken s (record_of s inputs) ≡ Some b → IsOpening s.published b }
+
     // the consumed list ends with the messages of the birth taken, up to the last one consumed
     ensures last_part { (s : Setting) (inputs : List Input) → IsLawful s inputs → EndsWithTaken s (record_of s inputs) }
 
@@ -64,11 +68,39 @@ pub fn positions()
         IsSameWithMore s more inputs }
 {}
 
+/// On records alone: what was published, and the positions that were handed.
+pub fn records()
+    // the start of a message's birth is an NBIRTH, and not past the message
+    ensures start_opens { (published : NodeRecord) (p : ℕ) → opens published (start_of published p) ≡ true }
+    ensures start_below { (published : NodeRecord) (p : ℕ) → start_of published p ≤ p }
+
+    // what was handed was published
+    ensures handed { (s : Setting) (inputs : List Input) (p : ℕ) → AllMayCome s inputs →
+        contains p (handed_of (record_of s inputs)) ≡ true → p < length s.published }
+
+    // a message, whether it is an NBIRTH, the start of its birth and its number stay when more is published
+    ensures same_message { (published more : NodeRecord) (p : ℕ) → p < length published →
+        message_at (published ++ more) p ≡ message_at published p }
+    ensures same_opens { (published more : NodeRecord) (p : ℕ) → p < length published →
+        opens (published ++ more) p ≡ opens published p }
+    ensures same_start { (published more : NodeRecord) (p : ℕ) → p < length published →
+        start_of (published ++ more) p ≡ start_of published p }
+    ensures same_number { (s : Setting) (more : NodeRecord) (p : ℕ) → p < length s.published →
+        written_number (with_more s more) p ≡ written_number s p }
+
+    // a written number is a byte
+    ensures byte { (s : Setting) (p : ℕ) → written_number s p < 256 }
+{}
+
 /// What each call does to what is held, by numbers alone, from any data that is whole.
 pub fn numbers()
     // a step eats what was held, adds the one handed, or leaves of what was held what it leaves
     ensures hand { (s : Standing) (number now : ℕ) (kind : Kind) → number < 256 → IsWhole s →
         KeepsNumbers s (hand s number kind now).1 number (hand s number kind now).0 }
+
+    // the data stays whole at a moment and at a death
+    ensures tick_whole { (s : Standing) (now : ℕ) → IsWhole s → IsWhole (tick s now) }
+    ensures death_whole { (s : Standing) (bd : ℕ) → IsWhole s → IsWhole (death s bd) }
 
     // a moment adds nothing to what is held
     ensures tick { (s : Standing) (now : ℕ) → Remains s (tick s now) }
@@ -78,7 +110,7 @@ pub fn numbers()
 {}
 
 /// While nothing is held, messages in order are consumed one by one, by numbers alone: from a
-/// birth that is taken on, until a matching death, another birth or a `reset`.
+/// birth that is taken on, until a matching death, another birth that is taken, or a `reset`.
 pub fn in_line()
     ensures live { (calls : List Call) (s : Standing) → IsWhole s → s.phase ≡ Phase.Live → is_any_held s.held ≡ false →
         IsInLine s.next s.stamp s.bd calls → replies_of s calls ≡ replies_in_line calls }

@@ -1,5 +1,6 @@
 ghost use Rattle.std.specs.Prelude.{◌≡◌, ℕ, ◌+◌, ◌<◌, ◌≤◌, ◌==◌, nat_le, is_some, if◌then◌else◌, None};
 ghost use Rattle.spk_sequence.specs.Data.{Standing, IsWhole, held_at};
+ghost use Rattle.spk_sequence.specs.Numbers.{held_as, held_count};
 ghost use Rattle.spk_sequence.specs.Step.{is_any_held, ahead, is_below, places_from, places_after, kept_places, run_of, after_consumed, after_stop, after_held, hand_birth, hand_other, hand_ahead, hand, is_over, tick, match_of, death, fresh_standing, next_of};
 
 use crate::answer::{Gap, Match, Step};
@@ -64,7 +65,21 @@ impl Sequence {
         }
     }
 
-    /// A message of the node, with its sequence number, at a moment in milliseconds.
+    /// A message of the node, with its sequence number, at a moment in milliseconds (Sparkplug 3.0.0,
+    /// chapter 5 on the ordering of messages). The first rule that fits decides:
+    ///
+    /// 1. An NBIRTH whose stamp is not above that of the birth taken last is `OldBirth`.
+    /// 2. An NBIRTH with the bdSeq of the birth taken last, while that session is dead, is `DeadSession`.
+    /// 3. Any other NBIRTH is taken, and the node is followed from it on. Of what is held, those stay
+    ///    whose number is 1 to width - 1 past the birth's and whose stamp is there and not below its own.
+    ///    It is `Consumed`, with those that follow it without a hole.
+    /// 4. Any other message, while the node isn't followed, is `NotLive`.
+    /// 5. A message whose stamp is below that of the birth taken last is `Old`.
+    /// 6. Else the distance from the number that comes next decides: 0 is `Consumed`, with those held
+    ///    that follow without a hole; below width it is `Held`, or `Old` if that number is held already;
+    ///    below 256 - width it is `Gap`, and all that is held is dropped; above that it is `Old`.
+    ///
+    /// Stamps and the window are this project's own rules.
     pub fn hand(&mut self, number: u8, kind: Kind, now: u64) -> Step
         ensures step { result ≡ (hand self.old number kind now).0 }
         ensures data { self.new ≡ (hand self.old number kind now).1 }
@@ -137,12 +152,35 @@ impl Sequence {
         }
     }
 
+    /// How many messages are held.
+    pub fn held(&self) -> u8
+        ensures count { result ≡ held_count self.now.held }
+        ensures bounded { result ≤ self.now.width }
+        ensures whole { IsWhole self.now }
+    {
+        let width = self.width();
+        let mut count = 0u8;
+        for distance in 0..width {
+            count += u8::from(self.is_held_at(distance));
+        }
+        count
+    }
+
+    /// Whether the message of this number is held.
+    pub fn is_held(&self, number: u8) -> bool
+        ensures value { result ≡ is_some (held_as self.now number) }
+        ensures whole { IsWhole self.now }
+    {
+        let place = self.place_of(number);
+        place < self.width() && self.is_held_at(place)
+    }
+
     fn hand_birth(&mut self, number: u8, stamp: u64, bd: u8, now: u64) -> Step
         ensures step { result ≡ (hand_birth self.old number stamp bd now).0 }
         ensures data { self.new ≡ (hand_birth self.old number stamp bd now).1 }
         ensures whole { IsWhole self.new }
     {
-        if self.phase().is_known() && self.is_newest(stamp) {
+        if self.phase().is_known() && self.is_not_newer(stamp) {
             return Step::OldBirth;
         }
         if self.phase().is_dead() && self.is_session(bd) {
@@ -179,7 +217,7 @@ impl Sequence {
     {
         let width = self.width();
         if place < width {
-            if self.is_held(place) {
+            if self.is_held_at(place) {
                 return Step::Old;
             }
             self.hold(place, stamp, now);
@@ -192,8 +230,8 @@ impl Sequence {
         Step::Old
     }
 
-    /// Whether no birth of this stamp is newer than the one taken last.
-    fn is_newest(&self, stamp: u64) -> bool
+    /// Whether a birth of this stamp is not newer than the one taken last.
+    fn is_not_newer(&self, stamp: u64) -> bool
         ensures { result ≡ nat_le stamp self.now.stamp }
     {
         stamp <= self.stamp
@@ -239,7 +277,7 @@ impl Sequence {
         !self.slots.is_empty()
     }
 
-    fn is_held(&self, place: u8) -> bool
+    fn is_held_at(&self, place: u8) -> bool
         requires { place < self.now.width }
         ensures { result ≡ is_some (held_at self.now.held place) }
     {

@@ -1,5 +1,6 @@
 use Rattle.spk_sequence.proofs.Lawful.{same_step, live_by_positions, takes_birth, has_cause}
 use Rattle.spk_sequence.proofs.Headline.{fronts, after_gap, after_death, taken_after, last_part, grows}
+use Rattle.spk_sequence.proofs.RecordLemmas.{taken_opens}
 use Rattle.spk_sequence.proofs.laws.positions.Goals as goal
 
 pub returns-clause-same_steps : goal.returns-clause-same_steps
@@ -31,3 +32,6 @@ returns-clause-last_part c = last_part
 
 pub returns-clause-grows : goal.returns-clause-grows
 returns-clause-grows c = grows
+
+pub returns-clause-taken_opens : goal.returns-clause-taken_opens
+returns-clause-taken_opens c = taken_opens

@@ -1,7 +1,7 @@
 use Rattle.std.proofs.Common.{◌≡◌, ◌+◌, ◌%◌, ◌<◌, sym, ◌∙◌, ap, arith, get_or, None, is_some}
 use Rattle.spk_sequence.specs.Data.{Standing, held_at}
 use Rattle.spk_sequence.proofs.WindowLemmas.{held_at-places_of}
-use Rattle.spk_sequence.proofs.sequence.Sequence.is_held.Goals as goal
+use Rattle.spk_sequence.proofs.sequence.Sequence.is_held_at.Goals as goal
 
 pub returns : goal.returns
 returns c =
