@@ -4,7 +4,7 @@ use Rattle.std.specs.List.{range_with_len, list_any}
 use Rattle.std.proofs.lemmas.List.{length-replicate}
 use Rattle.std.proofs.lemmas.Bool.{true≢false, cases_Bool, or_left}
 use Rattle.spk_sequence.specs.declared.answer.Step.TheVariants as step
-use Rattle.spk_sequence.specs.Data.{Standing}
+use Rattle.spk_sequence.specs.Data.{Standing, IsWhole}
 use Rattle.spk_sequence.specs.Step.{fresh_standing}
 use Rattle.spk_sequence.specs.Calls.{Stepped}
 use Rattle.spk_sequence.specs.NodeRecord.{Setting, RunsOn, IsNodeRecord, opens}
@@ -42,9 +42,12 @@ outcome s h d (MessageComes p now) node t may steps = elim (cases_Bool (opens s.
 outcome s h d (DeathComes j now) node t may steps = death_outcome s h d j now t may
 outcome s h d (TickComes now) node t may steps = tick_outcome s h d now t
 
+pub whole_fresh : (wait width : ℕ) → 0 < width → width ≤ 96 → IsWhole (fresh_standing wait width)
+whole_fresh wait width low high = record { some_places = low; few_places = high; one_byte = omega arith; all_places = length-replicate {A = Option (Option ℕ)} width None; next_not_held = held_at-empty width 0 }
+
 tied_fresh : (s : Setting) → 0 < s.width → s.width ≤ 96 → Tied s [] (fresh_standing s.wait s.width)
 tied_fresh s low high = record {
-  whole = record { some_places = low; few_places = high; one_byte = omega arith; all_places = length-replicate {A = Option (Option ℕ)} s.width None; next_not_held = held_at-empty s.width 0 };
+  whole = whole_fresh s.wait s.width low high;
   wait = refl;
   width = refl;
   live = refl;

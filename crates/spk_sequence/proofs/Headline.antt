@@ -3,11 +3,10 @@ use Rattle.std.proofs.Common.{◌≡◌, List, ◌∷◌}
 use Rattle.spk_sequence.specs.NodeRecord.{Setting, NodeRecord}
 use Rattle.spk_sequence.specs.HostRecord.{Input, record_of, standing_of, done_at, consumed_of}
 use Rattle.spk_sequence.specs.Following.{taken}
-use Rattle.spk_sequence.specs.Claims.{IsLawful, BirthPrefixes, EndsWithTaken, AfterGap, AfterDeath, taken_by, IsSameWithMore}
+use Rattle.spk_sequence.specs.Claims.{IsLawful, BirthPrefixes, EndsWithTaken, AfterGap, taken_by, IsSameWithMore}
 use Rattle.spk_sequence.proofs.Lawful.{steps_all, tied_of, before_of, ate_of}
 use Rattle.spk_sequence.proofs.Fronts.{Fronted, fronted_always, prefixes_of, ends_of, after_gap_of, taken_by_is}
 use Rattle.spk_sequence.proofs.Grows.{grows_always}
-use Rattle.spk_sequence.proofs.Deaths.{past_always, after_death_of}
 
 fronted_of : (s : Setting) (inputs : List Input) → IsLawful s inputs → Fronted s (record_of s inputs)
 fronted_of s inputs l = fronted_always s l.node l.some_places l.few_places inputs l.may_come (steps_all s inputs l)
@@ -20,11 +19,6 @@ last_part s inputs l = ends_of s (record_of s inputs) (fronted_of s inputs l)
 
 pub after_gap : (s : Setting) (inputs : List Input) (input : Input) → IsLawful s (input ∷ inputs) → AfterGap s (record_of s inputs) (done_at s (record_of s inputs) (standing_of s inputs) input)
 after_gap s inputs input l = after_gap_of s (record_of s inputs) input (done_at s (record_of s inputs) (standing_of s inputs) input) (ate_of s inputs input l)
-
-pub after_death : (s : Setting) (inputs : List Input) (input : Input) → IsLawful s (input ∷ inputs) → AfterDeath s (record_of s inputs) (done_at s (record_of s inputs) (standing_of s inputs) input)
-after_death s inputs input l =
-    after_death_of s (record_of s inputs) (standing_of s inputs) input (done_at s (record_of s inputs) (standing_of s inputs) input) l.node (tied_of s inputs (before_of s inputs input l))
-    (past_always s l.node l.some_places l.few_places inputs l.may_come.1 (steps_all s (input ∷ inputs) l).1) (ate_of s inputs input l)
 
 pub taken_after : (s : Setting) (inputs : List Input) (input : Input) → IsLawful s (input ∷ inputs) →
     taken s (record_of s (input ∷ inputs)) ≡ taken_by s (record_of s inputs) input (done_at s (record_of s inputs) (standing_of s inputs) input).consumed

@@ -133,6 +133,22 @@ kept_some : (b : Bool) (x : Option (Option ℕ)) (own : Option ℕ) → cond b x
 kept_some true x own e = e
 kept_some false x own e = absurd (cc)
 
+-- what a birth keeps was held
+pub kept_was : (s : Standing) (number stamp : ℕ) → IsWhole s → (i : ℕ) → i < s.width → (own : Option ℕ) → held_at (kept_places s number stamp) i ≡ Some own → held_as s ((number + 1 + i) % 256) ≡ Some own
+kept_was s number stamp w i below own there =
+    let next : s.next < 256 = w.one_byte in
+    let at : ahead (number + 1 + i) s.next ≡ ahead ((number + 1 + i) % 256) s.next = omega arith in
+    ap (held_at s.held) (sym at) ∙ kept_some (nat_lt (i + 1) s.width && is_kept (held_at s.held (ahead (number + 1 + i) s.next)) stamp) (held_at s.held (ahead (number + 1 + i) s.next)) own
+    (sym (held_at-made (λ i. cond (nat_lt (i + 1) s.width && is_kept (held_at s.held (ahead (number + 1 + i) s.next)) stamp) (held_at s.held (ahead (number + 1 + i) s.next)) None) s.width i below) ∙ there)
+
+-- what follows the message that comes next was held
+pub rest_was : (s : Standing) (number : ℕ) → IsWhole s → number < 256 → ahead number s.next ≡ 0 → (i : ℕ) → i < s.width → (own : Option ℕ) → held_at (places_from s.held s.width 1) i ≡ Some own → held_as s ((number + 1 + i) % 256) ≡ Some own
+rest_was s number w byte here i below own there =
+    let few : s.width ≤ 96 = w.few_places in
+    let next : s.next < 256 = w.one_byte in
+    let at : ahead ((number + 1 + i) % 256) s.next ≡ 1 + i = omega arith in
+    ap (held_at s.held) at ∙ sym (held_at-places_from s.held s.width 1 i below) ∙ there
+
 birth_numbers : (s : Standing) (number stamp bd now : ℕ) → number < 256 → IsWhole s → KeepsNumbers s (hand_birth s number stamp bd now).1 number (hand_birth s number stamp bd now).0
 birth_numbers s number stamp bd now byte w = elim (cases_Bool (is_known s.phase && nat_le stamp s.stamp)) [
   | inl old ↦ rw old (same_numbers s number step.OldBirth w (λ e. cc) (λ n e. cc))
@@ -146,10 +162,7 @@ birth_numbers s number stamp bd now byte w = elim (cases_Bool (is_known s.phase 
         (let top : s.width - 1 + 1 ≡ s.width = (let some : 0 < s.width = w.some_places in omega arith) in
         held_at-made (λ i. cond (nat_lt (i + 1) s.width && is_kept (held_at s.held (ahead (number + 1 + i) s.next)) stamp) (held_at s.held (ahead (number + 1 + i) s.next)) None) s.width (s.width - 1) (let some : 0 < s.width = w.some_places in omega arith)
         ∙ ap (λ b. cond (b && is_kept (held_at s.held (ahead (number + 1 + (s.width - 1)) s.next)) stamp) (held_at s.held (ahead (number + 1 + (s.width - 1)) s.next)) None) (le-ltb (s.width - 1 + 1) s.width (omega arith)))
-        (λ i below own there.
-        let at : ahead (number + 1 + i) s.next ≡ ahead ((number + 1 + i) % 256) s.next = omega arith in
-        ap (held_at s.held) (sym at) ∙ kept_some (nat_lt (i + 1) s.width && is_kept (held_at s.held (ahead (number + 1 + i) s.next)) stamp) (held_at s.held (ahead (number + 1 + i) s.next)) own
-        (sym (held_at-made (λ i. cond (nat_lt (i + 1) s.width && is_kept (held_at s.held (ahead (number + 1 + i) s.next)) stamp) (held_at s.held (ahead (number + 1 + i) s.next)) None) s.width i below) ∙ there)))
+        (kept_was s number stamp w))
   ]
 ]
 
@@ -169,10 +182,7 @@ other_numbers s number now own byte w =
         | inr fresh ↦ elim (cases_Bool (eqb place 0)) [
           | inl first ↦ subst (Keeps s number) (sym (next_one s number now own live fresh first))
               (eaten_numbers s s number now (places_from s.held s.width 1) byte w refl (length-places_from s.held s.width 1)
-              (held_at-places_from s.held s.width 1 (s.width - 1) (let some : 0 < s.width = w.some_places in omega arith) ∙ held_at-past s.held (1 + (s.width - 1)) (omega arith)) (λ i below mine there.
-              let zero_place : place ≡ 0 = eqb-true place 0 first in
-              let at : ahead ((number + 1 + i) % 256) s.next ≡ 1 + i = omega arith in
-              ap (held_at s.held) at ∙ sym (held_at-places_from s.held s.width 1 i below) ∙ there))
+              (held_at-places_from s.held s.width 1 (s.width - 1) (let some : 0 < s.width = w.some_places in omega arith) ∙ held_at-past s.held (1 + (s.width - 1)) (omega arith)) (rest_was s number w byte (eqb-true place 0 first)))
           | inr later ↦
               let some : place ≢ 0 = λ z. eqb-false place 0 later z in
               elim (cases_Bool (nat_lt place s.width)) [

@@ -71,6 +71,15 @@ AfterGap s h e = (following s h).on ≡ false → (e.consumed ≡ []) ⊎ ((p : 
 abbrev pub AfterDeath : Setting → HostRecord → Done → Type 0
 AfterDeath s h e = (p : ℕ) → contains p e.consumed ≡ true → contains (session_at s.published p) (dead_sessions s h) ≡ false
 
+-- what is handed was published
+abbrev pub IsPublished : Setting → Input → Type 0
+IsPublished s (MessageComes p now) = p < length s.published
+IsPublished s _ = Unit {0}
+
+abbrev pub AllPublished : Setting → List Input → Type 0
+AllPublished s [] = Unit {0}
+AllPublished s (input ∷ inputs) = IsPublished s input × AllPublished s inputs
+
 -- A handed NBIRTH is taken unless that birth or a later one was taken before, or the matching death of its session came
 -- and no birth was taken since.
 abbrev pub TakesBirth : Setting → HostRecord → ℕ → Done → Type 0

@@ -6,11 +6,11 @@ ghost use Rattle.spk_sequence.specs.Step.{is_any_held, hand, tick, death};
 ghost use Rattle.spk_sequence.specs.Calls.{Call, replies_of};
 ghost use Rattle.spk_sequence.specs.InLine.{IsInLine, replies_in_line};
 ghost use Rattle.spk_sequence.specs.Numbers.{KeepsNumbers, Remains};
-ghost use Rattle.spk_sequence.specs.NodeRecord.{Setting, NodeRecord, message_at, opens, start_of, written_number};
+ghost use Rattle.spk_sequence.specs.NodeRecord.{Setting, NodeRecord, IsNodeRecord, message_at, opens, start_of, written_number};
 ghost use Rattle.spk_sequence.specs.HostRecord.{Input, MessageComes, record_of, standing_of, done_at, consumed_of};
 ghost use Rattle.spk_sequence.specs.Window.{IsNearBirth, AllNearDeaths, AllMayCome, handed_of};
 ghost use Rattle.spk_sequence.specs.Following.{taken, contains};
-ghost use Rattle.spk_sequence.specs.Claims.{IsLawful, SameStep, IsLiveByPositions, BirthPrefixes, AfterGap, AfterDeath, TakesBirth, HasCause, taken_by, EndsWithTaken, IsOpening, with_more, IsSameWithMore};
+ghost use Rattle.spk_sequence.specs.Claims.{IsLawful, AllPublished, SameStep, IsLiveByPositions, BirthPrefixes, AfterGap, AfterDeath, TakesBirth, HasCause, taken_by, EndsWithTaken, IsOpening, with_more, IsSameWithMore};
 
 use crate::answer::Step;
 use crate::message::Kind;
@@ -36,8 +36,9 @@ pub fn positions()
     ensures after_gap { (s : Setting) (inputs : List Input) (input : Input) → IsLawful s (input ∷ inputs) →
         AfterGap s (record_of s inputs) (done_at s (record_of s inputs) (standing_of s inputs) input) }
 
-    // nothing is consumed of a session whose matching death came
-    ensures after_death { (s : Setting) (inputs : List Input) (input : Input) → IsLawful s (input ∷ inputs) →
+    // nothing is consumed of a session whose matching death came, inside the window or not
+    ensures after_death { (s : Setting) (inputs : List Input) (input : Input) → IsNodeRecord s.published →
+        0 < s.width → s.width ≤ 96 → AllPublished s (input ∷ inputs) →
         AfterDeath s (record_of s inputs) (done_at s (record_of s inputs) (standing_of s inputs) input) }
 
     // a birth of a near session is taken but for the two causes

@@ -1,5 +1,6 @@
 use Rattle.spk_sequence.proofs.Lawful.{same_step, live_by_positions, takes_birth, has_cause}
-use Rattle.spk_sequence.proofs.Headline.{fronts, after_gap, after_death, taken_after, last_part, grows}
+use Rattle.spk_sequence.proofs.Deaths.{after_death}
+use Rattle.spk_sequence.proofs.Headline.{fronts, after_gap, taken_after, last_part, grows}
 use Rattle.spk_sequence.proofs.RecordLemmas.{taken_opens}
 use Rattle.spk_sequence.proofs.laws.positions.Goals as goal
 
