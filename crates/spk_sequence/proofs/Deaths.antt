@@ -1,7 +1,7 @@
 -- Nothing of a dead session is consumed: what was handed was published, and no more is asked.
-use Rattle.std.proofs.Common.{◌≡◌, ℕ, suc, ◌+◌, ◌-◌, ◌%◌, ◌<◌, ◌≤◌, ◌&&◌, ◌||◌, ◌⊎◌, Bool, true, false, cond, not, nat_lt, nat_le, eqb, List, [], ◌∷◌, length, refl, sym, ◌∙◌, ap, arith, Option, Some, None, is_some, inl, inr, subst}
-use Rattle.std.specs.List.{range_with_len, list_any, filter_map, cons_option}
-use Rattle.std.proofs.lemmas.Bool.{true≢false, cases_lt, cases_eq, cases_Bool, or_cases, and_parts, and_right, and_from, eq-eqb, eqb-true, ltb-true, leb-true, leb-false, ltb-false, le-leb, le-ltb, ne_eqb, false_from_ne_true, or_left, or_right}
+use Rattle.std.proofs.Common.{◌≡◌, ℕ, ◌+◌, ◌-◌, ◌%◌, ◌<◌, ◌≤◌, ◌&&◌, ◌⊎◌, Bool, true, false, cond, nat_lt, nat_le, eqb, List, [], ◌∷◌, length, refl, sym, ◌∙◌, ap, arith, Option, Some, None, is_some, inl, inr, subst}
+use Rattle.std.specs.List.{range_with_len, filter_map, cons_option}
+use Rattle.std.proofs.lemmas.Bool.{true≢false, cases_lt, cases_eq, cases_Bool, or_cases, and_parts, and_from, eq-eqb, eqb-true, ltb-true, leb-true, leb-false, ltb-false, ne_eqb, false_from_ne_true, or_left, or_right}
 use Rattle.std.proofs.lemmas.List.{get_or-set_same, get_or-set_other}
 use Rattle.std.proofs.lemmas.List.FromFn.{length-map-range_with_len}
 use Rattle.std.proofs.lemmas.List.Sums.{prefix_len_passes, prefix_len-le-length}
@@ -12,12 +12,12 @@ use Rattle.spk_sequence.specs.declared.message.Kind.TheVariants.{Birth, Other}
 use Rattle.spk_sequence.specs.declared.answer.Step.{Step}
 use Rattle.spk_sequence.specs.declared.answer.Step.TheVariants as step
 use Rattle.spk_sequence.specs.Data.{Standing, IsWhole, held_at}
-use Rattle.spk_sequence.specs.Step.{is_live, is_dead, is_known, is_below, is_kept, is_match, is_over, is_any_held, ahead, hand, hand_birth, hand_other, kept_places, places_from, run_of, after_birth, after_consumed, after_held, after_stop, fresh_standing, death}
+use Rattle.spk_sequence.specs.Step.{is_live, is_dead, is_known, is_below, is_kept, is_match, is_over, is_any_held, ahead, hand, kept_places, places_from, run_of, after_consumed, after_held, after_stop, fresh_standing}
 use Rattle.spk_sequence.specs.Calls.{Stepped, after_call}
-use Rattle.spk_sequence.specs.Numbers.{held_as, KeepsNumbers, Remains}
+use Rattle.spk_sequence.specs.Numbers.{held_as, KeepsNumbers}
 use Rattle.spk_sequence.specs.NodeRecord.{Setting, NodeRecord, IsNodeRecord, opens, session_at, stamp_at, written_number, written_session}
 use Rattle.spk_sequence.specs.HostRecord.{Input, MessageComes, DeathComes, TickComes, Done, HostRecord, record_of, standing_of, done_at, consumed_by, held_under, kind_of, call_of}
-use Rattle.spk_sequence.specs.Following.{contains, taken, last_opening, is_matching_death, is_session_of, dead_sessions, with_dead}
+use Rattle.spk_sequence.specs.Following.{contains, taken, last_opening, is_matching_death, is_session_of, dead_sessions}
 use Rattle.spk_sequence.specs.Claims.{AfterDeath, AllPublished, IsPublished}
 use Rattle.spk_sequence.proofs.Places.{held_at-past, held_at-empty, held_at-made, none_held-from}
 use Rattle.spk_sequence.proofs.Ranges.{in_run}
@@ -157,6 +157,7 @@ death_stamped s h d j now i = elim (cases_Bool (is_match d (written_session s j)
         | inr dead ↦ inr (dead.0, refl)
       ];
     }
+
     go : (k : ℕ) (m : Bool) → is_matching_death s h (DeathComes j now) ≡ m → contains k (cond (is_matching_death s h (DeathComes j now)) (j ∷ dead_sessions s h) (dead_sessions s h)) ≡ true → IsPast s (done_at s h d (DeathComes j now) ∷ h) (after_stop d phase.Dead) k
     go k false m there = again_past k (i.past k (subst (λ x. contains k (cond x (j ∷ dead_sessions s h) (dead_sessions s h)) ≡ true) m there))
     go k true m there = elim (or_cases (eqb j k) (contains k (dead_sessions s h)) (subst (λ x. contains k (cond x (j ∷ dead_sessions s h) (dead_sessions s h)) ≡ true) m there)) [
@@ -331,8 +332,7 @@ held_stamped s h d p now st published closed newer live rule inside =
     let sized : length d.held ≡ d.width = w.all_places in
     let byte_x : x < 256 = number_below s p in
     let next : d.next < 256 = w.one_byte in
-    let numbers : KeepsNumbers d t x step.Held = subst (λ (y : Step × Standing). KeepsNumbers d y.1 x y.0) rule (keeps_numbers d x now (Other own) byte_x w) in
-    (
+    let numbers : KeepsNumbers d t x step.Held = subst (λ (y : Step × Standing). KeepsNumbers d y.1 x y.0) rule (keeps_numbers d x now (Other own) byte_x w) in (
       record {
         whole = numbers.whole;
         known = st.known;
@@ -486,6 +486,7 @@ birth_stamped s h d p now node st published opening =
       | inl kept ↦ (let f : Some (Some mine) ≡ Some (Some own) = sym (ap (λ b. cond b (Some (Some mine)) None) kept) ∙ e in let same : mine ≡ own = cc in let low : stamp ≤ mine = leb-true stamp mine kept in omega arith)
       | inr gone ↦ absurd (none_is (cond false (Some (Some mine)) None) (Some own) refl (sym (ap (λ b. cond b (Some (Some mine)) None) gone) ∙ e))
     ]
+
     kept_newer : (d : Standing) (x stamp i own : ℕ) → i < d.width → held_at (kept_places d x stamp) i ≡ Some (Some own) → stamp ≤ own
     kept_newer d x stamp i own below there =
         kept_if (nat_lt (i + 1) d.width) (held_at d.held (ahead (x + 1 + i) d.next)) stamp own

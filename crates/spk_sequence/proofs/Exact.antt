@@ -1,22 +1,20 @@
 -- Where all deaths are of near sessions the phase is Dead exactly while the session is.
-use Rattle.std.proofs.Common.{◌≡◌, ℕ, ◌+◌, ◌-◌, ◌<◌, ◌≤◌, ◌&&◌, Bool, true, false, cond, not, nat_lt, nat_le, eqb, List, [], ◌∷◌, refl, sym, ◌∙◌, ap, Option, Some, None, is_some, inl, inr, subst}
+use Rattle.std.proofs.Common.{◌≡◌, ℕ, ◌+◌, ◌-◌, ◌<◌, ◌≤◌, ◌&&◌, true, false, cond, not, nat_lt, nat_le, eqb, List, [], ◌∷◌, refl, sym, ◌∙◌, ap, Option, Some, is_some, inl, inr}
 use Rattle.std.specs.List.{range_with_len, list_any}
 use Rattle.std.proofs.lemmas.Bool.{true≢false, cases_Bool, or_left}
-use Rattle.spk_sequence.specs.declared.phase.Phase.{Phase}
 use Rattle.spk_sequence.specs.declared.phase.Phase.TheVariants as phase
 use Rattle.spk_sequence.specs.declared.message.Kind.{Kind}
 use Rattle.spk_sequence.specs.declared.message.Kind.TheVariants.{Birth, Other}
 use Rattle.spk_sequence.specs.declared.answer.Step.{Step}
-use Rattle.spk_sequence.specs.declared.answer.Step.TheVariants as step
 use Rattle.spk_sequence.specs.Data.{Standing, held_at}
 use Rattle.spk_sequence.specs.Step.{is_live, is_dead, is_known, is_below, is_over, ahead, hand, hand_birth, hand_other, hand_ahead, after_stop}
 use Rattle.spk_sequence.specs.Calls.{after_call}
 use Rattle.spk_sequence.specs.NodeRecord.{Setting, IsNodeRecord, opens, stamp_at, session_at, written_number, written_session}
 use Rattle.spk_sequence.specs.HostRecord.{Input, MessageComes, DeathComes, TickComes, HostRecord, record_of, standing_of, done_at, kind_of, call_of}
-use Rattle.spk_sequence.specs.Following.{Following, takes, following, is_session_dead}
+use Rattle.spk_sequence.specs.Following.{takes, following, is_session_dead}
 use Rattle.spk_sequence.specs.Window.{AllMayCome, IsNearDeath, AllNearDeaths}
 use Rattle.spk_sequence.proofs.Tied.{Tied, not_dead}
-use Rattle.spk_sequence.proofs.Outcomes.{Outcome, Ate, Eats, live_is_alive, not_live}
+use Rattle.spk_sequence.proofs.Outcomes.{Outcome, Eats, live_is_alive, not_live}
 use Rattle.spk_sequence.proofs.Ends.{death_exact}
 use Rattle.spk_sequence.proofs.Restarts.{refused_is, dead_off}
 use Rattle.spk_sequence.proofs.Always.{AllStep, outcome, tied_always}
@@ -85,6 +83,7 @@ dead_message s h d p now t same out dead = elim out.ate [
       | inl birth ↦ true≢false (sym birth.0 ∙ closed)
       | inr next ↦ true≢false (sym next.2 ∙ dead_off s h d t dead)
     ]
+
     still : (done_at s h d (MessageComes p now)).consumed ≡ [] → after_call d (call_of s (MessageComes p now)) ≡ d
     still none = elim (cases_Bool (opens s.published p)) [
       | inl opening ↦ (refused_is s h d p now opening none).still

@@ -1,10 +1,10 @@
 -- The clauses of the law that speak of what was consumed.
-use Rattle.std.proofs.Common.{◌≡◌, List, ◌∷◌}
-use Rattle.spk_sequence.specs.NodeRecord.{Setting, NodeRecord}
+use Rattle.std.proofs.Common.{◌≡◌, List, ◌∷◌, ◌++◌}
+use Rattle.spk_sequence.specs.NodeRecord.{Setting, NodeRecord, IsNodeRecord}
 use Rattle.spk_sequence.specs.HostRecord.{Input, record_of, standing_of, done_at, consumed_of}
 use Rattle.spk_sequence.specs.Following.{taken}
-use Rattle.spk_sequence.specs.Claims.{IsLawful, BirthPrefixes, EndsWithTaken, AfterGap, taken_by, IsSameWithMore}
-use Rattle.spk_sequence.proofs.Lawful.{steps_all, tied_of, before_of, ate_of}
+use Rattle.spk_sequence.specs.Claims.{IsLawful, BirthPrefixes, EndsWithTaken, AfterGap, taken_by, with_more, IsSameWithMore}
+use Rattle.spk_sequence.proofs.Lawful.{steps_all, ate_of}
 use Rattle.spk_sequence.proofs.Fronts.{Fronted, fronted_always, prefixes_of, ends_of, after_gap_of, taken_by_is}
 use Rattle.spk_sequence.proofs.Grows.{grows_always}
 
@@ -26,3 +26,8 @@ taken_after s inputs input l = taken_by_is s (record_of s inputs) input (done_at
 
 pub grows : (s : Setting) (more : NodeRecord) (inputs : List Input) → IsLawful s inputs → IsSameWithMore s more inputs
 grows s more inputs l = grows_always s more l.node l.some_places l.few_places inputs l.may_come (steps_all s inputs l) l.numbered
+
+pub still_lawful : (s : Setting) (more : NodeRecord) (inputs : List Input) → IsLawful s inputs → IsNodeRecord (s.published ++ more) → IsLawful (with_more s more) inputs
+still_lawful s more inputs l node =
+    let g : IsSameWithMore s more inputs = grows s more inputs l in
+    record { node = node; some_places = l.some_places; few_places = l.few_places; may_come = g.may_come; numbered = g.numbered }

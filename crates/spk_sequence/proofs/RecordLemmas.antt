@@ -1,6 +1,6 @@
 -- The birth taken.
-use Rattle.std.proofs.Common.{◌≡◌, ℕ, ◌<◌, ◌≤◌, true, List, length, arith, Some}
-use Rattle.spk_sequence.specs.NodeRecord.{Setting, opens}
+use Rattle.std.proofs.Common.{◌≡◌, ℕ, ◌<◌, ◌≤◌, List, length, arith, Some}
+use Rattle.spk_sequence.specs.NodeRecord.{Setting}
 use Rattle.spk_sequence.specs.HostRecord.{Input, HostRecord, record_of, standing_of, next_after, reach}
 use Rattle.spk_sequence.specs.Following.{taken}
 use Rattle.spk_sequence.specs.Claims.{IsLawful, IsOpening}

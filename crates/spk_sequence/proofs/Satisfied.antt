@@ -6,7 +6,8 @@ use Rattle.std.proofs.lemmas.Bool.{true≢false}
 use Rattle.spk_sequence.specs.NodeRecord.{Message, NodeRecord, RunsOn, Restarts, IsNodeRecord, message_at, opens, birth_at, session_at, stamp_at}
 use Rattle.spk_sequence.specs.HostRecord.{Input, MessageComes, DeathComes, TickComes}
 use Rattle.spk_sequence.specs.Window.{AllNearDeaths}
-use Rattle.spk_sequence.specs.Claims.{IsLawful}
+use Rattle.spk_sequence.specs.Claims.{IsLawful, with_more}
+use Rattle.spk_sequence.proofs.Headline.{still_lawful}
 use Rattle.spk_sequence.proofs.Sessions.{message, setting}
 
 -- one birth of n messages
@@ -177,4 +178,36 @@ lawful_deaths_restarts = record {
     ),
   );
   numbered = (tt, tt, (tt, tt, (inl refl, (λ opening. (lit< tt, lit< tt)), (inl refl, (λ opening. tt), tt))));
+}
+
+-- a node that restarts publishes one more message between two hands
+abbrev third : NodeRecord
+third = message 0 0 8 ∷ []
+
+abbrev two_handed : List Input
+two_handed = MessageComes 1 11 ∷ MessageComes 0 10 ∷ []
+
+two_handed_lawful : IsLawful (setting (one_birth 2) Restarts) two_handed
+two_handed_lawful = record {
+  node = one_birth_is 2;
+  some_places = lit< tt;
+  few_places = lit≤ tt;
+  may_come = (
+    record { published = lit< tt; not_far_behind = lit≤ tt; not_far_ahead = λ on. lit< tt },
+    (record { published = lit< tt; not_far_behind = lit≤ tt; not_far_ahead = λ on. lit< tt }, tt),
+  );
+  numbered = (inr refl, (λ opening. absurd (true≢false (sym opening))), (inl refl, (λ opening. tt), tt));
+}
+
+pub published_between_two_hands : IsLawful (with_more (setting (one_birth 2) Restarts) third) two_handed
+published_between_two_hands = still_lawful (setting (one_birth 2) Restarts) third two_handed two_handed_lawful (one_birth_is 3)
+
+-- and the third message may be handed then
+pub handed_after_it : IsLawful (with_more (setting (one_birth 2) Restarts) third) (MessageComes 2 12 ∷ two_handed)
+handed_after_it = record {
+  node = published_between_two_hands.node;
+  some_places = lit< tt;
+  few_places = lit≤ tt;
+  may_come = (record { published = lit< tt; not_far_behind = lit≤ tt; not_far_ahead = λ on. lit< tt }, published_between_two_hands.may_come);
+  numbered = (inr refl, (λ opening. absurd (true≢false (sym opening))), published_between_two_hands.numbered);
 }

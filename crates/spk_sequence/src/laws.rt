@@ -16,11 +16,12 @@ use crate::answer::Step;
 use crate::message::Kind;
 use crate::phase::Phase;
 
-/// For every node record, every width of 1 to 96 and every list of inputs inside the window, the
-/// deaths being of near sessions. Where the sequence number restarts at each NBIRTH, births too are
-/// of near sessions, and no message is handed before its own NBIRTH. Inputs stand newest first.
+/// For every node record, every width of 1 to 96 and every list of inputs inside the window, where a
+/// death that comes while the host follows is of the session of the birth taken, if it has its bdSeq.
+/// Where the sequence number restarts at each NBIRTH, births are of near sessions, and no message is
+/// handed before its own NBIRTH. Inputs stand newest first.
 pub fn positions()
-    // each event on numbers is the event on positions, if a birth is of a near session
+    // each event on numbers is the event on positions, if deaths and the birth handed are of near sessions
     ensures same_steps { (s : Setting) (inputs : List Input) (input : Input) → IsLawful s (input ∷ inputs) →
         AllNearDeaths s (input ∷ inputs) →
         IsNearBirth s (record_of s inputs) input → SameStep s inputs input }
@@ -41,7 +42,7 @@ pub fn positions()
         0 < s.width → s.width ≤ 96 → AllPublished s (input ∷ inputs) →
         AfterDeath s (record_of s inputs) (done_at s (record_of s inputs) (standing_of s inputs) input) }
 
-    // a birth of a near session is taken but for the two causes
+    // a birth of a near session is taken but for the two causes, if deaths are of near sessions
     ensures births { (s : Setting) (inputs : List Input) (p now : ℕ) → IsLawful s (MessageComes p now ∷ inputs) →
         AllNearDeaths s (MessageComes p now ∷ inputs) →
         IsNearBirth s (record_of s inputs) (MessageComes p now) →
@@ -67,6 +68,10 @@ pub fn positions()
     // what was done, and every query on it, is the same when more is published afterwards
     ensures grows { (s : Setting) (more : NodeRecord) (inputs : List Input) → IsLawful s inputs →
         IsSameWithMore s more inputs }
+
+    // so a lawful list stays lawful, if what is published then is a node record
+    ensures still_lawful { (s : Setting) (more : NodeRecord) (inputs : List Input) → IsLawful s inputs →
+        IsNodeRecord (s.published ++ more) → IsLawful (with_more s more) inputs }
 {}
 
 /// On records alone: what was published, and the positions that were handed.

@@ -278,6 +278,24 @@ fn runs_on_numbers(rt: HostRuntime) -> Result<(), Fail> {
 }
 
 #[test]
+fn what_is_held_is_counted_and_found(rt: HostRuntime) -> Result<(), Fail> {
+    let mut sequence = Sequence::new(2000, Width::new(64).ok_or("width")?);
+    assert!(rt; sequence.held() == 0 && !sequence.is_held(10));
+    let calls = [
+        Call::Birth(9, 100, 4),
+        Call::Other(12, 0),
+        Call::Other(73, 0),
+    ];
+    for call in calls {
+        let _reply = reply_to(&mut sequence, call);
+    }
+    assert!(rt; sequence.held() == 2);
+    assert!(rt; sequence.is_held(12) && sequence.is_held(73));
+    assert!(rt; !sequence.is_held(10) && !sequence.is_held(13) && !sequence.is_held(200));
+    Ok(())
+}
+
+#[test]
 fn widths_are_1_to_96(rt: HostRuntime) -> Result<(), Fail> {
     for (places, budget) in [(1, 254), (64, 128), (96, 64)] {
         let width = Width::new(places).ok_or("width")?;

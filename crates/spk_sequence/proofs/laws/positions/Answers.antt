@@ -1,6 +1,6 @@
 use Rattle.spk_sequence.proofs.Lawful.{same_step, live_by_positions, takes_birth, has_cause}
 use Rattle.spk_sequence.proofs.Deaths.{after_death}
-use Rattle.spk_sequence.proofs.Headline.{fronts, after_gap, taken_after, last_part, grows}
+use Rattle.spk_sequence.proofs.Headline.{fronts, after_gap, taken_after, last_part, grows, still_lawful}
 use Rattle.spk_sequence.proofs.RecordLemmas.{taken_opens}
 use Rattle.spk_sequence.proofs.laws.positions.Goals as goal
 
@@ -36,3 +36,6 @@ returns-clause-grows c = grows
 
 pub returns-clause-taken_opens : goal.returns-clause-taken_opens
 returns-clause-taken_opens c = taken_opens
+
+pub returns-clause-still_lawful : goal.returns-clause-still_lawful
+returns-clause-still_lawful c = still_lawful

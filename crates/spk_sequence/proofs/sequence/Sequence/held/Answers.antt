@@ -29,6 +29,7 @@ loop-distance-preserved c =
     as_byte : (b : Bool) → bool_byte b ≡ cond b 1 0
     as_byte true = refl
     as_byte false = refl
+
     at_most : (b : Bool) (n : ℕ) → n ≡ cond b 1 0 → n ≤ 1
     at_most true n e = omega arith
     at_most false n e = omega arith
