@@ -4,6 +4,7 @@ pub mod EdgeLemmas
 pub mod FindLemmas
 pub mod FitLemmas
 pub mod FoundLemmas
+pub mod GrantLemmas
 pub mod GrowthLemmas
 pub mod LevelLemmas
 pub mod ListLemmas
