@@ -1,7 +1,7 @@
 //! What the tests run the program on: files in memory, and a writer that fails.
 
 use crate::files::Files;
-use crate::run::run;
+use crate::run::{run, run_with_notes};
 use std::io::{self, Read, Write};
 use std::process::Abort;
 
@@ -152,6 +152,19 @@ pub(crate) fn printed_into(
     assert_eq!(rt; status, 1, "room {room}");
     assert_eq!(rt; held.len(), room.min(REFUSED.len()), "room {room}");
     once(rt, words, room)
+}
+
+/// What a run notes, and what it prints. Where memory was refused the run is made again.
+pub(crate) fn noted(rt: &(impl Abort + AllocGlobal), words: &[&str]) -> (Vec<u8>, Vec<u8>) {
+    let mut notes = empty(rt);
+    let mut held = empty(rt);
+    let _status = run_with_notes(rt, words, &mut Texts, &mut held, &mut notes);
+    if held.ends_with(REFUSED) {
+        held.clear();
+        notes.clear();
+        let _status = run_with_notes(rt, words, &mut Texts, &mut held, &mut notes);
+    }
+    (notes, held)
 }
 
 /// Checks what a run prints, and its status.

@@ -4,6 +4,7 @@
 mod fault;
 mod files;
 mod packets;
+mod places;
 mod run;
 mod show;
 mod texts;
@@ -22,14 +23,22 @@ mod tests;
 
 /// A run on the machine, and its status.
 fn on_machine(rt: &HostRuntime) -> io::Result<u8> {
-    let given: Vec<String> = env::args(rt)?.collect(rt.alloc())?;
+    let given: Vec<String> = match env::args(rt) {
+        Ok(given) => given.collect(rt.alloc())?,
+        Err(error) if error.kind() == io::ErrorKind::InvalidData => {
+            print!(rt; "{}", run::NOT_TEXT)?;
+            return Ok(2);
+        }
+        Err(error) => return Err(error),
+    };
     let mut words = Vec::new(rt.alloc());
     for word in &given {
         words.push(word.as_str())?;
     }
     let mut files = MachineFiles { rt };
     let mut writer = io::writer(rt);
-    Ok(run::run(rt, &words, &mut files, &mut writer))
+    let mut notes = rt.stderr();
+    Ok(run::run_with_notes(rt, &words, &mut files, &mut writer, &mut notes))
 }
 
 fn main(rt: HostRuntime) -> io::Result<ExitCode> {

@@ -3,7 +3,7 @@
 use crate::fault::Stop;
 use crate::show::bytes_of;
 use crate::texts::{OrDash, hex_text, json_text};
-use spk_packets::{Packet, Request, Will, decode};
+use spk_packets::{Packet, PacketFault, Request, Will, decode};
 use spk_topics::{Spark, TopicFault, Verb};
 use std::alloc::{AllocError, Global};
 use std::io::Write;
@@ -172,8 +172,35 @@ fn packet_line<W: Write>(alloc: Global, out: &mut W, packet: Packet) -> Result<(
     Ok(())
 }
 
+/// The packet at the front of what begins at this byte, and its length; of a fault the notes tell the place. A note
+/// that can't be written is left out.
+fn decode_noting<N: Write>(
+    alloc: Global,
+    notes: &mut N,
+    bytes: &[u8],
+    at: usize,
+) -> Result<(Packet, usize), Stop> {
+    match decode(alloc, bytes) {
+        Ok(found) => Ok(found),
+        Err(PacketFault::NoMemory) => Err(Stop::no_memory()),
+        Err(fault) => {
+            let count = at.saturating_add(bytes.len());
+            let _ = writeln!(
+                notes,
+                "sparkplug: {fault} in the packet at byte {at} of {count}"
+            );
+            Err(Stop::from(fault))
+        }
+    }
+}
+
 /// Prints the packets that the hexadecimal digits spell, from the front until they end or a fault comes.
-pub(crate) fn packets<W: Write>(alloc: Global, out: &mut W, digits: &str) -> Result<(), Stop> {
+pub(crate) fn packets<W: Write, N: Write>(
+    alloc: Global,
+    out: &mut W,
+    notes: &mut N,
+    digits: &str,
+) -> Result<(), Stop> {
     let bytes = bytes_of(alloc, digits)?;
     let mut rest = bytes.as_slice();
     // a packet takes a byte at least
@@ -181,9 +208,10 @@ pub(crate) fn packets<W: Write>(alloc: Global, out: &mut W, digits: &str) -> Res
         if rest.is_empty() {
             break;
         }
-        let (packet, count) = decode(alloc, rest)?;
+        let at = bytes.len().saturating_sub(rest.len());
+        let (packet, count) = decode_noting(alloc, notes, rest, at)?;
         packet_line(alloc, out, packet)?;
-        rest = &rest[count..];
+        rest = rest.get(count..).unwrap_or(&[]);
     }
     Ok(())
 }

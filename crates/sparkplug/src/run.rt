@@ -34,11 +34,30 @@ fn refusal(alloc: Global, error: &clap::Error) -> Result<Stop, Stop> {
     Ok(Stop::Words(text, status))
 }
 
-fn command<F: Files, W: Write>(
+/// What is said of words that aren't UTF-8, like what clap says of others that it refuses.
+pub(crate) const NOT_TEXT: &str =
+    "error: a word isn't UTF-8\n\nFor more information, try '--help'.\n";
+
+/// A writer that keeps nothing.
+#[derive(Drop)]
+struct Silence;
+
+impl Write for Silence {
+    fn write(&mut self, buf: &[u8]) -> io::Result<usize> {
+        Ok(buf.len())
+    }
+
+    fn flush(&mut self) -> io::Result<()> {
+        Ok(())
+    }
+}
+
+fn command<F: Files, W: Write, N: Write>(
     alloc: Global,
     words: &[&str],
     files: &mut F,
     out: &mut W,
+    notes: &mut N,
 ) -> Result<(), Stop> {
     let matches = match command_line(alloc)?.try_get_matches_from(words) {
         Ok(matches) => matches,
@@ -46,11 +65,11 @@ fn command<F: Files, W: Write>(
     };
     if let Some(given) = matches.subcommand_matches("show") {
         let digits = digits_of(alloc, given, files)?;
-        return show(alloc, out, digits.as_str());
+        return show(alloc, out, notes, digits.as_str());
     }
     if let Some(given) = matches.subcommand_matches("packets") {
         let digits = digits_of(alloc, given, files)?;
-        return packets(alloc, out, digits.as_str());
+        return packets(alloc, out, notes, digits.as_str());
     }
     Ok(())
 }
@@ -71,14 +90,15 @@ fn ending<W: Write>(out: &mut W, stop: Stop) -> io::Result<u8> {
     }
 }
 
-fn buffered<F: Files, W: Write + Drop>(
+fn buffered<F: Files, W: Write + Drop, N: Write>(
     alloc: Global,
     words: &[&str],
     files: &mut F,
     writer: W,
+    notes: &mut N,
 ) -> io::Result<u8> {
     let mut out = BufWriter::new(alloc, writer)?;
-    let status = match command(alloc, words, files, &mut out) {
+    let status = match command(alloc, words, files, &mut out, notes) {
         Ok(()) => 0,
         Err(stop) => ending(&mut out, stop)?,
     };
@@ -95,7 +115,19 @@ pub fn run<R: AllocGlobal, F: Files, W: Write>(
     files: &mut F,
     writer: &mut W,
 ) -> u8 {
-    match buffered(rt.alloc(), words, files, &mut *writer) {
+    run_with_notes(rt, words, files, writer, &mut Silence)
+}
+
+/// The same. The notes get a line for people where a fault has a place: at which byte it stands. What becomes of the
+/// notes changes nothing else.
+pub(crate) fn run_with_notes<R: AllocGlobal, F: Files, W: Write, N: Write>(
+    rt: &R,
+    words: &[&str],
+    files: &mut F,
+    writer: &mut W,
+    notes: &mut N,
+) -> u8 {
+    match buffered(rt.alloc(), words, files, &mut *writer, notes) {
         Ok(status) => status,
         Err(error) => {
             if error.kind() == io::ErrorKind::OutOfMemory {

@@ -1,9 +1,10 @@
 //! The command `show`: a payload, line by line.
 
 use crate::fault::{Fault, Stop};
+use crate::places::place_of_fault;
 use crate::texts::{OrDash, json_text, value_text};
 use hex::FromHexError;
-use spk_payload::{Metric, Payload, decode};
+use spk_payload::{Metric, Payload, PayloadFault, decode};
 use std::alloc::Global;
 use std::io::Write;
 
@@ -50,14 +51,36 @@ fn metric_line<W: Write>(
     Ok(())
 }
 
+/// Decodes a payload; of a fault the notes tell the place. A note that can't be written is left out.
+fn decode_noting<N: Write>(alloc: Global, notes: &mut N, bytes: &[u8]) -> Result<Payload, Stop> {
+    match decode(alloc, bytes) {
+        Ok(payload) => Ok(payload),
+        Err(PayloadFault::NoMemory) => Err(Stop::no_memory()),
+        Err(fault) => {
+            let at = place_of_fault(alloc, bytes)?;
+            let count = bytes.len();
+            let _ = writeln!(
+                notes,
+                "sparkplug: {fault} in the field at byte {at} of {count}"
+            );
+            Err(Stop::from(fault))
+        }
+    }
+}
+
 /// Prints the payload that the hexadecimal digits spell.
-pub(crate) fn show<W: Write>(alloc: Global, out: &mut W, digits: &str) -> Result<(), Stop> {
+pub(crate) fn show<W: Write, N: Write>(
+    alloc: Global,
+    out: &mut W,
+    notes: &mut N,
+    digits: &str,
+) -> Result<(), Stop> {
     let bytes = bytes_of(alloc, digits)?;
     let Payload {
         timestamp,
         metrics,
         seq,
-    } = decode(alloc, &bytes)?;
+    } = decode_noting(alloc, notes, &bytes)?;
     let time = OrDash(timestamp);
     let seq = OrDash(seq);
     let count = metrics.len();

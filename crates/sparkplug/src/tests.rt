@@ -1,4 +1,4 @@
-use crate::fixtures::{expect, printed, printed_into};
+use crate::fixtures::{expect, noted, printed, printed_into};
 use std::process::Abort;
 
 /// Checks what `show` prints of these digits, with status 0.
@@ -206,5 +206,61 @@ fn a_writer_that_fails_makes_the_status_1(rt: HostRuntime) {
         assert_eq!(rt; status, want, "room {room}");
         assert_eq!(rt; held.len(), room);
         assert!(rt; text.starts_with(&held), "room {room}");
+    }
+}
+
+/// The notes tell where a fault stands, and change nothing of what is printed.
+#[test]
+fn a_fault_is_noted_with_its_place(rt: HostRuntime) {
+    let table = [
+        ("show", "0805120b", "Truncated in the field at byte 2 of 4"),
+        ("show", "12ff01", "Truncated in the field at byte 0 of 3"),
+        (
+            "show",
+            "080512040a02c328",
+            "NotText in the field at byte 4 of 8",
+        ),
+        (
+            "show",
+            "08051207200152020a0000",
+            "FieldZero in the field at byte 10 of 11",
+        ),
+        (
+            "show",
+            "88800005120300017a",
+            "FieldZero in the field at byte 6 of 9",
+        ),
+        (
+            "show",
+            "0d000000000900000000000000000b0000",
+            "Group in the field at byte 14 of 17",
+        ),
+        ("packets", "c000e0", "More in the packet at byte 2 of 3"),
+        (
+            "packets",
+            "c000e00000",
+            "BadType in the packet at byte 4 of 5",
+        ),
+        ("packets", "36", "BadFlags in the packet at byte 0 of 1"),
+    ];
+    for (command, digits, place) in table {
+        let words = ["sparkplug", command, digits];
+        let (notes, held) = noted(&rt, &words);
+        let (whole, _status) = printed(&rt, &words);
+        assert_eq!(rt; held, whole, "of {digits}");
+        assert!(rt; notes.starts_with(b"sparkplug: "), "of {digits}");
+        assert_eq!(rt;
+            &notes[11..notes.len().saturating_sub(1)],
+            place.as_bytes(),
+            "of {digits}"
+        );
+        assert!(rt; notes.ends_with(b"\n"), "of {digits}");
+    }
+    for words in [
+        ["sparkplug", "show", "0805"],
+        ["sparkplug", "packets", "c000"],
+    ] {
+        let (notes, _held) = noted(&rt, &words);
+        assert!(rt; notes.is_empty(), "of {words:?}");
     }
 }
