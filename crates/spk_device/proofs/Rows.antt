@@ -6,9 +6,9 @@ use Rattle.spk_device.specs.declared.outcome.Outcome.TheVariants.{Changed, Same}
 use Rattle.spk_device.specs.declared.fault.Refusal.{Refusal}
 use Rattle.spk_device.specs.declared.fault.Refusal.TheVariants.{Duplicate, NoSuch, WrongKind, BadName}
 use Rattle.spk_device.specs.declared.owner.Owner.TheVariants.{Node, Device}
-use Rattle.spk_device.specs.Book.{births_of, is_up}
-use Rattle.spk_device.specs.Calls.{Call, AddDevice, AddMetric, Set, Turn, Reply, Done, Alias, Told, answer_of, standing}
-use Rattle.spk_device.specs.Queries.{book_at, done}
+use Rattle.spk_device.specs.Book.{Book, births_of, is_up}
+use Rattle.spk_device.specs.Calls.{Call, AddDevice, AddMetric, Set, Turn, Reply, Done, Alias, Told, answer_of, standing, standing_from}
+use Rattle.spk_device.specs.Queries.{book_at, book_from, done, done_from}
 
 -- a metric `t` of Int32 with the value 0
 abbrev added : List Call
@@ -77,3 +77,24 @@ pub null_birth : births_of (standing (Set 1 None ∷ added)) Node
       value = None;
     }) ∷ []
 null_birth = refl
+
+-- from a first registry with a device that is up and a metric of it: its value is set, the device goes down, a name of it is
+-- refused, and one more metric has the next alias
+abbrev handed_over : Book
+handed_over = record {
+  devices = (record { name = codes "D"; up = true }) ∷ [];
+  gauges = (record { owner = Device 0; name = codes "t"; datatype = 3; value = Some (Signed (pos 5)) }) ∷ [];
+}
+
+abbrev since : List Call
+since = AddMetric Node (codes "u") 11 None ∷ AddDevice (codes "D") ∷ Turn (codes "D") false ∷ Set 1 (Some (Signed (pos 7))) ∷ []
+
+abbrev later : Book
+later = record {
+  devices = (record { name = codes "D"; up = false }) ∷ [];
+  gauges = (record { owner = Device 0; name = codes "t"; datatype = 3; value = Some (Signed (pos 7)) })
+      ∷ (record { owner = Node; name = codes "u"; datatype = 11; value = None }) ∷ [];
+}
+
+pub from_a_first_registry : (standing_from handed_over since ≡ later) × (book_from handed_over (done_from handed_over since) ≡ later)
+from_a_first_registry = (refl, refl)

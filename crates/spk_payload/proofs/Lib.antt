@@ -1,3 +1,4 @@
+mod Rows
 mod Texts
 mod Turns
 mod Metrics

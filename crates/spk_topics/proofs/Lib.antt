@@ -10,6 +10,7 @@ pub mod LevelLemmas
 pub mod ListLemmas
 pub mod PathLemmas
 pub mod RowLemmas
+pub mod Rows
 pub mod NamedLemmas
 pub mod NodeLemmas
 pub mod SparkLemmas

@@ -1,4 +1,3 @@
-use Rattle.std.proofs.Common.{◌∙◌, sym}
 use Rattle.spk_topics.proofs.NamedLemmas.{at-named, refused-none}
 use Rattle.spk_topics.proofs.SparkLemmas.{topic_of-levels, no_topic}
 use Rattle.spk_topics.specs.declared.fault.TopicFault.TheVariants.{NotSparkplug}

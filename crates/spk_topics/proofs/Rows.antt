@@ -1,0 +1,28 @@
+-- What the functions answer for texts that are worked out by hand.
+use Rattle.std.proofs.Common.{◌≡◌, true, false, Option, Some, None, codes, refl}
+use Rattle.spk_topics.specs.Fitting.{is_match}
+use Rattle.spk_topics.specs.Spark.{Named, named_at}
+use Rattle.spk_topics.specs.Spark.Named.{of_node, of_device, of_state}
+use Rattle.spk_topics.specs.declared.spark.Verb.TheVariants.{Birth, Data}
+
+abbrev nothing : Option Named
+nothing = None
+
+pub names : (named_at (codes "spBv1.0/G/NDATA/N") ≡ Some (of_node (codes "G") Data (codes "N")))
+    × (named_at (codes "spBv1.0/G/DBIRTH/N/D") ≡ Some (of_device (codes "G") Birth (codes "N") (codes "D")))
+    × (named_at (codes "spBv1.0/STATE/H") ≡ Some (of_state (codes "H")))
+names = (refl, refl, refl)
+
+-- a group may have the name STATE
+pub a_group_named_state : named_at (codes "spBv1.0/STATE/NDATA/N") ≡ Some (of_node (codes "STATE") Data (codes "N"))
+a_group_named_state = refl
+
+-- a node's type with a device, a device's without one, a wildcard, an empty name, another prefix
+pub no_names : (named_at (codes "spBv1.0/G/NDATA/N/D") ≡ nothing) × (named_at (codes "spBv1.0/G/DDATA/N") ≡ nothing)
+    × (named_at (codes "spBv1.0/G/NDATA/+") ≡ nothing) × (named_at (codes "spBv1.0//NDATA/N") ≡ nothing)
+    × (named_at (codes "spAv1.0/G/NDATA/N") ≡ nothing)
+no_names = (refl, refl, refl, refl, refl)
+
+pub matches_of_texts : (is_match (codes "a/#") (codes "a") ≡ true) × (is_match (codes "a/+") (codes "a") ≡ false)
+    × (is_match (codes "#") (codes "$a") ≡ false) × (is_match (codes "+/b") (codes "/b") ≡ true)
+matches_of_texts = (refl, refl, refl, refl)
