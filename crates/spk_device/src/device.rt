@@ -3,8 +3,8 @@ ghost use Rattle.std.specs.Prelude.{◌≡◌};
 ghost use Rattle.spk_device.specs.Step.{change_unless};
 ghost use Rattle.spk_device.specs.Values.{flag_eq};
 
-use crate::names::Names;
 use crate::outcome::Outcome;
+use spk_names::Names;
 
 /// A device: its name, whether it is up, and the places of its metrics, by name.
 #[derive(Drop)]

@@ -1,7 +1,7 @@
 use Rattle.std.proofs.Common.{◌∙◌, ap, string_bytes}
-use Rattle.spk_device.specs.Names.{number_in}
-use Rattle.spk_device.proofs.NameLemmas.{lookup-numbers}
-use Rattle.spk_device.proofs.names.Names.find.Goals as goal
+use Rattle.spk_names.specs.Names.{number_in}
+use Rattle.spk_names.proofs.NameLemmas.{lookup-numbers}
+use Rattle.spk_names.proofs.names.Names.find.Goals as goal
 
 pub returns : goal.returns
 returns c =
