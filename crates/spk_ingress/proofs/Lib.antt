@@ -1,0 +1,6 @@
+pub mod Fronts
+pub mod Opening
+pub mod Shares
+pub mod Steps
+pub mod Taking
+pub mod Views
