@@ -1,5 +1,6 @@
 pub mod Fronts
 pub mod Opening
+pub mod Settling
 pub mod Shares
 pub mod Steps
 pub mod Taking

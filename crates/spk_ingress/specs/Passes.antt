@@ -1,5 +1,5 @@
 -- What contracts see of an ingress and its passes.
-use Rattle.std.specs.Prelude.{◌≡◌, ℕ, suc, ◌<◌, ◌≤◌, Bool, true, false, List, [], ◌∷◌, length, ◌==◌, ◌||◌, slice_index}
+use Rattle.std.specs.Prelude.{◌≡◌, ℕ, suc, ◌<◌, ◌≤◌, Bool, true, false, List, [], ◌∷◌, length, ◌==◌, ◌||◌, slice_index, get_or}
 use Rattle.crossbeam_channel.specs.Ends.{sends_on, receives_on}
 use Rattle.crossbeam_channel.specs.Claims.{view, IsSeatAt}
 use Rattle.spk_ingress.specs.declared.frame.Frame.{Frame}
@@ -72,6 +72,11 @@ AllTaken taken (p ∷ ps) = (share_of p.sender taken ≡ frames_put p) × AllTak
 abbrev pub AllPutInto : Ingress → List PutPass → Type 0
 AllPutInto n [] = Unit {0}
 AllPutInto n (p ∷ ps) = PutsInto n p × AllPutInto n ps
+
+-- the marks of the senders of these passes
+pub record IsMarked (n : Ingress) (marks : List Bool) (passes : List PutPass) : Type 0 where
+  pub marked : length marks ≡ n.senders
+  pub each : (i : ℕ) → i < n.senders → get_or marks i false ≡ has_sender i passes
 
 -- All passes are there, and every frame put was taken.
 pub record IsSettled (n : Ingress) (t : TakePass) (passes : List PutPass) : Type 0 where

@@ -1,7 +1,7 @@
 //! Frames from many senders to one taker.
-ghost use Rattle.std.specs.Prelude.{◌≡◌, ◌+◌, ◌<◌, ◌≤◌, [], ◌∷◌, ◌++◌, length, IfOk, IfErr, OnOk, OnErr};
+ghost use Rattle.std.specs.Prelude.{◌≡◌, ◌↔◌, ◌+◌, ◌<◌, ◌≤◌, ℕ, true, false, get_or, [], ◌∷◌, ◌++◌, length, IfOk, IfErr, OnOk, OnErr};
 ghost use Rattle.spk_ingress.specs.Lanes.{share_of};
-ghost use Rattle.spk_ingress.specs.Passes.{IsCapacity, AreSenders, PutsInto, TakesFrom, ArePasses, AllPutInto, IsSettled, AreLengths, TakesNone, frames_put, frames_taken};
+ghost use Rattle.spk_ingress.specs.Passes.{IsCapacity, AreSenders, PutsInto, TakesFrom, ArePasses, AllPutInto, IsSettled, AreLengths, TakesNone, IsMarked, AllTaken, frames_put, frames_taken};
 
 use crate::fault::{Closed, OpenFault, SettleFault};
 use crate::frame::Frame;
@@ -173,4 +173,88 @@ fn opened(
     };
     let passes = passes_of(alloc, &ingress, &mut taker)?;
     Ok((ingress, passes, taker))
+}
+
+impl Ingress {
+    /// Ends the ingress: exactly where all passes are there and every frame that was put was taken, it answers how many
+    /// frames each sender put. Then each sender's share of what was taken is what was put through its pass. The passes
+    /// are spent in any case, and must be of this ingress.
+    pub fn settle<R: Wait>(
+        self,
+        _rt: &R,
+        alloc: Global,
+        passes: Vec<PutPass>,
+        mut taker: TakePass,
+    ) -> Result<Vec<u64>, SettleFault>
+        requires taker { TakesFrom self taker }
+        requires passes { AllPutInto self passes.items }
+        ensures settled { OnOk result (IsSettled self taker passes.items) }
+        ensures lengths { IfOk result (λ v. AreLengths self taker v.items) }
+        ensures unsettled { IfErr result (λ e. e ≡ SettleFault.Unsettled → ¬ (IsSettled self taker passes.items)) }
+    {
+        let Ok(mut seen) = vec![in alloc; false; self.senders] else {
+            return Err(SettleFault::NoMemory);
+        };
+        if !self.takes_all(&mut taker, &mut seen, passes) {
+            return Err(SettleFault::Unsettled);
+        }
+        if !are_all_true(&seen) {
+            return Err(SettleFault::Unsettled);
+        }
+        Ok(taker.counts)
+    }
+
+    /// Whether all that was put through a pass was taken.
+    fn takes_in(&self, taker: &mut TakePass, pass: PutPass) -> bool
+        requires taker { TakesFrom self.now taker.old }
+        requires pass { PutsInto self.now pass }
+        ensures taker { TakesFrom self.now taker.new }
+        ensures same { (frames_taken taker.new ≡ frames_taken taker.old) × (taker.new.counts ≡ taker.old.counts) }
+        ensures all { result ≡ true → share_of pass.sender (frames_taken taker.old) ≡ frames_put pass }
+        ensures only { share_of pass.sender (frames_taken taker.old) ≡ frames_put pass → result ≡ true }
+    {
+        let PutPass {
+            sender,
+            count,
+            seat,
+        } = pass;
+        self.end.absorb::<Settles>(&mut taker.seat, seat);
+        self.end.learn_as::<Known>(&mut taker.seat);
+        taker.counts[sender] == count
+    }
+
+    /// Whether all that was put through these passes was taken. It marks their senders.
+    fn takes_all(
+        &self,
+        taker: &mut TakePass,
+        seen: &mut Vec<bool>,
+        mut passes: Vec<PutPass>,
+    ) -> bool
+        requires taker { TakesFrom self.now taker.old }
+        requires passes { AllPutInto self.now passes.items }
+        requires seen { IsMarked self.now seen.old.items [] }
+        ensures same { (frames_taken taker.new ≡ frames_taken taker.old) × (taker.new.counts ≡ taker.old.counts) }
+        ensures all { result ≡ true → AllTaken (frames_taken taker.old) passes.items × IsMarked self.now seen.new.items passes.items }
+        ensures only { result ≡ false → ¬ (AllTaken (frames_taken taker.old) passes.items) }
+    {
+        while let Some(pass) = passes.pop() {
+            let sender = pass.sender;
+            if !self.takes_in(taker, pass) {
+                return false;
+            }
+            seen[sender] = true;
+        }
+        true
+    }
+}
+
+fn are_all_true(marks: &[bool]) -> bool
+    ensures { (result ≡ true) ↔ ((i : ℕ) → i < length marks.now → get_or marks.now i false ≡ true) }
+{
+    for mark in marks {
+        if !*mark {
+            return false;
+        }
+    }
+    true
 }
