@@ -57,8 +57,7 @@ puts n pass i put x own small items views room h at =
     let mine : (h.owner i ≡ pass) × (i < h.made) × (share_of i all ≡ put) = h.fits pass (Puts i put) at in
     let below : i < h.made = mine.1 in
     let grown : share_of i more ≡ put ++ x.frame ∷ [] = ap (share_of i) behind ∙ share_more i x all own ∙ ap (λ fs. fs ++ x.frame ∷ []) mine.2 in
-    let same : (k : ℕ) → k ≢ i → share_of k more ≡ share_of k all = λ k other. ap (share_of k) behind ∙ share_same k x all (λ e. other (sym e ∙ own)) in
-    (
+    let same : (k : ℕ) → k ≢ i → share_of k more ≡ share_of k all = λ k other. ap (share_of k) behind ∙ share_same k x all (λ e. other (sym e ∙ own)) in (
       w,
       record {
         owner = h.owner;
@@ -95,8 +94,7 @@ takes pass m g es x items views h at =
     let there : length (share_of x.sender h.got) + 1 ≤ length (share_of x.sender all) = share_there x h.got items in
     let few : length (share_of x.sender all) < 2 ^ 64 = h.counted.few x.sender in
     let made : m ≡ h.made = mine.1 in
-    let of_g : length (share_of x.sender g) ≡ length (share_of x.sender h.got) = ap (λ ms. length (share_of x.sender ms)) mine.2 in
-    (
+    let of_g : length (share_of x.sender g) ≡ length (share_of x.sender h.got) = ap (λ ms. length (share_of x.sender ms)) mine.2 in (
       w,
       record {
         owner = h.owner;
@@ -132,8 +130,7 @@ owner_here owner m pass = ap (λ b. cond b pass (owner m)) (eq-eqb m m refl)
 ended_made : (owner : Owners) (reader made place : ℕ) (all : List Message) (es : List Ended) → AreEnded owner reader made all es → AreEnded (owner_with owner made place) reader (made + 1) all es
 ended_made owner reader made place all [] are = tt
 ended_made owner reader made place all (e ∷ es) are =
-    let below : e.sender < made = are.0.was_made in
-    (
+    let below : e.sender < made = are.0.was_made in (
       record { given_back = owner_same owner made place e.sender (λ is. absurd (omega arith)) ∙ are.0.given_back; was_made = omega arith; share = are.0.share },
       ended_made owner reader made place all es are.1,
     )

@@ -6,7 +6,6 @@ ghost use Rattle.spk_ingress.specs.Passes.{IsCapacity, AreSenders, PutsInto, Tak
 use crate::fault::{Closed, OpenFault, SettleFault};
 use crate::frame::Frame;
 use crate::rule::{Known, Lanes, Message, NewSender, Puts, Settles, Takes, View};
-
 use crossbeam_channel::{Pass, RuledReceiver, RuledSender, bounded_with};
 use std::alloc::{AllocError, Global};
 use std::sync::Wait;
@@ -70,7 +69,12 @@ impl Ingress {
 
     /// Puts a frame, and waits while there is no room. Closed, where the taker is gone or the pass has put the greatest
     /// `u64` of frames, hands it back. The pass must be of this ingress.
-    pub fn put<R: Wait>(&self, rt: &R, pass: &mut PutPass, frame: Frame) -> Result<(), Closed<Frame>>
+    pub fn put<R: Wait>(
+        &self,
+        rt: &R,
+        pass: &mut PutPass,
+        frame: Frame,
+    ) -> Result<(), Closed<Frame>>
         requires { PutsInto self.now pass.old }
         ensures pass { PutsInto self.now pass.new × (pass.new.sender ≡ pass.old.sender) }
         ensures ok { OnOk result (frames_put pass.new ≡ frames_put pass.old ++ frame ∷ []) }

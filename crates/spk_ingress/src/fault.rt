@@ -2,7 +2,6 @@
 ghost use Rattle.std.specs.Prelude.{◌≡◌};
 ghost use Rattle.spk_ingress.specs.Fault.{frame_number, open_number, settle_number};
 
-
 use spk_packets::PacketFault;
 use thiserror::Error;
 
@@ -92,4 +91,3 @@ impl SettleFault {
         self as u32
     }
 }
-
