@@ -1,0 +1,4 @@
+pub mod Fault
+pub mod Frame
+pub mod Lanes
+pub mod Passes
