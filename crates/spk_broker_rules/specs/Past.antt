@@ -279,6 +279,10 @@ unacked (Acked id ∷ ds) = without_id id (unacked ds)
 abbrev pub used : List Deed → List ℕ
 used ds = map (λ (c : Copy). c.id) (unacked ds)
 
+-- a kept session keeps them
+abbrev pub copies : List Deed → List Copy
+copies ds = if kept ds then unacked ds else []
+
 -- the identifier given last, 0 where none was
 abbrev pub last_id : List Deed → ℕ
 last_id [] = 0
@@ -389,17 +393,20 @@ line_of h j = record {
   drops = drops (conn_deeds h j.conn);
 }
 
-abbrev pub seat_of : Past → ℕ → Seat
-seat_of h s = record {
+abbrev pub seat_with : (Joining → Line) → ℕ → List Deed → Seat
+seat_with line s ds = record {
   key = s;
-  client = client (deeds h s);
-  kept = kept (deeds h s);
-  here = option_map (line_of h) (here (deeds h s));
-  grants = grants (deeds h s);
-  used = used (deeds h s);
-  last = last_id (deeds h s);
-  copies = if kept (deeds h s) then unacked (deeds h s) else [];
+  client = client ds;
+  kept = kept ds;
+  here = option_map line (here ds);
+  grants = grants ds;
+  used = used ds;
+  last = last_id ds;
+  copies = copies ds;
 }
+
+abbrev pub seat_of : Past → ℕ → Seat
+seat_of h s = seat_with (line_of h) s (deeds h s)
 
 abbrev pub broker_of : ℕ → Past → Broker
 broker_of limit h = record {

@@ -8,7 +8,7 @@ use Rattle.spk_session.specs.Step.{has_room}
 use Rattle.spk_broker_rules.specs.Data.{Post, Send}
 use Rattle.spk_broker_rules.specs.Words.{best, level, sent_as, plain_packet, numbered_packet, to_line, option_list, resent, offers_to, granted_of, codes_of}
 use Rattle.spk_broker_rules.specs.Plan.{Act, Opens, At, Hear, Drop, Say, Leave, Tell, Queue, Route, Forget, Accept, Give, Take, Ack}
-use Rattle.spk_broker_rules.specs.Past.{Past, Moment, OfConn, OfSession, Routed, Opened, Heard, Dropped, Ended, Deed, Made, Joined, Left, Over, Granted, TakenBack, Numbered, Acked, Joining, deeds, clock, given, made, guests, sessions, kept, here, grants, used, unacked, last_id, retained, conn_here, session_at, is_of}
+use Rattle.spk_broker_rules.specs.Past.{Past, Moment, OfConn, OfSession, Routed, Opened, Heard, Dropped, Ended, Deed, Made, Joined, Left, Over, Granted, TakenBack, Numbered, Acked, Joining, deeds, clock, given, made, guests, sessions, kept, here, grants, used, copies, last_id, retained, conn_here, session_at, is_of}
 
 -- The past in the midst of an event, what is sent and closed so far, and the messages that wait.
 pub record Story : Type 0 where
@@ -118,7 +118,7 @@ told_take_up None conn c keeps alive will t =
     }
 told_take_up (Some s) conn c keeps alive will t =
     record (note (session_facts s (Joined conn alive will ∷ [])) t) {
-      sends = t.sends ++ (record { conn = conn; packet = ConnAck true 0 }) ∷ resent conn (unacked (deeds t.past s));
+      sends = t.sends ++ (record { conn = conn; packet = ConnAck true 0 }) ∷ resent conn (copies (deeds t.past s));
     }
 
 abbrev pub told_accept : Option ℕ → List ℕ → Bool → ℕ → Option Post → Story → Story
@@ -147,17 +147,14 @@ told_offer s t post = told_offer_at (stands t.past s) s post t
 abbrev pub other_pairs : Past → ℕ → ℕ
 other_pairs h s = length (flat_map (λ t. grants (deeds h t)) (sessions h)) - length (grants (deeds h s))
 
-abbrev pub granting : List ℕ × ℕ → Deed
-granting entry = Granted entry.0 entry.1
-
--- newest first
-abbrev pub granting_all : List (List ℕ × ℕ) → List Deed
-granting_all entries = fold (λ ds e. granting e ∷ ds) [] entries
+abbrev pub granting : ℕ → Past → List ℕ × ℕ → Past
+granting s h entry = OfSession s (Granted entry.0 entry.1) ∷ h
 
 abbrev pub told_give_with : ℕ → ℕ → ℕ → ℕ → List (List ℕ × ℕ) → Story → Story
 told_give_with others s conn id entries t =
     fold (told_offer s)
-    (record (note (session_facts s (granting_all (granted_of others (grants (deeds t.past s)) entries))) t) {
+    (record t {
+      past = fold (granting s) t.past (granted_of others (grants (deeds t.past s)) entries);
       sends = t.sends ++ (record { conn = conn; packet = SubAck id (codes_of others (grants (deeds t.past s)) entries) }) ∷ [];
     })
     (flat_map (offers_to (retained t.past)) (granted_of others (grants (deeds t.past s)) entries))
@@ -166,12 +163,12 @@ abbrev pub told_give : Option ℕ → ℕ → ℕ → List (List ℕ × ℕ) →
 told_give None conn id entries t = t
 told_give (Some s) conn id entries t = told_give_with (other_pairs t.past s) s conn id entries t
 
-abbrev pub taking_back : List (List ℕ) → List Deed
-taking_back filters = fold (λ ds f. TakenBack f ∷ ds) [] filters
+abbrev pub taking_back : ℕ → Past → List ℕ → Past
+taking_back s h filter = OfSession s (TakenBack filter) ∷ h
 
 abbrev pub told_take : Option ℕ → List (List ℕ) → Story → Story
 told_take None filters t = t
-told_take (Some s) filters t = note (session_facts s (taking_back filters)) t
+told_take (Some s) filters t = record t { past = fold (taking_back s) t.past filters }
 
 abbrev pub told_ack : Option ℕ → ℕ → Story → Story
 told_ack None id t = t
