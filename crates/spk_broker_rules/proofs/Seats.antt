@@ -7,6 +7,7 @@ use Rattle.std.specs.Str.{bytes_eq}
 use Rattle.std.proofs.lemmas.List.{map-append}
 use Rattle.spk_session.specs.Step.{without, one_more}
 use Rattle.spk_broker_rules.specs.Data.{Post, Copy, Line, Guest, Seat}
+use Rattle.spk_broker_rules.specs.Lawful.{IsLow}
 use Rattle.spk_broker_rules.specs.Table.{Table, put, remove}
 use Rattle.spk_broker_rules.specs.Words.{handed_out, without_id}
 use Rattle.spk_broker_rules.specs.Step.{sits, seat_at, is_guest, is_away, swap, other_guests, guest_heard, line_heard, guest_dropped, line_dropped}
@@ -172,7 +173,7 @@ taken-other (f ∷ fs) h s t e = taken-other fs (taking_back s h f) s t e ∙ se
 abbrev deed_if : Bool → ConnDeed → List ConnDeed → List ConnDeed
 deed_if b d ds = cond b (d ∷ ds) ds
 
-abbrev guest_with : ℕ → List ConnDeed → Guest
+abbrev pub guest_with : ℕ → List ConnDeed → Guest
 guest_with g ds = record { conn = g; heard = heard ds; drops = drops ds }
 
 pub guest-ended : (h : Past) (c g : ℕ) → guest_of (OfConn c Ended ∷ h) g ≡ guest_of h g
@@ -230,10 +231,6 @@ seat-lines h g change same lines s = ap (seat_with (line_of g) s) (same s) ∙ b
     by (Some j) = ap (λ l. with_line (seat_of h s) (Some l)) (lines j)
 
 -- ---- a connection that is opened
-
-abbrev pub IsLow : ℕ → Option Line → Type 0
-IsLow n None = Unit {0}
-IsLow n (Some l) = l.conn ≤ n
 
 pub fresh-conn : (h : Past) (n c k : ℕ) → c ≤ n → conn_deeds (OfConn (n + 1) (Opened k) ∷ h) c ≡ conn_deeds h c
 fresh-conn h n c k low = ap (λ b. deed_if b (Opened k) (conn_deeds h c)) (ne_eqb (n + 1) c (λ e. omega arith))

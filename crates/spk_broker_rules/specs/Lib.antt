@@ -1,4 +1,5 @@
 pub mod Data
+pub mod Lawful
 pub mod Past
 pub mod Plan
 pub mod Step
