@@ -121,7 +121,7 @@ joined-seat l s c alive will ds = ap₂ (with_ids (record (seat_with l s ds) { h
     (map-map handed_out (λ (x : Copy). x.id) (λ (x : Copy). x.id) (λ x. refl) (unacked ds))
     (sym (cond-ap (map handed_out) (kept ds) (unacked ds) []))
 
-abbrev copy_of : ℕ → Post → Bool → Copy
+abbrev pub copy_of : ℕ → Post → Bool → Copy
 copy_of id post handed = record { id = id; post = post; handed = handed }
 
 pub numbered-seat : (l : Joining → Line) (s id : ℕ) (post : Post) (handed : Bool) (ds : List Deed)
