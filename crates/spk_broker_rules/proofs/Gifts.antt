@@ -149,7 +149,7 @@ left-same h s ds = ap (λ x. cond (is_over ds) [] (x ∷ []))
 abbrev pub served_of : Past → ℕ → Share → Served
 served_of h s x = record { left = left_with h s x.deeds; sends = x.sends; closes = x.closes; wills = x.wills }
 
-conn-same : (h : Past) (s : ℕ) → conn_at (seat_of h s) ≡ conn_here h s
+pub conn-same : (h : Past) (s : ℕ) → conn_at (seat_of h s) ≡ conn_here h s
 conn-same h s = by (here (deeds h s))
   where
     by : (j : Option Joining) → option_map (λ (l : Line). l.conn) (option_map (line_of h) j) ≡ option_map (λ (i : Joining). i.conn) j
