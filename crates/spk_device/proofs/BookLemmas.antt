@@ -4,7 +4,7 @@ use Rattle.std.specs.List.{enumerate_from, position_from, filter}
 use Rattle.std.specs.Prelude.{◌&&◌}
 use Rattle.std.specs.Str.{bytes_eq}
 use Rattle.spk_device.specs.declared.owner.Owner.{Owner}
-use Rattle.spk_device.specs.Names.{number_in}
+use Rattle.spk_names.specs.Names.{number_in}
 use Rattle.spk_device.specs.Book.{DeviceData, GaugeData, is_owner}
 
 -- the number of a name among devices that count from n

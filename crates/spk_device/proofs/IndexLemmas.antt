@@ -18,7 +18,7 @@ use Rattle.spk_device.specs.declared.owner.Owner.TheVariants.{Node, Device as Of
 use Rattle.spk_device.specs.Book.{Book, DeviceData, GaugeData, birth_of, gauge_at, is_owner, is_there, is_up, owned, owner_number, number_of, place_of}
 use Rattle.spk_device.specs.Inside.{IsIndexedBy, book_by}
 use Rattle.spk_device.specs.Lawful.{IsLawful, device_names, metric_names}
-use Rattle.spk_device.specs.Names.{number_in}
+use Rattle.spk_names.specs.Names.{number_in}
 use Rattle.spk_device.specs.Step as step
 use Rattle.spk_device.specs.Values.{is_of}
 use Rattle.spk_device.specs.View.{device_view, gauge_view}

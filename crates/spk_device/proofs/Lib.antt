@@ -2,7 +2,6 @@ pub mod BookLemmas
 pub mod HistoryLemmas
 pub mod IndexLemmas
 pub mod LawfulLemmas
-pub mod NameLemmas
 pub mod PlaceLemmas
 pub mod Rows
 pub mod ValueLemmas

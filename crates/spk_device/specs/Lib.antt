@@ -1,5 +1,4 @@
 pub mod Fault
-pub mod Names
 pub mod Values
 pub mod Book
 pub mod View

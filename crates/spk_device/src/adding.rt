@@ -10,10 +10,11 @@ ghost use Rattle.spk_device.specs.Step as step;
 use crate::device::Device;
 use crate::fault::{DeviceFault, Refusal};
 use crate::gauge::Gauge;
-use crate::names::Names;
+use crate::names::enter_with;
 use crate::owner::Owner;
 use crate::registry::{Alias, Registry};
 use crate::values::{is_of, is_written};
+use spk_names::Names;
 use spk_payload::Value;
 use std::alloc::AllocError;
 
@@ -117,7 +118,7 @@ impl Registry {
             metrics: Names::new(self.alloc),
         };
         let key = String::from_str(self.alloc, name)?;
-        self.numbers.enter_with(&mut self.devices, key, device)?;
+        enter_with(&mut self.numbers, &mut self.devices, key, device)?;
         Ok(())
     }
 
@@ -160,7 +161,7 @@ impl Registry {
             (string_bytes gauge.name) gauge.datatype (option_map typed_view gauge.value)) }
         ensures err { OnErr result (self.new ≡ self.old) }
     {
-        self.own.enter_with(&mut self.gauges, name, gauge)?;
+        enter_with(&mut self.own, &mut self.gauges, name, gauge)?;
         Ok(self.gauges.len() as u64)
     }
 
@@ -181,7 +182,7 @@ impl Registry {
         ensures err { OnErr result (self.new ≡ self.old) }
     {
         let device = &mut self.devices[number];
-        device.metrics.enter_with(&mut self.gauges, name, gauge)?;
+        enter_with(&mut device.metrics, &mut self.gauges, name, gauge)?;
         Ok(self.gauges.len() as u64)
     }
 }

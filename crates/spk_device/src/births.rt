@@ -6,6 +6,7 @@ ghost use Rattle.spk_device.specs.Fault.{IsDue};
 ghost use Rattle.spk_device.specs.Step as step;
 
 use crate::fault::{DeviceFault, Refusal};
+use crate::names::at;
 use crate::owner::Owner;
 use crate::registry::Registry;
 use spk_payload::Metric;
@@ -25,7 +26,7 @@ impl Registry {
         };
         let mut metrics = Vec::with_capacity(self.alloc, table.len())?;
         for i in 0..table.len() {
-            let place = table.at(i);
+            let place = at(table, i);
             metrics.push(self.gauges[place].birth(self.alloc, place)?)?;
         }
         Ok(metrics)

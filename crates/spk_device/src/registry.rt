@@ -7,8 +7,8 @@ ghost use Rattle.spk_device.specs.View.{gauge_view};
 
 use crate::device::Device;
 use crate::gauge::Gauge;
-use crate::names::Names;
 use crate::owner::Owner;
+use spk_names::Names;
 use std::alloc::Global;
 use std::marker::Model;
 

@@ -1,6 +1,6 @@
 use Rattle.std.proofs.Common.{◌∙◌, ap, map}
 use Rattle.spk_device.specs.Book as book
-use Rattle.spk_device.specs.Names.{number_in}
+use Rattle.spk_names.specs.Names.{number_in}
 use Rattle.spk_device.specs.View.{device_view}
 use Rattle.spk_device.proofs.BookLemmas.{number_in-devices}
 use Rattle.spk_device.proofs.registry.Registry.device_number.Goals as goal

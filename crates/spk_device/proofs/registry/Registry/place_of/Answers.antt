@@ -1,6 +1,6 @@
 use Rattle.std.proofs.Common.{◌∙◌, sym, ap, subst}
 use Rattle.std.specs.Prelude.{IfSome, ◌<◌}
-use Rattle.spk_device.specs.Names.{number_in}
+use Rattle.spk_names.specs.Names.{number_in}
 use Rattle.spk_device.proofs.BookLemmas.{number_in-owned}
 use Rattle.spk_device.proofs.IndexLemmas.{place-within}
 use Rattle.spk_device.proofs.registry.Registry.place_of.Goals as goal

@@ -1,7 +1,7 @@
 use Rattle.std.proofs.Common.{◌≡◌, ◌∙◌, sym, ap, subst, false, [], ◌∷◌, ◌++◌, List, ℕ, length}
 use Rattle.spk_device.specs.declared.device.Device.{Device}
 use Rattle.spk_device.specs.Inside.{IsIndexedBy, book_of}
-use Rattle.spk_device.specs.Names.{number_in}
+use Rattle.spk_names.specs.Names.{number_in}
 use Rattle.spk_device.specs.View.{device_view}
 use Rattle.spk_device.proofs.IndexLemmas.{device-indexed, device-new}
 use Rattle.spk_device.proofs.LawfulLemmas.{NewDevice, new_device}
@@ -23,7 +23,7 @@ invariant_of-self-2 c =
     ap (λ (n : List ℕ). record { name = n; up = false }) c.in_ok-from_str.ensures.ok in
     let whole = device-indexed c.self.inside.devices.items c.self.inside.gauges.items c.self.inside.numbers c.self.inside.own c.self.invariant
     c.args.name.now device new looks c.new.ensures in
-    let names : c.enter_with.new.self ≡ c.self.inside.numbers ++ (c.args.name.now, length c.self.inside.devices.items) ∷ [] =
+    let names : c.enter_with.new.names ≡ c.self.inside.numbers ++ (c.args.name.now, length c.self.inside.devices.items) ∷ [] =
     c.in_ok-enter_with.ensures.names ∙ ap (λ n. c.self.inside.numbers ++ (n, length c.self.inside.devices.items) ∷ []) c.in_ok-key.ensures.ok in
-    subst (λ ds. IsIndexedBy ds c.self.inside.gauges.items c.enter_with.new.self c.self.inside.own) (sym c.in_ok-enter_with.ensures.items)
+    subst (λ ds. IsIndexedBy ds c.self.inside.gauges.items c.enter_with.new.names c.self.inside.own) (sym c.in_ok-enter_with.ensures.items)
     (subst (λ ns. IsIndexedBy (c.self.inside.devices.items ++ device ∷ []) c.self.inside.gauges.items ns c.self.inside.own) (sym names) whole)

@@ -6,7 +6,7 @@ use Rattle.spk_payload.specs.Typing.{typed_view}
 use Rattle.spk_device.specs.declared.device.Device.{Device}
 use Rattle.spk_device.specs.Book.{place_of}
 use Rattle.spk_device.specs.Inside.{IsIndexedBy, book_of}
-use Rattle.spk_device.specs.Names.{number_in}
+use Rattle.spk_names.specs.Names.{number_in}
 use Rattle.spk_device.specs.Step as step
 use Rattle.spk_device.proofs.IndexLemmas.{table-book, table-indexed, table-new, there-within}
 use Rattle.spk_device.proofs.LawfulLemmas.{NewMetric, new_metric}
@@ -44,10 +44,10 @@ invariant_of-self-2 c =
     let low = there-within c.self.inside.devices.items g.owner c.args.number new.there c.requires.owner in
     let there : slice_get c.self.inside.devices.items c.args.number ≡ Some c.index_mut-device.result.now =
     slice_get_read c.self.inside.devices.items (length c.self.inside.devices.items) c.args.number c.index_mut-device.result.now refl low c.index_mut-device.ensures.value in
-    let names : c.enter_with.new.self ≡ c.index_mut-device.result.now.metrics ++ (string_bytes g.name, length c.self.inside.gauges.items) ∷ [] =
+    let names : c.enter_with.new.names ≡ c.index_mut-device.result.now.metrics ++ (string_bytes g.name, length c.self.inside.gauges.items) ∷ [] =
     c.in_ok-enter_with.ensures.names ∙ ap (λ n. c.index_mut-device.result.now.metrics ++ (n, length c.self.inside.gauges.items) ∷ []) c.requires.name in
     let old : Device = c.index_mut-device.result.now in
-    let device : Device = record { name = c.index_mut-device.result.now.name; up = c.index_mut-device.result.now.up; metrics = c.enter_with.new.self } in
+    let device : Device = record { name = c.index_mut-device.result.now.name; up = c.index_mut-device.result.now.up; metrics = c.enter_with.new.names } in
     let changed : device ≡ record old { metrics = old.metrics ++ (string_bytes g.name, length c.self.inside.gauges.items) ∷ [] } =
     ap (λ (m : List (List ℕ × ℕ)). record old { metrics = m }) names in
     subst (λ gs. IsIndexedBy (set c.self.inside.devices.items c.args.number device) gs c.self.inside.numbers c.self.inside.own)
@@ -64,10 +64,10 @@ returns-clause-done c =
     let low = there-within c.self.inside.devices.items g.owner c.args.number new.there c.requires.owner in
     let there : slice_get c.self.inside.devices.items c.args.number ≡ Some c.index_mut-device.result.now =
     slice_get_read c.self.inside.devices.items (length c.self.inside.devices.items) c.args.number c.index_mut-device.result.now refl low c.index_mut-device.ensures.value in
-    let names : c.enter_with.new.self ≡ c.index_mut-device.result.now.metrics ++ (string_bytes g.name, length c.self.inside.gauges.items) ∷ [] =
+    let names : c.enter_with.new.names ≡ c.index_mut-device.result.now.metrics ++ (string_bytes g.name, length c.self.inside.gauges.items) ∷ [] =
     c.in_ok-enter_with.ensures.names ∙ ap (λ n. c.index_mut-device.result.now.metrics ++ (n, length c.self.inside.gauges.items) ∷ []) c.requires.name in
     let old : Device = c.index_mut-device.result.now in
-    let device : Device = record { name = c.index_mut-device.result.now.name; up = c.index_mut-device.result.now.up; metrics = c.enter_with.new.self } in
+    let device : Device = record { name = c.index_mut-device.result.now.name; up = c.index_mut-device.result.now.up; metrics = c.enter_with.new.names } in
     let changed : device ≡ record old { metrics = old.metrics ++ (string_bytes g.name, length c.self.inside.gauges.items) ∷ [] } =
     ap (λ (m : List (List ℕ × ℕ)). record old { metrics = m }) names in
     table-book c.self.inside.devices.items c.self.inside.gauges.items c.self.inside.numbers c.self.inside.own c.self.invariant

@@ -1,0 +1,10 @@
+//! Names, each with a number, found by hash: what leads from a device's, a metric's or an edge node's name to its place
+//! in a list (Sparkplug 3.0.0, chapter 4, on identifiers).
+#![tactic(auto)]
+
+pub mod laws;
+mod names;
+#[cfg(test)]
+mod tests;
+
+pub use names::Names;

@@ -1,9 +1,0 @@
-use Rattle.std.proofs.Common.{arith}
-use Rattle.spk_session.proofs.IdLemmas.{ids-nil}
-use Rattle.spk_session.proofs.session.Session.new.Goals as goal
-
-pub invariant_of-result : goal.invariant_of-result
-invariant_of-result c = record { count_fits = omega arith; ids = ids-nil }
-
-pub returns-clause-whole : goal.returns-clause-whole
-returns-clause-whole c = ids-nil
