@@ -8,7 +8,7 @@ use Rattle.spk_broker_rules.specs.Step.{Turn, act, acts, seen, begun, noted, ste
 use Rattle.spk_broker_rules.specs.Past.{Past, OfConn, Moment, Heard, Dropped, clock, guests, sessions, session_at, seen_in, broker_of}
 use Rattle.spk_broker_rules.specs.Story as story
 use Rattle.spk_broker_rules.specs.Story.{Story, Tells, TellsAll, Routes, note, told_opens, told_leave, told_forget, told_accept, told_give, told_take, told_ack}
-use Rattle.spk_broker_rules.specs.Telling.{Telling, Leads, story_at, may_be}
+use Rattle.spk_broker_rules.specs.Telling.{Answers, Telling, Leads, story_at, may_be}
 use Rattle.spk_broker_rules.proofs.Asked.{seen-same}
 use Rattle.spk_broker_rules.proofs.Gifts.{gave, took}
 use Rattle.spk_broker_rules.proofs.Lawfuls.{lawful-act, lawful-acts}
@@ -126,3 +126,28 @@ tied limit (e ∷ es) h (g, leads, may, t, is) =
 
 pub answers : (limit : ℕ) (es : List Event) (h : Past) (e : Event) → Leads limit es h → Answered limit h e
 answers limit es h e leads = answered limit h e (tied limit es h leads).lawful
+
+pub answers-all : (limit : ℕ) (es : List Event) (h : Past) (e : Event) → Leads limit es h → Answers limit h e (step (after limit es) e)
+answers-all limit es h e leads =
+    let a : Answered limit h e = answers limit es h e leads in
+    let same : turn_of limit a.telling.end ≡ step (after limit es) e = a.is ∙ ap (λ b. step b e) (sym (tied limit es h leads).data_is) in
+    record { telling = a.telling; sends = ap (λ (t : Turn). t.sends) same; closes = ap (λ (t : Turn). t.closes) same }
+
+pub goes-on : (limit : ℕ) (es : List Event) (h : Past) (e : Event) → Leads limit es h → may_be h e ≡ true → (g : Past) × Leads limit (e ∷ es) g
+goes-on limit es h e leads may =
+    let a : Answered limit h e = answers limit es h e leads in
+    (a.telling.end.past, (h, leads, may, a.telling, refl))
+
+same-end : (limit : ℕ) (e : Event) (a b : Past) → a ≡ b → (t : Telling limit a e) (u : Telling limit b e) → t.end.past ≡ u.end.past
+same-end limit e a b same t u =
+    subst (λ x. (v : Telling limit x e) → t.end.past ≡ v.end.past) same (λ v. ap (λ (s : Story). s.past) (one limit a e t v)) u
+
+pub one-past : (limit : ℕ) (es : List Event) (h g : Past) → Leads limit es h → Leads limit es g → h ≡ g
+one-past limit [] h g p q = p ∙ sym q
+one-past limit (e ∷ es) h g (a, la, ma, ta, ea) (b, lb, mb, tb, eb) =
+    let same : a ≡ b = one-past limit es a b la lb in
+    sym ea ∙ same-end limit e a b same ta tb ∙ eb
+
+pub lawful-after : (limit : ℕ) (es : List Event) → IsLawful (after limit es)
+lawful-after limit [] = record { guests = tt; lines = tt; keys = omega arith }
+lawful-after limit (e ∷ es) = step-lawful (after limit es) e (lawful-after limit es)

@@ -1,7 +1,9 @@
 -- Events told by the past: which may come, how each is told, and where a list of them leads.
 use Rattle.std.specs.Prelude.{◌≡◌, ℕ, Bool, true, List, [], ◌∷◌}
+use Rattle.spk_broker_rules.specs.Data.{Send}
 use Rattle.spk_broker_rules.specs.Plan.{Event, Open, Packet, Fault, Closed, Tick, Refused, before, plan}
 use Rattle.spk_broker_rules.specs.Past.{Past, is_open, may_open, seen_in}
+use Rattle.spk_broker_rules.specs.Step.{Turn}
 use Rattle.spk_broker_rules.specs.Story.{Story, TellsAll}
 
 -- A connection may be opened where one more may be; what speaks of a connection may come while it is open.
@@ -27,3 +29,9 @@ pub record Telling (limit : ℕ) (h : Past) (e : Event) : Type 0 where
 abbrev pub Leads : ℕ → List Event → Past → Type 0
 Leads limit [] h = h ≡ []
 Leads limit (e ∷ es) h = (g : Past) × Leads limit es g × (may_be g e ≡ true) × (t : Telling limit g e) × (t.end.past ≡ h)
+
+-- there is a telling with these sends and closes
+pub record Answers (limit : ℕ) (h : Past) (e : Event) (t : Turn) : Type 0 where
+  pub telling : Telling limit h e
+  pub sends : telling.end.sends ≡ t.sends
+  pub closes : telling.end.closes ≡ t.closes

@@ -2,8 +2,7 @@
 use Rattle.std.specs.Prelude.{ℕ, ◌+◌, ◌-◌, ◌*◌, min, max, ◌==◌, nat_lt, Bool, true, false, not, ◌&&◌, ◌||◌, List, [], ◌∷◌, ◌++◌, map, length, Option, Some, None, unwrap_or, if◌then◌else◌}
 use Rattle.std.specs.List.{filter}
 use Rattle.spk_packets.specs.Message.{Message, Publish, WillData}
-use Rattle.spk_topics.specs.Levels.{levels}
-use Rattle.spk_topics.specs.Fitting.{fits, is_barred}
+use Rattle.spk_topics.specs.Fitting.{is_match}
 use Rattle.spk_broker_rules.specs.Data.{Post, Copy, Stored, Send}
 use Rattle.spk_broker_rules.specs.Table.{Table, has, put}
 
@@ -13,14 +12,10 @@ is_empty (x ∷ xs) = false
 
 -- ---- routing
 
--- a topic filter matches a topic name (4.7)
-unfoldable pub accepts : List ℕ → List ℕ → Bool
-accepts filter topic = not (is_barred filter topic) && fits (levels filter) (levels topic)
-
 -- the greatest grant by the filters that match a topic
 abbrev pub best : List ℕ → Table ℕ → Option ℕ
 best topic [] = None
-best topic (g ∷ gs) = if accepts g.0 topic then Some (max g.1 (unwrap_or (best topic gs) 0)) else best topic gs
+best topic (g ∷ gs) = if is_match g.0 topic then Some (max g.1 (unwrap_or (best topic gs) 0)) else best topic gs
 
 -- the QoS with which a message goes to who has this grant: the lesser one (3.8.4)
 abbrev pub level : ℕ → Option ℕ → Option ℕ
@@ -89,7 +84,7 @@ offered grant e = record { topic = e.0; payload = e.1.payload; qos = min e.1.qos
 
 -- what the granted entry of a SUBSCRIBE is offered: each matching message, in the table's order
 abbrev pub offers_to : Table Stored → List ℕ × ℕ → List Post
-offers_to retained entry = map (offered entry.1) (filter (λ e. accepts entry.0 e.0) retained)
+offers_to retained entry = map (offered entry.1) (filter (λ e. is_match entry.0 e.0) retained)
 
 -- ---- SUBSCRIBE
 
