@@ -18,7 +18,7 @@ use Rattle.spk_broker_rules.proofs.Turns.{turn_of, opened, was_heard, was_droppe
 -- ---- acts
 
 -- what an act leads to is one
-tells-one : (a : Act) (t u v : Story) → Tells a t u → Tells a t v → u ≡ v
+pub tells-one : (a : Act) (t u v : Story) → Tells a t u → Tells a t v → u ≡ v
 tells-one Opens t u v p q = p ∙ sym q
 tells-one (At moment) t u v p q = p ∙ sym q
 tells-one (Hear c) t u v p q = p ∙ sym q
@@ -34,7 +34,7 @@ tells-one (Give c id entries) t u v p q = p ∙ sym q
 tells-one (Take c filters) t u v p q = p ∙ sym q
 tells-one (Ack c id) t u v p q = p ∙ sym q
 
-all-one : (as_list : List Act) (t u v : Story) → TellsAll as_list t u → TellsAll as_list t v → u ≡ v
+pub all-one : (as_list : List Act) (t u v : Story) → TellsAll as_list t u → TellsAll as_list t v → u ≡ v
 all-one [] t u v p q = sym p ∙ q
 all-one (a ∷ as_list) t u v (x, p, ps) (y, q, qs) =
     all-one as_list x u v ps (subst (λ z. TellsAll as_list z v) (tells-one a t y x q p) qs)
@@ -45,7 +45,7 @@ pub record Told (limit : ℕ) (a : Act) (t : Story) (r : Turn) : Type 0 where
   pub tells : Tells a t end
   pub is : turn_of limit end ≡ r
 
-told : (limit : ℕ) (a : Act) (t : Story) → IsLawful (broker_of limit t.past) → Told limit a t (act a (turn_of limit t))
+pub told : (limit : ℕ) (a : Act) (t : Story) → IsLawful (broker_of limit t.past) → Told limit a t (act a (turn_of limit t))
 told limit Opens t l = record { end = _; tells = refl; is = opened limit t l }
 told limit (At moment) t l = record { end = _; tells = refl; is = refl }
 told limit (Hear c) t l = record { end = _; tells = refl; is = was_heard limit c t }
@@ -66,7 +66,7 @@ pub record ToldAll (limit : ℕ) (as_list : List Act) (t : Story) (r : Turn) : T
   pub tells : TellsAll as_list t end
   pub is : turn_of limit end ≡ r
 
-abbrev LawfulTurn : Turn → Type 0
+abbrev pub LawfulTurn : Turn → Type 0
 LawfulTurn t = IsLawful t.broker
 
 told-all : (limit : ℕ) (as_list : List Act) (t : Story) → IsLawful (broker_of limit t.past) → ToldAll limit as_list t (acts as_list (turn_of limit t))
@@ -102,7 +102,7 @@ one limit h e t u =
     all-one (plan (seen_in limit u.first.past e) e) u.first t.end u.end
     (subst (λ (s : Story). TellsAll (plan (seen_in limit s.past e) e) s t.end) same t.done) u.done
 
-step-lawful : (b : Broker) (e : Event) → IsLawful b → IsLawful (step b e).broker
+pub step-lawful : (b : Broker) (e : Event) → IsLawful b → IsLawful (step b e).broker
 unfolding step
 step-lawful b e l = lawful-acts (plan (seen (noted b e).broker e) e) (noted b e) (lawful-acts (before e) (begun b) l)
 

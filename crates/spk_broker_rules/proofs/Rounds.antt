@@ -25,7 +25,7 @@ abbrev pub AreApart : List ℕ → Type 0
 AreApart [] = Unit {0}
 AreApart (x ∷ xs) = AllByRecursion (λ y. eqb x y ≡ false) xs × AreApart xs
 
-all-zip : {X : Type 0} (P Q R : X → Type 0) → ((x : X) → P x → Q x → R x) → (xs : List X) → AllByRecursion P xs → AllByRecursion Q xs → AllByRecursion R xs
+pub all-zip : {X : Type 0} (P Q R : X → Type 0) → ((x : X) → P x → Q x → R x) → (xs : List X) → AllByRecursion P xs → AllByRecursion Q xs → AllByRecursion R xs
 all-zip P Q R f [] a b = tt
 all-zip P Q R f (x ∷ xs) a b = (f x a.0 b.0, all-zip P Q R f xs a.1 b.1)
 
@@ -38,10 +38,10 @@ all-any P f [] = tt
 all-any P f (x ∷ xs) = (f x, all-any P f xs)
 
 module _ (D : ℕ → List Deed) (calm : (s : ℕ) → AreCalm (D s)) (h : Past) where
-  abbrev round : List ℕ → Past
+  abbrev pub round : List ℕ → Past
   round xs = flat_map (λ s. session_facts s (D s)) xs ++ h
 
-  round-cons : (x : ℕ) (xs : List ℕ) → round (x ∷ xs) ≡ session_facts x (D x) ++ round xs
+  pub round-cons : (x : ℕ) (xs : List ℕ) → round (x ∷ xs) ≡ session_facts x (D x) ++ round xs
   round-cons x xs = append_assoc (session_facts x (D x)) (flat_map (λ s. session_facts s (D s)) xs) h
 
   round-conns : (xs : List ℕ) (c : ℕ) → conn_deeds (round xs) c ≡ conn_deeds h c
@@ -69,7 +69,7 @@ module _ (D : ℕ → List Deed) (calm : (s : ℕ) → AreCalm (D s)) (h : Past)
   round-routed (x ∷ xs) = ap routed (round-cons x xs) ∙ routed-same (D x) x (round xs) ∙ round-routed xs
 
   -- a session that is none of these
-  round-out : (xs : List ℕ) (t : ℕ) → AllByRecursion (λ x. eqb x t ≡ false) xs → deeds (round xs) t ≡ deeds h t
+  pub round-out : (xs : List ℕ) (t : ℕ) → AllByRecursion (λ x. eqb x t ≡ false) xs → deeds (round xs) t ≡ deeds h t
   round-out [] t e = refl
   round-out (x ∷ xs) t e = ap (λ g. deeds g t) (round-cons x xs) ∙ deeds-others (D x) (round xs) x t e.0 ∙ round-out xs t e.1
 
@@ -83,11 +83,11 @@ module _ (D : ℕ → List Deed) (calm : (s : ℕ) → AreCalm (D s)) (h : Past)
   )
 
   -- which of them are over
-  abbrev over : List ℕ → ℕ → Bool
+  abbrev pub over : List ℕ → ℕ → Bool
   over [] t = false
   over (x ∷ xs) t = (eqb t x && is_over (D x)) || over xs t
 
-  over-out : (xs : List ℕ) (t : ℕ) → AllByRecursion (λ y. eqb t y ≡ false) xs → over xs t ≡ false
+  pub over-out : (xs : List ℕ) (t : ℕ) → AllByRecursion (λ y. eqb t y ≡ false) xs → over xs t ≡ false
   over-out [] t e = refl
   over-out (x ∷ xs) t e = ap (λ b. (b && is_over (D x)) || over xs t) e.0 ∙ over-out xs t e.1
 
@@ -118,7 +118,7 @@ module _ (D : ℕ → List Deed) (calm : (s : ℕ) → AreCalm (D s)) (h : Past)
       by true = refl
       by false = refl
 
-  round-sessions : (xs : List ℕ) → sessions (round xs) ≡ filter (λ t. not (over xs t)) (sessions h)
+  pub round-sessions : (xs : List ℕ) → sessions (round xs) ≡ filter (λ t. not (over xs t)) (sessions h)
   round-sessions [] = sym (all-kept (sessions h))
     where
       all-kept : (ss : List ℕ) → filter (λ t. true) ss ≡ ss
