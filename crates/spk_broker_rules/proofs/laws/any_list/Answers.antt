@@ -1,4 +1,5 @@
 use Rattle.spk_broker_rules.proofs.AnyList.{answers-all, goes-on, lawful-after, one, one-past, tied}
+use Rattle.spk_broker_rules.proofs.Opens.{full-after, known-after}
 use Rattle.spk_broker_rules.proofs.laws.any_list.Goals as goal
 
 pub returns-clause-answers : goal.returns-clause-answers
@@ -18,3 +19,9 @@ returns-clause-asked c = λ limit es h leads. (tied limit es h leads).data_is
 
 pub returns-clause-lawful : goal.returns-clause-lawful
 returns-clause-lawful c = lawful-after
+
+pub returns-clause-known : goal.returns-clause-known
+returns-clause-known c = known-after
+
+pub returns-clause-full : goal.returns-clause-full
+returns-clause-full c = full-after
