@@ -1,13 +1,11 @@
 -- Over any list of events the data is what the past asks for, and each event is told in one way.
-use Rattle.std.proofs.Common.{◌≡◌, ℕ, ◌≤◌, arith, Bool, true, List, [], ◌∷◌, refl, sym, ◌∙◌, ap, ap₂, subst, Option, Some, None}
-use Rattle.std.specs.List.{find}
-use Rattle.spk_broker_rules.specs.Data.{Broker, fresh_broker}
+use Rattle.std.proofs.Common.{◌≡◌, ℕ, arith, true, List, [], ◌∷◌, refl, sym, ◌∙◌, ap, subst}
+use Rattle.spk_broker_rules.specs.Data.{Broker}
 use Rattle.spk_broker_rules.specs.Lawful.{IsLawful}
 use Rattle.spk_broker_rules.specs.Plan.{Event, Act, Opens, At, Hear, Drop, Say, Leave, Tell, Queue, Route, Forget, Accept, Give, Take, Ack, before, plan}
 use Rattle.spk_broker_rules.specs.Step.{Turn, act, acts, seen, begun, noted, step, after, route}
-use Rattle.spk_broker_rules.specs.Past.{Past, OfConn, Moment, Heard, Dropped, clock, guests, sessions, session_at, seen_in, broker_of}
-use Rattle.spk_broker_rules.specs.Story as story
-use Rattle.spk_broker_rules.specs.Story.{Story, Tells, TellsAll, Routes, note, told_opens, told_leave, told_forget, told_accept, told_give, told_take, told_ack}
+use Rattle.spk_broker_rules.specs.Past.{Past, seen_in, broker_of}
+use Rattle.spk_broker_rules.specs.Story.{Story, Tells, TellsAll}
 use Rattle.spk_broker_rules.specs.Telling.{Answers, Telling, Leads, story_at, may_be}
 use Rattle.spk_broker_rules.proofs.Asked.{seen-same}
 use Rattle.spk_broker_rules.proofs.Gifts.{gave, took}

@@ -1,6 +1,6 @@
 -- What the rules ask of the tables is what they ask of the past.
-use Rattle.std.proofs.Common.{◌≡◌, ℕ, Bool, true, false, not, ◌&&◌, ◌||◌, cond, eqb, ltb, List, [], ◌∷◌, map, length, refl, sym, ◌∙◌, ap, ap₂, Option, Some, None}
-use Rattle.std.specs.List.{filter, find, list_any, flat_map}
+use Rattle.std.proofs.Common.{◌≡◌, ℕ, Bool, ◌&&◌, ◌||◌, cond, eqb, ltb, List, [], ◌∷◌, map, length, refl, sym, ◌∙◌, ap, ap₂, Option, Some, None}
+use Rattle.std.specs.List.{filter, find, flat_map}
 use Rattle.std.specs.Option.{option_map, option_map_or, is_some}
 use Rattle.std.specs.Str.{bytes_eq}
 use Rattle.std.proofs.lemmas.List.{length-map}
@@ -8,8 +8,8 @@ use Rattle.spk_session.specs.Step.{is_spent}
 use Rattle.spk_broker_rules.specs.Data.{Line, Guest, Seat}
 use Rattle.spk_broker_rules.specs.Words.{is_empty, is_silent, most_kept}
 use Rattle.spk_broker_rules.specs.Plan.{Event, Seen, conn_of, client_of}
-use Rattle.spk_broker_rules.specs.Step.{seat_at, is_guest, conn_at, older_in, welcome_in, is_kept_of, drops_in, silent_at, seen}
-use Rattle.spk_broker_rules.specs.Past.{Past, Joining, ConnDeed, conn_deeds, deeds, clock, heard, drops, client, kept, here, guests, sessions, conn_here, session_at, is_of, older_of, is_welcome, joined_drops, drops_of, silent_of, seen_in, guest_of, line_of, seat_of, broker_of}
+use Rattle.spk_broker_rules.specs.Step.{seat_at, conn_at, older_in, welcome_in, is_kept_of, drops_in, silent_at, seen}
+use Rattle.spk_broker_rules.specs.Past.{Past, Joining, conn_deeds, deeds, clock, heard, drops, client, kept, here, guests, sessions, conn_here, session_at, is_of, older_of, is_welcome, joined_drops, drops_of, silent_of, seen_in, guest_of, line_of, seat_of, broker_of}
 use Rattle.spk_broker_rules.proofs.Lists.{find-map, any-map, filter-map, flat_map-map}
 use Rattle.spk_broker_rules.proofs.Seats.{seat_at-same, guest-same, has_line}
 use Rattle.spk_broker_rules.proofs.Gifts.{conn-same}

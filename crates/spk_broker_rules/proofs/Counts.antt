@@ -1,8 +1,8 @@
 -- Lists of numbers by how often each stands there: open connections are those without a CONNECT and those of sessions.
-use Rattle.std.proofs.Common.{◌≡◌, ◌⊎◌, inl, inr, ℕ, suc, ◌+◌, ◌-◌, ◌<◌, ◌≤◌, Bool, true, false, not, ◌||◌, cond, eqb, ltb, List, [], ◌∷◌, ◌++◌, map, length, refl, sym, ◌∙◌, ap, ap₂, arith, subst, Option, Some, None, append_assoc, true≢false}
-use Rattle.std.specs.List.{filter, find, list_any, flat_map, AllByRecursion}
+use Rattle.std.proofs.Common.{◌≡◌, ℕ, suc, ◌+◌, ◌≤◌, Bool, true, false, not, ◌||◌, cond, eqb, ltb, List, [], ◌∷◌, ◌++◌, length, refl, sym, ◌∙◌, ap, ap₂, arith, subst, Some, None, true≢false}
+use Rattle.std.specs.List.{find, list_any, flat_map, AllByRecursion}
 use Rattle.std.proofs.lemmas.List.{length-append}
-use Rattle.std.proofs.lemmas.Bool.{lt-ltb, le-ltb}
+use Rattle.std.proofs.lemmas.Bool.{lt-ltb}
 use Rattle.spk_session.specs.Step.{without}
 use Rattle.spk_broker_rules.proofs.Lists.{eqb-flip, eqb-is, eqb-self, all-filter}
 use Rattle.spk_broker_rules.proofs.Rounds.{AreApart}

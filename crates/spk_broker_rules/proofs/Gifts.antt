@@ -1,19 +1,19 @@
 -- What one message gives one session, on tables and in the past; SUBSCRIBE and UNSUBSCRIBE.
-use Rattle.std.proofs.Common.{◌≡◌, ℕ, zero, suc, ◌+◌, ◌-◌, ◌<◌, ◌≤◌, Bool, true, false, not, ◌&&◌, ◌||◌, cond, eqb, List, [], ◌∷◌, ◌++◌, map, length, refl, sym, ◌∙◌, ap, ap₂, arith, subst, Option, Some, None, append_assoc, true≢false}
+use Rattle.std.proofs.Common.{◌≡◌, ℕ, zero, suc, ◌-◌, Bool, true, false, not, ◌||◌, cond, eqb, List, [], ◌∷◌, ◌++◌, map, length, refl, sym, ◌∙◌, ap, ap₂, Option, Some, None}
 use Rattle.std.specs.List.{filter, find, fold, list_any, flat_map, AllByRecursion}
 use Rattle.std.specs.Option.{option_map, option_map_or, is_some}
 use Rattle.std.proofs.lemmas.List.Folds.{list_any-append}
-use Rattle.spk_packets.specs.Message.{Message, SubAck}
+use Rattle.spk_packets.specs.Message.{SubAck}
 use Rattle.spk_session.specs.PacketIds.{next_id}
 use Rattle.spk_session.specs.Step.{without, has_room}
-use Rattle.spk_broker_rules.specs.Data.{Post, Copy, Line, Guest, Seat, Stored, Broker, Send}
-use Rattle.spk_broker_rules.specs.Table.{Table, put, remove}
+use Rattle.spk_broker_rules.specs.Data.{Post, Line, Guest, Seat, Stored, Broker}
+use Rattle.spk_broker_rules.specs.Table.{Table, put}
 use Rattle.spk_broker_rules.specs.Words.{best, level, sent_as, plain_packet, numbered_packet, to_line, option_list, granted_of, codes_of, with_entry, is_granted, granted, offers_to}
-use Rattle.spk_broker_rules.specs.Step.{Turn, Served, stays, bursts, numbered, hand_at, hand, serve_at, serve, conn_at, copies_with, with_seats, swap, seat_at, other_grants, give_with, give_at, take_at, offer, offer_at, with_key}
-use Rattle.spk_broker_rules.specs.Past.{Past, Fact, OfSession, ConnDeed, heard, drops, Deed, Made, Joined, Left, Over, Granted, TakenBack, Numbered, Acked, Joining, conn_deeds, deeds, clock, given, made, kept, here, grants, used, copies, last_id, guests, sessions, routed, retained, retained_notes, table, session_at, conn_here, guest_of, line_of, seat_with, seat_of, broker_of}
-use Rattle.spk_broker_rules.specs.Story.{Story, Share, gives, ends_at, numbers, given_at, gift, share_at, share, session_facts, told_offer_at, told_offer, stands, other_pairs, granting, told_give_with, told_give, taking_back, told_take}
-use Rattle.spk_broker_rules.proofs.Lists.{cond-ap, eqb-flip, eqb-is, eqb-self, find-map, map-same, flat_map-map, found-passes, all-append}
-use Rattle.spk_broker_rules.proofs.Seats.{deeds-selves, deeds-others, conns-same, seat-from, seat-other, swapped, dropped, seat_at-same, has_line, numbered-seat, copy_of, puts, granted-self, taken-self}
+use Rattle.spk_broker_rules.specs.Step.{Turn, Served, stays, bursts, numbered, hand_at, hand, serve_at, serve, conn_at, swap, seat_at, other_grants, give_with, give_at, take_at, offer, offer_at}
+use Rattle.spk_broker_rules.specs.Past.{Past, OfSession, ConnDeed, heard, drops, Deed, Made, Joined, Left, Over, Granted, TakenBack, Numbered, Acked, Joining, deeds, clock, given, made, kept, here, grants, used, copies, last_id, guests, sessions, routed, retained, retained_notes, table, session_at, conn_here, guest_of, line_of, seat_with, seat_of, broker_of}
+use Rattle.spk_broker_rules.specs.Story.{Story, Share, ends_at, numbers, given_at, gift, share_at, share, session_facts, told_offer_at, told_offer, other_pairs, granting, told_give_with, told_give, taking_back, told_take}
+use Rattle.spk_broker_rules.proofs.Lists.{eqb-is, find-map, map-same, flat_map-map, found-passes, all-append}
+use Rattle.spk_broker_rules.proofs.Seats.{deeds-selves, deeds-others, conns-same, seat-from, swapped, dropped, seat_at-same, has_line, numbered-seat, copy_of, puts, granted-self, taken-self}
 use Rattle.spk_broker_rules.proofs.Turns.{turn_of}
 
 -- ---- facts that make no session and join no connection

@@ -1,14 +1,14 @@
 -- Each act keeps the data lawful.
-use Rattle.std.proofs.Common.{◌≡◌, ℕ, zero, suc, ◌+◌, ◌<◌, ◌≤◌, Bool, true, false, not, cond, eqb, List, [], ◌∷◌, ◌++◌, map, length, refl, sym, ◌∙◌, ap, arith, subst, Option, Some, None}
-use Rattle.std.specs.List.{filter, find, fold, flat_map, AllByRecursion}
-use Rattle.std.specs.Option.{option_map, option_map_or}
+use Rattle.std.proofs.Common.{◌≡◌, ℕ, zero, suc, ◌+◌, ◌<◌, ◌≤◌, Bool, true, false, not, cond, eqb, List, [], ◌∷◌, ◌++◌, map, length, refl, sym, arith, subst, Option, Some, None}
+use Rattle.std.specs.List.{find, fold, flat_map, AllByRecursion}
+use Rattle.std.specs.Option.{option_map}
 use Rattle.spk_session.specs.PacketIds.{next_id}
 use Rattle.spk_session.specs.Step.{has_room, one_more}
 use Rattle.spk_broker_rules.specs.Data.{Post, Line, Guest, Seat, Broker}
 use Rattle.spk_broker_rules.specs.Lawful.{IsLow, Rises, IsLawful}
 use Rattle.spk_broker_rules.specs.Words.{handed_out, best, level, sent_as, granted_of, offers_to}
 use Rattle.spk_broker_rules.specs.Plan.{Act, Opens, At, Hear, Drop, Say, Leave, Tell, Queue, Route, Forget, Accept, Give, Take, Ack}
-use Rattle.spk_broker_rules.specs.Step.{Turn, act, acts, opens, on_lines, guest_heard, line_heard, guest_dropped, line_dropped, swap, left_behind, leave_at, seat_at, sits, is_guest, is_away, forget_at, line_of, new_seat, take_up, away_for, accept_of, other_grants, give_with, give_at, take_at, ack_at, offer, offer_at, with_key, hand, hand_at, serve, serve_at, route_one, route_some, route, numbered, bursts}
+use Rattle.spk_broker_rules.specs.Step.{Turn, act, acts, opens, on_lines, guest_heard, line_heard, guest_dropped, line_dropped, swap, leave_at, seat_at, sits, is_guest, is_away, forget_at, line_of, new_seat, take_up, away_for, accept_of, other_grants, give_at, take_at, ack_at, offer, offer_at, with_key, hand, hand_at, serve, serve_at, route_one, route_some, route, numbered, bursts}
 use Rattle.spk_broker_rules.proofs.Lists.{eqb-is, found-passes, all-also, all-append, all-filter, all-mapped, all-flat}
 
 abbrev AreLow : ℕ → List Seat → Type 0
@@ -38,8 +38,10 @@ rises-push low top (s ∷ ss) x e h = (h.0, rises-push s.key top ss x e h.1)
 
 rises-map : (f : Seat → Seat) → ((s : Seat) → (f s).key ≡ s.key) → (low top : ℕ) (ss : List Seat) → Rises low top ss → Rises low top (map f ss)
 rises-map f same low top [] h = h
-rises-map f same low top (s ∷ ss) h = (subst (λ k. low < k) (sym (same s)) h.0,
-    subst (λ k. Rises k top (map f ss)) (sym (same s)) (rises-map f same s.key top ss h.1))
+rises-map f same low top (s ∷ ss) h = (
+  subst (λ k. low < k) (sym (same s)) h.0,
+  subst (λ k. Rises k top (map f ss)) (sym (same s)) (rises-map f same s.key top ss h.1),
+)
 
 -- one with this key at most
 abbrev pub IsOne : ℕ → List Seat → Type 0

@@ -1,9 +1,8 @@
 -- Lists: looking up, changing and testing what a list was made of.
-use Rattle.std.proofs.Common.{◌≡◌, ℕ, ◌+◌, ◌-◌, ◌≤◌, Bool, true, false, not, ◌||◌, cond, eqb, List, [], ◌∷◌, ◌++◌, map, length, refl, sym, ◌∙◌, ap, arith, inl, inr, append_assoc, Option, Some, None, eq-eqb, ne_eqb, true≢false}
-use Rattle.std.specs.List.{filter, find, fold, list_any, flat_map, AllByRecursion}
-use Rattle.std.specs.Option.{option_map, option_map_or}
+use Rattle.std.proofs.Common.{◌≡◌, ℕ, Bool, true, false, ◌||◌, cond, eqb, List, [], ◌∷◌, ◌++◌, map, refl, sym, ◌∙◌, ap, inl, inr, append_assoc, Some, None, eq-eqb, ne_eqb, true≢false}
+use Rattle.std.specs.List.{filter, find, list_any, flat_map, AllByRecursion}
+use Rattle.std.specs.Option.{option_map}
 use Rattle.std.proofs.lemmas.Bool.{cases_eq}
-use Rattle.spk_session.specs.Step.{without}
 
 -- ---- tests
 

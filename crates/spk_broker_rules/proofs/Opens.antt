@@ -1,23 +1,23 @@
 -- The connections that are open, by the facts, are those that the tables know.
-use Rattle.std.proofs.Common.{◌≡◌, ℕ, zero, suc, ◌+◌, ◌-◌, ◌<◌, ◌≤◌, Bool, true, false, not, ◌&&◌, ◌||◌, cond, eqb, ltb, leb, List, [], ◌∷◌, ◌++◌, map, length, refl, sym, ◌∙◌, ap, ap₂, arith, subst, Option, Some, None, ne_eqb, lt-ltb}
+use Rattle.std.proofs.Common.{◌≡◌, ℕ, zero, suc, ◌+◌, ◌≤◌, Bool, true, false, not, ◌&&◌, ◌||◌, cond, eqb, ltb, leb, List, [], ◌∷◌, ◌++◌, map, length, refl, sym, ◌∙◌, ap, ap₂, arith, subst, Option, Some, None, ne_eqb, lt-ltb}
 use Rattle.std.specs.List.{filter, find, fold, list_any, flat_map, AllByRecursion}
 use Rattle.std.specs.Option.{option_map, option_map_or, is_some}
 use Rattle.std.proofs.lemmas.List.{length-append, length-map}
 use Rattle.spk_session.specs.PacketIds.{next_id}
 use Rattle.spk_session.specs.Step.{without, has_room}
-use Rattle.spk_broker_rules.specs.Data.{Post, Line, Guest, Seat, Broker, Send}
+use Rattle.spk_broker_rules.specs.Data.{Post, Guest, Seat}
 use Rattle.spk_broker_rules.specs.Lawful.{IsLow, IsLawful}
 use Rattle.spk_broker_rules.specs.Words.{best, level, sent_as, option_list, granted_of, offers_to, most_open, last_number}
 use Rattle.spk_broker_rules.specs.Plan.{Event, Act, Opens, At, Hear, Drop, Say, Leave, Tell, Queue, Route, Forget, Accept, Give, Take, Ack, before, plan}
-use Rattle.spk_broker_rules.specs.Step.{Turn, act, acts, is_guest, seat_at, knows, open_count, is_full, after, step}
-use Rattle.spk_broker_rules.specs.Past.{Past, Fact, OfConn, OfSession, Routed, ConnDeed, Opened, Heard, Dropped, Ended, Deed, Made, Joined, Left, Over, Granted, TakenBack, Numbered, Acked, Joining, deeds, clock, is_of, given, made, kept, here, grants, used, last_id, guests, sessions, open_conns, retained, conn_here, sits_at, session_at, is_open, may_open, seen_in, guest_of, line_of, seat_of, broker_of}
+use Rattle.spk_broker_rules.specs.Step.{act, is_guest, knows, is_full, after}
+use Rattle.spk_broker_rules.specs.Past.{Past, OfConn, OfSession, Opened, Deed, Made, Joined, Left, Over, Granted, TakenBack, Numbered, Acked, Joining, deeds, clock, is_of, given, made, kept, here, grants, used, last_id, guests, sessions, open_conns, retained, conn_here, sits_at, session_at, is_open, may_open, seen_in, guest_of, line_of, seat_of, broker_of}
 use Rattle.spk_broker_rules.specs.Story as story
 use Rattle.spk_broker_rules.specs.Story.{Story, Share, note, session_facts, leaving, ends_at, numbers, given_at, gift, share_at, share, Routes, nothing_waits, goes_on, told_one, told_leave, told_forget, told_take_up, told_accept, told_offer_at, told_offer, told_give_with, told_give, told_take, told_ack, granting, taking_back, other_pairs, Tells, TellsAll}
-use Rattle.spk_broker_rules.specs.Telling.{Leads, Telling, story_at}
-use Rattle.spk_broker_rules.proofs.Lists.{eqb-flip, eqb-is, eqb-self, find-map, any-map, filter-map, flat_map-same, flat_map-append, found-passes, all-also, all-map}
-use Rattle.spk_broker_rules.proofs.Seats.{deeds-self, deeds-other, seat_at-same, has_line}
+use Rattle.spk_broker_rules.specs.Telling.{Leads, story_at}
+use Rattle.spk_broker_rules.proofs.Lists.{eqb-flip, eqb-is, eqb-self, any-map, flat_map-same, flat_map-append, found-passes, all-also, all-map}
+use Rattle.spk_broker_rules.proofs.Seats.{deeds-self, deeds-other, seat_at-same}
 use Rattle.spk_broker_rules.proofs.Gifts.{AreCalm, calm-share}
-use Rattle.spk_broker_rules.proofs.Rounds.{AreApart, all-zip, apart-sessions, one-told, round, round-cons, round-out, round-sessions, over, over-out}
+use Rattle.spk_broker_rules.proofs.Rounds.{AreApart, apart-sessions, one-told, round, round-cons, round-out, round-sessions, over, over-out}
 use Rattle.spk_broker_rules.proofs.Lawfuls.{lawful-act, lawful-one}
 use Rattle.spk_broker_rules.proofs.Turns.{turn_of, all-below}
 use Rattle.spk_broker_rules.proofs.AnyList.{tells-one, told, Told, LawfulTurn, tied}
@@ -88,11 +88,11 @@ went : (h : Past) (s c : ℕ) → IsIn s (sessions h) → conn_here h s ≡ Some
 went h s c there is fit = record {
   open_is = balanced-lost c (open_conns h) (guests h) (flat_map (conns h) (sessions h)) (flat_map (conns g) (sessions h)) fit.open_is
       (λ d. let a = sum-swap (count d) (count-append d) (conns h) (conns g) s (λ t e. conn-other h s t (Left c) e) (sessions h) fit.apart there in
-          let x : count d (conns h s) ≡ count d (c ∷ []) = ap (λ o. count d (option_list o)) is in
-          let y : count d (conns g s) ≡ 0 = ap (λ o. count d (option_list o)) (conn-self h s (Left c)) in omega arith)
+      let x : count d (conns h s) ≡ count d (c ∷ []) = ap (λ o. count d (option_list o)) is in
+      let y : count d (conns g s) ≡ 0 = ap (λ o. count d (option_list o)) (conn-self h s (Left c)) in omega arith)
       (let a = sum-swap length length-append (conns h) (conns g) s (λ t e. conn-other h s t (Left c) e) (sessions h) fit.apart there in
-          let x : length (conns h s) ≡ 1 = ap (λ o. length (option_list o)) is in
-          let y : length (conns g s) ≡ 0 = ap (λ o. length (option_list o)) (conn-self h s (Left c)) in omega arith);
+      let x : length (conns h s) ≡ 1 = ap (λ o. length (option_list o)) is in
+      let y : length (conns g s) ≡ 0 = ap (λ o. length (option_list o)) (conn-self h s (Left c)) in omega arith);
   apart = fit.apart;
 }
   where
@@ -106,9 +106,9 @@ ended : (h : Past) (s c : ℕ) → IsIn s (sessions h) → conn_here h s ≡ Som
 ended h s c there is fit = record {
   open_is = balanced-lost c (open_conns h) (guests h) (flat_map (conns h) (sessions h)) (flat_map (conns g) (without s (sessions h))) fit.open_is
       (λ d. let a = sum-drop (count d) (count-append d) (conns h) (conns g) s (ended-other h s c) (sessions h) fit.apart there in
-          let x : count d (conns h s) ≡ count d (c ∷ []) = ap (λ o. count d (option_list o)) is in omega arith)
+      let x : count d (conns h s) ≡ count d (c ∷ []) = ap (λ o. count d (option_list o)) is in omega arith)
       (let a = sum-drop length length-append (conns h) (conns g) s (ended-other h s c) (sessions h) fit.apart there in
-          let x : length (conns h s) ≡ 1 = ap (λ o. length (option_list o)) is in omega arith);
+      let x : length (conns h s) ≡ 1 = ap (λ o. length (option_list o)) is in omega arith);
   apart = apart-without s (sessions h) fit.apart;
 }
   where
@@ -119,9 +119,9 @@ ended_away : (h : Past) (s : ℕ) → IsIn s (sessions h) → conn_here h s ≡ 
 ended_away h s there is fit = record {
   open_is = balanced-same (open_conns h) (guests h) (flat_map (conns h) (sessions h)) (flat_map (conns g) (without s (sessions h))) fit.open_is
       (λ d. let a = sum-drop (count d) (count-append d) (conns h) (conns g) s (λ t e. conn-other h s t Over e) (sessions h) fit.apart there in
-          let x : count d (conns h s) ≡ 0 = ap (λ o. count d (option_list o)) is in omega arith)
+      let x : count d (conns h s) ≡ 0 = ap (λ o. count d (option_list o)) is in omega arith)
       (let a = sum-drop length length-append (conns h) (conns g) s (λ t e. conn-other h s t Over e) (sessions h) fit.apart there in
-          let x : length (conns h s) ≡ 0 = ap (λ o. length (option_list o)) is in omega arith);
+      let x : length (conns h s) ≡ 0 = ap (λ o. length (option_list o)) is in omega arith);
   apart = apart-without s (sessions h) fit.apart;
 }
   where
@@ -359,11 +359,11 @@ taken_up-open limit c name keeps alive will t None lawful guest fit is = made-op
 taken_up-open limit c name keeps alive will t (Some s) lawful guest fit is =
     balanced-moved c (open_conns h) (guests h) (flat_map (conns h) (sessions h)) (flat_map (conns g) (sessions h)) fit.open_is (there-count c (guests h) guest)
     (λ d. let a = sum-swap (count d) (count-append d) (conns h) (conns g) s (λ x e. conn-other h s x (Joined c alive will) e) (sessions h) fit.apart there in
-        let x : count d (conns h s) ≡ 0 = ap (λ q. count d (option_list q)) none in
-        let y : count d (conns g s) ≡ count d (c ∷ []) = ap (λ q. count d (option_list q)) (conn-self h s (Joined c alive will)) in omega arith)
+    let x : count d (conns h s) ≡ 0 = ap (λ q. count d (option_list q)) none in
+    let y : count d (conns g s) ≡ count d (c ∷ []) = ap (λ q. count d (option_list q)) (conn-self h s (Joined c alive will)) in omega arith)
     (let a = sum-swap length length-append (conns h) (conns g) s (λ x e. conn-other h s x (Joined c alive will) e) (sessions h) fit.apart there in
-        let x : length (conns h s) ≡ 0 = ap (λ q. length (option_list q)) none in
-        let y : length (conns g s) ≡ 1 = ap (λ q. length (option_list q)) (conn-self h s (Joined c alive will)) in omega arith)
+    let x : length (conns h s) ≡ 0 = ap (λ q. length (option_list q)) none in
+    let y : length (conns g s) ≡ 1 = ap (λ q. length (option_list q)) (conn-self h s (Joined c alive will)) in omega arith)
   where
     h : Past
     h = t.past

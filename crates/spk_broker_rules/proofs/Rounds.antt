@@ -1,20 +1,20 @@
 -- One message for all sessions: each session's facts leave the others as they are.
-use Rattle.std.proofs.Common.{◌≡◌, ℕ, suc, ◌+◌, ◌<◌, ◌≤◌, Bool, true, false, not, ◌&&◌, ◌||◌, cond, eqb, ltb, List, [], ◌∷◌, ◌++◌, map, length, refl, sym, ◌∙◌, ap, ap₂, arith, subst, Option, Some, None, append_assoc, ne_eqb}
+use Rattle.std.proofs.Common.{◌≡◌, ℕ, ◌<◌, Bool, true, false, not, ◌&&◌, ◌||◌, cond, eqb, ltb, List, [], ◌∷◌, ◌++◌, map, length, refl, sym, ◌∙◌, ap, ap₂, arith, Some, None, append_assoc, ne_eqb}
 use Rattle.std.specs.List.{filter, list_any, flat_map, AllByRecursion}
 use Rattle.std.specs.Str.{bytes_eq}
 use Rattle.std.proofs.Math.Bool.{or-false}
 use Rattle.spk_session.specs.Step.{without}
-use Rattle.spk_broker_rules.specs.Data.{Post, Guest, Seat, Stored, Broker, Send}
+use Rattle.spk_broker_rules.specs.Data.{Post, Guest, Seat, Broker, Send}
 use Rattle.spk_broker_rules.specs.Lawful.{Rises, IsLawful}
-use Rattle.spk_broker_rules.specs.Table.{Table, has, put, remove}
+use Rattle.spk_broker_rules.specs.Table.{has, put, remove}
 use Rattle.spk_broker_rules.specs.Words.{is_empty, stored, most_topics}
 use Rattle.spk_broker_rules.specs.Step.{Turn, Served, serve, retain_in, retained_with, route_one}
-use Rattle.spk_broker_rules.specs.Past.{Past, Fact, OfSession, Routed, ConnDeed, heard, drops, Deed, conn_deeds, deeds, clock, given, made, guests, sessions, routed, retained, retained_notes, retained_value, note_if, counts, Notes, staying, table, guest_of, line_of, seat_with, seat_of, broker_of}
-use Rattle.spk_broker_rules.specs.Story.{Story, Share, share, session_facts, told_one}
+use Rattle.spk_broker_rules.specs.Past.{Past, ConnDeed, heard, drops, Deed, conn_deeds, deeds, clock, given, made, guests, sessions, routed, retained_notes, note_if, counts, staying, table, guest_of, line_of, seat_with, seat_of, broker_of}
+use Rattle.spk_broker_rules.specs.Story.{Story, share, session_facts, told_one}
 use Rattle.spk_broker_rules.proofs.Lists.{eqb-flip, eqb-self, map-same, flat_map-map, all-also, all-map}
 use Rattle.spk_broker_rules.proofs.Tables.{has-table, length-table, table-put, table-remove}
 use Rattle.spk_broker_rules.proofs.Seats.{deeds-selves, deeds-others, conns-same, seat-from}
-use Rattle.spk_broker_rules.proofs.Gifts.{is_over, AreCalm, given-same, clock-same, routed-same, made-calm, guests-calm, sessions-calm, same_broker, left_with, served_of, serve-same, calm-share}
+use Rattle.spk_broker_rules.proofs.Gifts.{is_over, AreCalm, given-same, clock-same, routed-same, made-calm, guests-calm, sessions-calm, same_broker, left_with, serve-same, calm-share}
 use Rattle.spk_broker_rules.proofs.Turns.{turn_of}
 
 abbrev turn_from : Broker → List Send → List ℕ → List Post → Turn
@@ -60,7 +60,7 @@ module _ (D : ℕ → List Deed) (calm : (s : ℕ) → AreCalm (D s)) (h : Past)
   round-made [] = refl
   round-made (x ∷ xs) = ap made (round-cons x xs) ∙ made-calm (D x) x (round xs) (calm x) ∙ round-made xs
 
-  round-guests : (xs : List ℕ) → guests (round xs) ≡ guests h
+  pub round-guests : (xs : List ℕ) → guests (round xs) ≡ guests h
   round-guests [] = refl
   round-guests (x ∷ xs) = ap guests (round-cons x xs) ∙ guests-calm (D x) x (round xs) (calm x) ∙ round-guests xs
 
@@ -77,9 +77,9 @@ module _ (D : ℕ → List Deed) (calm : (s : ℕ) → AreCalm (D s)) (h : Past)
   round-in [] apart = tt
   round-in (x ∷ xs) apart = (
     ap (λ g. deeds g x) (round-cons x xs) ∙ deeds-selves (D x) (round xs) x
-    ∙ ap (λ ds. D x ++ ds) (round-out xs x (all-also (λ y. eqb x y ≡ false) (λ y. eqb y x ≡ false) (λ y e. eqb-flip y x ∙ e) xs apart.0)),
+        ∙ ap (λ ds. D x ++ ds) (round-out xs x (all-also (λ y. eqb x y ≡ false) (λ y. eqb y x ≡ false) (λ y e. eqb-flip y x ∙ e) xs apart.0)),
     all-zip (λ t. eqb x t ≡ false) (λ t. deeds (round xs) t ≡ D t ++ deeds h t) (λ t. deeds (round (x ∷ xs)) t ≡ D t ++ deeds h t)
-    (λ t e is. ap (λ g. deeds g t) (round-cons x xs) ∙ deeds-others (D x) (round xs) x t e ∙ is) xs apart.0 (round-in xs apart.1)
+        (λ t e is. ap (λ g. deeds g t) (round-cons x xs) ∙ deeds-others (D x) (round xs) x t e ∙ is) xs apart.0 (round-in xs apart.1),
   )
 
   -- which of them are over
@@ -96,7 +96,7 @@ module _ (D : ℕ → List Deed) (calm : (s : ℕ) → AreCalm (D s)) (h : Past)
   over-in (x ∷ xs) apart = (
     ap (λ b. (b && is_over (D x)) || over xs x) (eqb-self x) ∙ ap (λ b. is_over (D x) || b) (over-out xs x apart.0) ∙ or-false (is_over (D x)),
     all-zip (λ t. eqb x t ≡ false) (λ t. over xs t ≡ is_over (D t)) (λ t. over (x ∷ xs) t ≡ is_over (D t))
-    (λ t e is. ap (λ b. (b && is_over (D x)) || over xs t) (eqb-flip t x ∙ e) ∙ is) xs apart.0 (over-in xs apart.1)
+        (λ t e is. ap (λ b. (b && is_over (D x)) || over xs t) (eqb-flip t x ∙ e) ∙ is) xs apart.0 (over-in xs apart.1),
   )
 
   without-too : (x : ℕ) (o : ℕ → Bool) (ss : List ℕ) → without x (filter (λ t. not (o t)) ss) ≡ filter (λ t. not ((eqb t x && true) || o t)) ss
@@ -188,8 +188,8 @@ pub apart-sessions : (low top : ℕ) (h : Past) (ss : List ℕ) → Rises low to
 apart-sessions low top h [] r = tt
 apart-sessions low top h (s ∷ ss) r = (
   all-also (λ t. s < t) (λ t. eqb s t ≡ false) (λ t e. ne_eqb s t (λ same. omega arith)) ss
-  (all-map (λ (x : Seat). s < x.key) (seat_of h) ss (rises-above s top (map (seat_of h) ss) r.1)),
-  apart-sessions s top h ss r.1
+      (all-map (λ (x : Seat). s < x.key) (seat_of h) ss (rises-above s top (map (seat_of h) ss) r.1)),
+  apart-sessions s top h ss r.1,
 )
 
 pub one-told : (limit : ℕ) (m : Post) (t : Story) → IsLawful (broker_of limit t.past) → turn_of limit (told_one m t) ≡ route_one m (turn_of limit t)

@@ -280,9 +280,14 @@ a_clean_connect_takes_over_and_ends_the_kept_session = refl
 
 abbrev full_seat : Bool → Seat
 full_seat kept = record {
-  key = 3; client = codes "x"; kept = kept;
+  key = 3;
+  client = codes "x";
+  kept = kept;
   here = Some (record { conn = 9; alive = 0; heard = 0; will = Some (record { topic = codes "w"; payload = codes "6"; qos = 0; retain = false }); drops = 0 });
-  grants = []; used = range_with_len 1 1024; last = 1024; copies = [];
+  grants = [];
+  used = range_with_len 1 1024;
+  last = 1024;
+  copies = [];
 }
 
 abbrev post_of : ℕ → Post
@@ -290,13 +295,18 @@ post_of qos = record { topic = codes "a"; payload = []; qos = qos; retain = fals
 
 -- a further message of QoS 1 ends it, its connection too, and its will waits
 a_message_too_many_ends_the_session : hand (post_of 1) (full_seat true) ≡ record {
-  left = []; sends = []; closes = 9 ∷ [];
+  left = [];
+  sends = [];
+  closes = 9 ∷ [];
   wills = (record { topic = codes "w"; payload = codes "6"; qos = 0; retain = false }) ∷ [];
 }
 a_message_too_many_ends_the_session = refl
 
 -- but one of QoS 0 is sent
 a_full_session_gets_qos_0 : hand (post_of 0) (full_seat false) ≡ record {
-  left = full_seat false ∷ []; sends = to 9 (plain (codes "a") []) ∷ []; closes = []; wills = [];
+  left = full_seat false ∷ [];
+  sends = to 9 (plain (codes "a") []) ∷ [];
+  closes = [];
+  wills = [];
 }
 a_full_session_gets_qos_0 = refl

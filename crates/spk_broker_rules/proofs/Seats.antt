@@ -1,7 +1,7 @@
 -- How the data of sessions and connections change with the facts about them.
-use Rattle.std.proofs.Common.{◌≡◌, ℕ, ◌+◌, ◌<◌, ◌≤◌, Bool, true, false, not, ◌&&◌, cond, eqb, List, [], ◌∷◌, ◌++◌, map, refl, sym, ◌∙◌, ap, ap₂, arith, subst, Option, Some, None, ne_eqb}
+use Rattle.std.proofs.Common.{◌≡◌, ℕ, ◌+◌, ◌≤◌, Bool, true, false, not, ◌&&◌, cond, eqb, List, [], ◌∷◌, ◌++◌, map, refl, sym, ◌∙◌, ap, ap₂, arith, Option, Some, None, ne_eqb}
 use mathlib.Core.Path.{fun_ext}
-use Rattle.std.specs.List.{filter, find, fold, list_any, flat_map, AllByRecursion}
+use Rattle.std.specs.List.{find, fold}
 use Rattle.std.specs.Option.{option_map, option_map_or, is_some}
 use Rattle.std.specs.Str.{bytes_eq}
 use Rattle.std.proofs.lemmas.List.{map-append}
@@ -10,11 +10,11 @@ use Rattle.spk_broker_rules.specs.Data.{Post, Copy, Line, Guest, Seat}
 use Rattle.spk_broker_rules.specs.Lawful.{IsLow}
 use Rattle.spk_broker_rules.specs.Table.{Table, put, remove}
 use Rattle.spk_broker_rules.specs.Words.{handed_out, without_id}
-use Rattle.spk_broker_rules.specs.Step.{sits, seat_at, is_guest, is_away, swap, other_guests, guest_heard, line_heard, guest_dropped, line_dropped}
-use Rattle.spk_broker_rules.specs.Past.{Past, Fact, Moment, OfConn, OfSession, Routed, ConnDeed, Opened, Heard, Dropped, Ended, Deed, Made, Joined, Left, Over, Granted, TakenBack, Numbered, Acked, Joining, conn_deeds, deeds, heard, drops, client, kept, here, grant_notes, grants, unacked, used, copies, last_id, guests, sessions, session_at, sits_at, guest_of, line_of, seat_with, seat_of}
+use Rattle.spk_broker_rules.specs.Step.{sits, seat_at, is_guest, is_away, swap, guest_heard, line_heard, guest_dropped, line_dropped}
+use Rattle.spk_broker_rules.specs.Past.{Past, OfConn, OfSession, ConnDeed, Opened, Heard, Dropped, Ended, Deed, Joined, Left, Granted, TakenBack, Numbered, Acked, Joining, conn_deeds, deeds, heard, drops, client, kept, here, grant_notes, grants, unacked, used, copies, guests, sessions, session_at, sits_at, guest_of, line_of, seat_with, seat_of}
 use Rattle.spk_broker_rules.specs.Story as story
 use Rattle.spk_broker_rules.specs.Story.{session_facts, granting, taking_back}
-use Rattle.spk_broker_rules.proofs.Lists.{cond-ap, eqb-flip, eqb-is, eqb-self, find-map, map-map, map-same, map-same_in, filter-map}
+use Rattle.spk_broker_rules.proofs.Lists.{cond-ap, eqb-flip, eqb-is, eqb-self, find-map, map-map, filter-map}
 use Rattle.spk_broker_rules.proofs.Tables.{table-put, table-remove}
 
 -- ---- the facts of one session

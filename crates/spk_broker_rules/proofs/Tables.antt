@@ -1,14 +1,14 @@
 -- Tables by texts: what was said of texts, newest first, and the table that it leaves.
-use Rattle.std.proofs.Common.{◌≡◌, ℕ, Bool, true, false, not, ◌||◌, cond, List, [], ◌∷◌, ◌++◌, map, length, suc, refl, sym, ◌∙◌, ap, append-nil, Option, Some, None, true≢false}
+use Rattle.std.proofs.Common.{◌≡◌, ℕ, Bool, true, false, not, ◌||◌, cond, List, [], ◌∷◌, ◌++◌, map, length, suc, refl, sym, ◌∙◌, ap, Option, Some, None, true≢false}
 use Rattle.std.specs.List.{filter, list_any, flat_map, AllByRecursion}
 use Rattle.std.specs.Option.{is_some}
 use Rattle.std.specs.Str.{bytes_eq}
 use Rattle.std.proofs.lemmas.Slice.Eq.{bytes_eq-Decides}
-use Rattle.std.proofs.lemmas.List.{map-append, length-append}
+use Rattle.std.proofs.lemmas.List.{map-append}
 use Rattle.std.proofs.lemmas.List.Elements.{filter-append}
 use Rattle.spk_broker_rules.specs.Table.{Table, has, put, remove, replaced}
 use Rattle.spk_broker_rules.specs.Past.{Notes, begins, staying, last_said, entry, table}
-use Rattle.spk_broker_rules.proofs.Lists.{cond-ap, flat_map-append, all-append, all-filter}
+use Rattle.spk_broker_rules.proofs.Lists.{cond-ap, flat_map-append, all-append}
 
 pub bytes_self : (a : List ℕ) → bytes_eq a a ≡ true
 bytes_self a = (bytes_eq-Decides a a).1 refl

@@ -1,22 +1,20 @@
 -- Each act leads from the data that the past asks for to the data that the facts after it ask for.
-use Rattle.std.proofs.Common.{◌≡◌, ℕ, ◌+◌, ◌-◌, ◌<◌, ◌≤◌, Bool, true, false, not, ◌&&◌, cond, eqb, List, [], ◌∷◌, ◌++◌, map, length, refl, sym, ◌∙◌, ap, ap₂, arith, subst, Option, Some, None, ne_eqb}
+use Rattle.std.proofs.Common.{◌≡◌, ℕ, ◌+◌, ◌≤◌, Bool, true, false, not, cond, eqb, List, [], ◌∷◌, ◌++◌, map, refl, sym, ◌∙◌, ap, ap₂, arith, Option, Some, None, ne_eqb}
 use mathlib.Core.Path.{fun_ext}
-use Rattle.std.specs.List.{filter, find, fold, list_any, flat_map, AllByRecursion}
-use Rattle.std.specs.Option.{option_map, option_map_or, is_some}
+use Rattle.std.specs.List.{find, AllByRecursion}
+use Rattle.std.specs.Option.{option_map, option_map_or}
 use Rattle.std.proofs.lemmas.List.{map-append}
-use Rattle.spk_packets.specs.Message.{Message, ConnAck, SubAck}
-use Rattle.spk_session.specs.PacketIds.{next_id}
-use Rattle.spk_session.specs.Step.{without, has_room}
-use Rattle.spk_broker_rules.specs.Data.{Post, Copy, Line, Guest, Seat, Broker, Send}
+use Rattle.spk_packets.specs.Message.{ConnAck}
+use Rattle.spk_session.specs.Step.{without}
+use Rattle.spk_broker_rules.specs.Data.{Post, Copy, Line, Guest, Seat}
 use Rattle.spk_broker_rules.specs.Lawful.{IsLow, Rises, IsLawful}
-use Rattle.spk_broker_rules.specs.Table.{Table, put, remove}
-use Rattle.spk_broker_rules.specs.Words.{option_list, resent, handed_out, granted_of, codes_of, with_entry, is_granted, granted, offers_to}
-use Rattle.spk_broker_rules.specs.Step.{Turn, opens, on_lines, guest_heard, line_heard, guest_dropped, line_dropped, with_seats, swap, left_behind, leave_at, will_at, seat_at, sits, is_guest, other_guests, is_away, forget_at, line_of as line_from, new_seat, take_up, away_for, accept_of, all_grants, other_grants, give_with, give_at, take_at, ack_at, offer, offer_at, with_key, hand}
-use Rattle.spk_broker_rules.specs.Past.{Past, Fact, Moment, OfConn, OfSession, Routed, ConnDeed, Opened, Heard, Dropped, Ended, Deed, Made, Joined, Left, Over, Granted, TakenBack, Numbered, Acked, Joining, conn_deeds, deeds, clock, given, made, client, kept, here, grants, unacked, used, copies, last_id, guests, sessions, retained, session_at, guest_of, line_of, seat_with, seat_of, broker_of}
+use Rattle.spk_broker_rules.specs.Words.{option_list, resent, handed_out}
+use Rattle.spk_broker_rules.specs.Step.{Turn, opens, on_lines, guest_heard, line_heard, guest_dropped, line_dropped, with_seats, swap, leave_at, will_at, seat_at, is_guest, other_guests, is_away, forget_at, line_of as line_from, new_seat, take_up, away_for, accept_of, ack_at}
+use Rattle.spk_broker_rules.specs.Past.{Past, OfConn, OfSession, Opened, Heard, Dropped, Ended, Made, Joined, Left, Over, Acked, Joining, deeds, clock, given, made, kept, here, copies, guests, sessions, session_at, guest_of, line_of, seat_with, seat_of, broker_of}
 use Rattle.spk_broker_rules.specs.Story as story
 use Rattle.spk_broker_rules.specs.Story.{Story, note, session_facts, leaving, will_of, told_opens, told_leave, told_forget, told_take_up, told_accept, told_take, told_ack, granting, taking_back}
-use Rattle.spk_broker_rules.proofs.Lists.{cond-ap, eqb-flip, eqb-is, eqb-self, find-map, map-map, map-same, map-same_in, filter-map, flat_map-map, all-map, all-also}
-use Rattle.spk_broker_rules.proofs.Seats.{deeds-self, deeds-other, lines-same, seat-from, seat-self, seat-other, swapped, dropped, sits-same, seat_at-same, away-same, guest-same, acked_seat, acked-seat, joined-seat, numbered-seat, puts, granted-self, granted-other, taken-self, taken-other, guest_with, guest-ended, line-ended, guest-heard, line-heard, guest-dropped, line-dropped, seat-lines, fresh-conn, fresh-guest, fresh-line}
+use Rattle.spk_broker_rules.proofs.Lists.{find-map, map-map, map-same, map-same_in, filter-map, all-map, all-also}
+use Rattle.spk_broker_rules.proofs.Seats.{deeds-self, seat-self, seat-other, swapped, dropped, seat_at-same, away-same, guest-same, acked_seat, acked-seat, joined-seat, guest_with, guest-ended, line-ended, guest-heard, line-heard, guest-dropped, line-dropped, seat-lines, fresh-conn, fresh-guest, fresh-line}
 
 abbrev pub turn_of : ℕ → Story → Turn
 turn_of limit t = record { broker = broker_of limit t.past; sends = t.sends; closes = t.closes; waiting = t.waiting }

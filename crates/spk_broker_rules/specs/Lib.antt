@@ -5,5 +5,6 @@ pub mod Plan
 pub mod Step
 pub mod Story
 pub mod Table
+pub mod TakeOver
 pub mod Telling
 pub mod Words

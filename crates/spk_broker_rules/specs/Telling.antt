@@ -1,6 +1,5 @@
 -- Events told by the past: which may come, how each is told, and where a list of them leads.
 use Rattle.std.specs.Prelude.{◌≡◌, ℕ, Bool, true, List, [], ◌∷◌}
-use Rattle.spk_broker_rules.specs.Data.{Send}
 use Rattle.spk_broker_rules.specs.Plan.{Event, Open, Packet, Fault, Closed, Tick, Refused, before, plan}
 use Rattle.spk_broker_rules.specs.Past.{Past, is_open, may_open, seen_in}
 use Rattle.spk_broker_rules.specs.Step.{Turn}
