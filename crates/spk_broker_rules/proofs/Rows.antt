@@ -1,14 +1,16 @@
 -- The rules at worked lists of events, named by what they show.
-use Rattle.std.proofs.Common.{◌≡◌, ℕ, ◌++◌, Bool, true, false, List, [], ◌∷◌, refl, Some, None, replicate}
+use Rattle.std.proofs.Common.{◌≡◌, ℕ, ◌++◌, Bool, true, false, List, [], ◌∷◌, refl, Option, Some, None, replicate}
 use Rattle.std.specs.Prelude.{codes}
-use Rattle.std.specs.List.{range_with_len}
+use Rattle.std.specs.List.{range_with_len, fold}
 use Rattle.spk_packets.specs.declared.fault.PacketFault.TheVariants as fault
 use Rattle.spk_packets.specs.Message.{Message, Connect, ConnAck, Publish, PubAck, Subscribe, SubAck, Unsubscribe, UnsubAck, PingReq, PingResp, Disconnect}
 use Rattle.spk_packets.specs.Spelling.{has_bad_text, has_bad_body, is_qos_two, spelling, body, shortest}
 use Rattle.spk_session.specs.PacketIds.{next_id, ids_after}
 use Rattle.spk_session.specs.declared.answer.Sort.TheVariants as sort
 use Rattle.spk_broker_rules.specs.Data.{Post, Seat, Broker, Send, fresh_broker}
-use Rattle.spk_broker_rules.specs.Plan.{Event, Open, Packet, Fault, Closed, Tick, Refused}
+use Rattle.spk_broker_rules.specs.Plan.{Event, Open, Packet, Fault, Closed, Tick, Refused, Seen, Forget, Accept, connect, turn_away, shut}
+use Rattle.spk_broker_rules.specs.Past.{counts}
+use Rattle.spk_broker_rules.specs.Words.{codes_of, with_entry}
 use Rattle.spk_broker_rules.specs.Step.{step, route, route_some, hand}
 
 -- what each of these events sends and closes
@@ -141,6 +143,12 @@ a_bad_topic_routes_the_will_alone = refl
 the_will_of_one_turned_away_is_not_routed : row (comes 1 (with_will (codes "x") (codes "w") (codes "6")) ++ (comes 2 (hello (codes "y")) ++ subscribes 2 (codes "#") 2 ∷ []) ++ comes 3 (Connect [] false 0 (Some (record { topic = codes "w"; message = []; qos = 0; retain = false })))) ≡ welcomed 1 ++ (welcomed 2 ++ (to 2 (SubAck 1 (1 ∷ [])) ∷ [], []) ∷ []) ++ quiet ∷ (to 3 (ConnAck false 2) ∷ [], 3 ∷ []) ∷ []
 unfolding step route route_some has_bad_text has_bad_body is_qos_two spelling body shortest
 the_will_of_one_turned_away_is_not_routed = refl
+
+-- a bad will topic closes the newer one, and the older one stays with its will
+one_turned_away_takes_nobody_over : row (comes 1 (with_will (codes "x") (codes "w") (codes "6")) ++ (comes 2 (hello (codes "y")) ++ subscribes 2 (codes "#") 2 ∷ []) ++ (comes 3 (with_will (codes "x") (codes "a/#") []) ++ Packet 1 PingReq 0 ∷ []))
+    ≡ welcomed 1 ++ (welcomed 2 ++ (to 2 (SubAck 1 (1 ∷ [])) ∷ [], []) ∷ []) ++ quiet ∷ ([], 3 ∷ []) ∷ (to 1 PingResp ∷ [], []) ∷ []
+unfolding step route route_some has_bad_text has_bad_body is_qos_two spelling body shortest
+one_turned_away_takes_nobody_over = refl
 
 -- two of them
 an_empty_client_is_taken_over_by_nobody : row (comes 1 (hello []) ++ comes 2 (hello [])) ≡ welcomed 1 ++ welcomed 2
@@ -310,3 +318,42 @@ a_full_session_gets_qos_0 : hand (post_of 0) (full_seat false) ≡ record {
   wills = [];
 }
 a_full_session_gets_qos_0 = refl
+
+-- ---- limits
+
+-- the 10,000th pair of session and filter is granted, the 10,001st gets 128, and a filter that stands gets its new grant
+the_10001st_filter_gets_128 : codes_of 9999 [] ((codes "a", 0) ∷ (codes "b", 0) ∷ (codes "a", 2) ∷ []) ≡ 0 ∷ 128 ∷ 1 ∷ []
+the_10001st_filter_gets_128 = refl
+
+-- a refused entry leaves a standing grant alone
+a_refused_entry_drops_no_grant : fold (with_entry 9999) ((codes "a", 1) ∷ []) ((codes "b", 0) ∷ []) ≡ (codes "a", 1) ∷ []
+a_refused_entry_drops_no_grant = refl
+
+-- the 10,001st topic isn't retained, but a present one and an empty message count
+the_10001st_topic_is_not_kept : counts (replicate 10000 (codes "b")) (post_of 0) ≡ true
+the_10001st_topic_is_not_kept = refl
+
+abbrev full_post : Post
+full_post = record { topic = codes "a"; payload = codes "x"; qos = 0; retain = true }
+
+a_further_topic_does_not_count : counts (replicate 10000 (codes "b")) full_post ≡ false
+a_further_topic_does_not_count = refl
+
+the_10000th_topic_counts : counts (replicate 9999 (codes "b")) full_post ≡ true
+the_10000th_topic_counts = refl
+
+-- a CONNECT is judged in order: an empty client id, the will's topic, the number of kept sessions
+abbrev asked : Option ℕ → Bool → Seen
+asked older welcome = record { joined = false; older = older; welcome = welcome; spent = false; silent = [] }
+
+no_room_for_a_kept_session_is_code_3 : connect (asked (Some 7) false) 9 (codes "x") false 0 None ≡ turn_away 9 3
+no_room_for_a_kept_session_is_code_3 = refl
+
+a_clean_session_needs_no_room : connect (asked None false) 9 (codes "x") true 0 None ≡ Forget (codes "x") ∷ Accept 9 (codes "x") false 0 None ∷ []
+a_clean_session_needs_no_room = refl
+
+an_empty_client_is_judged_first : connect (asked None false) 9 [] false 0 (Some (record { topic = codes "+"; message = []; qos = 0; retain = false })) ≡ turn_away 9 2
+an_empty_client_is_judged_first = refl
+
+a_bad_will_topic_is_judged_before_the_room : connect (asked (Some 7) false) 9 (codes "x") false 0 (Some (record { topic = codes "+"; message = []; qos = 0; retain = false })) ≡ shut 9
+a_bad_will_topic_is_judged_before_the_room = refl
