@@ -1,0 +1,81 @@
+-- What the rules ask of the tables is what they ask of the past.
+use Rattle.std.proofs.Common.{◌≡◌, ℕ, Bool, ◌&&◌, ◌||◌, cond, eqb, ltb, List, [], ◌∷◌, map, length, refl, sym, ◌∙◌, ap, ap₂, Option, Some, None}
+use Rattle.std.specs.List.{filter, find, flat_map}
+use Rattle.std.specs.Option.{option_map, option_map_or, is_some}
+use Rattle.std.specs.Str.{bytes_eq}
+use Rattle.std.proofs.lemmas.List.{length-map}
+use Rattle.spk_session.specs.Step.{is_spent}
+use Rattle.spk_broker_rules.specs.Data.{Line, Guest, Seat}
+use Rattle.spk_broker_rules.specs.Words.{is_empty, is_silent, most_kept}
+use Rattle.spk_broker_rules.specs.Plan.{Event, Seen, conn_of, client_of}
+use Rattle.spk_broker_rules.specs.Step.{seat_at, conn_at, older_in, welcome_in, is_kept_of, drops_in, silent_at, seen}
+use Rattle.spk_broker_rules.specs.Past.{Past, Joining, conn_deeds, deeds, clock, heard, drops, client, kept, here, guests, sessions, conn_here, session_at, is_of, older_of, is_welcome, joined_drops, drops_of, silent_of, seen_in, guest_of, line_of, seat_of, broker_of}
+use Rattle.spk_broker_rules.proofs.Lists.{find-map, any-map, filter-map, flat_map-map}
+use Rattle.spk_broker_rules.proofs.Seats.{seat_at-same, guest-same, has_line}
+use Rattle.spk_broker_rules.proofs.Gifts.{conn-same}
+
+some-map : {X Y : Type 0} (f : X → Y) (o : Option X) → is_some (option_map f o) ≡ is_some o
+some-map f None = refl
+some-map f (Some x) = refl
+
+joined-same : (h : Past) (c : ℕ) → is_some (session_at h c) ≡ is_some (seat_at c (map (seat_of h) (sessions h)))
+joined-same h c = sym (ap is_some (seat_at-same h c) ∙ some-map (seat_of h) (session_at h c))
+
+older-same : (h : Past) (c : List ℕ) → older_of h c ≡ older_in c (map (seat_of h) (sessions h))
+older-same h c = ap (cond (is_empty c) None) (sym (ap (λ o. option_map_or conn_at o None)
+    (find-map (seat_of h) (λ (s : Seat). is_some s.here && bytes_eq s.client c) (λ s. is_some (here (deeds h s)) && is_of h c s)
+    (λ s. ap (λ b. b && bytes_eq (client (deeds h s)) c) (has_line h s)) (sessions h))
+    ∙ by (find (λ s. is_some (here (deeds h s)) && is_of h c s) (sessions h))))
+  where
+    by : (o : Option ℕ) → option_map_or conn_at (option_map (seat_of h) o) None ≡ option_map_or (conn_here h) o None
+    by None = refl
+    by (Some s) = conn-same h s
+
+welcome-same : (h : Past) (c : List ℕ) → is_welcome h c ≡ welcome_in c (map (seat_of h) (sessions h))
+welcome-same h c = sym (ap₂ (λ b n. b || ltb n most_kept)
+    (any-map (seat_of h) (is_kept_of c) (λ s. kept (deeds h s) && is_of h c s) (λ s. refl) (sessions h))
+    (ap length (filter-map (seat_of h) (λ (s : Seat). s.kept) (λ s. kept (deeds h s)) (λ s. refl) (sessions h))
+    ∙ length-map (filter (λ s. kept (deeds h s)) (sessions h)) (seat_of h)))
+
+drops-same : (limit : ℕ) (h : Past) (c : ℕ) → drops_of h c ≡ drops_in c (broker_of limit h)
+drops-same limit h c = sym (ap₂ (λ o p. option_map_or (λ (g : Guest). g.drops) o (option_map_or (λ (s : Seat). option_map_or (λ (l : Line). l.drops) s.here 0) p 0)) (guest-same h c) (seat_at-same h c)
+    ∙ ap (option_map_or (λ (g : Guest). g.drops) (option_map (guest_of h) (find (λ g. eqb g c) (guests h)))) (by (session_at h c))
+    ∙ too (find (λ g. eqb g c) (guests h)))
+  where
+    line : (j : Option Joining) → option_map_or (λ (l : Line). l.drops) (option_map (line_of h) j) 0 ≡ option_map_or (λ (i : Joining). drops (conn_deeds h i.conn)) j 0
+    line None = refl
+    line (Some j) = refl
+
+    by : (o : Option ℕ) → option_map_or (λ (s : Seat). option_map_or (λ (l : Line). l.drops) s.here 0) (option_map (seat_of h) o) 0 ≡ option_map_or (joined_drops h) o 0
+    by None = refl
+    by (Some s) = line (here (deeds h s))
+
+    too : (o : Option ℕ) → option_map_or (λ (g : Guest). g.drops) (option_map (guest_of h) o) (option_map_or (joined_drops h) (session_at h c) 0)
+        ≡ option_map_or (λ g. drops (conn_deeds h g)) o (option_map_or (joined_drops h) (session_at h c) 0)
+    too None = refl
+    too (Some g) = refl
+
+silent-same : (h : Past) → flat_map (silent_of h) (sessions h) ≡ flat_map (silent_at (clock h)) (map (seat_of h) (sessions h))
+silent-same h = sym (flat_map-map (seat_of h) (silent_at (clock h)) (silent_of h) each (sessions h))
+  where
+    line : (j : Option Joining) → option_map_or (λ (l : Line). cond (is_silent (clock h) l.alive l.heard) (l.conn ∷ []) []) (option_map (line_of h) j) []
+        ≡ option_map_or (λ (i : Joining). cond (is_silent (clock h) i.alive (heard (conn_deeds h i.conn))) (i.conn ∷ []) []) j []
+    line None = refl
+    line (Some j) = refl
+
+    each : (s : ℕ) → silent_at (clock h) (seat_of h s) ≡ silent_of h s
+    each s = line (here (deeds h s))
+
+abbrev seen_from : Bool → Option ℕ → Bool → Bool → List ℕ → Seen
+seen_from j o w s q = record { joined = j; older = o; welcome = w; spent = s; silent = q }
+
+pub seen-same : (limit : ℕ) (h : Past) (e : Event) → seen_in limit h e ≡ seen (broker_of limit h) e
+seen-same limit h e =
+    ap (λ x. seen_from x (older_of h (client_of e)) (is_welcome h (client_of e)) (is_spent limit (drops_of h (conn_of e))) (flat_map (silent_of h) (sessions h))) (joined-same h (conn_of e))
+    ∙ ap (λ x. seen_from b.joined x (is_welcome h (client_of e)) (is_spent limit (drops_of h (conn_of e))) (flat_map (silent_of h) (sessions h))) (older-same h (client_of e))
+    ∙ ap (λ x. seen_from b.joined b.older x (is_spent limit (drops_of h (conn_of e))) (flat_map (silent_of h) (sessions h))) (welcome-same h (client_of e))
+    ∙ ap (λ x. seen_from b.joined b.older b.welcome (is_spent limit x) (flat_map (silent_of h) (sessions h))) (drops-same limit h (conn_of e))
+    ∙ ap (seen_from b.joined b.older b.welcome b.spent) (silent-same h)
+  where
+    b : Seen
+    b = seen (broker_of limit h) e

@@ -1,0 +1,10 @@
+pub mod Data
+pub mod Lawful
+pub mod Past
+pub mod Plan
+pub mod Step
+pub mod Story
+pub mod Table
+pub mod TakeOver
+pub mod Telling
+pub mod Words

@@ -1,0 +1,420 @@
+-- What has happened to a broker, as a list of facts, newest first; and what follows from it, as questions to the whole list.
+-- No table is kept here.
+use Rattle.std.specs.Prelude.{ℕ, ◌+◌, max, ◌==◌, nat_lt, nat_le, Bool, true, false, not, ◌&&◌, ◌||◌, List, [], ◌∷◌, ◌++◌, map, length, Option, Some, None, is_some, if◌then◌else◌}
+use Rattle.std.specs.List.{filter, find, list_any, flat_map}
+use Rattle.std.specs.Option.{option_map, option_map_or}
+use Rattle.std.specs.Str.{bytes_eq}
+use Rattle.spk_session.specs.Step.{without, one_more, is_spent}
+use Rattle.spk_broker_rules.specs.Data.{Post, Copy, Line, Guest, Seat, Stored, Broker}
+use Rattle.spk_broker_rules.specs.Table.{Table}
+use Rattle.spk_broker_rules.specs.Words.{is_empty, handed_out, without_id, stored, is_silent, most_topics, most_kept, most_open, last_number}
+use Rattle.spk_broker_rules.specs.Plan.{Event, Seen, conn_of, client_of}
+
+-- ---- facts
+
+-- of a connection; where there is a moment, it is what the clock showed
+pub data ConnDeed : Type 0 where
+  Opened : (clock : ℕ) → ConnDeed
+  Heard : (clock : ℕ) → ConnDeed
+  Dropped : ConnDeed
+  -- it ended without an accepted CONNECT
+  Ended : ConnDeed
+
+-- of a session
+pub data Deed : Type 0 where
+  Made : (client : List ℕ) (kept : Bool) → Deed
+  -- a CONNECT was accepted
+  Joined : (conn : ℕ) (alive : ℕ) (will : Option Post) → Deed
+  -- its connection ended
+  Left : (conn : ℕ) → Deed
+  Over : Deed
+  Granted : (filter : List ℕ) (qos : ℕ) → Deed
+  TakenBack : (filter : List ℕ) → Deed
+  -- a message got a packet identifier, and was handed out or not
+  Numbered : (id : ℕ) (post : Post) (handed : Bool) → Deed
+  Acked : (id : ℕ) → Deed
+
+pub data Fact : Type 0 where
+  Moment : (moment : ℕ) → Fact
+  OfConn : (conn : ℕ) (deed : ConnDeed) → Fact
+  OfSession : (session : ℕ) (deed : Deed) → Fact
+  Routed : (post : Post) → Fact
+
+abbrev pub Past : Type 0
+Past = List Fact
+
+-- the facts of one connection, and those of one session
+abbrev pub conn_deeds : Past → ℕ → List ConnDeed
+conn_deeds [] c = []
+conn_deeds (Moment m ∷ h) c = conn_deeds h c
+conn_deeds (OfConn d deed ∷ h) c = if d == c then deed ∷ conn_deeds h c else conn_deeds h c
+conn_deeds (OfSession s deed ∷ h) c = conn_deeds h c
+conn_deeds (Routed m ∷ h) c = conn_deeds h c
+
+abbrev pub deeds : Past → ℕ → List Deed
+deeds [] s = []
+deeds (Moment m ∷ h) s = deeds h s
+deeds (OfConn c deed ∷ h) s = deeds h s
+deeds (OfSession t deed ∷ h) s = if t == s then deed ∷ deeds h s else deeds h s
+deeds (Routed m ∷ h) s = deeds h s
+
+-- ---- the clock, connections and sessions
+
+-- the greatest moment
+abbrev pub clock : Past → ℕ
+clock [] = 0
+clock (Moment m ∷ h) = max (clock h) m
+clock (OfConn c deed ∷ h) = clock h
+clock (OfSession s deed ∷ h) = clock h
+clock (Routed m ∷ h) = clock h
+
+abbrev pub is_opening : ConnDeed → Bool
+is_opening (Opened at_clock) = true
+is_opening (Heard at_clock) = false
+is_opening Dropped = false
+is_opening Ended = false
+
+abbrev pub is_making : Deed → Bool
+is_making (Made client kept) = true
+is_making (Joined conn alive will) = false
+is_making (Left conn) = false
+is_making Over = false
+is_making (Granted filter qos) = false
+is_making (TakenBack filter) = false
+is_making (Numbered id post handed) = false
+is_making (Acked id) = false
+
+-- how many connections were opened, and how many sessions were made
+abbrev pub given : Past → ℕ
+given [] = 0
+given (Moment m ∷ h) = given h
+given (OfConn c deed ∷ h) = if is_opening deed then given h + 1 else given h
+given (OfSession s deed ∷ h) = given h
+given (Routed m ∷ h) = given h
+
+abbrev pub made : Past → ℕ
+made [] = 0
+made (Moment m ∷ h) = made h
+made (OfConn c deed ∷ h) = made h
+made (OfSession s deed ∷ h) = if is_making deed then made h + 1 else made h
+made (Routed m ∷ h) = made h
+
+-- begins or ends with a fact, among numbers in the order in which they began
+abbrev pub opened_by : ℕ → ConnDeed → List ℕ → List ℕ
+opened_by c (Opened at_clock) cs = cs ++ c ∷ []
+opened_by c (Heard at_clock) cs = cs
+opened_by c Dropped cs = cs
+opened_by c Ended cs = without c cs
+
+abbrev pub joined_by : Deed → List ℕ → List ℕ
+joined_by (Made client kept) cs = cs
+joined_by (Joined conn alive will) cs = without conn cs
+joined_by (Left conn) cs = cs
+joined_by Over cs = cs
+joined_by (Granted filter qos) cs = cs
+joined_by (TakenBack filter) cs = cs
+joined_by (Numbered id post handed) cs = cs
+joined_by (Acked id) cs = cs
+
+-- the connections that were opened and neither joined nor ended since, in the order of opening
+abbrev pub guests : Past → List ℕ
+guests [] = []
+guests (Moment m ∷ h) = guests h
+guests (OfConn c deed ∷ h) = opened_by c deed (guests h)
+guests (OfSession s deed ∷ h) = joined_by deed (guests h)
+guests (Routed m ∷ h) = guests h
+
+abbrev pub left_by : Deed → List ℕ → List ℕ
+left_by (Made client kept) cs = cs
+left_by (Joined conn alive will) cs = cs
+left_by (Left conn) cs = without conn cs
+left_by Over cs = cs
+left_by (Granted filter qos) cs = cs
+left_by (TakenBack filter) cs = cs
+left_by (Numbered id post handed) cs = cs
+left_by (Acked id) cs = cs
+
+-- the connections that were opened and haven't ended since
+abbrev pub open_conns : Past → List ℕ
+open_conns [] = []
+open_conns (Moment m ∷ h) = open_conns h
+open_conns (OfConn c deed ∷ h) = opened_by c deed (open_conns h)
+open_conns (OfSession s deed ∷ h) = left_by deed (open_conns h)
+open_conns (Routed m ∷ h) = open_conns h
+
+abbrev pub made_by : ℕ → Deed → List ℕ → List ℕ
+made_by s (Made client kept) ss = ss ++ s ∷ []
+made_by s (Joined conn alive will) ss = ss
+made_by s (Left conn) ss = ss
+made_by s Over ss = without s ss
+made_by s (Granted filter qos) ss = ss
+made_by s (TakenBack filter) ss = ss
+made_by s (Numbered id post handed) ss = ss
+made_by s (Acked id) ss = ss
+
+-- the sessions that were made and aren't over, in the order of making
+abbrev pub sessions : Past → List ℕ
+sessions [] = []
+sessions (Moment m ∷ h) = sessions h
+sessions (OfConn c deed ∷ h) = sessions h
+sessions (OfSession s deed ∷ h) = made_by s deed (sessions h)
+sessions (Routed m ∷ h) = sessions h
+
+-- ---- a connection, from its facts
+
+-- the clock at its last packet, or at its opening
+abbrev pub heard : List ConnDeed → ℕ
+heard [] = 0
+heard (Opened at_clock ∷ ds) = at_clock
+heard (Heard at_clock ∷ ds) = at_clock
+heard (Dropped ∷ ds) = heard ds
+heard (Ended ∷ ds) = heard ds
+
+-- how many sends were dropped on it since its opening (the count stays at 65,535, past every limit)
+abbrev pub drops : List ConnDeed → ℕ
+drops [] = 0
+drops (Opened at_clock ∷ ds) = 0
+drops (Heard at_clock ∷ ds) = drops ds
+drops (Dropped ∷ ds) = one_more (drops ds)
+drops (Ended ∷ ds) = drops ds
+
+-- ---- a session, from its facts since it was made
+
+abbrev pub client : List Deed → List ℕ
+client [] = []
+client (Made c k ∷ ds) = c
+client (Joined conn alive will ∷ ds) = client ds
+client (Left conn ∷ ds) = client ds
+client (Over ∷ ds) = client ds
+client (Granted filter qos ∷ ds) = client ds
+client (TakenBack filter ∷ ds) = client ds
+client (Numbered id post handed ∷ ds) = client ds
+client (Acked id ∷ ds) = client ds
+
+-- made with clean session 0
+abbrev pub kept : List Deed → Bool
+kept [] = false
+kept (Made c k ∷ ds) = k
+kept (Joined conn alive will ∷ ds) = kept ds
+kept (Left conn ∷ ds) = kept ds
+kept (Over ∷ ds) = kept ds
+kept (Granted filter qos ∷ ds) = kept ds
+kept (TakenBack filter ∷ ds) = kept ds
+kept (Numbered id post handed ∷ ds) = kept ds
+kept (Acked id ∷ ds) = kept ds
+
+-- an accepted CONNECT: its connection, keep alive and will
+pub record Joining : Type 0 where
+  pub conn : ℕ
+  pub alive : ℕ
+  pub will : Option Post
+
+-- its last accepted CONNECT, unless that connection ended since
+abbrev pub here : List Deed → Option Joining
+here [] = None
+here (Made c k ∷ ds) = None
+here (Joined conn alive will ∷ ds) = Some (record { conn = conn; alive = alive; will = will })
+here (Left conn ∷ ds) = None
+here (Over ∷ ds) = here ds
+here (Granted filter qos ∷ ds) = here ds
+here (TakenBack filter ∷ ds) = here ds
+here (Numbered id post handed ∷ ds) = here ds
+here (Acked id ∷ ds) = here ds
+
+-- What is said of a text: a value, or that it has none any more; newest first.
+abbrev pub Notes : Type 0 → Type 0
+Notes V = List (List ℕ × Option V)
+
+abbrev pub begins : {V : Type 0} → List ℕ → Option V → List (List ℕ) → List (List ℕ)
+begins key None keys = filter (λ k. not (bytes_eq k key)) keys
+begins key (Some v) keys = if list_any (λ k. bytes_eq k key) keys then keys else keys ++ key ∷ []
+
+-- the texts that have a value, in the order in which their present stay began
+abbrev pub staying : {V : Type 0} → Notes V → List (List ℕ)
+staying [] = []
+staying (n ∷ ns) = begins n.0 n.1 (staying ns)
+
+-- what was said last of a text
+abbrev pub last_said : {V : Type 0} → Notes V → List ℕ → Option V
+last_said [] key = None
+last_said (n ∷ ns) key = if bytes_eq key n.0 then n.1 else last_said ns key
+
+abbrev pub entry : {V : Type 0} → List ℕ → Option V → Table V
+entry key None = []
+entry key (Some v) = (key, v) ∷ []
+
+-- each text that has a value, with the one said last
+abbrev pub table : {V : Type 0} → Notes V → Table V
+table ns = flat_map (λ k. entry k (last_said ns k)) (staying ns)
+
+-- what was granted and taken back
+abbrev pub grant_notes : List Deed → Notes ℕ
+grant_notes [] = []
+grant_notes (Made c k ∷ ds) = []
+grant_notes (Joined conn alive will ∷ ds) = grant_notes ds
+grant_notes (Left conn ∷ ds) = grant_notes ds
+grant_notes (Over ∷ ds) = grant_notes ds
+grant_notes (Granted filter qos ∷ ds) = (filter, Some qos) ∷ grant_notes ds
+grant_notes (TakenBack filter ∷ ds) = (filter, None) ∷ grant_notes ds
+grant_notes (Numbered id post handed ∷ ds) = grant_notes ds
+grant_notes (Acked id ∷ ds) = grant_notes ds
+
+-- a filter's grant is the last one given for it and not taken back
+abbrev pub grants : List Deed → Table ℕ
+grants ds = table (grant_notes ds)
+
+-- the messages that got an identifier and weren't acknowledged since, in that order, which is the order of their routing; each
+-- was handed out if it was so at first, or if a CONNECT was accepted since
+abbrev pub unacked : List Deed → List Copy
+unacked [] = []
+unacked (Made c k ∷ ds) = []
+unacked (Joined conn alive will ∷ ds) = map handed_out (unacked ds)
+unacked (Left conn ∷ ds) = unacked ds
+unacked (Over ∷ ds) = unacked ds
+unacked (Granted filter qos ∷ ds) = unacked ds
+unacked (TakenBack filter ∷ ds) = unacked ds
+unacked (Numbered id post handed ∷ ds) = unacked ds ++ (record { id = id; post = post; handed = handed }) ∷ []
+unacked (Acked id ∷ ds) = without_id id (unacked ds)
+
+abbrev pub used : List Deed → List ℕ
+used ds = map (λ (c : Copy). c.id) (unacked ds)
+
+-- a kept session keeps them
+abbrev pub copies : List Deed → List Copy
+copies ds = if kept ds then unacked ds else []
+
+-- the identifier given last, 0 where none was
+abbrev pub last_id : List Deed → ℕ
+last_id [] = 0
+last_id (Made c k ∷ ds) = 0
+last_id (Joined conn alive will ∷ ds) = last_id ds
+last_id (Left conn ∷ ds) = last_id ds
+last_id (Over ∷ ds) = last_id ds
+last_id (Granted filter qos ∷ ds) = last_id ds
+last_id (TakenBack filter ∷ ds) = last_id ds
+last_id (Numbered id post handed ∷ ds) = id
+last_id (Acked id ∷ ds) = last_id ds
+
+-- ---- retained messages
+
+abbrev pub routed : Past → List Post
+routed [] = []
+routed (Moment m ∷ h) = routed h
+routed (OfConn c deed ∷ h) = routed h
+routed (OfSession s deed ∷ h) = routed h
+routed (Routed m ∷ h) = m ∷ routed h
+
+-- an empty payload removes what is retained (3.3.1.3)
+abbrev pub retained_value : Post → Option Stored
+retained_value m = if is_empty m.payload then None else Some (stored m)
+
+-- A retained message counts, unless its topic would be one more than may be kept.
+abbrev pub counts : List (List ℕ) → Post → Bool
+counts topics m = is_empty m.payload || (list_any (λ k. bytes_eq k m.topic) topics || nat_lt (length topics) most_topics)
+
+abbrev pub note_if : Bool → Post → Notes Stored → Notes Stored
+note_if b m ns = if b then (m.topic, retained_value m) ∷ ns else ns
+
+abbrev pub retained_notes : List Post → Notes Stored
+retained_notes [] = []
+retained_notes (m ∷ ms) = note_if (m.retain && counts (staying (retained_notes ms)) m) m (retained_notes ms)
+
+-- of each topic the last retained message that counts, unless it is empty, in the order in which their present stay began
+abbrev pub retained : Past → Table Stored
+retained h = table (retained_notes (routed h))
+
+-- ---- what the rules ask of the past
+
+abbrev pub conn_here : Past → ℕ → Option ℕ
+conn_here h s = option_map (λ (j : Joining). j.conn) (here (deeds h s))
+
+abbrev pub sits_at : Past → ℕ → ℕ → Bool
+sits_at h c s = option_map_or (λ (j : Joining). j.conn == c) (here (deeds h s)) false
+
+-- the session whose connection this is
+abbrev pub session_at : Past → ℕ → Option ℕ
+session_at h c = find (sits_at h c) (sessions h)
+
+abbrev pub is_of : Past → List ℕ → ℕ → Bool
+is_of h c s = bytes_eq (client (deeds h s)) c
+
+-- the connection that sits for a client
+abbrev pub older_of : Past → List ℕ → Option ℕ
+older_of h c = if is_empty c then None
+    else option_map_or (conn_here h) (find (λ s. is_some (here (deeds h s)) && is_of h c s) (sessions h)) None
+
+-- it has a kept session, or there are fewer than there may be
+abbrev pub is_welcome : Past → List ℕ → Bool
+is_welcome h c = list_any (λ s. kept (deeds h s) && is_of h c s) (sessions h)
+    || nat_lt (length (filter (λ s. kept (deeds h s)) (sessions h))) most_kept
+
+abbrev pub joined_drops : Past → ℕ → ℕ
+joined_drops h s = option_map_or (λ (j : Joining). drops (conn_deeds h j.conn)) (here (deeds h s)) 0
+
+-- the drops of an open connection
+abbrev pub drops_of : Past → ℕ → ℕ
+drops_of h c = option_map_or (λ g. drops (conn_deeds h g)) (find (λ g. g == c) (guests h))
+    (option_map_or (joined_drops h) (session_at h c) 0)
+
+abbrev pub silent_of : Past → ℕ → List ℕ
+silent_of h s = option_map_or (λ (j : Joining). if is_silent (clock h) j.alive (heard (conn_deeds h j.conn)) then j.conn ∷ [] else [])
+    (here (deeds h s)) []
+
+abbrev pub seen_in : ℕ → Past → Event → Seen
+seen_in limit h e = record {
+  joined = is_some (session_at h (conn_of e));
+  older = older_of h (client_of e);
+  welcome = is_welcome h (client_of e);
+  spent = is_spent limit (drops_of h (conn_of e));
+  silent = flat_map (silent_of h) (sessions h);
+}
+
+-- ---- which events may come
+
+-- a connection is open
+abbrev pub is_open : Past → ℕ → Bool
+is_open h c = list_any (λ d. d == c) (open_conns h)
+
+-- no further connection can be opened: as many are open as may be, or the greatest number was given
+abbrev pub may_open : Past → Bool
+may_open h = not (nat_le most_open (length (open_conns h)) || nat_le last_number (given h))
+
+-- ---- the data that the past asks for
+
+abbrev pub guest_of : Past → ℕ → Guest
+guest_of h c = record { conn = c; heard = heard (conn_deeds h c); drops = drops (conn_deeds h c) }
+
+abbrev pub line_of : Past → Joining → Line
+line_of h j = record {
+  conn = j.conn;
+  alive = j.alive;
+  heard = heard (conn_deeds h j.conn);
+  will = j.will;
+  drops = drops (conn_deeds h j.conn);
+}
+
+abbrev pub seat_with : (Joining → Line) → ℕ → List Deed → Seat
+seat_with line s ds = record {
+  key = s;
+  client = client ds;
+  kept = kept ds;
+  here = option_map line (here ds);
+  grants = grants ds;
+  used = used ds;
+  last = last_id ds;
+  copies = copies ds;
+}
+
+abbrev pub seat_of : Past → ℕ → Seat
+seat_of h s = seat_with (line_of h) s (deeds h s)
+
+abbrev pub broker_of : ℕ → Past → Broker
+broker_of limit h = record {
+  limit = limit;
+  given = given h;
+  made = made h;
+  clock = clock h;
+  guests = map (guest_of h) (guests h);
+  seats = map (seat_of h) (sessions h);
+  retained = retained h;
+}

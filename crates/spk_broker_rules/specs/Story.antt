@@ -1,0 +1,199 @@
+-- The acts on the past: what each adds to the facts, and what it sends and closes, asked of the facts before it.
+use Rattle.std.specs.Prelude.{◌≡◌, ◌==◌, ℕ, zero, suc, ◌+◌, ◌-◌, Bool, true, false, not, ◌&&◌, List, [], ◌∷◌, ◌++◌, map, length, Option, Some, None, is_some, if◌then◌else◌}
+use Rattle.std.specs.List.{find, fold, flat_map}
+use Rattle.std.specs.Option.{option_map_or}
+use Rattle.spk_packets.specs.Message.{ConnAck, SubAck}
+use Rattle.spk_session.specs.PacketIds.{next_id}
+use Rattle.spk_session.specs.Step.{has_room}
+use Rattle.spk_broker_rules.specs.Data.{Post, Send}
+use Rattle.spk_broker_rules.specs.Words.{best, level, sent_as, plain_packet, numbered_packet, to_line, option_list, resent, offers_to, granted_of, codes_of}
+use Rattle.spk_broker_rules.specs.Plan.{Act, Opens, At, Hear, Drop, Say, Leave, Tell, Queue, Route, Forget, Accept, Give, Take, Ack}
+use Rattle.spk_broker_rules.specs.Past.{Past, Moment, OfConn, OfSession, Routed, Opened, Heard, Dropped, Ended, Deed, Made, Joined, Left, Over, Granted, TakenBack, Numbered, Acked, Joining, deeds, clock, given, made, guests, sessions, kept, here, grants, used, copies, last_id, retained, conn_here, session_at, is_of}
+
+-- The past in the midst of an event, what is sent and closed so far, and the messages that wait.
+pub record Story : Type 0 where
+  pub past : Past
+  pub sends : List Send
+  pub closes : List ℕ
+  pub waiting : List Post
+
+-- facts that come on top, newest first
+abbrev pub note : Past → Story → Story
+note facts t = record t { past = facts ++ t.past }
+
+-- ---- what one message gives one session
+
+pub record Share : Type 0 where
+  -- of this session, newest first
+  pub deeds : List Deed
+  pub sends : List Send
+  pub closes : List ℕ
+  pub wills : List Post
+
+abbrev pub gives : List Deed → List Send → Share
+gives ds sends = record { deeds = ds; sends = sends; closes = []; wills = [] }
+
+-- Its connection leaves, if it has one, and the session is over.
+abbrev pub ends_at : Option Joining → Share
+ends_at None = record { deeds = Over ∷ []; sends = []; closes = []; wills = [] }
+ends_at (Some j) = record { deeds = Over ∷ Left j.conn ∷ []; sends = []; closes = j.conn ∷ []; wills = option_list j.will }
+
+abbrev pub numbers : Past → ℕ → Post → ℕ → Share
+numbers h s post id =
+    gives (Numbered id post (is_some (here (deeds h s))) ∷ []) (to_line (conn_here h s) (numbered_packet false id post))
+
+-- A message with its QoS and RETAIN: at QoS 0 it goes to the connection, if there is one; at QoS 1 it gets the next
+-- identifier, and a session with 1,024 unacknowledged ends.
+abbrev pub given_at : ℕ → Past → ℕ → Post → Share
+given_at zero h s post = gives [] (to_line (conn_here h s) (plain_packet post))
+given_at (suc q) h s post = if has_room (used (deeds h s))
+    then numbers h s post (next_id (used (deeds h s)) (last_id (deeds h s))) else ends_at (here (deeds h s))
+
+abbrev pub gift : Past → ℕ → Post → Share
+gift h s post = given_at post.qos h s post
+
+abbrev pub share_at : Option ℕ → Past → Post → ℕ → Share
+share_at None h m s = gives [] []
+share_at (Some q) h m s = gift h s (sent_as m q false)
+
+-- a routed message: with the lesser of its QoS and the session's greatest matching grant, once, RETAIN 0, DUP 0
+abbrev pub share : Past → Post → ℕ → Share
+share h m s = share_at (level m.qos (best m.topic (grants (deeds h s)))) h m s
+
+abbrev pub session_facts : ℕ → List Deed → Past
+session_facts s ds = map (OfSession s) ds
+
+-- ---- routing
+
+-- Each session's share is asked before the message.
+abbrev pub told_one : Post → Story → Story
+told_one m t = record {
+  past = Routed m ∷ flat_map (λ s. session_facts s (share t.past m s).deeds) (sessions t.past) ++ t.past;
+  sends = t.sends ++ flat_map (λ s. (share t.past m s).sends) (sessions t.past);
+  closes = t.closes ++ flat_map (λ s. (share t.past m s).closes) (sessions t.past);
+  waiting = t.waiting ++ flat_map (λ s. (share t.past m s).wills) (sessions t.past);
+}
+
+-- What waits is routed: nothing waits, or the first is routed whole, and then the rest, and what waits behind it.
+pub data Routes : Story → Story → Type 0 where
+  nothing_waits : (t u : Story) → t.waiting ≡ [] → t ≡ u → Routes t u
+  goes_on : (t u : Story) (m : Post) (ms : List Post) → t.waiting ≡ m ∷ ms → Routes (told_one m (record t { waiting = ms })) u → Routes t u
+
+-- ---- coming and going
+
+abbrev pub told_opens : Story → Story
+told_opens t = note (OfConn (given t.past + 1) (Opened (clock t.past)) ∷ []) t
+
+abbrev pub will_of : Bool → Option Joining → List Post
+will_of true j = option_map_or (λ (i : Joining). option_list i.will) j []
+will_of false j = []
+
+-- a session that isn't kept is over with its connection
+abbrev pub leaving : Bool → ℕ → List Deed
+leaving true conn = Left conn ∷ []
+leaving false conn = Over ∷ Left conn ∷ []
+
+abbrev pub told_leave : Option ℕ → ℕ → Bool → Story → Story
+told_leave None conn wills t = note (OfConn conn Ended ∷ []) t
+told_leave (Some s) conn wills t = record (note (session_facts s (leaving (kept (deeds t.past s)) conn)) t) {
+  waiting = t.waiting ++ will_of wills (here (deeds t.past s));
+}
+
+-- a kept session of this client without a connection
+abbrev pub is_away : Past → List ℕ → ℕ → Bool
+is_away h c s = kept (deeds h s) && (not (is_some (here (deeds h s))) && is_of h c s)
+
+abbrev pub told_forget : Option ℕ → Story → Story
+told_forget None t = t
+told_forget (Some s) t = note (session_facts s (Over ∷ [])) t
+
+abbrev pub away_for : Past → Bool → List ℕ → Option ℕ
+away_for h keeps c = if keeps then find (is_away h c) (sessions h) else None
+
+-- A kept session is taken up: session present, and what isn't acknowledged is sent again. Or a session is made.
+abbrev pub told_take_up : Option ℕ → ℕ → List ℕ → Bool → ℕ → Option Post → Story → Story
+told_take_up None conn c keeps alive will t =
+    record (note (session_facts (made t.past + 1) (Joined conn alive will ∷ Made c keeps ∷ [])) t) {
+      sends = t.sends ++ (record { conn = conn; packet = ConnAck false 0 }) ∷ [];
+    }
+told_take_up (Some s) conn c keeps alive will t =
+    record (note (session_facts s (Joined conn alive will ∷ [])) t) {
+      sends = t.sends ++ (record { conn = conn; packet = ConnAck true 0 }) ∷ resent conn (copies (deeds t.past s));
+    }
+
+abbrev pub told_accept : Option ℕ → List ℕ → Bool → ℕ → Option Post → Story → Story
+told_accept None c keeps alive will t = t
+told_accept (Some conn) c keeps alive will t = told_take_up (away_for t.past keeps c) conn c keeps alive will t
+
+-- ---- SUBSCRIBE, UNSUBSCRIBE, PUBACK
+
+-- one message for a session, where it still stands
+abbrev pub told_offer_at : Bool → ℕ → Post → Story → Story
+told_offer_at false s post t = t
+told_offer_at true s post t = record {
+  past = session_facts s (gift t.past s post).deeds ++ t.past;
+  sends = t.sends ++ (gift t.past s post).sends;
+  closes = t.closes ++ (gift t.past s post).closes;
+  waiting = t.waiting ++ (gift t.past s post).wills;
+}
+
+abbrev pub stands : Past → ℕ → Bool
+stands h s = is_some (find (λ t. t == s) (sessions h))
+
+abbrev pub told_offer : ℕ → Story → Post → Story
+told_offer s t post = told_offer_at (stands t.past s) s post t
+
+-- the pairs of a session and a filter, but those of this session
+abbrev pub other_pairs : Past → ℕ → ℕ
+other_pairs h s = length (flat_map (λ t. grants (deeds h t)) (sessions h)) - length (grants (deeds h s))
+
+abbrev pub granting : ℕ → Past → List ℕ × ℕ → Past
+granting s h entry = OfSession s (Granted entry.0 entry.1) ∷ h
+
+abbrev pub told_give_with : ℕ → ℕ → ℕ → ℕ → List (List ℕ × ℕ) → Story → Story
+told_give_with others s conn id entries t =
+    fold (told_offer s)
+    (record t {
+      past = fold (granting s) t.past (granted_of others (grants (deeds t.past s)) entries);
+      sends = t.sends ++ (record { conn = conn; packet = SubAck id (codes_of others (grants (deeds t.past s)) entries) }) ∷ [];
+    })
+    (flat_map (offers_to (retained t.past)) (granted_of others (grants (deeds t.past s)) entries))
+
+abbrev pub told_give : Option ℕ → ℕ → ℕ → List (List ℕ × ℕ) → Story → Story
+told_give None conn id entries t = t
+told_give (Some s) conn id entries t = told_give_with (other_pairs t.past s) s conn id entries t
+
+abbrev pub taking_back : ℕ → Past → List ℕ → Past
+taking_back s h filter = OfSession s (TakenBack filter) ∷ h
+
+abbrev pub told_take : Option ℕ → List (List ℕ) → Story → Story
+told_take None filters t = t
+told_take (Some s) filters t = record t { past = fold (taking_back s) t.past filters }
+
+abbrev pub told_ack : Option ℕ → ℕ → Story → Story
+told_ack None id t = t
+told_ack (Some s) id t = note (session_facts s (Acked id ∷ [])) t
+
+-- ---- an act, and a list of them
+
+-- An act leads from one story to another.
+abbrev pub Tells : Act → Story → Story → Type 0
+Tells Opens t u = u ≡ told_opens t
+Tells (At moment) t u = u ≡ note (Moment moment ∷ []) t
+Tells (Hear conn) t u = u ≡ note (OfConn conn (Heard (clock t.past)) ∷ []) t
+Tells (Drop conn) t u = u ≡ note (OfConn conn Dropped ∷ []) t
+Tells (Say conn p) t u = u ≡ record t { sends = t.sends ++ (record { conn = conn; packet = p }) ∷ [] }
+Tells (Leave conn wills) t u = u ≡ told_leave (session_at t.past conn) conn wills t
+Tells (Tell conn) t u = u ≡ record t { closes = t.closes ++ conn ∷ [] }
+Tells (Queue post) t u = u ≡ record t { waiting = t.waiting ++ post ∷ [] }
+Tells Route t u = Routes t u
+Tells (Forget c) t u = u ≡ told_forget (find (is_away t.past c) (sessions t.past)) t
+Tells (Accept conn c keeps alive will) t u =
+    u ≡ told_accept (find (λ g. g == conn) (guests t.past)) c keeps alive will t
+Tells (Give conn id entries) t u = u ≡ told_give (session_at t.past conn) conn id entries t
+Tells (Take conn filters) t u = u ≡ told_take (session_at t.past conn) filters t
+Tells (Ack conn id) t u = u ≡ told_ack (session_at t.past conn) id t
+
+abbrev pub TellsAll : List Act → Story → Story → Type 0
+TellsAll [] t u = t ≡ u
+TellsAll (a ∷ more_acts) t u = (v : Story) × Tells a t v × TellsAll more_acts v u

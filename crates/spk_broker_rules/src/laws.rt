@@ -1,0 +1,53 @@
+//! Laws of the definitions alone: functions that do nothing, whose contracts speak of definitions.
+ghost use Rattle.std.specs.Prelude.{◌≡◌, ◌==◌, ℕ, List, ◌∷◌, Bool, true, false, not, Option, Some, is_some};
+ghost use Rattle.std.specs.List.{find};
+ghost use Rattle.spk_packets.specs.Message.{Connect, Disconnect, WillData};
+ghost use Rattle.spk_broker_rules.specs.Lawful.{IsLawful};
+ghost use Rattle.spk_broker_rules.specs.Past.{Past, broker_of, guests, is_open, may_open, older_of, session_at};
+ghost use Rattle.spk_broker_rules.specs.Plan.{Event, Packet};
+ghost use Rattle.spk_broker_rules.specs.Step.{after, is_full, knows, step};
+ghost use Rattle.spk_broker_rules.specs.TakeOver.{GoesQuietly, IsAccepted, TakesOver};
+ghost use Rattle.spk_broker_rules.specs.Telling.{Answers, Leads, Telling, may_be};
+
+/// For every limit of drops and every list of events, newest first, each of which might come: stepping the data gives
+/// what the rules ask of the list of all that happened.
+pub fn any_list()
+    // what an event sends and closes by the data is what its telling by the past sends and closes, in that order
+    ensures answers { (limit : ℕ) (es : List Event) (h : Past) (e : Event) → Leads limit es h → Answers limit h e (step (after limit es) e) }
+
+    // and no other telling is there
+    ensures one { (limit : ℕ) (h : Past) (e : Event) (t u : Telling limit h e) → t.end ≡ u.end }
+
+    // a list of events leads to one past, and one more event that may come leads on
+    ensures past { (limit : ℕ) (es : List Event) (h g : Past) → Leads limit es h → Leads limit es g → h ≡ g }
+    ensures goes_on { (limit : ℕ) (es : List Event) (h : Past) (e : Event) → Leads limit es h → may_be h e ≡ true → (g : Past) × Leads limit (e ∷ es) g }
+
+    // the data are those that the past asks for: sessions, grants, identifiers, retained messages and connections by queries
+    ensures asked { (limit : ℕ) (es : List Event) (h : Past) → Leads limit es h → after limit es ≡ broker_of limit h }
+
+    // the data know a connection exactly where it is open: NoSuchConn (30) elsewhere
+    ensures known { (limit : ℕ) (es : List Event) (h : Past) (conn : ℕ) → Leads limit es h → knows (after limit es) conn ≡ is_open h conn }
+
+    // `open` is refused with Limit (31) exactly where 1,000 connections are open or the greatest number was given
+    ensures full { (limit : ℕ) (es : List Event) (h : Past) → Leads limit es h → is_full (after limit es) ≡ not (may_open h) }
+
+    // the numbers of connections were given, and sessions stand in the order in which they were made
+    ensures lawful { (limit : ℕ) (es : List Event) → IsLawful (after limit es) }
+{}
+
+/// After a DISCONNECT (MQTT 3.1.1, 3.14) of a connection whose CONNECT was accepted nothing is routed, sent or closed: its
+/// will is discarded, and it is open no more.
+pub fn disconnect()
+    ensures { (limit : ℕ) (h : Past) (conn moment : ℕ) (t : Telling limit h (Packet conn Disconnect moment)) →
+        is_some (session_at h conn) ≡ true → GoesQuietly conn h t.end }
+{}
+
+/// Where a CONNECT that isn't turned away takes over the connection of its client (3.1.4): all that is sent before CONNACK
+/// is what the older connection's leaving and the routing of its will send, to the newer one goes all from CONNACK on, and
+/// the older one is closed last, behind those that the routing closes.
+pub fn take_over()
+    ensures { (limit : ℕ) (h : Past) (conn older moment : ℕ) (client : List ℕ) (clean : Bool) (alive : ℕ) (will : Option WillData)
+        (t : Telling limit h (Packet conn (Connect client clean alive will) moment)) →
+        is_some (find (λ g. g == conn) (guests h)) ≡ true → is_some (session_at h conn) ≡ false → older_of h client ≡ Some older →
+        IsAccepted h client clean alive will → TakesOver conn older t.first t.end }
+{}
