@@ -1,14 +1,14 @@
 -- A plain publish: QoS 0, without RETAIN.
-use Rattle.std.proofs.Common.{◌≡◌, ℕ, zero, suc, ◌+◌, max, min, Bool, true, false, not, cond, eqb, List, [], ◌∷◌, ◌++◌, map, length, refl, sym, ◌∙◌, ap, ap₂, arith, Option, Some, None, append-nil}
-use Rattle.std.specs.List.{find, flat_map}
+use Rattle.std.proofs.Common.{◌≡◌, ℕ, max, min, Bool, true, false, cond, eqb, List, [], ◌∷◌, ◌++◌, map, refl, ◌∙◌, ap, ap₂, arith, Option, Some, None}
+use Rattle.std.specs.List.{flat_map}
 use Rattle.std.specs.Option.{option_map, option_map_or, is_some}
 use Rattle.spk_packets.specs.Fault.{first_of}
 use Rattle.spk_packets.specs.Spelling.{unwritable}
 use Rattle.spk_topics.specs.Text.{topic_refusal}
-use Rattle.spk_broker_rules.specs.Data.{Post, Line, Guest, Seat, Broker, Send}
-use Rattle.spk_broker_rules.specs.Words.{best, level, sent_as, plain_packet, to_line}
-use Rattle.spk_broker_rules.specs.Plan.{Event, Packet, Act, Queue, Route, plan, shut}
-use Rattle.spk_broker_rules.specs.Step.{Turn, acts, noted, seen, step, route, route_one, serve, serve_at, conn_at, seat_at, sits, line_heard, retained_with}
+use Rattle.spk_broker_rules.specs.Data.{Post, Line, Seat, Broker, Send}
+use Rattle.spk_broker_rules.specs.Words.{best, level, to_line}
+use Rattle.spk_broker_rules.specs.Plan.{Event, Packet, Act, Queue, Route, shut}
+use Rattle.spk_broker_rules.specs.Step.{Turn, acts, noted, step, route, route_one, serve, serve_at, conn_at, seat_at, sits, line_heard}
 use Rattle.spk_broker_rules.specs.Listening.{is_joined, is_listening, plain_publish, IsPlain, given_to}
 use Rattle.spk_broker_rules.proofs.Lists.{find-map, flat_map-map, flat_map-same}
 use Rattle.spk_broker_rules.proofs.Routing.{route-done, route-next}

@@ -1,21 +1,21 @@
 -- What is joined stays so, and what listens goes on listening, or the caller is told to close it.
-use Rattle.std.proofs.Common.{◌≡◌, ◌⊎◌, inl, inr, ℕ, zero, suc, ◌+◌, ◌<◌, ◌≤◌, min, max, Bool, true, false, not, ◌&&◌, ◌||◌, cond, eqb, List, [], ◌∷◌, ◌++◌, map, length, refl, sym, ◌∙◌, ap, ap₂, arith, subst, Option, Some, None, ne_eqb, true≢false}
-use Rattle.std.specs.List.{filter, find, fold, list_any, flat_map, AllByRecursion}
+use Rattle.std.proofs.Common.{◌≡◌, ◌⊎◌, inl, inr, ℕ, zero, suc, ◌+◌, ◌<◌, min, max, Bool, true, false, not, ◌&&◌, ◌||◌, cond, eqb, List, [], ◌∷◌, ◌++◌, map, length, refl, sym, ◌∙◌, ap, arith, subst, Option, Some, None, unwrap_or, true≢false}
+use Rattle.std.specs.List.{find, fold, list_any, flat_map, AllByRecursion}
 use Rattle.std.specs.Option.{option_map, option_map_or, is_some}
 use Rattle.std.specs.Str.{bytes_eq}
 use Rattle.std.proofs.lemmas.Bool.{or_left, or_right}
 use Rattle.std.proofs.lemmas.List.Folds.{list_any-append}
-use Rattle.spk_packets.specs.declared.fault.PacketFault.{PacketFault}
-use Rattle.spk_packets.specs.Message.{Message, WillData, Connect, ConnAck, Publish, PubAck, Subscribe, SubAck, Unsubscribe, UnsubAck, PingReq, PingResp, Disconnect}
-use Rattle.spk_session.specs.declared.answer.Sort.{Sort}
+use Rattle.spk_packets.specs.Message.{Message, Connect, ConnAck, Publish, PubAck, Subscribe, SubAck, Unsubscribe, UnsubAck, PingReq, PingResp, Disconnect}
+use Rattle.spk_topics.specs.Fitting.{is_match}
 use Rattle.spk_session.specs.declared.answer.Sort.TheVariants as sort
 use Rattle.spk_session.specs.PacketIds.{next_id}
-use Rattle.spk_session.specs.Step.{has_room, one_more}
-use Rattle.spk_broker_rules.specs.Data.{Post, Line, Guest, Seat, Broker, Send}
+use Rattle.spk_session.specs.Step.{has_room}
+use Rattle.spk_broker_rules.specs.Data.{Post, Line, Guest, Seat, Broker}
 use Rattle.spk_broker_rules.specs.Lawful.{Rises, IsLawful}
 use Rattle.spk_broker_rules.specs.Table.{Table, has, put, remove, replaced}
 use Rattle.spk_broker_rules.specs.Words.{handed_out, best, level, sent_as, option_list, granted_of, with_entry, is_granted, offers_to}
-use Rattle.spk_broker_rules.specs.Plan.{Event, Open, Packet, Fault, Closed, Tick, Refused, Act, Opens, At, Hear, Drop, Say, Leave, Tell, Queue, Route, Forget, Accept, Give, Take, Ack, before, plan, shut, turn_away, join, take_over, tell_older, connect, has_bad_topic, Seen}
+use Rattle.spk_broker_rules.specs.Plan.{Event, Open, Packet, Fault, Closed, Tick, Refused, Act, Opens, At, Hear, Drop, Say, Leave, Tell, Queue, Route, Forget, Accept, Give, Take, Ack, before, plan, shut, turn_away, join, first_packet, next_packet, tick, is_fatal, Seen}
+use Rattle.spk_broker_rules.specs.Listening.{is_joined, listens, is_disconnect, is_unsubscribe, lets_go, takes_back, is_closed_in}
 use Rattle.spk_broker_rules.specs.Step.{Turn, Served, act, acts, on_lines, guest_heard, line_heard, guest_dropped, line_dropped, sits, swap, left_behind, leave_at, seat_at, is_guest, is_away, forget_at, line_of, new_seat, take_up, away_for, accept_of, other_grants, give_at, take_at, ack_at, offer, offer_at, with_key, hand, hand_at, serve, serve_at, numbered, bursts, route_one, route_some, route, noted, begun, seen, step}
 use Rattle.spk_broker_rules.proofs.Lists.{eqb-is, eqb-self, found-passes, any-map, all-also}
 use Rattle.spk_broker_rules.proofs.Lawfuls.{lawful-act, lawful-acts, lawful-offer_at, lawful-found, heard-line, dropped-line}
@@ -344,3 +344,249 @@ module _ (c : ℕ) (L : Table ℕ → Bool) (mono : (f : List ℕ) (q : ℕ) (g 
   fine-acts : (as_list : List Act) (t : Turn) → AllByRecursion Safe as_list → IsLawful t.broker → Fine t → Fine (acts as_list t)
   fine-acts [] t safe l f = f
   fine-acts (a ∷ as_list) t safe l f = fine-acts as_list (act a t) safe.1 (lawful-act a t l) (fine-act a t safe.0 l f)
+
+  -- ---- who is told to be closed stays so
+
+  told-one : (m : Post) (t : Turn) → Told t → Told (route_one m t)
+  told-one m t e = any-front (λ d. eqb d c) t.closes (flat_map (λ (s : Seat). (serve m s).closes) t.broker.seats) e
+
+  told-some : (n : ℕ) (t : Turn) → Told t → Told (route_some n t)
+  unfolding route_some
+  told-some zero t e = e
+  told-some (suc n) t e = by t.waiting (λ m ms. told-some n (route_one m (record t { waiting = ms })) (told-one m (record t { waiting = ms }) e))
+    where
+      by : (ws : List Post) → ((m : Post) (ms : List Post) → Told (route_some n (route_one m (record t { waiting = ms }))))
+          → Told (elim ws as (λ _. Turn) [ [] ↦ t | m ∷ ms ↦ route_some n (route_one m (record t { waiting = ms })) ])
+      by [] rest = e
+      by (m ∷ ms) rest = rest m ms
+
+  told-route : (t : Turn) → Told t → Told (route t)
+  unfolding route
+  told-route t e = told-some (length t.waiting + length t.broker.seats) t e
+
+  told-offers : (key : ℕ) (posts : List Post) (t : Turn) → Told t → Told (fold (offer key) t posts)
+  told-offers key [] t e = e
+  told-offers key (p ∷ ps) t e = told-offers key ps (offer key t p) (by (with_key key t.broker.seats))
+    where
+      by : (o : Option Seat) → Told (offer_at o key p t)
+      by None = e
+      by (Some s) = any-front (λ d. eqb d c) t.closes (hand p s).closes e
+
+  told-act : (a : Act) (t : Turn) → Told t → Told (act a t)
+  told-act Opens t e = e
+  told-act (At moment) t e = e
+  told-act (Hear d) t e = e
+  told-act (Drop d) t e = e
+  told-act (Say d p) t e = e
+  told-act (Leave d wills) t e = by (seat_at d t.broker.seats)
+    where
+      by : (o : Option Seat) → Told (leave_at o d wills t)
+      by None = e
+      by (Some s) = e
+  told-act (Tell d) t e = any-front (λ x. eqb x c) t.closes (d ∷ []) e
+  told-act (Queue post) t e = e
+  told-act Route t e = told-route t e
+  told-act (Forget name) t e = by (find (is_away name) t.broker.seats)
+    where
+      by : (o : Option Seat) → Told (forget_at o t)
+      by None = e
+      by (Some s) = e
+  told-act (Accept d name keeps alive will) t e = by (find (is_guest d) t.broker.guests)
+    where
+      up : (o : Option Seat) (x : Line) → Told (take_up o name keeps x t)
+      up None x = e
+      up (Some s) x = e
+
+      by : (o : Option Guest) → Told (accept_of o name keeps alive will t)
+      by None = e
+      by (Some g) = up (away_for keeps name t.broker.seats) (line_of g alive will)
+  told-act (Give d id entries) t e = by (seat_at d t.broker.seats)
+    where
+      by : (o : Option Seat) → Told (give_at o d id entries t)
+      by None = e
+      by (Some s) = told-offers s.key (flat_map (offers_to t.broker.retained) (granted_of (other_grants s t.broker.seats) s.grants entries)) _ e
+  told-act (Take d filters) t e = by (seat_at d t.broker.seats)
+    where
+      by : (o : Option Seat) → Told (take_at o filters t)
+      by None = e
+      by (Some s) = e
+  told-act (Ack d id) t e = by (seat_at d t.broker.seats)
+    where
+      by : (o : Option Seat) → Told (ack_at o id t)
+      by None = e
+      by (Some s) = e
+
+  told-acts : (as_list : List Act) (t : Turn) → Told t → Told (acts as_list t)
+  told-acts [] t e = e
+  told-acts (a ∷ as_list) t e = told-acts as_list (act a t) (told-act a t e)
+
+  -- ---- the rules: who leaves is told so
+
+  record Tells (as_list : List Act) : Type 0 where
+    front : List Act
+    back : List Act
+    is : as_list ≡ front ++ Tell c ∷ back
+
+  abbrev Good : List Act → Type 0
+  Good as_list = Tells as_list ⊎ AllByRecursion Safe as_list
+
+  acts-append : (xs ys : List Act) (t : Turn) → acts (xs ++ ys) t ≡ acts ys (acts xs t)
+  acts-append [] ys t = refl
+  acts-append (a ∷ xs) ys t = acts-append xs ys (act a t)
+
+  good-acts : (as_list : List Act) (t : Turn) → Good as_list → IsLawful t.broker → Fine t → Fine (acts as_list t)
+  good-acts as_list t (inr safe) l f = fine-acts as_list t safe l f
+  good-acts as_list t (inl x) l f = inr (subst Told (sym (ap (λ k. acts k t) x.is ∙ acts-append x.front (Tell c ∷ x.back) t))
+      (told-acts x.back (act (Tell c) (acts x.front t)) (any-back (λ d. eqb d c) (acts x.front t).closes (c ∷ []) (or_left (eqb c c) false (eqb-self c)))))
+
+  good-tell : (d : ℕ) (front back : List Act) → eqb d c ≡ true → Good (front ++ Tell d ∷ back)
+  good-tell d front back e = inl (record { front = front; back = back; is = ap (λ x. front ++ Tell x ∷ back) (eqb-is d c e) })
+
+  good-behind : (xs ys : List Act) → AllByRecursion Safe xs → Good ys → Good (xs ++ ys)
+  good-behind [] ys s g = g
+  good-behind (a ∷ xs) ys s g = elim (good-behind xs ys s.1 g) [
+    | inl x ↦ inl (record { front = a ∷ x.front; back = x.back; is = ap (λ k. a ∷ k) x.is })
+    | inr safe ↦ inr (s.0, safe)
+  ]
+
+  good-cond : (b : Bool) (xs ys : List Act) → Good xs → Good ys → Good (cond b xs ys)
+  good-cond true xs ys g h = g
+  good-cond false xs ys g h = h
+
+  good-shut : (d : ℕ) → Good (shut d)
+  good-shut d = by (eqb d c) refl
+    where
+      by : (b : Bool) → eqb d c ≡ b → Good (shut d)
+      by true e = good-tell d (Leave d true ∷ []) (Route ∷ []) e
+      by false e = inr (e, (tt, (tt, tt)))
+
+  good-away : (d code : ℕ) → Good (turn_away d code)
+  good-away d code = good-behind (Say d (ConnAck false code) ∷ []) (shut d) (tt, tt) (good-shut d)
+
+  good-join : (older : Option ℕ) (d : ℕ) (name : List ℕ) (clean : Bool) (alive : ℕ) (will : Option Post) → Good (join older d name clean alive will)
+  good-join None d name true alive will = inr (tt, (tt, tt))
+  good-join None d name false alive will = inr (tt, tt)
+  good-join (Some o) d name clean alive will = by (eqb o c) refl clean
+    where
+      by : (b : Bool) → eqb o c ≡ b → (k : Bool) → Good (Leave o true ∷ Route ∷ (cond k (Forget name ∷ []) [] ++ Accept d name (not clean) alive will ∷ Tell o ∷ []))
+      by true e true = good-tell o (Leave o true ∷ Route ∷ Forget name ∷ Accept d name (not clean) alive will ∷ []) [] e
+      by true e false = good-tell o (Leave o true ∷ Route ∷ Accept d name (not clean) alive will ∷ []) [] e
+      by false e true = inr (e, (tt, (tt, (tt, (tt, tt)))))
+      by false e false = inr (e, (tt, (tt, (tt, tt))))
+
+  good-first : (v : Seen) (d : ℕ) (p : Message) → Good (first_packet v d p)
+  good-first v d (Connect name clean alive will) =
+      good-cond _ _ _ (good-away d 2) (good-cond _ _ _ (good-shut d) (good-cond _ _ _ (good-away d 3) (good-join v.older d name clean alive _)))
+  good-first v d (ConnAck present code) = good-shut d
+  good-first v d (Publish dup qos retain topic id payload) = good-shut d
+  good-first v d (PubAck id) = good-shut d
+  good-first v d (Subscribe id entries) = good-shut d
+  good-first v d (SubAck id codes) = good-shut d
+  good-first v d (Unsubscribe id filters) = good-shut d
+  good-first v d (UnsubAck id) = good-shut d
+  good-first v d PingReq = good-shut d
+  good-first v d PingResp = good-shut d
+  good-first v d Disconnect = good-shut d
+
+  -- what is taken back is another's, or keeps such grants
+  Keeps : Type 0
+  Keeps = (g : Table ℕ) (f : List ℕ) → L g ≡ true → L (remove f g) ≡ true
+
+  only : (b : Bool) → (b && true) ≡ false → b ≡ false
+  only true e = e
+  only false e = e
+
+  good-next : (d : ℕ) (p : Message) → (eqb d c && is_disconnect p) ≡ false
+      → ((eqb d c && is_unsubscribe p) ≡ false) ⊎ Keeps → Good (next_packet d p)
+  unfolding Keeps
+  good-next d (Connect name clean alive will) e f = good-shut d
+  good-next d (ConnAck present code) e f = good-shut d
+  good-next d (Publish dup qos retain topic None payload) e f =
+      good-cond _ (shut d) (Queue (record { topic = topic; payload = payload; qos = qos; retain = retain }) ∷ Route ∷ []) (good-shut d) (inr (tt, (tt, tt)))
+  good-next d (Publish dup qos retain topic (Some id) payload) e f =
+      good-cond _ (shut d) (Say d (PubAck id) ∷ Queue (record { topic = topic; payload = payload; qos = qos; retain = retain }) ∷ Route ∷ []) (good-shut d) (inr (tt, (tt, (tt, tt))))
+  good-next d (PubAck id) e f = inr (tt, tt)
+  good-next d (Subscribe id entries) e f = good-cond _ (shut d) (Give d id entries ∷ Route ∷ []) (good-shut d) (inr (tt, (tt, tt)))
+  good-next d (SubAck id codes) e f = good-shut d
+  good-next d (Unsubscribe id filters) e (inl f) = good-cond _ (shut d) (Take d filters ∷ Say d (UnsubAck id) ∷ []) (good-shut d) (inr (inl (only (eqb d c) f), (tt, tt)))
+  good-next d (Unsubscribe id filters) e (inr k) = good-cond _ (shut d) (Take d filters ∷ Say d (UnsubAck id) ∷ []) (good-shut d) (inr (inr k, (tt, tt)))
+  good-next d (UnsubAck id) e f = good-shut d
+  good-next d PingReq e f = inr (tt, tt)
+  good-next d PingResp e f = good-shut d
+  good-next d Disconnect e f = inr (only (eqb d c) e, tt)
+
+  good-tick : (silent : List ℕ) → Good (tick silent)
+  good-tick [] = inr (tt, tt)
+  good-tick (x ∷ xs) = by (eqb x c) refl (good-tick xs)
+    where
+      by : (b : Bool) → eqb x c ≡ b → Good (flat_map (λ d. Leave d true ∷ Tell d ∷ []) xs ++ Route ∷ []) → Good (Leave x true ∷ Tell x ∷ (flat_map (λ d. Leave d true ∷ Tell d ∷ []) xs ++ Route ∷ []))
+      by true e rest = good-tell x (Leave x true ∷ []) (flat_map (λ d. Leave d true ∷ Tell d ∷ []) xs ++ Route ∷ []) e
+      by false e rest = good-behind (Leave x true ∷ Tell x ∷ []) (flat_map (λ d. Leave d true ∷ Tell d ∷ []) xs ++ Route ∷ []) (e, (tt, tt)) rest
+
+  good-plan : (v : Seen) (e : Event) → lets_go c e ≡ false → (takes_back c e ≡ false) ⊎ Keeps → Good (plan v e)
+  good-plan v (Open moment) a b = inr (tt, tt)
+  good-plan v (Packet d p moment) a b = good-cond _ _ _ (good-shut d) (good-cond _ _ _ (good-next d p a b) (good-first v d p))
+  good-plan v (Fault d f moment) a b = good-cond _ _ _ (good-away d 1) (good-shut d)
+  good-plan v (Closed d moment) a b = inr (a, (tt, tt))
+  good-plan v (Tick moment) a b = good-tick v.silent
+  good-plan v (Refused d s moment) a b = good-cond (is_fatal s v.spent) (shut d) [] (good-shut d) (inr tt)
+
+  safe-before : (e : Event) → AllByRecursion Safe (before e)
+  safe-before (Open moment) = (tt, tt)
+  safe-before (Packet d p moment) = (tt, (tt, tt))
+  safe-before (Fault d f moment) = (tt, tt)
+  safe-before (Closed d moment) = (tt, tt)
+  safe-before (Tick moment) = (tt, tt)
+  safe-before (Refused d sort.QosZero moment) = (tt, (tt, tt))
+  safe-before (Refused d sort.Other moment) = (tt, tt)
+
+  pub stays-step : (b : Broker) (e : Event) → IsLawful b → list_any Q b.seats ≡ true → lets_go c e ≡ false
+      → (takes_back c e ≡ false) ⊎ ((g : Table ℕ) (f : List ℕ) → L g ≡ true → L (remove f g) ≡ true)
+      → (list_any Q (step b e).broker.seats ≡ true) ⊎ (list_any (λ d. eqb d c) (step b e).closes ≡ true)
+  unfolding step Keeps
+  stays-step b e l there a k = good-acts (plan (seen (noted b e).broker e) e) (noted b e) (good-plan (seen (noted b e).broker e) e a k) (lawful-acts (before e) (begun b) l)
+      (fine-acts (before e) (begun b) (safe-before e) l (inl there))
+
+-- ---- joined, and listening
+
+joined-any : (c : ℕ) (ss : List Seat) → list_any (λ (s : Seat). sits c s && true) ss ≡ is_some (seat_at c ss)
+joined-any c [] = refl
+joined-any c (s ∷ ss) = by (sits c s) (joined-any c ss)
+  where
+    by : (b : Bool) → list_any (λ (x : Seat). sits c x && true) ss ≡ is_some (seat_at c ss) → ((b && true) || list_any (λ (x : Seat). sits c x && true) ss) ≡ is_some (cond b (Some s) (seat_at c ss))
+    by true rest = refl
+    by false rest = rest
+
+pub stays-joined : (b : Broker) (c : ℕ) (e : Event) → IsLawful b → is_joined b c ≡ true → lets_go c e ≡ false → (is_joined (step b e).broker c ≡ true) ⊎ (is_closed_in c (step b e) ≡ true)
+stays-joined b c e l there a =
+    elim (stays-step c (λ g. true) (λ f q g h. refl) b e l (joined-any c b.seats ∙ there) a (inr (λ g f h. refl))) [
+      | inl x ↦ inl (sym (joined-any c (step b e).broker.seats) ∙ x)
+      | inr x ↦ inr x
+    ]
+
+some-best : (topic : List ℕ) (g : Table ℕ) → is_some (best topic g) ≡ list_any (λ (e : List ℕ × ℕ). is_match e.0 topic) g
+some-best topic [] = refl
+some-best topic (x ∷ g) = by (is_match x.0 topic) (some-best topic g)
+  where
+    by : (b : Bool) → is_some (best topic g) ≡ list_any (λ (e : List ℕ × ℕ). is_match e.0 topic) g
+        → is_some (cond b (Some (max x.1 (unwrap_or (best topic g) 0))) (best topic g)) ≡ (b || list_any (λ (e : List ℕ × ℕ). is_match e.0 topic) g)
+    by true rest = refl
+    by false rest = rest
+
+best-put : (topic f : List ℕ) (q : ℕ) (g : Table ℕ) → is_some (best topic g) ≡ true → is_some (best topic (put f q g)) ≡ true
+best-put topic f q g e = some-best topic (put f q g) ∙ by (has f g)
+  where
+    same : (x : List ℕ × ℕ) → is_match (replaced f q x).0 topic ≡ is_match x.0 topic
+    same x = one (bytes_eq x.0 f)
+      where
+        one : (b : Bool) → is_match (cond b (x.0, q) x).0 topic ≡ is_match x.0 topic
+        one true = refl
+        one false = refl
+
+    by : (b : Bool) → list_any (λ (x : List ℕ × ℕ). is_match x.0 topic) (cond b (map (replaced f q) g) (g ++ (f, q) ∷ [])) ≡ true
+    by true = any-map (replaced f q) (λ (x : List ℕ × ℕ). is_match x.0 topic) (λ (x : List ℕ × ℕ). is_match x.0 topic) same g ∙ sym (some-best topic g) ∙ e
+    by false = list_any-append (λ (x : List ℕ × ℕ). is_match x.0 topic) g ((f, q) ∷ []) ∙ or_left _ _ (sym (some-best topic g) ∙ e)
+
+pub stays-listening : (b : Broker) (c : ℕ) (topic : List ℕ) (e : Event) → IsLawful b → listens b c topic ≡ true → lets_go c e ≡ false → takes_back c e ≡ false
+    → (listens (step b e).broker c topic ≡ true) ⊎ (is_closed_in c (step b e) ≡ true)
+stays-listening b c topic e l there a k = stays-step c (λ g. is_some (best topic g)) (λ f q g h. best-put topic f q g h) b e l there a (inl k)

@@ -1,10 +1,10 @@
 //! Laws of the definitions alone: functions that do nothing, whose contracts speak of definitions.
-ghost use Rattle.std.specs.Prelude.{◌≡◌, ◌==◌, ℕ, List, [], ◌∷◌, Bool, true, false, not, Option, Some, is_some};
+ghost use Rattle.std.specs.Prelude.{◌≡◌, ◌⊎◌, ◌==◌, ℕ, List, [], ◌∷◌, Bool, true, false, not, Option, Some, is_some};
 ghost use Rattle.std.specs.List.{find, flat_map};
 ghost use Rattle.spk_packets.specs.Message.{Connect, Disconnect, WillData};
 ghost use Rattle.spk_broker_rules.specs.Data.{Broker, Post};
 ghost use Rattle.spk_broker_rules.specs.Lawful.{IsLawful};
-ghost use Rattle.spk_broker_rules.specs.Listening.{IsPlain, given_to, is_joined, plain_publish};
+ghost use Rattle.spk_broker_rules.specs.Listening.{IsPlain, given_to, is_closed_in, is_joined, lets_go, listens, plain_publish, takes_back};
 ghost use Rattle.spk_broker_rules.specs.Past.{Past, broker_of, guests, is_open, may_open, older_of, session_at};
 ghost use Rattle.spk_broker_rules.specs.Plan.{Event, Packet};
 ghost use Rattle.spk_broker_rules.specs.Step.{Turn, after, is_full, knows, noted, route, route_one, step};
@@ -77,4 +77,14 @@ pub fn plain_publish()
     ensures left { (b : Broker) (conn moment : ℕ) (topic payload : List ℕ) → IsPlain topic payload → is_joined b conn ≡ true →
         (step b (Packet conn (plain_publish topic payload) moment)).broker
         ≡ (noted b (Packet conn (plain_publish topic payload) moment)).broker }
+{}
+
+/// A connection whose CONNECT was accepted stays joined, and what it listens to it goes on listening to, or the caller is
+/// told to close it; unless its client ends it, or takes grants back.
+pub fn staying()
+    ensures joined { (b : Broker) (conn : ℕ) (e : Event) → IsLawful b → is_joined b conn ≡ true → lets_go conn e ≡ false →
+        (is_joined (step b e).broker conn ≡ true) ⊎ (is_closed_in conn (step b e) ≡ true) }
+    ensures listening { (b : Broker) (conn : ℕ) (topic : List ℕ) (e : Event) → IsLawful b → listens b conn topic ≡ true →
+        lets_go conn e ≡ false → takes_back conn e ≡ false →
+        (listens (step b e).broker conn topic ≡ true) ⊎ (is_closed_in conn (step b e) ≡ true) }
 {}
