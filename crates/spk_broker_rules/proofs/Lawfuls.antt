@@ -170,7 +170,7 @@ heard-conn c k g = by (eqb g.conn c)
     by true = refl
     by false = refl
 
-heard-line : (c k : ℕ) (x : Line) → (line_heard c k x).conn ≡ x.conn
+pub heard-line : (c k : ℕ) (x : Line) → (line_heard c k x).conn ≡ x.conn
 heard-line c k x = by (eqb x.conn c)
   where
     by : (b : Bool) → (cond b (record x { heard = k }) x).conn ≡ x.conn
@@ -184,7 +184,7 @@ dropped-conn c g = by (eqb g.conn c)
     by true = refl
     by false = refl
 
-dropped-line : (c : ℕ) (x : Line) → (line_dropped c x).conn ≡ x.conn
+pub dropped-line : (c : ℕ) (x : Line) → (line_dropped c x).conn ≡ x.conn
 dropped-line c x = by (eqb x.conn c)
   where
     by : (b : Bool) → (cond b (record x { drops = one_more x.drops }) x).conn ≡ x.conn
@@ -228,7 +228,7 @@ lawful-accept c None name keeps alive will t l is = l
 lawful-accept c (Some g) name keeps alive will t l is =
     lawful-join (away_for keeps name t.broker.seats) name keeps (line_of g alive will) t (found-in (λ (x : Guest). x.conn ≤ t.broker.given) (is_guest c) t.broker.guests g l.guests is) l
 
-lawful-offer_at : (s : ℕ) (post : Post) (t : Turn) (o : Option Seat) → IsLawful t.broker → with_key s t.broker.seats ≡ o → IsLawful (offer_at o s post t).broker
+pub lawful-offer_at : (s : ℕ) (post : Post) (t : Turn) (o : Option Seat) → IsLawful t.broker → with_key s t.broker.seats ≡ o → IsLawful (offer_at o s post t).broker
 lawful-offer_at s post t None l is = l
 lawful-offer_at s post t (Some x) l is =
     let same : x.key ≡ s = eqb-is x.key s (found-passes (λ (y : Seat). eqb y.key s) t.broker.seats x is) in
@@ -240,7 +240,7 @@ lawful-offers s [] t l = l
 lawful-offers s (p ∷ ps) t l = lawful-offers s ps (offer s t p) (lawful-offer_at s p t (with_key s t.broker.seats) l refl)
 
 -- a session that is found keeps its connection
-lawful-found : (c : ℕ) (t : Turn) (s new : Seat) → new.key ≡ s.key → new.here ≡ s.here → IsLawful t.broker → seat_at c t.broker.seats ≡ Some s
+pub lawful-found : (c : ℕ) (t : Turn) (s new : Seat) → new.key ≡ s.key → new.here ≡ s.here → IsLawful t.broker → seat_at c t.broker.seats ≡ Some s
     → IsLawful (seats_with t.broker (swap s.key (new ∷ []) t.broker.seats))
 lawful-found c t s new key here l is = lawful-swap t.broker s.key (new ∷ []) key
     (subst (IsLow t.broker.given) (sym here) (found-in (λ (y : Seat). IsLow t.broker.given y.here) (sits c) t.broker.seats s l.lines is), tt) l

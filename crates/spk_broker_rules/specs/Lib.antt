@@ -1,5 +1,6 @@
 pub mod Data
 pub mod Lawful
+pub mod Listening
 pub mod Past
 pub mod Plan
 pub mod Step

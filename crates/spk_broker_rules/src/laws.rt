@@ -1,11 +1,13 @@
 //! Laws of the definitions alone: functions that do nothing, whose contracts speak of definitions.
-ghost use Rattle.std.specs.Prelude.{◌≡◌, ◌==◌, ℕ, List, ◌∷◌, Bool, true, false, not, Option, Some, is_some};
-ghost use Rattle.std.specs.List.{find};
+ghost use Rattle.std.specs.Prelude.{◌≡◌, ◌⊎◌, ◌==◌, ℕ, List, [], ◌∷◌, Bool, true, false, not, Option, Some, is_some};
+ghost use Rattle.std.specs.List.{find, flat_map};
 ghost use Rattle.spk_packets.specs.Message.{Connect, Disconnect, WillData};
+ghost use Rattle.spk_broker_rules.specs.Data.{Broker, Post};
 ghost use Rattle.spk_broker_rules.specs.Lawful.{IsLawful};
+ghost use Rattle.spk_broker_rules.specs.Listening.{IsPlain, given_to, is_closed_in, is_joined, lets_go, listens, plain_publish, takes_back};
 ghost use Rattle.spk_broker_rules.specs.Past.{Past, broker_of, guests, is_open, may_open, older_of, session_at};
 ghost use Rattle.spk_broker_rules.specs.Plan.{Event, Packet};
-ghost use Rattle.spk_broker_rules.specs.Step.{after, is_full, knows, step};
+ghost use Rattle.spk_broker_rules.specs.Step.{Turn, after, is_full, knows, noted, route, route_one, step};
 ghost use Rattle.spk_broker_rules.specs.TakeOver.{GoesQuietly, IsAccepted, TakesOver};
 ghost use Rattle.spk_broker_rules.specs.Telling.{Answers, Leads, Telling, may_be};
 
@@ -50,4 +52,39 @@ pub fn take_over()
         (t : Telling limit h (Packet conn (Connect client clean alive will) moment)) →
         is_some (find (λ g. g == conn) (guests h)) ≡ true → is_some (session_at h conn) ≡ false → older_of h client ≡ Some older →
         IsAccepted h client clean alive will → TakesOver conn older t.first t.end }
+{}
+
+/// Routing, message by message: it is done where nothing waits, else the first is routed whole and then the rest, with
+/// what waits behind it.
+pub fn routing()
+    ensures done { (t : Turn) → t.waiting ≡ [] → route t ≡ t }
+    ensures next { (t : Turn) (m : Post) (ms : List Post) → t.waiting ≡ m ∷ ms → route t ≡ route (route_one m (record t { waiting = ms })) }
+{}
+
+/// Each event leaves lawful data lawful.
+pub fn lawful()
+    ensures { (b : Broker) (e : Event) → IsLawful b → IsLawful (step b e).broker }
+{}
+
+/// A plain publish (QoS 0, without RETAIN) of a connection whose CONNECT was accepted goes once to the connection of each
+/// session that listens, in the order of sessions. It closes nobody, and what it leaves is what was noted of the packet: the
+/// clock, and when its connection was heard.
+pub fn plain_publish()
+    ensures sends { (b : Broker) (conn moment : ℕ) (topic payload : List ℕ) → IsPlain topic payload → is_joined b conn ≡ true →
+        (step b (Packet conn (plain_publish topic payload) moment)).sends ≡ flat_map (given_to topic payload) b.seats }
+    ensures closes { (b : Broker) (conn moment : ℕ) (topic payload : List ℕ) → IsPlain topic payload → is_joined b conn ≡ true →
+        (step b (Packet conn (plain_publish topic payload) moment)).closes ≡ [] }
+    ensures left { (b : Broker) (conn moment : ℕ) (topic payload : List ℕ) → IsPlain topic payload → is_joined b conn ≡ true →
+        (step b (Packet conn (plain_publish topic payload) moment)).broker
+        ≡ (noted b (Packet conn (plain_publish topic payload) moment)).broker }
+{}
+
+/// A connection whose CONNECT was accepted stays joined, and what it listens to it goes on listening to, or the caller is
+/// told to close it; unless its client ends it, or takes grants back.
+pub fn staying()
+    ensures joined { (b : Broker) (conn : ℕ) (e : Event) → IsLawful b → is_joined b conn ≡ true → lets_go conn e ≡ false →
+        (is_joined (step b e).broker conn ≡ true) ⊎ (is_closed_in conn (step b e) ≡ true) }
+    ensures listening { (b : Broker) (conn : ℕ) (topic : List ℕ) (e : Event) → IsLawful b → listens b conn topic ≡ true →
+        lets_go conn e ≡ false → takes_back conn e ≡ false →
+        (listens (step b e).broker conn topic ≡ true) ⊎ (is_closed_in conn (step b e) ≡ true) }
 {}

@@ -1,0 +1,13 @@
+//! An MQTT 3.1.1 broker without IO (chapters 3 and 4, QoS 0 and 1): connections, sessions, grants and retained messages. So far
+//! it is made and opens connections; its rules stand in `spk_broker_rules`.
+#![tactic(auto)]
+
+mod broker;
+mod fault;
+mod guest;
+mod post;
+mod retained;
+mod seat;
+
+pub use broker::{Broker, Conn};
+pub use fault::BrokerFault;

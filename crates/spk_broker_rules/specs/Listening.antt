@@ -1,0 +1,82 @@
+-- Who is joined and who listens, and what a plain publish gives: QoS 0, without RETAIN.
+use Rattle.std.specs.Prelude.{◌≡◌, ◌==◌, ◌&&◌, ℕ, Bool, true, false, List, [], None, is_some, if◌then◌else◌}
+use Rattle.std.specs.List.{list_any}
+use Rattle.spk_packets.specs.Fault.{first_of}
+use Rattle.spk_packets.specs.Message.{Message, Connect, ConnAck, Publish, PubAck, Subscribe, SubAck, Unsubscribe, UnsubAck, PingReq, PingResp, Disconnect}
+use Rattle.spk_packets.specs.Spelling.{unwritable}
+use Rattle.spk_topics.specs.Text.{topic_refusal}
+use Rattle.spk_broker_rules.specs.Data.{Seat, Broker, Send}
+use Rattle.spk_broker_rules.specs.Words.{best, to_line}
+use Rattle.spk_broker_rules.specs.Plan.{Event, Open, Packet, Fault, Closed, Tick, Refused}
+use Rattle.spk_broker_rules.specs.Step.{Turn, conn_at, seat_at, sits}
+
+-- a CONNECT of this connection was accepted
+abbrev pub is_joined : Broker → ℕ → Bool
+is_joined b conn = is_some (seat_at conn b.seats)
+
+-- the session has a grant that matches the topic
+abbrev pub is_listening : List ℕ → Seat → Bool
+is_listening topic seat = is_some (best topic seat.grants)
+
+abbrev pub plain_publish : List ℕ → List ℕ → Message
+plain_publish topic payload = Publish false 0 false topic None payload
+
+-- it is a packet, on a topic name
+pub record IsPlain (topic payload : List ℕ) : Type 0 where
+  pub writable : is_some (first_of (unwritable (plain_publish topic payload))) ≡ false
+  pub named : is_some (topic_refusal topic) ≡ false
+
+-- one send to the connection of each session that listens, in the order of sessions
+abbrev pub given_to : List ℕ → List ℕ → Seat → List Send
+given_to topic payload seat = if is_listening topic seat then to_line (conn_at seat) (plain_publish topic payload) else []
+
+-- the connection's session has a grant that matches the topic
+abbrev pub listens : Broker → ℕ → List ℕ → Bool
+listens b conn topic = list_any (λ (s : Seat). sits conn s && is_listening topic s) b.seats
+
+-- its client ends it: a DISCONNECT, or the connection is gone
+abbrev pub is_disconnect : Message → Bool
+is_disconnect (Connect client clean alive will) = false
+is_disconnect (ConnAck present code) = false
+is_disconnect (Publish dup qos retain topic id payload) = false
+is_disconnect (PubAck id) = false
+is_disconnect (Subscribe id entries) = false
+is_disconnect (SubAck id codes) = false
+is_disconnect (Unsubscribe id filters) = false
+is_disconnect (UnsubAck id) = false
+is_disconnect PingReq = false
+is_disconnect PingResp = false
+is_disconnect Disconnect = true
+
+abbrev pub is_unsubscribe : Message → Bool
+is_unsubscribe (Connect client clean alive will) = false
+is_unsubscribe (ConnAck present code) = false
+is_unsubscribe (Publish dup qos retain topic id payload) = false
+is_unsubscribe (PubAck id) = false
+is_unsubscribe (Subscribe id entries) = false
+is_unsubscribe (SubAck id codes) = false
+is_unsubscribe (Unsubscribe id filters) = true
+is_unsubscribe (UnsubAck id) = false
+is_unsubscribe PingReq = false
+is_unsubscribe PingResp = false
+is_unsubscribe Disconnect = false
+
+abbrev pub lets_go : ℕ → Event → Bool
+lets_go conn (Open moment) = false
+lets_go conn (Packet d p moment) = d == conn && is_disconnect p
+lets_go conn (Fault d f moment) = false
+lets_go conn (Closed d moment) = d == conn
+lets_go conn (Tick moment) = false
+lets_go conn (Refused d s moment) = false
+
+-- it takes grants back
+abbrev pub takes_back : ℕ → Event → Bool
+takes_back conn (Open moment) = false
+takes_back conn (Packet d p moment) = d == conn && is_unsubscribe p
+takes_back conn (Fault d f moment) = false
+takes_back conn (Closed d moment) = false
+takes_back conn (Tick moment) = false
+takes_back conn (Refused d s moment) = false
+
+abbrev pub is_closed_in : ℕ → Turn → Bool
+is_closed_in conn t = list_any (λ d. d == conn) t.closes
