@@ -1,0 +1,2 @@
+-- What is claimed of every run.
+use Rattle.std.specs.Prelude.{◌≡◌, ℕ}
