@@ -1,2 +1,1 @@
 -- What is claimed of every run.
-use Rattle.std.specs.Prelude.{◌≡◌, ℕ}

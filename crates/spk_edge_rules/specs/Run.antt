@@ -1,13 +1,13 @@
 -- The run of an edge node, as questions to the list of what was done, newest first: nothing here steps any data. What it
 -- published is one list of messages, and their numbers and sessions are those of their positions in it.
-use Rattle.std.specs.Prelude.{ℕ, ◌+◌, ◌-◌, ◌^◌, ◌%◌, ◌==◌, min, max, Bool, true, false, List, [], ◌∷◌, ◌++◌, length, map, Option, Some, None, Result, Ok, Err, is_some, if◌then◌else◌}
+use Rattle.std.specs.Prelude.{ℕ, ◌+◌, ◌-◌, ◌^◌, ◌%◌, ◌==◌, min, max, Bool, List, [], ◌∷◌, ◌++◌, length, map, Option, Some, None, Result, Ok, Err, is_some, if◌then◌else◌}
 use Rattle.std.specs.List.{count_by, enumerate_from, last_or}
 use Rattle.std.specs.Option.{option_map}
 use Rattle.std.specs.Str.{bytes_eq}
 use Rattle.spk_payload.specs.Typing.{Typed}
 use Rattle.spk_packets.specs.Message as packets
 use Rattle.spk_device.specs.Book.{Book, DeviceData, GaugeData}
-use Rattle.spk_sequence.specs.NodeRecord as record_of
+use Rattle.spk_sequence.specs.NodeRecord as sequence
 use Rattle.spk_store.specs.Data.{Kept}
 use Rattle.spk_store.specs.Calls.{Call}
 use Rattle.spk_store.specs.Kept as kept
@@ -17,10 +17,10 @@ use Rattle.spk_edge_rules.specs.declared.phase.Phase.{Phase}
 use Rattle.spk_edge_rules.specs.declared.phase.Phase.TheVariants.{Idle}
 use Rattle.spk_edge_rules.specs.Answers.{Answer, checked}
 use Rattle.spk_edge_rules.specs.Config.{Config, Setup}
-use Rattle.spk_edge_rules.specs.Inputs.{Act, Open, Accepted, Change, Turn, Command, State, Drain, Stop, Cut, TurnedAway, Pass, Input, ChangeData}
+use Rattle.spk_edge_rules.specs.Inputs.{Act, Change, Turn, State, Input, ChangeData}
 use Rattle.spk_edge_rules.specs.Messages.{Draft, opens, wire}
 use Rattle.spk_edge_rules.specs.Rules.{Asked, Given, on_ok, rules}
-use Rattle.spk_edge_rules.specs.Step.{is_open}
+use Rattle.spk_edge_rules.specs.Step.{Record, is_open, seq_kept}
 
 -- an input that was done, and what it gave; refused inputs aren't in the list
 pub record Done : Type 0 where
@@ -65,11 +65,11 @@ published [] = []
 published (e ∷ h) = with_posts (published h) (opened h - 1) e.given.drafts
 
 -- births, sessions and stamps alone
-abbrev pub outline : List Message → record_of.NodeRecord
+abbrev pub outline : List Message → sequence.NodeRecord
 outline messages = map (λ m. record { birth = m.birth; session = m.session; stamp = m.draft.stamp }) messages
 
 -- how positions are written; waits and windows are a host's, and are nothing here
-abbrev pub setting_of : Setup → List Message → record_of.Setting
+abbrev pub setting_of : Setup → List Message → sequence.Setting
 setting_of s messages = record {
   published = outline messages;
   numbering = s.config.numbering;
@@ -81,7 +81,7 @@ setting_of s messages = record {
 
 -- the sequence number of a position
 abbrev pub number_at : Setup → List Message → ℕ → ℕ
-number_at s messages p = record_of.written_number (setting_of s messages) p
+number_at s messages p = sequence.written_number (setting_of s messages) p
 
 -- the bdSeq of a session
 abbrev pub session_number : Setup → ℕ → ℕ
@@ -174,6 +174,14 @@ asked_of s h = record {
   bd = session_number s (opened h);
   will_bd = session_number s (opened h - 1);
   will_time = opened_at h;
+}
+
+-- the number after that of the last message, the bdSeq after that of the last session, and the last stamp
+abbrev pub record_of : Setup → List Done → Record
+record_of s h = record {
+  seq = seq_kept s.config.numbering ((s.seq + length (published h)) % 256);
+  bd = session_number s (opened h);
+  stamp = stamp_of s h;
 }
 
 -- ---- the right answer: each message under the number of its position

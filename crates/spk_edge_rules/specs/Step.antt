@@ -1,5 +1,5 @@
 -- The data of an edge node, of which the contracts of its calls speak, and its steps: the bytes that come next count on.
-use Rattle.std.specs.Prelude.{ℕ, ◌+◌, ◌%◌, Bool, true, false, ◌&&◌, List, [], ◌∷◌, ◌++◌, Option, Some, None, Result, Ok, Err, map, if◌then◌else◌}
+use Rattle.std.specs.Prelude.{ℕ, ◌+◌, ◌%◌, Bool, true, false, List, [], ◌∷◌, ◌++◌, Option, Some, None, Result, Ok, Err, map, if◌then◌else◌}
 use Rattle.std.specs.List.{last_or}
 use Rattle.spk_packets.specs.Message.{Message}
 use Rattle.spk_device.specs.Book.{Book}
@@ -127,6 +127,21 @@ after_answer c st i (Err fault) = st
 
 abbrev pub after : Config → Standing → Input → Standing
 after c st i = after_answer c st i (answer_at c st i)
+
+-- ---- what a node that runs after this one goes on with
+
+pub record Record : Type 0 where
+  pub seq : ℕ
+  pub bd : ℕ
+  pub stamp : Option ℕ
+
+-- a numbering that restarts has no number to go on with
+abbrev pub seq_kept : Numbering → ℕ → ℕ
+seq_kept RunsOn seq = seq
+seq_kept Restarts seq = 0
+
+abbrev pub record_at : Config → Standing → Record
+record_at c st = record { seq = seq_kept c.numbering st.seq; bd = st.asked.bd; stamp = st.asked.stamp }
 
 -- ---- over a list of inputs, newest first
 
