@@ -1,1 +1,8 @@
 mod Rows
+mod Chains
+mod Numbers
+mod Courses
+mod Moments
+mod Records
+mod Tellings
+mod Told

@@ -27,7 +27,6 @@ unfolding packet.spelling
 spelled_answer (Ok answer) = Ok (map packet.spelling answer.packets)
 spelled_answer (Err fault) = Err fault
 
-
 abbrev t_book : ℕ → Book
 t_book n = record { devices = []; gauges = (record { owner = Node; name = codes "t"; datatype = 3; value = Some (Signed (pos n)) }) ∷ [] }
 
@@ -39,7 +38,11 @@ at_moment now act = record { now = now; ack = None; act = act }
 abbrev alone : Setup
 alone = record {
   config = record { group = codes "G"; node = codes "N"; primary = None; keep = 60; numbering = RunsOn };
-  capacity = 3; seq = 0; bd = 0; stamp = None; book = t_book 7;
+  capacity = 3;
+  seq = 0;
+  bd = 0;
+  stamp = None;
+  book = t_book 7;
 }
 
 -- the packets' bytes, by the data and by the run
@@ -57,7 +60,6 @@ opened = at_moment 5 Open ∷ []
 pub opens_once : Gives alone opened (at_moment 6 Open) (Err fault.WrongPhase)
 unfolding packet.spelling packet.body packet.shortest packet.has_bad_text packet.has_bad_body packet.is_qos_two payload.spelling payload.metric_spelling wire.varint wire.groups_of wire.bytes_field spelled_answer
 opens_once = (refl, refl)
-
 
 pub bears_when_accepted : Gives alone opened (at_moment 6 Accepted) (Ok ((130 ∷ 42 ∷ 0 ∷ 1 ∷ 0 ∷ 16 ∷ 115 ∷ 112 ∷ 66 ∷ 118 ∷ 49 ∷ 46 ∷ 48 ∷ 47 ∷ 71 ∷ 47 ∷ 78 ∷ 67 ∷ 77 ∷ 68 ∷ 47 ∷ 78 ∷ 1 ∷ 0 ∷ 18 ∷ 115 ∷ 112 ∷ 66 ∷ 118 ∷ 49 ∷ 46 ∷ 48 ∷ 47 ∷ 71 ∷ 47 ∷ 68 ∷ 67 ∷ 77 ∷ 68 ∷ 47 ∷ 78 ∷ 47 ∷ 43 ∷ 1 ∷ []) ∷ (48 ∷ 82 ∷ 0 ∷ 18 ∷ 115 ∷ 112 ∷ 66 ∷ 118 ∷ 49 ∷ 46 ∷ 48 ∷ 47 ∷ 71 ∷ 47 ∷ 78 ∷ 66 ∷ 73 ∷ 82 ∷ 84 ∷ 72 ∷ 47 ∷ 78 ∷ 8 ∷ 6 ∷ 18 ∷ 13 ∷ 10 ∷ 5 ∷ 98 ∷ 100 ∷ 83 ∷ 101 ∷ 113 ∷ 24 ∷ 6 ∷ 32 ∷ 4 ∷ 88 ∷ 0 ∷ 18 ∷ 28 ∷ 10 ∷ 20 ∷ 78 ∷ 111 ∷ 100 ∷ 101 ∷ 32 ∷ 67 ∷ 111 ∷ 110 ∷ 116 ∷ 114 ∷ 111 ∷ 108 ∷ 47 ∷ 82 ∷ 101 ∷ 98 ∷ 105 ∷ 114 ∷ 116 ∷ 104 ∷ 24 ∷ 6 ∷ 32 ∷ 11 ∷ 112 ∷ 0 ∷ 18 ∷ 11 ∷ 10 ∷ 1 ∷ 116 ∷ 16 ∷ 1 ∷ 24 ∷ 6 ∷ 32 ∷ 3 ∷ 80 ∷ 7 ∷ 24 ∷ 0 ∷ []) ∷ []))
 unfolding packet.spelling packet.body packet.shortest packet.has_bad_text packet.has_bad_body packet.is_qos_two payload.spelling payload.metric_spelling wire.varint wire.groups_of wire.bytes_field spelled_answer
@@ -77,14 +79,12 @@ pub same_value_is_silent : Gives alone changed (at_moment 7 (Change 1 (Some (Sig
 unfolding packet.spelling packet.body packet.shortest packet.has_bad_text packet.has_bad_body packet.is_qos_two payload.spelling payload.metric_spelling wire.varint wire.groups_of wire.bytes_field spelled_answer
 same_value_is_silent = (refl, refl)
 
-
 abbrev rebirth_command : Act
 rebirth_command = Command (codes "spBv1.0/G/NCMD/N") (8 ∷ 9 ∷ 18 ∷ 28 ∷ 10 ∷ 20 ∷ 78 ∷ 111 ∷ 100 ∷ 101 ∷ 32 ∷ 67 ∷ 111 ∷ 110 ∷ 116 ∷ 114 ∷ 111 ∷ 108 ∷ 47 ∷ 82 ∷ 101 ∷ 98 ∷ 105 ∷ 114 ∷ 116 ∷ 104 ∷ 24 ∷ 9 ∷ 32 ∷ 11 ∷ 112 ∷ 1 ∷ [])
 
 pub bears_again : Gives alone changed (at_moment 7 rebirth_command) (Ok ((48 ∷ 82 ∷ 0 ∷ 18 ∷ 115 ∷ 112 ∷ 66 ∷ 118 ∷ 49 ∷ 46 ∷ 48 ∷ 47 ∷ 71 ∷ 47 ∷ 78 ∷ 66 ∷ 73 ∷ 82 ∷ 84 ∷ 72 ∷ 47 ∷ 78 ∷ 8 ∷ 8 ∷ 18 ∷ 13 ∷ 10 ∷ 5 ∷ 98 ∷ 100 ∷ 83 ∷ 101 ∷ 113 ∷ 24 ∷ 8 ∷ 32 ∷ 4 ∷ 88 ∷ 0 ∷ 18 ∷ 28 ∷ 10 ∷ 20 ∷ 78 ∷ 111 ∷ 100 ∷ 101 ∷ 32 ∷ 67 ∷ 111 ∷ 110 ∷ 116 ∷ 114 ∷ 111 ∷ 108 ∷ 47 ∷ 82 ∷ 101 ∷ 98 ∷ 105 ∷ 114 ∷ 116 ∷ 104 ∷ 24 ∷ 8 ∷ 32 ∷ 11 ∷ 112 ∷ 0 ∷ 18 ∷ 11 ∷ 10 ∷ 1 ∷ 116 ∷ 16 ∷ 1 ∷ 24 ∷ 8 ∷ 32 ∷ 3 ∷ 80 ∷ 8 ∷ 24 ∷ 2 ∷ []) ∷ []))
 unfolding packet.spelling packet.body packet.shortest packet.has_bad_text packet.has_bad_body packet.is_qos_two payload.spelling payload.metric_spelling wire.varint wire.groups_of wire.bytes_field spelled_answer reading.payload_at reading.metric_at reading.each_item reading.text_at fields.items_of fields.items_within fields.field_at fields.varint_at fields.groups_at fields.value_at fields.some_at is_utf8 chars encode
 bears_again = (refl, refl)
-
 
 abbrev borne_again : List Input
 borne_again = at_moment 7 rebirth_command ∷ changed
@@ -101,7 +101,11 @@ goes_on_with = (refl, refl, (refl, refl))
 abbrev followed : Setup
 followed = record {
   config = record { group = codes "G"; node = codes "N"; primary = Some (codes "H"); keep = 60; numbering = RunsOn };
-  capacity = 3; seq = 0; bd = 0; stamp = None; book = t_book 0;
+  capacity = 3;
+  seq = 0;
+  bd = 0;
+  stamp = None;
+  book = t_book 0;
 }
 
 abbrev set_to : ℕ → ℕ → Input
@@ -146,13 +150,16 @@ pub drained_is_silent : Gives followed drained (at_moment 11 Drain) (Ok [])
 unfolding packet.spelling packet.body packet.shortest packet.has_bad_text packet.has_bad_body packet.is_qos_two payload.spelling payload.metric_spelling wire.varint wire.groups_of wire.bytes_field spelled_answer serde_json_on_literals is_utf8 chars
 drained_is_silent = (refl, refl)
 
-
 -- ---- the first node again, with numbers that restart at each NBIRTH: 0, 1, 2, 0, 1
 
 abbrev restarting : Setup
 restarting = record {
   config = record { group = codes "G"; node = codes "N"; primary = None; keep = 60; numbering = Restarts };
-  capacity = 3; seq = 9; bd = 0; stamp = None; book = t_book 7;
+  capacity = 3;
+  seq = 9;
+  bd = 0;
+  stamp = None;
+  book = t_book 7;
 }
 
 abbrev third : List Input
@@ -176,7 +183,9 @@ with_device = record alone {
   book = record {
     devices = (record { name = codes "D"; up = false }) ∷ [];
     gauges = (record { owner = Node; name = codes "t"; datatype = 3; value = Some (Signed (pos 7)) })
-        ∷ (record { owner = Device 0; name = codes "u"; datatype = 11; value = None }) ∷ [] } }
+        ∷ (record { owner = Device 0; name = codes "u"; datatype = 11; value = None }) ∷ [];
+  };
+}
 
 abbrev turn : ℕ → Bool → Input
 turn now up = at_moment now (Turn (codes "D") up)
@@ -206,4 +215,3 @@ pub stops_in_order : Gives alone changed (at_moment 9 Stop) (Ok farewell_bytes)
     × Gives alone accepted (at_moment (2 ^ 63) Stop) (Err fault.ClockEnd)
 unfolding packet.spelling packet.body packet.shortest packet.has_bad_text packet.has_bad_body packet.is_qos_two payload.spelling payload.metric_spelling wire.varint wire.groups_of wire.bytes_field spelled_answer
 stops_in_order = ((refl, refl), (refl, refl), (refl, refl))
-

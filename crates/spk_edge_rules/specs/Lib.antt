@@ -5,6 +5,7 @@ pub mod Packets
 pub mod Births
 pub mod Commands
 pub mod Rules
+pub mod Arriving
 pub mod Answers
 pub mod Step
 pub mod Run

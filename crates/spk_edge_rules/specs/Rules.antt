@@ -203,7 +203,8 @@ draining a now (x ∷ xs) =
     if owner_is_up a.book x.owner
     then record (nothing a) {
       drafts = data_draft a.book x.owner (later_stamp a.stamp now) (map (kept_metric a.book) (take n (x ∷ xs))) ∷ [];
-      store = Some (DropFront n false) }
+      store = Some (DropFront n false);
+    }
     else record (nothing a) { store = Some (DropFront n true) }
 
 -- ---- all of them
