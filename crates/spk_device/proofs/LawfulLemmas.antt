@@ -2,7 +2,7 @@
 use Rattle.std.proofs.Common.{◌≡◌, ◌∙◌, sym, ap, refl, subst, ℕ, zero, suc, ◌+◌, ◌<◌, ◌≤◌, Bool, true, false, cond, List, [], ◌∷◌, ◌++◌, map, length, set, Option, Some, None, arith, nat_lt, get_or}
 use Rattle.std.proofs.lemmas.List.{length-append, length-map, length-set}
 use Rattle.std.proofs.lemmas.Option.{get_or_from_slice_get, slice_get_within}
-use Rattle.std.proofs.lemmas.List.Elements.{All-append, All-set}
+use Rattle.std.proofs.lemmas.List.Elements.{All-append, All-map, All-set, All-weaker}
 use Rattle.std.proofs.lemmas.List.Folds.{list_any-append}
 use Rattle.std.proofs.lemmas.Slice.Eq.{bytes_eq-Decides}
 use Rattle.std.proofs.lemmas.Bool.Decides.{nat_tests, same_from_decides}
@@ -12,10 +12,10 @@ use Rattle.std.specs.Prelude.{◌-◌, slice_get, ◌||◌, ◌&&◌, not, nat_l
 use Rattle.std.specs.Str.{bytes_eq}
 use Rattle.spk_payload.specs.Typing.{Typed}
 use Rattle.spk_device.specs.declared.fault.Refusal.{Refusal}
-use Rattle.spk_device.specs.declared.fault.Refusal.TheVariants.{Duplicate, NoSuch, WrongKind, Full}
+use Rattle.spk_device.specs.declared.fault.Refusal.TheVariants.{Duplicate, NoSuch, WrongKind, Full, BadName}
 use Rattle.spk_device.specs.declared.owner.Owner.{Owner}
 use Rattle.spk_device.specs.Book.{Book, DeviceData, GaugeData, is_there, number_of, place_of, has_device, has_owner, has_metric, gauge_at, owner_number}
-use Rattle.spk_device.specs.Lawful.{AreApart, IsLawful, same_device, same_metric}
+use Rattle.spk_device.specs.Lawful.{AreApart, IsLawful, holds, is_level, same_device, same_metric}
 use Rattle.spk_device.specs.Step as step
 use Rattle.spk_device.specs.Values.{is_of, is_written}
 use Rattle.spk_device.proofs.PlaceLemmas.{position_from-within}
@@ -42,16 +42,44 @@ pub is_none : {X : Type 0} (o : Option X) → is_some o ≡ false → o ≡ None
 is_none None h = refl
 is_none (Some x) h = cc
 
+-- a name that isn't barred is a level of a topic
+barred_parts : (name : List ℕ) → list_any step.is_barred name ≡ false
+    → (holds 43 name ≡ false) × (holds 47 name ≡ false) × (holds 35 name ≡ false) × (holds 0 name ≡ false)
+barred_parts [] h = (refl, refl, refl, refl)
+barred_parts (c ∷ cs) h =
+    let (first, rest) = or_false (step.is_barred c) (list_any step.is_barred cs) h in
+    let (plus, after) = or_false (c == 43) ((c == 47) || ((c == 35) || (c == 0))) first in
+    let (slash, after2) = or_false (c == 47) ((c == 35) || (c == 0)) after in
+    let (hash, nul) = or_false (c == 35) (c == 0) after2 in
+    let more = barred_parts cs rest in
+    (neither (c == 43) (holds 43 cs) plus more.0, neither (c == 47) (holds 47 cs) slash more.1, neither (c == 35) (holds 35 cs) hash more.2, neither (c == 0) (holds 0 cs) nul more.3)
+  where
+    neither : (a b : Bool) → a ≡ false → b ≡ false → (a || b) ≡ false
+    neither a b p q = ap (λ x. x || b) p ∙ q
+
+level_name : (name : List ℕ) → step.is_empty name ≡ false → list_any step.is_barred name ≡ false → is_level name ≡ true
+level_name name some free =
+    let parts = barred_parts name free in
+    all_clear (step.is_empty name) (holds 47 name) (holds 43 name) (holds 35 name) (holds 0 name) some parts.1 parts.0 parts.2 parts.3
+  where
+    all_clear : (a b c d e : Bool) → a ≡ false → b ≡ false → c ≡ false → d ≡ false → e ≡ false → (not a && not b && (not c && not d) && not e) ≡ true
+    all_clear a b c d e p q r s t =
+        ap (λ x. not x && not b && (not c && not d) && not e) p ∙ ap (λ x. not x && (not c && not d) && not e) q
+        ∙ ap (λ x. (not x && not d) && not e) r ∙ ap (λ x. not x && not e) s ∙ ap not t
+
 -- a device that may be added
 pub record NewDevice (b : Book) (name : List ℕ) : Type 0 where
   pub new : number_of b name ≡ None
   pub few : length b.devices < 1000
+  pub level : is_level name ≡ true
 
 pub new_device : (b : Book) (name : List ℕ) → step.add_device_refusal b name ≡ None → NewDevice b name
 new_device b name h =
     let (known, rest) = passed (has_device b name) Duplicate _ h in
-    let (full, _) = passed (nat_le 1000 (length b.devices)) Full _ rest in
-    record { new = is_none (number_of b name) known; few = grind (arith, nat_tests) }
+    let (full, rest2) = passed (nat_le 1000 (length b.devices)) Full _ rest in
+    let (bad, _) = passed (step.is_empty name || list_any step.is_barred name) BadName _ rest2 in
+    let (empty, barred) = or_false (step.is_empty name) (list_any step.is_barred name) bad in
+    record { new = is_none (number_of b name) known; few = grind (arith, nat_tests); level = level_name name empty barred }
 
 -- a metric that may be added
 pub record NewMetric (b : Book) (owner : Owner) (name : List ℕ) (datatype : ℕ) (value : Option Typed) : Type 0 where
@@ -59,6 +87,8 @@ pub record NewMetric (b : Book) (owner : Owner) (name : List ℕ) (datatype : �
   pub there : has_owner b owner ≡ true
   pub kind : is_of datatype value ≡ true
   pub few : length b.gauges < 10000
+  pub named : step.is_empty name ≡ false
+  pub unreserved : step.is_taken name ≡ false
 
 pub new_metric : (b : Book) (owner : Owner) (name : List ℕ) (datatype : ℕ) (value : Option Typed)
     → step.add_metric_refusal b owner name datatype value ≡ None → NewMetric b owner name datatype value
@@ -66,12 +96,15 @@ new_metric b owner name datatype value h =
     let (known, rest) = passed (step.is_taken name || has_metric b owner name) Duplicate _ h in
     let (absent, rest2) = passed (not (has_owner b owner)) NoSuch _ rest in
     let (wrong, rest3) = passed (not (is_written datatype && is_of datatype value)) WrongKind _ rest2 in
-    let (full, _) = passed (nat_le 10000 (length b.gauges)) Full _ rest3 in
+    let (full, rest4) = passed (nat_le 10000 (length b.gauges)) Full _ rest3 in
+    let (empty, _) = passed (step.is_empty name) BadName _ rest4 in
     record {
       new = is_none (place_of b owner name) (or_false (step.is_taken name) (has_metric b owner name) known).1;
       there = not_false (has_owner b owner) absent;
       kind = (and_true (is_written datatype) (is_of datatype value) (not_false (is_written datatype && is_of datatype value) wrong)).1;
       few = grind (arith, nat_tests);
+      named = empty;
+      unreserved = (or_false (step.is_taken name) (has_metric b owner name) known).0;
     }
 
 -- ---- devices of a name
@@ -253,6 +286,10 @@ lawful-device b name lawful new =
       metrics_apart = lawful.metrics_apart;
       owners = λ k d h. there-more (owner_number (get_or b.gauges k d).owner) (length b.devices) _ (lawful.owners k d h) more;
       values = lawful.values;
+      levels = All-append (λ (d : DeviceData). is_level d.name ≡ true) b.devices ((record { name = name; up = false }) ∷ []) lawful.levels
+          (All-one (λ (d : DeviceData). is_level d.name ≡ true) (record { name = name; up = false }) new.level);
+      named = lawful.named;
+      unreserved = lawful.unreserved;
     }
   where
     there-more : (n l m : ℕ) → nat_lt n (l + 1) ≡ true → m ≡ l + 1 → nat_lt n (m + 1) ≡ true
@@ -270,6 +307,9 @@ lawful-metric b owner name datatype value lawful new =
       metrics_apart = apart-more same_metric 0 b.gauges g lawful.metrics_apart new.new;
       owners = All-append (λ (x : GaugeData). is_there b.devices x.owner ≡ true) b.gauges (g ∷ []) lawful.owners (All-one (λ (x : GaugeData). is_there b.devices x.owner ≡ true) g new.there);
       values = All-append (λ (x : GaugeData). is_of x.datatype x.value ≡ true) b.gauges (g ∷ []) lawful.values (All-one (λ (x : GaugeData). is_of x.datatype x.value ≡ true) g new.kind);
+      levels = lawful.levels;
+      named = All-append (λ (x : GaugeData). step.is_empty x.name ≡ false) b.gauges (g ∷ []) lawful.named (All-one (λ (x : GaugeData). step.is_empty x.name ≡ false) g new.named);
+      unreserved = All-append (λ (x : GaugeData). step.is_taken x.name ≡ false) b.gauges (g ∷ []) lawful.unreserved (All-one (λ (x : GaugeData). step.is_taken x.name ≡ false) g new.unreserved);
     }
 
 pub lawful-turn : (b : Book) (name : List ℕ) (up : Bool) → IsLawful b → IsLawful (step.with_turn b name up)
@@ -282,6 +322,10 @@ lawful-turn b name up lawful =
       metrics_apart = lawful.metrics_apart;
       owners = λ k d h. ap (λ n. nat_lt (owner_number (get_or b.gauges k d).owner) (n + 1)) same ∙ lawful.owners k d h;
       values = lawful.values;
+      levels = All-map (λ (d : DeviceData). is_level d.name ≡ true) (step.turned name up) b.devices
+          (All-weaker (λ (d : DeviceData). is_level d.name ≡ true) (λ d. is_level (step.turned name up d).name ≡ true) (λ d h. ap is_level (turned-name name up d) ∙ h) b.devices lawful.levels);
+      named = lawful.named;
+      unreserved = lawful.unreserved;
     }
 
 -- a value of its datatype is set at a place
@@ -295,6 +339,9 @@ lawful-set ds gs n g value lawful there kind = record {
   metrics_apart = apart-set same_metric n gs g (record g { value = value }) lawful.metrics_apart there (λ z. refl) (λ z. refl);
   owners = All-set (λ (x : GaugeData). is_there ds x.owner ≡ true) gs n (record g { value = value }) (All-at (λ (x : GaugeData). is_there ds x.owner ≡ true) gs n g lawful.owners there) lawful.owners;
   values = All-set (λ (x : GaugeData). is_of x.datatype x.value ≡ true) gs n (record g { value = value }) kind lawful.values;
+  levels = lawful.levels;
+  named = All-set (λ (x : GaugeData). step.is_empty x.name ≡ false) gs n (record g { value = value }) (All-at (λ (x : GaugeData). step.is_empty x.name ≡ false) gs n g lawful.named there) lawful.named;
+  unreserved = All-set (λ (x : GaugeData). step.is_taken x.name ≡ false) gs n (record g { value = value }) (All-at (λ (x : GaugeData). step.is_taken x.name ≡ false) gs n g lawful.unreserved there) lawful.unreserved;
 }
 
 -- a value that may be set

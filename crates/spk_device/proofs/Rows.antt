@@ -2,7 +2,7 @@
 use Rattle.std.specs.Prelude.{◌≡◌, true, false, List, [], ◌∷◌, Some, None, Result, Ok, Err, pos, negsuc, codes, refl}
 use Rattle.spk_payload.specs.Meaning.{Int}
 use Rattle.spk_payload.specs.Typing.{Signed, Truth}
-use Rattle.spk_device.specs.declared.change.Change.TheVariants.{Changed, Same}
+use Rattle.spk_device.specs.declared.outcome.Outcome.TheVariants.{Changed, Same}
 use Rattle.spk_device.specs.declared.fault.Refusal.{Refusal}
 use Rattle.spk_device.specs.declared.fault.Refusal.TheVariants.{Duplicate, NoSuch, WrongKind, BadName}
 use Rattle.spk_device.specs.declared.owner.Owner.TheVariants.{Node, Device}

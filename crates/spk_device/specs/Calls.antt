@@ -1,7 +1,7 @@
 -- Lists of calls that change a registry, newest first, and what they leave and answer step by step.
 use Rattle.std.specs.Prelude.{ℕ, ◌+◌, Bool, List, [], ◌∷◌, length, Option, Some, None, Result, Ok, Err}
 use Rattle.spk_payload.specs.Typing.{Typed}
-use Rattle.spk_device.specs.declared.change.Change.{Change}
+use Rattle.spk_device.specs.declared.outcome.Outcome.{Outcome}
 use Rattle.spk_device.specs.declared.fault.Refusal.{Refusal}
 use Rattle.spk_device.specs.declared.owner.Owner.{Owner}
 use Rattle.spk_device.specs.Book.{Book, empty_book}
@@ -20,7 +20,7 @@ pub data Call : Type 0 where
 pub data Reply : Type 0 where
   Done : Reply
   Alias : ℕ → Reply
-  Told : Change → Reply
+  Told : Outcome → Reply
 
 abbrev pub refusal : Book → Call → Option Refusal
 refusal b (AddDevice name) = step.add_device_refusal b name
@@ -55,7 +55,10 @@ answer_of b call = answer_to (refusal b call) (reply b call)
 abbrev pub after : Book → Call → Book
 after b call = unless_refused (refusal b call) (changed b call) b
 
--- the data after all calls
+-- the data after all calls, from a first book on, and from an empty one
+abbrev pub standing_from : Book → List Call → Book
+standing_from first [] = first
+standing_from first (call ∷ calls) = after (standing_from first calls) call
+
 abbrev pub standing : List Call → Book
-standing [] = empty_book
-standing (call ∷ calls) = after (standing calls) call
+standing calls = standing_from empty_book calls

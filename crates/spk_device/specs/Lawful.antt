@@ -1,8 +1,9 @@
 -- What holds of each registry's data.
-use Rattle.std.specs.Prelude.{◌≡◌, ℕ, ◌≤◌, Bool, true, false, ◌&&◌, List, [], ◌∷◌, length, map, All}
+use Rattle.std.specs.Prelude.{◌≡◌, ℕ, ◌≤◌, Bool, true, false, not, ◌&&◌, ◌==◌, List, [], ◌∷◌, length, map, All}
 use Rattle.std.specs.List.{enumerate_from, list_any}
 use Rattle.std.specs.Str.{bytes_eq}
 use Rattle.spk_device.specs.declared.owner.Owner.{Owner}
+use Rattle.spk_device.specs.Step.{is_empty, is_taken}
 use Rattle.spk_device.specs.Values.{is_of}
 use Rattle.spk_device.specs.Book.{Book, DeviceData, GaugeData, is_owner, is_there, owned}
 
@@ -19,8 +20,16 @@ same_device d e = bytes_eq d.name e.name
 abbrev pub same_metric : GaugeData → GaugeData → Bool
 same_metric g h = is_owner g.owner h.owner && bytes_eq g.name h.name
 
--- Each device has its own name, each metric of an owner too; each metric has an owner that is there and a value of its
--- datatype; and there are no more of them than there may be.
+-- a device's name can be a level of a topic: it has a byte, and none of `/`, `+`, `#` and U+0000 (MQTT 3.1.1, 4.7)
+abbrev pub holds : ℕ → List ℕ → Bool
+holds byte text = list_any (λ b. b == byte) text
+
+abbrev pub is_level : List ℕ → Bool
+is_level name = not (is_empty name) && not (holds 47 name) && (not (holds 43 name) && not (holds 35 name)) && not (holds 0 name)
+
+-- Each device has its own name, which can stand in a topic. Each metric of an owner has its own name too, which isn't one that
+-- the node's own messages use; it has an owner that is there and a value of its datatype. And there are no more of them
+-- than there may be.
 pub record IsLawful (b : Book) : Type 0 where
   pub few_devices : length b.devices ≤ 1000
   pub few_gauges : length b.gauges ≤ 10000
@@ -28,6 +37,9 @@ pub record IsLawful (b : Book) : Type 0 where
   pub metrics_apart : AreApart same_metric b.gauges
   pub owners : All (λ g. is_there b.devices g.owner ≡ true) b.gauges
   pub values : All (λ g. is_of g.datatype g.value ≡ true) b.gauges
+  pub levels : All (λ d. is_level d.name ≡ true) b.devices
+  pub named : All (λ g. is_empty g.name ≡ false) b.gauges
+  pub unreserved : All (λ g. is_taken g.name ≡ false) b.gauges
 
 -- ---- the names by which the registry finds numbers
 

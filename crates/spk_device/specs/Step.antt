@@ -4,8 +4,8 @@ use Rattle.std.specs.List.{enumerate_from, list_any}
 use Rattle.std.specs.Option.{option_map_or}
 use Rattle.std.specs.Str.{bytes_eq}
 use Rattle.spk_payload.specs.Typing.{Typed}
-use Rattle.spk_device.specs.declared.change.Change.{Change}
-use Rattle.spk_device.specs.declared.change.Change.TheVariants.{Changed, Same}
+use Rattle.spk_device.specs.declared.outcome.Outcome.{Outcome}
+use Rattle.spk_device.specs.declared.outcome.Outcome.TheVariants.{Changed, Same}
 use Rattle.spk_device.specs.declared.fault.Refusal.{Refusal}
 use Rattle.spk_device.specs.declared.fault.Refusal.TheVariants.{Duplicate, NoSuch, WrongKind, Full, BadName}
 use Rattle.spk_device.specs.declared.owner.Owner.{Owner}
@@ -54,15 +54,15 @@ births_refusal b owner = if has_owner b owner then None else Some NoSuch
 
 -- ---- answers, where nothing is refused
 
-abbrev pub change_unless : Bool → Change
+abbrev pub change_unless : Bool → Outcome
 change_unless same = if same then Same else Changed
 
 -- Same exactly where the value is the present one
-abbrev pub set_change : Book → ℕ → Option Typed → Change
+abbrev pub set_change : Book → ℕ → Option Typed → Outcome
 set_change b alias value = change_unless (option_map_or (λ g. value_eq g.value value) (gauge_at b alias) false)
 
 -- Same exactly where the device is so already
-abbrev pub turn_change : Book → List ℕ → Bool → Change
+abbrev pub turn_change : Book → List ℕ → Bool → Outcome
 turn_change b name up = change_unless (option_map_or (λ u. flag_eq u up) (is_up b name) false)
 
 -- ---- the data after a call, where nothing is refused

@@ -1,7 +1,7 @@
 use crate::tests::{
     Row, assert_device, assert_metric, assert_metrics, assert_set, fault, with_devices,
 };
-use crate::{Alias, Change, DeviceFault, Owner, Refusal, Registry};
+use crate::{Alias, DeviceFault, Outcome, Owner, Refusal, Registry};
 use spk_payload::{Metric, Raw, Value};
 use std::process::Abort;
 
@@ -115,21 +115,21 @@ fn aliases_count_over_the_whole_node(rt: HostRuntime) {
 fn assert_texts(
     rt: &(impl Abort + AllocGlobal),
     registry: &mut Registry,
-    rows: &[(Option<&'static str>, Change)],
+    rows: &[(Option<&'static str>, Outcome)],
 ) {
     for (value, change) in rows {
         assert_set(rt, registry, 1, words(rt, *value), Ok(*change));
     }
 }
 
-const TEXTS: [(Option<&str>, Change); 7] = [
-    (None, Change::Same),
-    (Some("hi"), Change::Changed),
-    (Some("hi"), Change::Same),
-    (Some("ho"), Change::Changed),
-    (Some("h"), Change::Changed),
-    (Some(""), Change::Changed),
-    (None, Change::Changed),
+const TEXTS: [(Option<&str>, Outcome); 7] = [
+    (None, Outcome::Same),
+    (Some("hi"), Outcome::Changed),
+    (Some("hi"), Outcome::Same),
+    (Some("ho"), Outcome::Changed),
+    (Some("h"), Outcome::Changed),
+    (Some(""), Outcome::Changed),
+    (None, Outcome::Changed),
 ];
 
 #[test]
@@ -149,7 +149,7 @@ const VALUELESS: [Row; 4] = [
 #[test]
 fn births_have_the_value_last_set(rt: HostRuntime) {
     let mut registry = Registry::new(rt.alloc());
-    let changed = Ok(Change::Changed);
+    let changed = Ok(Outcome::Changed);
     assert_metrics(&rt, &mut registry, &VALUELESS);
     assert_set(&rt, &mut registry, 1, Some(Value::Signed(-2)), changed);
     let hi = words(&rt, Some("hi"));
@@ -172,7 +172,7 @@ fn assert_turn(
     registry: &mut Registry,
     name: &str,
     up: bool,
-    want: Result<Change, Refusal>,
+    want: Result<Outcome, Refusal>,
 ) {
     let answer = if up {
         registry.device_up(name)
@@ -183,7 +183,7 @@ fn assert_turn(
 }
 
 /// The name of a device, whether it is turned up, and what is answered.
-type Turn = (&'static str, bool, Result<Change, Refusal>);
+type Turn = (&'static str, bool, Result<Outcome, Refusal>);
 
 /// Devices of these names, turned up or down, are each answered so.
 fn assert_turns(rt: &impl Abort, registry: &mut Registry, rows: &[Turn]) {
@@ -203,11 +203,11 @@ fn assert_up_by_name(rt: &impl Abort, registry: &Registry, name: &str, want: Opt
 }
 
 const TURNS: [Turn; 7] = [
-    ("D", false, Ok(Change::Same)),
-    ("E", true, Ok(Change::Changed)),
-    ("E", true, Ok(Change::Same)),
-    ("E", false, Ok(Change::Changed)),
-    ("D", true, Ok(Change::Changed)),
+    ("D", false, Ok(Outcome::Same)),
+    ("E", true, Ok(Outcome::Changed)),
+    ("E", true, Ok(Outcome::Same)),
+    ("E", false, Ok(Outcome::Changed)),
+    ("D", true, Ok(Outcome::Changed)),
     ("F", true, Err(Refusal::NoSuch)),
     ("", false, Err(Refusal::NoSuch)),
 ];

@@ -3,8 +3,8 @@ ghost use Rattle.std.specs.Prelude.{◌≡◌};
 ghost use Rattle.spk_device.specs.Step.{change_unless};
 ghost use Rattle.spk_device.specs.Values.{flag_eq};
 
-use crate::change::Change;
 use crate::names::Names;
+use crate::outcome::Outcome;
 
 /// A device: its name, whether it is up, and the places of its metrics, by name.
 #[derive(Drop)]
@@ -16,14 +16,14 @@ pub(crate) struct Device {
 
 impl Device {
     /// The device is up or down from now on.
-    pub(crate) fn turn(&mut self, up: bool) -> Change
+    pub(crate) fn turn(&mut self, up: bool) -> Outcome
         ensures change { result ≡ change_unless (flag_eq self.old.up up) }
         ensures data { self.new ≡ record self.old { up = up } }
     {
         if self.up == up {
-            return Change::Same;
+            return Outcome::Same;
         }
         self.up = up;
-        Change::Changed
+        Outcome::Changed
     }
 }

@@ -8,7 +8,7 @@ ghost use Rattle.spk_device.specs.Step.{change_unless};
 ghost use Rattle.spk_device.specs.Values as spec;
 ghost use Rattle.spk_device.specs.View.{gauge_view};
 
-use crate::change::Change;
+use crate::outcome::Outcome;
 use crate::owner::Owner;
 use crate::values::is_same_value;
 use spk_payload::{Metric, PayloadFault, Raw, Value, written};
@@ -37,16 +37,27 @@ fn written_value(alloc: Global, datatype: u32, value: &Value) -> Result<Raw, All
 }
 
 impl Gauge {
+    /// What `put` would answer.
+    pub(crate) fn would_put(&self, value: &Option<Value>) -> Outcome
+        ensures { result ≡ change_unless (spec.value_eq (option_map typed_view self.now.value) (option_map typed_view value.now)) }
+    {
+        if is_same_value(&self.value, value) {
+            Outcome::Same
+        } else {
+            Outcome::Changed
+        }
+    }
+
     /// The value is this one from now on.
-    pub(crate) fn put(&mut self, value: Option<Value>) -> Change
+    pub(crate) fn put(&mut self, value: Option<Value>) -> Outcome
         ensures change { result ≡ change_unless (spec.value_eq (option_map typed_view self.old.value) (option_map typed_view value)) }
         ensures data { gauge_view self.new ≡ record (gauge_view self.old) { value = option_map typed_view value } }
     {
         if is_same_value(&self.value, &value) {
-            return Change::Same;
+            return Outcome::Same;
         }
         self.value = value;
-        Change::Changed
+        Outcome::Changed
     }
 
     /// The metric in a birth, at its place among all metrics.

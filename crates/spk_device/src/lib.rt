@@ -5,20 +5,20 @@
 
 mod adding;
 mod births;
-mod change;
 mod device;
 mod fault;
 mod gauge;
 pub mod laws;
 mod names;
+mod outcome;
 mod owner;
 mod registry;
 mod setting;
 mod values;
 
-pub use change::Change;
 pub use fault::{DeviceFault, Refusal};
 pub use gauge::Gauge;
+pub use outcome::Outcome;
 pub use owner::Owner;
 pub use registry::{Alias, Registry};
 

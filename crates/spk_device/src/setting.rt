@@ -4,16 +4,17 @@ ghost use Rattle.std.specs.Option.{option_map};
 ghost use Rattle.spk_payload.specs.Typing.{typed_view};
 ghost use Rattle.spk_device.specs.Step as step;
 
-use crate::change::Change;
 use crate::fault::Refusal;
+use crate::outcome::Outcome;
 use crate::registry::{Alias, Registry};
 use crate::values::is_of;
 use spk_payload::Value;
 
 impl Registry {
-    /// Whether `set` would be refused: NoSuch (41) for an alias that wasn't given, WrongKind (42) for a value that isn't of the
-    /// metric's datatype. Takes no memory.
-    pub fn would_set(&self, alias: Alias, value: &Option<Value>) -> Result<(), Refusal>
+    /// What `set` would answer: Same where that is the metric's value already. Refuses with NoSuch (41) an alias that wasn't
+    /// given, with WrongKind (42) a value that isn't of the metric's datatype. Nothing changes. Takes no memory.
+    pub fn would_set(&self, alias: Alias, value: &Option<Value>) -> Result<Outcome, Refusal>
+        ensures change { IfOk result (λ c. c ≡ step.set_change self.now alias (option_map typed_view value.now)) }
         ensures accepted { OnOk result (
             step.set_refusal self.now alias (option_map typed_view value.now) ≡ None) }
         ensures refused { IfErr result (λ r.
@@ -22,7 +23,7 @@ impl Registry {
         match self.metric(alias) {
             Some(gauge) => {
                 if is_of(gauge.datatype, value) {
-                    Ok(())
+                    Ok(gauge.would_put(value))
                 } else {
                     Err(Refusal::WrongKind)
                 }
@@ -33,7 +34,7 @@ impl Registry {
 
     /// Sets the value of a metric: Same where that is its value already. Refuses what `would_set` says, and nothing has
     /// changed then. Takes no memory.
-    pub fn set(&mut self, alias: Alias, value: Option<Value>) -> Result<Change, Refusal>
+    pub fn set(&mut self, alias: Alias, value: Option<Value>) -> Result<Outcome, Refusal>
         ensures change { IfOk result (λ c. c ≡ step.set_change self.old alias (option_map typed_view value)) }
         ensures done { OnOk result (
             self.new ≡ step.with_value self.old alias (option_map typed_view value)) }
@@ -48,7 +49,7 @@ impl Registry {
     }
 
     /// The device is up: Same where it is already. Refuses with NoSuch (41) a name that no device has. Takes no memory.
-    pub fn device_up(&mut self, name: &str) -> Result<Change, Refusal>
+    pub fn device_up(&mut self, name: &str) -> Result<Outcome, Refusal>
         ensures change { IfOk result (λ c. c ≡ step.turn_change self.old name.now true) }
         ensures done { OnOk result (self.new ≡ step.with_turn self.old name.now true) }
         ensures accepted { OnOk result (step.turn_refusal self.old name.now ≡ None) }
@@ -59,7 +60,7 @@ impl Registry {
     }
 
     /// The device is down: Same where it is already. Refuses with NoSuch (41) a name that no device has. Takes no memory.
-    pub fn device_down(&mut self, name: &str) -> Result<Change, Refusal>
+    pub fn device_down(&mut self, name: &str) -> Result<Outcome, Refusal>
         ensures change { IfOk result (λ c. c ≡ step.turn_change self.old name.now false) }
         ensures done { OnOk result (self.new ≡ step.with_turn self.old name.now false) }
         ensures accepted { OnOk result (step.turn_refusal self.old name.now ≡ None) }
@@ -70,7 +71,7 @@ impl Registry {
     }
 
     /// Sets a value where `set` refuses nothing.
-    fn put(&mut self, alias: Alias, value: Option<Value>) -> Change
+    fn put(&mut self, alias: Alias, value: Option<Value>) -> Outcome
         requires { step.set_refusal self.old alias (option_map typed_view value) ≡ None }
         ensures change { result ≡ step.set_change self.old alias (option_map typed_view value) }
         ensures data { self.new ≡ step.with_value self.old alias (option_map typed_view value) }
@@ -78,7 +79,7 @@ impl Registry {
         self.gauges[(alias - 1) as usize].put(value)
     }
 
-    fn turn(&mut self, name: &str, up: bool) -> Result<Change, Refusal>
+    fn turn(&mut self, name: &str, up: bool) -> Result<Outcome, Refusal>
         ensures change { IfOk result (λ c. c ≡ step.turn_change self.old name.now up) }
         ensures done { OnOk result (self.new ≡ step.with_turn self.old name.now up) }
         ensures accepted { OnOk result (step.turn_refusal self.old name.now ≡ None) }

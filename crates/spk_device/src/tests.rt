@@ -1,4 +1,4 @@
-use crate::{Alias, Change, DeviceFault, Gauge, Owner, Refusal, Registry};
+use crate::{Alias, DeviceFault, Gauge, Outcome, Owner, Refusal, Registry};
 use spk_payload::Value;
 use std::process::Abort;
 
@@ -99,22 +99,22 @@ pub(crate) fn assert_metrics(rt: &impl Abort, registry: &mut Registry, rows: &[R
     }
 }
 
-/// A value, set, is answered so, and `would_set` said before whether it would be refused.
+/// A value, set, is answered so, as `would_set` said before.
 pub(crate) fn assert_set(
     rt: &impl Abort,
     registry: &mut Registry,
     alias: Alias,
     value: Option<Value>,
-    want: Result<Change, Refusal>,
+    want: Result<Outcome, Refusal>,
 ) {
     let would = registry.would_set(alias, &value);
     let answer = registry.set(alias, value);
     assert_eq!(rt; answer, want, "alias {alias}");
-    assert_eq!(rt; would.err(), want.err(), "alias {alias}");
+    assert_eq!(rt; would, want, "alias {alias}");
 }
 
 /// An alias, a signed number or none that is set at it, and what is answered.
-type Setting = (Alias, Option<i64>, Result<Change, Refusal>);
+type Setting = (Alias, Option<i64>, Result<Outcome, Refusal>);
 
 /// Signed numbers or none, set at these aliases, are each answered so.
 fn assert_numbers(rt: &impl Abort, registry: &mut Registry, rows: &[Setting]) {
@@ -129,16 +129,16 @@ const ONE_METRIC: [Row; 2] = [
 ];
 
 const NUMBERS: [Setting; 2] = [
-    (1, Some(7), Ok(Change::Changed)),
-    (1, Some(7), Ok(Change::Same)),
+    (1, Some(7), Ok(Outcome::Changed)),
+    (1, Some(7), Ok(Outcome::Same)),
 ];
 
 const LATER_NUMBERS: [Setting; 5] = [
     (2, Some(7), Err(Refusal::NoSuch)),
     (0, Some(7), Err(Refusal::NoSuch)),
     (u64::MAX, None, Err(Refusal::NoSuch)),
-    (1, None, Ok(Change::Changed)),
-    (1, None, Ok(Change::Same)),
+    (1, None, Ok(Outcome::Changed)),
+    (1, None, Ok(Outcome::Same)),
 ];
 
 #[test]

@@ -17,7 +17,7 @@ use Rattle.spk_packets.specs.Fault.{first_of}
 use Rattle.spk_packets.specs.Message.{WillData, Message, Connect, ConnAck, Publish, PubAck, Subscribe, SubAck, Unsubscribe, UnsubAck, PingReq, PingResp, Disconnect}
 use Rattle.spk_packets.specs.Grammar.{bit, has_zero, is_grant, connect_flags, protocol, first_byte, largest, IsNumber, IsId, IsCounted, IsText, IsRequest, IsIdPart, IsWillPart, IsBody, AreEach, AreSevens, IsLength, Spells}
 use Rattle.spk_packets.specs.Refusals.{Refusals}
-use Rattle.spk_packets.specs.Spelling.{number, counted, request, id_part, will_part, body, shortest, spelling, is_bad_text, has_bad_topic, has_bad_text, is_empty, has_bad_will, has_bad_id, has_bad_body, will_is_of_qos_two, is_qos_two, unwritable, IsWord, HasWords}
+use Rattle.spk_packets.specs.Spelling.{number, counted, request, id_part, will_part, body, shortest, spelling, is_bad_text, has_bad_topic, has_bad_text, is_empty, has_bad_will, has_bad_id, has_bad_body, will_is_of_qos_two, is_qos_two, unwritable, IsWord, HasWords, AreUtf8, AreRequestsUtf8, WillIsUtf8, TextsAreUtf8}
 use Rattle.spk_packets.specs.View.{view, will_view, request_view}
 use Rattle.spk_packets.proofs.Written.{length-spelling}
 
@@ -69,14 +69,6 @@ text_spells : (bytes : List ℕ) → is_bad_text bytes ≡ false → IsUtf8 byte
 text_spells bytes e u = (counted_spells bytes (no_left (nat_lt 65535 (length bytes)) (has_zero bytes) e), u, no_right (nat_lt 65535 (length bytes)) (has_zero bytes) e)
 
 -- each text of the list is UTF-8
-abbrev pub AreUtf8 : List (List ℕ) → Type 0
-AreUtf8 [] = Unit {0}
-AreUtf8 (x ∷ xs) = IsUtf8 x × AreUtf8 xs
-
-abbrev pub AreRequestsUtf8 : List (List ℕ × ℕ) → Type 0
-AreRequestsUtf8 [] = Unit {0}
-AreRequestsUtf8 (x ∷ xs) = IsUtf8 x.0 × AreRequestsUtf8 xs
-
 texts_spell : (texts : List (List ℕ)) → list_any is_bad_text texts ≡ false → AreUtf8 texts → AreEach IsText (flat_map counted texts) texts
 texts_spell [] e u = refl
 texts_spell (x ∷ xs) e u =
@@ -120,26 +112,9 @@ requests_utf8 : (xs : List Request) → AreRequestsUtf8 (map request_view xs)
 requests_utf8 [] = tt
 requests_utf8 (x ∷ xs) = (string_utf8 x.filter, requests_utf8 xs)
 
-abbrev pub WillIsUtf8 : Option WillData → Type 0
-WillIsUtf8 None = Unit {0}
-WillIsUtf8 (Some will) = IsUtf8 will.topic
-
 will_utf8 : (will : Option Will) → WillIsUtf8 (option_map will_view will)
 will_utf8 None = tt
 will_utf8 (Some will) = string_utf8 will.topic
-
-abbrev pub TextsAreUtf8 : Message → Type 0
-TextsAreUtf8 (Connect client clean keep will) = IsUtf8 client × WillIsUtf8 will
-TextsAreUtf8 (ConnAck present code) = Unit {0}
-TextsAreUtf8 (Publish dup qos retain topic id payload) = IsUtf8 topic
-TextsAreUtf8 (PubAck id) = Unit {0}
-TextsAreUtf8 (Subscribe id filters) = AreRequestsUtf8 filters
-TextsAreUtf8 (SubAck id codes) = Unit {0}
-TextsAreUtf8 (Unsubscribe id filters) = AreUtf8 filters
-TextsAreUtf8 (UnsubAck id) = Unit {0}
-TextsAreUtf8 PingReq = Unit {0}
-TextsAreUtf8 PingResp = Unit {0}
-TextsAreUtf8 Disconnect = Unit {0}
 
 pub packet_utf8 : (packet : Packet) → TextsAreUtf8 (view packet)
 packet_utf8 (packets.Connect client clean keep will) = (string_utf8 client, will_utf8 will)

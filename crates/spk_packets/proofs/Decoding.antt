@@ -1,6 +1,6 @@
 -- From what the private readers give to the grammar and the order of faults.
-use Rattle.std.proofs.Common.{◌≡◌, ℕ, ◌+◌, ◌≤◌, List, ◌++◌, length, take, drop, Option, Some, Result, Ok, Err, sym, ap, subst, ◌∙◌, arith}
-use Rattle.std.specs.Prelude.{IfOk, IfErr}
+use Rattle.std.proofs.Common.{◌≡◌, ℕ, ◌+◌, ◌≤◌, List, ◌++◌, length, take, drop, Option, Some, None, Result, Ok, Err, sym, ap, subst, ◌∙◌, arith}
+use Rattle.std.specs.Prelude.{IfOk, IfErr, OnOk}
 use Rattle.std.proofs.lemmas.List.{take_at, take-append-drop, length-append, length-take}
 use Rattle.spk_packets.specs.declared.fault.PacketFault.{PacketFault}
 use Rattle.spk_packets.specs.declared.fault.PacketFault.TheVariants.{NoMemory, More, BadLength, BadFlags, BadType, BadText, BadBody, TooLarge, QosTwo, BadLevel}
@@ -73,3 +73,12 @@ length_only bytes n size le is =
 pub length_named : (bytes : List ℕ) (r : Result (ℕ × ℕ) PacketFault) → r ≡ length_at bytes → IfErr r (λ e. first_of (length_refusals bytes) ≡ Some e)
 length_named bytes (Ok x) given = tt
 length_named bytes (Err e) given = sym (length_refused bytes) ∙ ap fault_of (sym given)
+
+-- what is read has no refusal
+pub is_clear : (bytes : List ℕ) (r : Result (Packet × ℕ) PacketFault) → Gives front_view r (packet_at bytes) → OnOk r (first_of (refusals bytes) ≡ None)
+is_clear bytes (Ok x) given = sym (packet_refused bytes) ∙ ap fault_of given
+is_clear bytes (Err e) given = tt
+
+pub length_clear : (bytes : List ℕ) (r : Result (ℕ × ℕ) PacketFault) → r ≡ length_at bytes → OnOk r (first_of (length_refusals bytes) ≡ None)
+length_clear bytes (Ok x) given = sym (length_refused bytes) ∙ ap fault_of (sym given)
+length_clear bytes (Err e) given = tt

@@ -53,3 +53,23 @@ same_given events others x y run other same no_x no_y =
     let s = run_spells events [] x run in
     let t = run_spells others [] y other in
     one_reading (given events) (given others) s.text t.text x y s.are t.are no_x no_y (sym s.parts ∙ same ∙ t.parts)
+
+-- the first part of a reading, where no packet is left behind the whole
+first_reading : (ps qs : List Message) (a b x y : List ℕ) → AreEach Spells a ps → AreEach Spells b qs → HasNoPacket y → a ++ x ≡ b ++ y → (later : List Message) × (qs ≡ ps ++ later)
+first_reading [] qs a b x y are_a are_b no_y e = (qs, refl)
+first_reading (p ∷ ps) [] a b x y are_a are_b no_y e =
+    absurd (no_y are_a.0 (are_a.1 ++ x) p are_a.2 (sym (ap (λ (r : List ℕ). r ++ y) are_b) ∙ sym e ∙ ap (λ (r : List ℕ). r ++ x) are_a.4 ∙ append_assoc are_a.0 are_a.1 x))
+first_reading (p ∷ ps) (q ∷ qs) a b x y are_a are_b no_y e =
+    let whole : are_a.0 ++ (are_a.1 ++ x) ≡ are_b.0 ++ (are_b.1 ++ y) =
+    sym (append_assoc are_a.0 are_a.1 x) ∙ sym (ap (λ (r : List ℕ). r ++ x) are_a.4) ∙ e ∙ ap (λ (r : List ℕ). r ++ y) are_b.4 ∙ append_assoc are_b.0 are_b.1 y in
+    let front = prefix_is are_a.0 are_b.0 (are_a.1 ++ x) (are_b.1 ++ y) p q are_a.2 are_b.2 whole in
+    let others = first_reading ps qs are_a.1 are_b.1 x y are_a.3 are_b.3 no_y (tails are_a.0 are_b.0 (are_a.1 ++ x) (are_b.1 ++ y) front.0 whole) in
+    (others.0, heads q p qs (ps ++ others.0) (sym front.1) others.1)
+
+pub first_given : (events others : List Event) (x y more : List ℕ) → IsRun [] events x → IsRun [] others y → fed events ++ more ≡ fed others → HasNoPacket y
+    → (later : List Message) × (given others ≡ given events ++ later)
+first_given events others x y more run other same no_y =
+    let s = run_spells events [] x run in
+    let t = run_spells others [] y other in
+    first_reading (given events) (given others) s.text t.text (x ++ more) y s.are t.are no_y
+    (sym (append_assoc s.text x more) ∙ ap (λ (r : List ℕ). r ++ more) (sym s.parts) ∙ same ∙ t.parts)

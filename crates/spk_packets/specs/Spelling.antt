@@ -2,6 +2,7 @@
 -- has none, in the order in which the causes are tried (own rule).
 use Rattle.std.specs.Prelude.{ℕ, ◌+◌, ◌/◌, ◌%◌, ◌<◌, Bool, true, false, not, ◌&&◌, ◌||◌, List, [], ◌∷◌, ◌++◌, length, Option, Some, None, nat_lt, ◌==◌, if◌then◌else◌}
 use Rattle.std.specs.List.{list_any, list_all, flat_map}
+use Rattle.std.specs.Str.{IsUtf8}
 use Rattle.spk_packets.specs.declared.fault.PacketFault.TheVariants.{BadText, BadBody, TooLarge, QosTwo}
 use Rattle.spk_packets.specs.Message.{WillData, Message, Connect, ConnAck, Publish, PubAck, Subscribe, SubAck, Unsubscribe, UnsubAck, PingReq, PingResp, Disconnect}
 use Rattle.spk_packets.specs.Grammar.{bit, has_zero, is_grant, connect_flags, protocol, first_byte, largest}
@@ -145,3 +146,34 @@ HasWords (UnsubAck id) = id < 65536
 HasWords PingReq = Unit {0}
 HasWords PingResp = Unit {0}
 HasWords Disconnect = Unit {0}
+
+-- ---- texts are UTF-8, as they are in each packet of the code
+
+abbrev pub AreUtf8 : List (List ℕ) → Type 0
+AreUtf8 [] = Unit {0}
+AreUtf8 (x ∷ xs) = IsUtf8 x × AreUtf8 xs
+
+abbrev pub AreRequestsUtf8 : List (List ℕ × ℕ) → Type 0
+AreRequestsUtf8 [] = Unit {0}
+AreRequestsUtf8 (x ∷ xs) = IsUtf8 x.0 × AreRequestsUtf8 xs
+
+abbrev pub WillIsUtf8 : Option WillData → Type 0
+WillIsUtf8 None = Unit {0}
+WillIsUtf8 (Some will) = IsUtf8 will.topic
+
+abbrev pub TextsAreUtf8 : Message → Type 0
+TextsAreUtf8 (Connect client clean keep will) = IsUtf8 client × WillIsUtf8 will
+TextsAreUtf8 (ConnAck present code) = Unit {0}
+TextsAreUtf8 (Publish dup qos retain topic id payload) = IsUtf8 topic
+TextsAreUtf8 (PubAck id) = Unit {0}
+TextsAreUtf8 (Subscribe id filters) = AreRequestsUtf8 filters
+TextsAreUtf8 (SubAck id codes) = Unit {0}
+TextsAreUtf8 (Unsubscribe id filters) = AreUtf8 filters
+TextsAreUtf8 (UnsubAck id) = Unit {0}
+TextsAreUtf8 PingReq = Unit {0}
+TextsAreUtf8 PingResp = Unit {0}
+TextsAreUtf8 Disconnect = Unit {0}
+
+-- its numbers have 16 bits and its texts are UTF-8
+abbrev pub PacketFits : Message → Type 0
+PacketFits p = HasWords p × TextsAreUtf8 p

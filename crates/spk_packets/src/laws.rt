@@ -5,7 +5,7 @@ ghost use Rattle.spk_packets.specs.Fault.{first_of};
 ghost use Rattle.spk_packets.specs.Refusals.{refusals};
 ghost use Rattle.spk_packets.specs.Message.{Message};
 ghost use Rattle.spk_packets.specs.Grammar.{Spells};
-ghost use Rattle.spk_packets.specs.Spelling.{spelling, unwritable};
+ghost use Rattle.spk_packets.specs.Spelling.{spelling, unwritable, PacketFits};
 ghost use Rattle.spk_packets.specs.Stream.{Event, IsRun, HasNoPacket, fed, given};
 ghost use Rattle.spk_packets.specs.declared.fault.PacketFault.{PacketFault};
 
@@ -27,11 +27,19 @@ pub fn written_is_shortest()
         → length (spelling p) ≤ length text }
 {}
 
+/// What can be written is spelled by its spelling.
+pub fn spelling_spells()
+    ensures { (p : Message) → PacketFits p → first_of (unwritable p) ≡ None → Spells (spelling p) p }
+{}
+
 /// Two feeds that took in the same bytes and hold no whole packet any more have given the same packets, and the same
-/// bytes wait: it doesn't matter how the bytes were cut, nor when packets were asked for.
+/// bytes wait: it doesn't matter how the bytes were cut, nor when packets were asked for. A feed that still holds some, or
+/// took in fewer bytes, has given the first of them.
 pub fn any_pieces()
-    ensures { (events others : List Event) (x y : List ℕ) → IsRun [] events x → IsRun [] others y
+    ensures same { (events others : List Event) (x y : List ℕ) → IsRun [] events x → IsRun [] others y
         → fed events ≡ fed others → HasNoPacket x → HasNoPacket y → (given events ≡ given others) × (x ≡ y) }
+    ensures first { (events others : List Event) (x y more : List ℕ) → IsRun [] events x → IsRun [] others y
+        → fed events ++ more ≡ fed others → HasNoPacket y → (later : List Message) × (given others ≡ given events ++ later) }
 {}
 
 /// A fault other than More stays, whatever follows: bytes that are refused are refused at once, and for good.

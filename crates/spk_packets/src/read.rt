@@ -1,6 +1,6 @@
 //! Reading a packet at the front of bytes (chapter 2).
 
-ghost use Rattle.std.specs.Prelude.{◌≡◌, ℕ, ◌≤◌, length, take, IfOk, IfErr, Ok};
+ghost use Rattle.std.specs.Prelude.{◌≡◌, ℕ, ◌≤◌, length, take, IfOk, IfErr, OnOk, Ok, None};
 ghost use Rattle.spk_packets.specs.Fault.{Gives, IsNamed, first_of};
 ghost use Rattle.spk_packets.specs.Message.{Message};
 ghost use Rattle.spk_packets.specs.Grammar.{IsLength, Spells};
@@ -114,6 +114,7 @@ pub fn read_length(bytes: &[u8]) -> Result<(u32, usize), PacketFault>
     ensures found { IfOk result (λ x. (x.1 ≤ length bytes.now) × IsLength (take x.1 bytes.now) x.0) }
     ensures only { (n size : ℕ) → size ≤ length bytes.now → IsLength (take size bytes.now) n → result ≡ Ok (n, size) }
     ensures refused { IfErr result (λ e. first_of (length_refusals bytes.now) ≡ Some e) }
+    ensures not_refused { OnOk result (first_of (length_refusals bytes.now) ≡ None) }
 {
     sevens(bytes)
 }
@@ -127,6 +128,8 @@ pub fn decode(alloc: Global, bytes: &[u8]) -> Result<(Packet, usize), PacketFaul
     ensures only { (p : Message) (n : ℕ) → n ≤ length bytes.now → Spells (take n bytes.now) p → Gives front_view result (Ok (p, n)) }
     // A fault is the first of the order that holds, unless memory ran out.
     ensures refused { IfErr result (λ e. IsNamed e (first_of (refusals bytes.now))) }
+    // What is read has none: where one holds, nothing is read.
+    ensures not_refused { OnOk result (first_of (refusals bytes.now) ≡ None) }
 {
     front(alloc, bytes)
 }

@@ -271,6 +271,20 @@ payload_again text p h =
     let whole : record_of (last (number_in 1) h.fields) p.metrics (last (number_in 3) h.fields) ≡ p = same_part (sym h.timestamp) refl (sym h.seq) in
     rw items (payload_items no_payload h.fields p.metrics h.metrics ∙ ap done (with_all-none h.fields p.metrics ∙ whole))
 
+-- ---- bytes have one meaning, or one first fault
+
+pub one_payload : (text : List ℕ) (p q : PayloadData) → MeansPayload text p → MeansPayload text q → p ≡ q
+one_payload text p q h k = ok_is p q (sym (payload_again text p h) ∙ payload_again text q k)
+
+same_failed : (f g : PayloadFault) → failed {A = PayloadData} f ≡ failed g → f ≡ g
+same_failed f g e = cc
+
+pub one_fault : (text : List ℕ) (f g : PayloadFault) → IsPayloadFault text f → IsPayloadFault text g → f ≡ g
+one_fault text f g h k = same_failed f g (sym (payload_fault_again text f h) ∙ payload_fault_again text g k)
+
+pub payload_or_fault : (text : List ℕ) (p : PayloadData) (f : PayloadFault) → MeansPayload text p → IsPayloadFault text f → ⊥
+payload_or_fault text p f h k = err_no_ok f p (sym (payload_fault_again text f k) ∙ payload_again text p h)
+
 -- ---- what the call ensures
 
 pub found : (text : List ℕ) (r : Result Payload PayloadFault) → Gives payload_view r (payload_at text) → IfOk r (λ p. MeansPayload text (payload_view p))

@@ -1,5 +1,5 @@
--- Reading item by item, as the code does. Private clauses and proofs alone rest on it: public clauses say what
--- it gives by Meaning and Faults.
+-- What bytes mean, or their first fault, as a function: item by item, from the front. `laws::reading` says that it gives
+-- exactly what Meaning and Faults ask: `payload_at bytes` is Ok of the meaning, or Err of the first fault.
 use Rattle.std.specs.Prelude.{ℕ, ◌%◌, ◌^◌, not, List, [], ◌∷◌, ◌++◌, Some, None, Result, Ok, Err, ◌==◌, if◌then◌else◌}
 use Rattle.std.specs.Str.{is_utf8}
 use Rattle.spk_protobuf.specs.declared.fault.WireFault.{WireFault}
@@ -75,5 +75,6 @@ payload_entry p e = by_shape e.shape
     by_shape (Bytes bytes) = if e.number == 2 then (metric_at bytes >>= λ m. Ok (record p { metrics = p.metrics ++ m ∷ [] })) else Ok p
     by_shape (Four bytes) = Ok p
 
+-- the payload that the bytes mean, or the first fault
 unfoldable pub payload_at : List ℕ → Result PayloadData PayloadFault
 payload_at bytes = each_item payload_entry no_payload (items_of bytes)

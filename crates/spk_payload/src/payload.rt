@@ -55,6 +55,8 @@ fn payload_at(alloc: Global, bytes: &[u8]) -> Result<Payload, PayloadFault>
 /// Refuses with the first fault in reading order: a metric is read whole where it stands. No length in the bytes
 /// makes it ask for more memory than the bytes at hand.
 pub fn decode(alloc: Global, bytes: &[u8]) -> Result<Payload, PayloadFault>
+    // What bytes mean, or their first fault, is a function of them (`laws::reading`).
+    ensures reads { Gives payload_view result (spec.payload_at bytes.now) }
     // What is answered is what the bytes mean.
     ensures found { IfOk result (λ p. MeansPayload bytes.now (payload_view p)) }
     // What the bytes mean is answered, unless memory was refused.

@@ -3,8 +3,10 @@
 #![tactic(auto)]
 
 mod answer;
+mod budget;
 mod circle;
 mod fault;
+mod identifiers;
 pub mod laws;
 mod session;
 mod table;
@@ -12,5 +14,7 @@ mod table;
 mod tests;
 
 pub use answer::{Sort, Verdict};
+pub use budget::Budget;
 pub use fault::SessionFault;
+pub use identifiers::Identifiers;
 pub use session::Session;

@@ -4,33 +4,28 @@ ghost use Rattle.spk_session.specs.PacketIds.{is_in, IsNextFree};
 ghost use Rattle.spk_session.specs.Step.{fresh_standing, sent_answer, after_sent, after_acked, verdict_of, after_refused, after_reopen, after_rewind};
 
 use crate::answer::{Sort, Verdict};
+use crate::budget::Budget;
 use crate::fault::SessionFault;
-use crate::{circle, table};
+use crate::identifiers::Identifiers;
 use std::marker::Model;
-
-/// The greatest number of ids in use (own rule).
-const MOST: usize = 1024;
 
 /// What a broker keeps of one client: the packet identifiers of what was sent to it at QoS 1 and isn't
 /// acknowledged, and how many sends were dropped on its connection. No call takes memory.
 #[derive(Debug, Drop)]
 pub struct Session {
-    table: [u16; MOST],
-    count: usize,
-    last: u16,
-    drops: u16,
-    limit: u16,
+    ids: Identifiers,
+    budget: Budget,
 }
 
 impl Model for Session {
-    ghost use Rattle.std.specs.Prelude.{take};
-    ghost use Rattle.spk_session.specs.Data.{Standing, IsTable};
+    ghost use Rattle.spk_session.specs.Data.{Standing, IsWhole};
+    ghost use Rattle.spk_session.specs.Parts.{joined};
 
     ghost Value = { Standing };
 
-    ghost view = { λ s. record { used = take s.count s.table; last = s.last; drops = s.drops; limit = s.limit } };
+    ghost view = { λ s. joined s.ids s.budget };
 
-    ghost invariant = { λ s. IsTable s.table s.count };
+    ghost invariant = { λ s. IsWhole (joined s.ids s.budget) };
 }
 
 impl Session {
@@ -41,11 +36,8 @@ impl Session {
         ensures whole { IsWhole result }
     {
         Session {
-            table: [0; MOST],
-            count: 0,
-            last: 0,
-            drops: 0,
-            limit,
+            ids: Identifiers::new(),
+            budget: Budget::new(limit),
         }
     }
 
@@ -57,14 +49,7 @@ impl Session {
         ensures data { self.new ≡ after_sent self.old }
         ensures whole { IsWhole self.new }
     {
-        if self.count == MOST {
-            return Err(SessionFault::Unacked);
-        }
-        let id = circle::next_id(&self.table[..self.count], self.last);
-        self.table[self.count] = id;
-        self.count += 1;
-        self.last = id;
-        Ok(id)
+        self.ids.sent()
     }
 
     /// The client acknowledged a packet identifier (MQTT 3.1.1, 4.3.2). Says whether it was in use;
@@ -74,9 +59,7 @@ impl Session {
         ensures data { self.new ≡ after_acked self.old id }
         ensures whole { IsWhole self.new }
     {
-        let was = self.count;
-        self.count = table::remove(&mut self.table, was, id);
-        self.count < was
+        self.ids.acked(id)
     }
 
     /// The client couldn't take a send. A PUBLISH of QoS 0 is dropped, and drop number `limit` of a
@@ -86,18 +69,7 @@ impl Session {
         ensures data { self.new ≡ after_refused self.old sort }
         ensures whole { IsWhole self.new }
     {
-        let was = self.drops;
-        match sort {
-            Sort::QosZero => {
-                self.drops = was.saturating_add(1);
-                if self.drops >= self.limit {
-                    Verdict::Close
-                } else {
-                    Verdict::Dropped
-                }
-            }
-            Sort::Other => Verdict::Close,
-        }
+        self.budget.refused(sort)
     }
 
     /// The ids in use, in the order in which they were given.
@@ -105,14 +77,14 @@ impl Session {
         ensures ids { result.now ≡ self.now.used }
         ensures whole { IsWhole self.now }
     {
-        &self.table[..self.count]
+        self.ids.waiting()
     }
 
     /// The id given last, 0 where none was: what `rewind` takes.
     pub fn last(&self) -> u16
         ensures value { result ≡ self.now.last }
     {
-        self.last // 0 where none was given
+        self.ids.last()
     }
 
     /// A new connection of the client: drops count from 0 again, and the ids in use stay.
@@ -120,7 +92,7 @@ impl Session {
         ensures data { self.new ≡ after_reopen self.old }
         ensures whole { IsWhole self.new }
     {
-        self.drops = 0;
+        self.budget.reopen();
     }
 
     /// Takes ids back: in use are the first `n` again (all, where there are no more), and `last` is the id
@@ -129,9 +101,6 @@ impl Session {
         ensures data { self.new ≡ after_rewind self.old n last }
         ensures whole { IsWhole self.new }
     {
-        if n < self.count {
-            self.count = n;
-        }
-        self.last = last;
+        self.ids.rewind(n, last);
     }
 }

@@ -1,4 +1,4 @@
-use crate::{Session, SessionFault, Sort, Verdict};
+use crate::{Budget, Identifiers, Session, SessionFault, Sort, Verdict};
 use std::test::Fail;
 
 /// How many ids may be in use.
@@ -147,6 +147,22 @@ fn a_rewind_takes_back_what_was_given_since(rt: HostRuntime) -> Result<(), Fail>
     assert_eq!(rt; session.waiting().len(), 0);
     assert_eq!(rt; session.sent(), Ok(1));
     Ok(())
+}
+
+#[test]
+fn identifiers_and_a_budget_stand_alone(rt: HostRuntime) {
+    let mut ids = Identifiers::new();
+    assert_eq!(rt; ids.sent(), Ok(1));
+    assert_eq!(rt; ids.sent(), Ok(2));
+    assert!(rt; ids.acked(1));
+    assert_eq!(rt; ids.waiting(), [2].as_slice());
+    ids.rewind(0, ids.last());
+    assert_eq!(rt; ids.sent(), Ok(3));
+    let mut budget = Budget::new(2);
+    assert_eq!(rt; budget.refused(Sort::QosZero), Verdict::Dropped);
+    assert_eq!(rt; budget.refused(Sort::QosZero), Verdict::Close);
+    budget.reopen();
+    assert_eq!(rt; budget.refused(Sort::QosZero), Verdict::Dropped);
 }
 
 #[test]

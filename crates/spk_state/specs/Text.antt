@@ -36,7 +36,7 @@ state_text s = codes "{\"online\":" ++ flag_text s.online ++ codes ",\"timestamp
 abbrev pub state_data : State → Data
 state_data s = object (member (codes "online") (boolean s.online) (member (codes "timestamp") (number (unsigned s.timestamp)) no_members))
 
--- The same as a function, of which private clauses speak.
+-- The same as a function (`laws::reading`): what the bytes mean, or None where they mean nothing.
 abbrev pub with_timestamp : Bool → ℕ → Option State
 with_timestamp online timestamp = if nat_lt timestamp (2 ^ 63) then Some (record { online = online; timestamp = timestamp }) else None
 

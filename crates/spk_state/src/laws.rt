@@ -1,14 +1,19 @@
 //! Laws on definitions alone: functions that do nothing.
-ghost use Rattle.std.specs.Prelude.{◌≡◌, ℕ, ◌↔◌, List, Option, None};
+ghost use Rattle.std.specs.Prelude.{◌≡◌, ℕ, ◌↔◌, List, Option, Some, None};
 ghost use Rattle.spk_state.specs.declared.state.State.{State};
 ghost use Rattle.spk_state.specs.declared.primary.Heard.{Heard};
-ghost use Rattle.spk_state.specs.Text.{MeansState};
+ghost use Rattle.spk_state.specs.Text.{MeansState, state_at};
 ghost use Rattle.spk_state.specs.Step.{heard_as, after_all};
 ghost use Rattle.spk_state.specs.Past.{IsGreatest, IsEarlier, host_is};
 
 /// No bytes mean two STATEs, so what they mean is determined.
 pub fn one_meaning()
     ensures { (bytes : List ℕ) (s t : State) → MeansState bytes s → MeansState bytes t → s ≡ t }
+{}
+
+/// What bytes mean is a function of them: what `State::decode` answers, BadState where it is None.
+pub fn reading()
+    ensures { (bytes : List ℕ) (s : State) → (state_at bytes ≡ Some s) ↔ MeansState bytes s }
 {}
 
 /// For every list of STATEs that came, oldest first, and the next one.

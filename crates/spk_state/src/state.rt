@@ -26,6 +26,10 @@ impl State {
     /// `timestamp` below 2^63. Other members are ignored. Refused with BadState where it isn't one.
     pub fn decode(alloc: Global, bytes: &[u8]) -> Result<State, StateFault>
         ensures found { IfOk result (MeansState bytes.now) }
+        // The same by a function of the bytes (`laws::reading`).
+        ensures reads { IfOk result (λ s. state_at bytes.now ≡ Some s) }
+        ensures reads_none { IfErr result
+            (λ e. (e ≡ StateFault.NoMemory) ⊎ ((e ≡ StateFault.BadState) × (state_at bytes.now ≡ None))) }
         // What the bytes mean is answered, unless memory was refused.
         ensures only { (s : State) → MeansState bytes.now s → Gives result s }
         // Bytes that mean nothing are BadState, unless memory was refused, and no others are.

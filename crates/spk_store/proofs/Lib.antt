@@ -1,3 +1,2 @@
 mod Rows
 mod Runs
-pub mod Suffixes

@@ -1,7 +1,7 @@
 //! Laws on lists of calls: functions that do nothing, whose contracts speak of definitions alone.
 ghost use Rattle.std.specs.Prelude.{◌≡◌, ℕ, ◌-◌, ◌^◌, ◌≤◌, ◌↔◌, ◌∷◌, List, None, length, min, nat_le, slice_get, true, if◌then◌else◌};
 ghost use Rattle.spk_device.specs.declared.owner.Owner.{Owner};
-ghost use Rattle.spk_store.specs.Owners.{is_same};
+ghost use Rattle.spk_device.specs.Book.{is_owner};
 ghost use Rattle.spk_store.specs.Step.{overwritten};
 ghost use Rattle.spk_store.specs.Calls.{Call, Push, store_of};
 ghost use Rattle.spk_store.specs.Kept.{pushed, place_of, kept_of, count_of, lost_of, IsLawful};
@@ -31,5 +31,7 @@ pub fn any_list<X>()
         (store_of capacity calls).lost ≡ min (lost_of capacity calls) (2 ^ 64 - 1) }
 
     // two changes have one owner exactly where their owners are equal
-    ensures owners { (a b : Owner) → (is_same a b ≡ true) ↔ (a ≡ b) }
-{}
+    ensures owners { (a b : Owner) → (is_owner a b ≡ true) ↔ (a ≡ b) }
+{
+    spk_device::laws::owners();
+}

@@ -1,7 +1,7 @@
 //! The store.
 ghost use Rattle.std.specs.Prelude.{◌≡◌, ◌≤◌, length, min, slice_get, option_copied, IfOk};
 ghost use Rattle.std.specs.List.{prefix_len};
-ghost use Rattle.spk_store.specs.Owners.{is_same, is_of, is_at, have_one_owner};
+ghost use Rattle.spk_store.specs.Owners.{is_of, is_at, have_one_owner};
 ghost use Rattle.spk_store.specs.Step.{counted, empty_store, after_push, overwritten, after_drop, run_of};
 
 use crate::change::Change;
@@ -33,17 +33,6 @@ impl Model for Store {
     } };
 
     ghost invariant = { λ s. (1 ≤ s.changes.capacity) × (s.changes.capacity ≤ 4096) };
-}
-
-// Whether two owners are one.
-fn is_same(a: Owner, b: Owner) -> bool
-    ensures { result ≡ is_same a b }
-{
-    match (a, b) {
-        (Owner::Node, Owner::Node) => true,
-        (Owner::Device(m), Owner::Device(n)) => m == n,
-        _ => false,
-    }
 }
 
 impl Store {
@@ -119,7 +108,7 @@ impl Store {
         ensures { result ≡ is_at owner (slice_get self.now.items place) }
     {
         match self.get(place) {
-            Some(change) => is_same(owner, change.owner),
+            Some(change) => owner.is_same(change.owner),
             None => false,
         }
     }

@@ -1,14 +1,14 @@
 -- The test on levels is the match relation, both ways.
-use Rattle.std.proofs.Common.{◌≡◌, ◌⊎◌, ℕ, List, [], ◌∷◌, Bool, true, false, refl, sym, ◌∙◌, inl, inr, subst}
-use Rattle.std.specs.Prelude.{◌||◌, ◌&&◌, IsTrue, ◌↔◌}
+use Rattle.std.proofs.Common.{◌≡◌, ◌⊎◌, ℕ, List, [], ◌∷◌, Bool, true, false, refl, sym, ap, ◌∙◌, inl, inr, subst}
+use Rattle.std.specs.Prelude.{not, ◌||◌, ◌&&◌, IsTrue, ◌↔◌}
 use Rattle.std.specs.Str.{bytes_eq}
 use Rattle.std.proofs.lemmas.Slice.Eq.{bytes_eq-Decides}
 use Rattle.std.proofs.lemmas.Bool.{eqb-true}
-use Rattle.spk_topics.proofs.BoolLemmas.{or_cases, and_parts, and_both}
+use Rattle.spk_topics.proofs.BoolLemmas.{or_cases, and_parts, and_both, not_true}
 use Rattle.spk_topics.specs.Levels.{levels, is_empty}
 use Rattle.spk_topics.specs.Matching.{Fits, StartsWithWildcard, BeginsWithDollar, IsBarred, Matches}
 use Rattle.spk_topics.specs.Matching.Fits.{both_end, any_rest, any_level, same_level}
-use Rattle.spk_topics.specs.Fitting.{fits, starts_with_wildcard, begins_with_dollar, is_barred}
+use Rattle.spk_topics.specs.Fitting.{fits, starts_with_wildcard, begins_with_dollar, is_barred, is_match}
 
 pub bytes_same : (a b : List ℕ) → bytes_eq a b ≡ true → a ≡ b
 bytes_same a b h = (bytes_eq-Decides a b).0 h
@@ -82,3 +82,25 @@ open_matches filter topic b h e = (
   (λ t. record { allowed = (λ bar. not_both _ h (barred-of filter topic bar)); fits = Fits-of _ _ (sym e ∙ t) }),
   (λ m. e ∙ fits-of _ _ m.fits),
 )
+
+wildcard_is : (ls : List (List ℕ)) → starts_with_wildcard ls ≡ true → StartsWithWildcard ls
+wildcard_is [] h = cc
+wildcard_is (level ∷ rest) h = elim (or_cases (bytes_eq level (43 ∷ [])) (bytes_eq level (35 ∷ [])) h) [ inl e ↦ inl (bytes_same _ _ e) | inr e ↦ inr (bytes_same _ _ e) ]
+
+barred-is : (filter topic : List ℕ) → is_barred filter topic ≡ true → IsBarred filter topic
+barred-is filter topic h =
+    let (wild, dollar) = and_parts (starts_with_wildcard (levels filter)) (begins_with_dollar topic) h in
+    (wildcard_is _ wild, dollar_is topic dollar)
+
+-- the test of both
+pub match-is : (filter topic : List ℕ) → IsTrue (is_match filter topic) ↔ Matches filter topic
+match-is filter topic = (
+  λ h. let (free, fit) = and_parts (not (is_barred filter topic)) (fits (levels filter) (levels topic)) h in
+      (open_matches filter topic (fits (levels filter) (levels topic)) (not_true _ free) refl).0 fit,
+  λ m. let free : is_barred filter topic ≡ false = clear (is_barred filter topic) refl m in
+      and_both _ _ (ap not free) ((open_matches filter topic (fits (levels filter) (levels topic)) free refl).1 m),
+)
+  where
+    clear : (b : Bool) → is_barred filter topic ≡ b → Matches filter topic → is_barred filter topic ≡ false
+    clear true is m = absurd (m.allowed (barred-is filter topic is))
+    clear false is m = is

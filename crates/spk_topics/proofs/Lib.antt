@@ -4,11 +4,13 @@ pub mod EdgeLemmas
 pub mod FindLemmas
 pub mod FitLemmas
 pub mod FoundLemmas
+pub mod GrantLemmas
 pub mod GrowthLemmas
 pub mod LevelLemmas
 pub mod ListLemmas
 pub mod PathLemmas
 pub mod RowLemmas
+pub mod NamedLemmas
 pub mod NodeLemmas
 pub mod SparkLemmas
 pub mod TreeLemmas

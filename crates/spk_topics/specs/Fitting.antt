@@ -1,5 +1,5 @@
--- The match relation as a test on levels, as the code computes it.
-use Rattle.std.specs.Prelude.{ℕ, List, [], ◌∷◌, Bool, false, ◌||◌, ◌&&◌, ◌==◌}
+-- The match relation as a test on levels (`laws::matching`).
+use Rattle.std.specs.Prelude.{ℕ, List, [], ◌∷◌, Bool, false, not, ◌||◌, ◌&&◌, ◌==◌}
 use Rattle.std.specs.Str.{bytes_eq}
 use Rattle.spk_topics.specs.Levels.{levels, is_empty}
 
@@ -18,3 +18,7 @@ begins_with_dollar (b ∷ bs) = b == 36
 
 abbrev pub is_barred : List ℕ → List ℕ → Bool
 is_barred filter topic = starts_with_wildcard (levels filter) && begins_with_dollar topic
+
+-- whether the filter matches the topic name
+abbrev pub is_match : List ℕ → List ℕ → Bool
+is_match filter topic = not (is_barred filter topic) && fits (levels filter) (levels topic)

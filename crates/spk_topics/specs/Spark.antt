@@ -1,8 +1,11 @@
 -- The topics of Sparkplug 3.0.0 (chapter 4): `spBv1.0/group/TYPE/node`, `spBv1.0/group/TYPE/node/device`
 -- and `spBv1.0/STATE/host`. The names are bytes in UTF-8.
-use Rattle.std.specs.Prelude.{◌≢◌, ℕ, List, [], ◌∷◌, ◌&&◌, Bool, not, codes, IsTrue}
+use Rattle.std.specs.Prelude.{◌≢◌, ℕ, List, [], ◌∷◌, ◌&&◌, Bool, not, codes, IsTrue, Option, Some, None, option_and_then, if◌then◌else◌}
+use Rattle.std.specs.List.{find}
+use Rattle.std.specs.Option.{option_map}
+use Rattle.std.specs.Str.{bytes_eq}
 use Rattle.std.specs.String.{string_bytes}
-use Rattle.spk_topics.specs.Levels.{joined, is_empty}
+use Rattle.spk_topics.specs.Levels.{joined, is_empty, levels}
 use Rattle.spk_topics.specs.Text.{holds, is_plain}
 use Rattle.spk_topics.specs.declared.fault.TopicFault.{TopicFault}
 use Rattle.spk_topics.specs.declared.fault.TopicFault.TheVariants.{NoMemory, Empty, Wildcard, Nul, TooLong, NotSparkplug}
@@ -52,6 +55,30 @@ abbrev pub has_names : Named → Bool
 has_names (of_node group kind node) = is_name group && is_name node
 has_names (of_device group kind node device) = is_name group && is_name node && is_name device
 has_names (of_state host) = is_name host
+
+-- ---- the same as a function (`laws::reading`)
+
+-- the first of the four whose name this is
+abbrev pub verb_in : (Verb → List ℕ) → List ℕ → Option Verb
+verb_in type level = find (λ verb. bytes_eq (type verb) level) (Birth ∷ Death ∷ Data ∷ Command ∷ [])
+
+-- what levels behind `spBv1.0` name, by how many there are
+abbrev pub named_behind : List (List ℕ) → Option Named
+named_behind (state ∷ host ∷ []) = if bytes_eq state (codes "STATE") then Some (of_state host) else None
+named_behind (group ∷ kind ∷ node ∷ []) = option_map (λ verb. of_node group verb node) (verb_in node_type kind)
+named_behind (group ∷ kind ∷ node ∷ device ∷ []) = option_map (λ verb. of_device group verb node device) (verb_in device_type kind)
+named_behind _ = None
+
+abbrev pub named_by : List (List ℕ) → Option Named
+named_by [] = None
+named_by (prefix ∷ rest) = if bytes_eq prefix (codes "spBv1.0") then named_behind rest else None
+
+abbrev pub if_names : Named → Option Named
+if_names n = if has_names n then Some n else None
+
+-- what a text names, or None where it is no topic of Sparkplug
+abbrev pub named_at : List ℕ → Option Named
+named_at text = option_and_then if_names (named_by (levels text))
 
 -- a text is refused exactly where it is no topic of Sparkplug, but for want of memory
 abbrev pub RefusesText : List ℕ → TopicFault → Type 0

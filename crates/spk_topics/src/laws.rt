@@ -1,8 +1,12 @@
 //! Laws of the definitions.
-ghost use Rattle.std.specs.Prelude.{◌≡◌, ◌∷◌, ℕ, List, IsTrue, not, false};
+ghost use Rattle.std.specs.Prelude.{◌≡◌, ◌↔◌, ◌∷◌, ℕ, List, IsTrue, not, false, Some, None};
 ghost use Rattle.std.specs.List.{list_all};
+ghost use Rattle.std.specs.FinMap as map;
+ghost use Rattle.spk_topics.specs.Grants.{Grants};
 ghost use Rattle.spk_topics.specs.Levels.{joined, levels};
-ghost use Rattle.spk_topics.specs.Spark.{Named, has_names, topic_of};
+ghost use Rattle.spk_topics.specs.Spark.{Named, has_names, named_at, topic_of};
+ghost use Rattle.spk_topics.specs.Fitting.{is_match};
+ghost use Rattle.spk_topics.specs.Matching.{Matches};
 ghost use Rattle.spk_topics.specs.Text.{holds};
 
 /// The levels of a text are the texts between its slashes: joined by slashes they are the text, and levels
@@ -16,4 +20,23 @@ pub fn levels_are_parts()
 /// round.
 pub fn one_topic()
     ensures { (m n : Named) → IsTrue (has_names m) → IsTrue (has_names n) → topic_of m ≡ topic_of n → m ≡ n }
+{}
+
+/// What a text names is a function of it: what `Spark::read` answers, NotSparkplug where it is None.
+pub fn reading()
+    ensures { (text : List ℕ) (n : Named) → (named_at text ≡ Some n) ↔ (IsTrue (has_names n) × (topic_of n ≡ text)) }
+{}
+
+/// Whether a filter matches a topic name is a function of both: what `matches` answers.
+pub fn matching()
+    ensures { (filter topic : List ℕ) → IsTrue (is_match filter topic) ↔ Matches filter topic }
+{}
+
+/// What a grant changed can be undone: a new grant, taken back, leaves the grants of before, and so does a standing one
+/// that is set to its old QoS again.
+pub fn taken_back()
+    ensures new { (grants : Grants) (filter : List ℕ) (key qos : ℕ) → map.get grants (filter, key) ≡ None →
+        map.remove (map.insert grants (filter, key) qos) (filter, key) ≡ grants }
+    ensures standing { (grants : Grants) (filter : List ℕ) (key qos old : ℕ) → map.get grants (filter, key) ≡ Some old →
+        map.insert (map.insert grants (filter, key) qos) (filter, key) old ≡ grants }
 {}

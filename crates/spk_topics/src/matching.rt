@@ -3,7 +3,7 @@ ghost use Rattle.std.specs.Prelude.{◌≡◌, ◌↔◌, ◌∷◌, ◌&&◌, [
 ghost use Rattle.std.specs.Str.{bytes_eq};
 ghost use Rattle.spk_topics.specs.Levels.{levels};
 ghost use Rattle.spk_topics.specs.Matching.{Matches};
-ghost use Rattle.spk_topics.specs.Fitting.{fits, is_barred, begins_with_dollar, starts_with_wildcard};
+ghost use Rattle.spk_topics.specs.Fitting.{fits, is_barred, is_match, begins_with_dollar, starts_with_wildcard};
 
 use crate::filter::Filter;
 use crate::levels::cut;
@@ -11,14 +11,16 @@ use crate::topic::Topic;
 
 /// Whether a filter matches a topic name. It takes no memory.
 pub fn matches(filter: &Filter, topic: &Topic) -> bool
-    ensures { IsTrue result ↔ Matches filter.now topic.now }
+    ensures relation { IsTrue result ↔ Matches filter.now topic.now }
+    ensures test { result ≡ is_match filter.now topic.now }
 {
     matches_text(filter.text(), topic.text())
 }
 
 /// Whether the text of a filter matches that of a topic name.
 pub(crate) fn matches_text(filter: &str, topic: &str) -> bool
-    ensures { IsTrue result ↔ Matches filter.now topic.now }
+    ensures relation { IsTrue result ↔ Matches filter.now topic.now }
+    ensures test { result ≡ is_match filter.now topic.now }
 {
     !is_barred(filter, topic) && fits(filter, topic)
 }

@@ -1,7 +1,7 @@
 //! The topics of Sparkplug 3.0.0 (chapter 4).
-ghost use Rattle.std.specs.Prelude.{◌≡◌, ◌≢◌, ◌∷◌, codes, IfOk, IfErr, IfSome, IfNone, IsTrue, Some, None};
+ghost use Rattle.std.specs.Prelude.{◌≡◌, ◌≢◌, ◌⊎◌, ◌∷◌, codes, IfOk, IfErr, IfSome, IfNone, IsTrue, Some, None};
 ghost use Rattle.std.specs.String.{string_bytes};
-ghost use Rattle.spk_topics.specs.Spark.{Named, RefusesNames, RefusesText, device_type, has_names, is_name, named, named_levels, node_type, topic_of};
+ghost use Rattle.spk_topics.specs.Spark.{Named, RefusesNames, RefusesText, device_type, has_names, is_name, named, named_at, named_levels, node_type, topic_of};
 ghost use Rattle.spk_topics.specs.Levels.{levels};
 ghost use Rattle.spk_topics.specs.SparkReading.{parts_named};
 
@@ -66,6 +66,10 @@ impl Spark {
     pub fn read(alloc: Global, text: &str) -> Result<Spark, TopicFault>
         ensures ok { IfOk result (λ s. IsTrue (has_names (named s)) × (topic_of (named s) ≡ text.now)) }
         ensures err { IfErr result (RefusesText text.now) }
+        // The same by a function of the text (`laws::reading`).
+        ensures reads { IfOk result (λ s. named_at text.now ≡ Some (named s)) }
+        ensures reads_none { IfErr result
+            (λ f. (f ≡ TopicFault.NoMemory) ⊎ ((f ≡ TopicFault.NotSparkplug) × (named_at text.now ≡ None))) }
     {
         match parse(text) {
             Some(parts) => Ok(parts.owned(alloc)?),

@@ -1,5 +1,5 @@
 use Rattle.std.proofs.Common.{◌∙◌}
-use Rattle.spk_packets.proofs.Decoding.{length_found, length_only, length_named}
+use Rattle.spk_packets.proofs.Decoding.{length_clear, length_found, length_only, length_named}
 use Rattle.spk_packets.proofs.read.read_length.Goals as goal
 
 pub returns-clause-found : goal.returns-clause-found
@@ -10,3 +10,6 @@ returns-clause-only c = λ n size le is. c.sevens.ensures.given ∙ length_only 
 
 pub returns-clause-refused : goal.returns-clause-refused
 returns-clause-refused c = length_named c.args.bytes.now c.sevens.result c.sevens.ensures.given
+
+pub returns-clause-not_refused : goal.returns-clause-not_refused
+returns-clause-not_refused c = length_clear c.args.bytes.now c.sevens.result c.sevens.ensures.given

@@ -2,7 +2,7 @@
 
 /// Whether a call that sets something changed it.
 #[derive(Clone, Copy, Debug, PartialEq, Eq)]
-pub enum Change {
+pub enum Outcome {
     /// It is another now.
     Changed,
     /// It was so already.

@@ -2,8 +2,8 @@ use Rattle.std.proofs.Common.{subst, arith}
 use Rattle.std.proofs.lemmas.List.{take-take}
 use Rattle.spk_session.specs.PacketIds.{AreIds}
 use Rattle.spk_session.proofs.IdLemmas.{ids-take}
-use Rattle.spk_session.proofs.session.Session.rewind.Goals as goal
-use Rattle.spk_session.proofs.session.Session.rewind.Goals.{then-n-self, else-n-self}
+use Rattle.spk_session.proofs.identifiers.Identifiers.rewind.Goals as goal
+use Rattle.spk_session.proofs.identifiers.Identifiers.rewind.Goals.{then-n-self, else-n-self}
 
 pub invariant_of-self : goal.invariant_of-self
 invariant_of-self c = elim c.if-n-self.branch [

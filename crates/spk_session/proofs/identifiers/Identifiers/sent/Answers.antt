@@ -2,7 +2,7 @@ use Rattle.std.proofs.Common.{sym, subst, arith}
 use Rattle.std.proofs.lemmas.List.{take_more_set, length-take-le}
 use Rattle.spk_session.specs.PacketIds.{AreIds}
 use Rattle.spk_session.proofs.IdLemmas.{ids-next}
-use Rattle.spk_session.proofs.session.Session.sent.Goals as goal
+use Rattle.spk_session.proofs.identifiers.Identifiers.sent.Goals as goal
 
 pub invariant_of-self : goal.invariant_of-self
 invariant_of-self c = record {

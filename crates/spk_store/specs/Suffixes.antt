@@ -1,4 +1,4 @@
--- The data of a store after any list of calls is what the queries on the list say.
+-- Lemmas of the law of a store: its data after any list of calls is what the queries on the list say. No contract cites them.
 use Rattle.std.proofs.Common.{◌≡◌, ℕ, zero, suc, ◌+◌, ◌-◌, ◌^◌, ◌≤◌, Bool, true, false, List, [], ◌∷◌, ◌++◌, length, drop, min, nat_le, slice_get, cond, None, refl, sym, ap, ◌∙◌, arith}
 use Rattle.std.proofs.lemmas.Bool.{leb-true, leb-false}
 use Rattle.std.proofs.lemmas.List.{drop-append-le, drop-drop, length-append, length-drop}

@@ -1,0 +1,8 @@
+use Rattle.spk_payload.proofs.Payloads.{payload_again, payload_fault, payload_fault_again, payload_takes}
+use Rattle.spk_payload.proofs.laws.reading.Goals as goal
+
+pub returns-clause-meaning : goal.returns-clause-meaning
+returns-clause-meaning c = λ bytes p. (payload_takes bytes p, payload_again bytes p)
+
+pub returns-clause-fault : goal.returns-clause-fault
+returns-clause-fault c = λ bytes f. (payload_fault bytes f, payload_fault_again bytes f)
