@@ -6,3 +6,4 @@ mod Moments
 mod Records
 mod Tellings
 mod Told
+mod Bytes

@@ -12,7 +12,7 @@ use Rattle.spk_device.specs.Step as device
 use Rattle.spk_store.specs.Data.{Kept}
 use Rattle.spk_store.specs.Calls.{Call, Push, DropFront, store_of}
 use Rattle.spk_store.specs.Kept as kept
-use Rattle.spk_store.proofs.Suffixes.{kept_items, lost_count}
+use Rattle.spk_store.specs.Law.{as_called}
 use Rattle.spk_state.specs.Step.{after_heard}
 use Rattle.spk_state.specs.Text.{state_at}
 use Rattle.spk_state.specs.declared.state.State as read
@@ -83,7 +83,7 @@ same-kept a b items capacity lost =
 
 kept-right : (s : Setup) (h : List Done) → kept.IsLawful s.capacity (calls_of h) → store_of s.capacity (calls_of h) ≡ kept_of s h
 kept-right s h lawful =
-    same-kept (store_of s.capacity (calls_of h)) (kept_of s h) (kept_items s.capacity (calls_of h) lawful) (store-room s.capacity (calls_of h)) (lost_count s.capacity (calls_of h) lawful)
+    same-kept (store_of s.capacity (calls_of h)) (kept_of s h) (as_called s.capacity (calls_of h) lawful).kept (store-room s.capacity (calls_of h)) (as_called s.capacity (calls_of h) lawful).lost
 
 pub keeps-lawful : (s : Setup) (h : List Done) (call : Option (Call ChangeData)) → KeepsLaw (asked_of s h) call → kept.IsLawful s.capacity (calls_of h) → kept.IsLawful s.capacity (with_call call (calls_of h))
 keeps-lawful s h None keeps lawful = lawful

@@ -4,6 +4,7 @@ use Rattle.std.specs.List.{AllByRecursion}
 use Rattle.spk_payload.specs.Meaning.{MetricData}
 use Rattle.spk_payload.specs.Spelling.{PayloadFits}
 use Rattle.spk_packets.specs.Grammar.{Spells}
+use Rattle.spk_packets.specs.Message as packets
 use Rattle.spk_device.specs.Book.{Book, DeviceData}
 use Rattle.spk_device.specs.declared.owner.Owner.TheVariants.{Node, Device}
 use Rattle.spk_edge_rules.specs.Births.{births_at, own_metrics, rebirth_metric}
@@ -77,3 +78,12 @@ link_of (e ∷ h) = if e.given.close then Closed else link_by e.input.act (link_
 pub record IsWhole (bytes : List ℕ) (c : Config) (number : ℕ) (d : Draft) : Type 0 where
   pub spelled : Spells bytes (wire c number d)
   pub fits : PayloadFits (payload_of number d)
+
+-- what a PUBLISH is about, and what it carries
+abbrev pub topic_in : packets.Message → List ℕ
+topic_in (packets.Publish dup qos retain topic id payload) = topic
+topic_in _ = []
+
+abbrev pub payload_in : packets.Message → List ℕ
+payload_in (packets.Publish dup qos retain topic id payload) = payload
+payload_in _ = []

@@ -1,5 +1,5 @@
 -- What a command asks (Sparkplug 3.0.0, chapter 6, NCMD and DCMD).
-use Rattle.std.specs.Prelude.{ℕ, Bool, false, ◌&&◌, List, [], ◌∷◌, Option, Some, None, Result, Ok, Err, codes, if◌then◌else◌}
+use Rattle.std.specs.Prelude.{ℕ, Bool, true, false, ◌&&◌, List, [], ◌∷◌, Option, Some, None, Result, Ok, Err, codes, if◌then◌else◌}
 use Rattle.std.specs.List.{filter_map, list_any}
 use Rattle.std.specs.Option.{option_map, option_map_or, option_and_then}
 use Rattle.std.specs.Str.{bytes_eq}
@@ -10,9 +10,10 @@ use Rattle.spk_payload.specs.Typing.{typed_of}
 use Rattle.spk_device.specs.Book.{Book, GaugeData, alias_of, gauge_at, is_owner, number_of}
 use Rattle.spk_device.specs.declared.owner.Owner.{Owner}
 use Rattle.spk_device.specs.declared.owner.Owner.TheVariants.{Node, Device}
-use Rattle.spk_topics.specs.Levels.{levels}
-use Rattle.spk_topics.specs.Spark.{is_name, node_type, device_type}
-use Rattle.spk_topics.specs.declared.spark.Verb.TheVariants.{Command}
+use Rattle.spk_topics.specs.Spark.{Named, named_at}
+use Rattle.spk_topics.specs.Spark.Named.{of_node, of_device, of_state}
+use Rattle.spk_topics.specs.declared.spark.Verb.{Verb}
+use Rattle.spk_topics.specs.declared.spark.Verb.TheVariants.{Birth, Death, Data, Command}
 use Rattle.spk_edge_rules.specs.Config.{Config}
 use Rattle.spk_edge_rules.specs.Inputs.{WriteData}
 
@@ -21,18 +22,22 @@ pub data Target : Type 0 where
   ToNode : Target
   ToDevice : (name : List ℕ) → Target
 
--- The levels of a command's topic: `spBv1.0/group/NCMD/node` or `spBv1.0/group/DCMD/node/device`, of this node.
-abbrev pub target_by : Config → List (List ℕ) → Option Target
-target_by c (version ∷ group ∷ type ∷ node ∷ []) =
-    if bytes_eq version (codes "spBv1.0") && bytes_eq group c.group && bytes_eq type (node_type Command) && bytes_eq node c.node
-    then Some ToNode else None
-target_by c (version ∷ group ∷ type ∷ node ∷ device ∷ []) =
-    if bytes_eq version (codes "spBv1.0") && bytes_eq group c.group && bytes_eq type (device_type Command) && bytes_eq node c.node && is_name device
-    then Some (ToDevice device) else None
-target_by c _ = None
+abbrev pub is_command : Verb → Bool
+is_command Birth = false
+is_command Death = false
+is_command Data = false
+is_command Command = true
+
+-- NCMD or DCMD of this node
+abbrev pub target_in : Config → Named → Option Target
+target_in c (of_node group verb node) =
+    if is_command verb && bytes_eq group c.group && bytes_eq node c.node then Some ToNode else None
+target_in c (of_device group verb node device) =
+    if is_command verb && bytes_eq group c.group && bytes_eq node c.node then Some (ToDevice device) else None
+target_in c (of_state host) = None
 
 abbrev pub target_of : Config → List ℕ → Option Target
-target_of c topic = target_by c (levels topic)
+target_of c topic = option_and_then (target_in c) (named_at topic)
 
 -- whose metrics it may write: a device that isn't there has none
 abbrev pub target_owner : Book → Target → Option Owner

@@ -1,14 +1,20 @@
 //! Laws on lists of inputs: functions that do nothing, whose contracts speak of definitions alone.
-ghost use Rattle.std.specs.Prelude.{◌≡◌, ℕ, ◌+◌, ◌-◌, ◌^◌, ◌<◌, List, ◌∷◌, length, min, slice_get, Option, Some, Result, Ok, Err};
+ghost use Rattle.std.specs.Prelude.{◌≡◌, ℕ, ◌-◌, ◌^◌, ◌<◌, List, [], ◌∷◌, ◌++◌, length, min, slice_get, Some, None, Ok, Err, IsTrue};
 ghost use Rattle.std.specs.List.{AllByRecursion};
+ghost use Rattle.spk_payload.specs.Meaning.{MeansPayload, PayloadData};
+ghost use Rattle.spk_payload.specs.Spelling.{spelling};
+ghost use Rattle.spk_packets.specs.Grammar.{Spells};
+ghost use Rattle.spk_packets.specs.Message as packets;
+ghost use Rattle.spk_topics.specs.Spark.{has_names, topic_of};
 ghost use Rattle.spk_sequence.specs.NodeRecord as sequence;
 ghost use Rattle.spk_store.specs.Kept as kept;
 ghost use Rattle.spk_edge_rules.specs.declared.fault.EdgeFault.{EdgeFault};
 ghost use Rattle.spk_edge_rules.specs.Answers.{Answer};
-ghost use Rattle.spk_edge_rules.specs.Claims.{AreWholeBirths, Joined, ListsWhatIs, SaysSession, link_of};
-ghost use Rattle.spk_edge_rules.specs.Config.{Setup};
-ghost use Rattle.spk_edge_rules.specs.Inputs.{Input};
-ghost use Rattle.spk_edge_rules.specs.Messages.{opens};
+ghost use Rattle.spk_edge_rules.specs.Claims.{AreWholeBirths, IsWhole, Joined, ListsWhatIs, SaysSession, link_of, payload_in, topic_in};
+ghost use Rattle.spk_edge_rules.specs.Config.{Config, Setup};
+ghost use Rattle.spk_edge_rules.specs.Inputs.{Input, Open};
+ghost use Rattle.spk_edge_rules.specs.Messages.{Draft, named_by, opens, payload_of, wire};
+ghost use Rattle.spk_edge_rules.specs.Packets.{connect_of, death_payload, will_of};
 ghost use Rattle.spk_edge_rules.specs.Run.{Message, asked_of, book_of, calls_of, opened, outline, published, record_of, right_at, run_of, session_number};
 ghost use Rattle.spk_edge_rules.specs.Step.{answer_at, record_at, standing_of};
 
@@ -63,3 +69,36 @@ pub fn any_list()
     ensures lost { (s : Setup) (is : List Input) →
         (standing_of s is).asked.store.lost ≡ min (kept.lost_of s.capacity (calls_of (run_of s is))) (2 ^ 64 - 1) }
 {}
+
+/// Of each message's bytes: whoever reads them by the grammar reads that message and nothing else.
+pub fn messages()
+    // bytes that spell the packet of a message spell that packet alone, whatever follows them
+    ensures alone { (c : Config) (number : ℕ) (d : Draft) (bytes other x y : List ℕ) (p : packets.Message) →
+        IsWhole bytes c number d → Spells other p → bytes ++ x ≡ other ++ y →
+        (bytes ≡ other) × (p ≡ wire c number d) }
+
+    // its payload means these metrics, under that number and that stamp, and nothing else
+    ensures means { (c : Config) (number : ℕ) (d : Draft) (bytes : List ℕ) → IsWhole bytes c number d →
+        MeansPayload (spelling (payload_of number d)) (payload_of number d) }
+    ensures read { (c : Config) (number : ℕ) (d : Draft) (bytes : List ℕ) (p : packets.Message) (q : PayloadData) →
+        IsWhole bytes c number d → Spells bytes p → MeansPayload (payload_in p) q →
+        (topic_in p ≡ topic_of (named_by c d)) × (q.seq ≡ Some number) × (q.timestamp ≡ Some d.stamp) × (q.metrics ≡ d.metrics) }
+
+    // an Open gives the CONNECT of the next session
+    ensures opens { (s : Setup) (is : List Input) (i : Input) (answer : Answer) → i.act ≡ Open → i.ack ≡ None →
+        right_at s (run_of s is) i ≡ Ok answer →
+        answer.packets ≡ connect_of s.config (session_number s (opened (run_of s is))) i.now ∷ [] }
+
+    // whose will is an NDEATH of the node that means the bdSeq of that session, and nothing else
+    ensures will { (c : Config) (bd time : ℕ) (q : PayloadData) → bd < 256 → time < 2 ^ 63 →
+        MeansPayload (will_of c bd time).message (death_payload bd time) ×
+        (MeansPayload (will_of c bd time).message q → q ≡ death_payload bd time) }
+
+    // messages of different nodes have different topics
+    ensures topics { (b c : Config) (d e : Draft) → IsTrue (has_names (named_by b d)) → IsTrue (has_names (named_by c e)) →
+        topic_of (named_by b d) ≡ topic_of (named_by c e) → (b.group ≡ c.group) × (b.node ≡ c.node) }
+{
+    spk_payload::laws::canonical();
+    spk_packets::laws::prefix_free();
+    spk_topics::laws::one_topic();
+}
