@@ -1,8 +1,9 @@
 -- The other packets of an edge node (Sparkplug 3.0.0, chapters 5 and 6).
-use Rattle.std.specs.Prelude.{ℕ, true, false, List, [], ◌∷◌, ◌++◌, Option, Some, None, codes}
+use Rattle.std.specs.Prelude.{ℕ, true, false, List, [], ◌∷◌, Option, Some, None, codes}
 use Rattle.spk_payload.specs.Meaning.{MetricData, PayloadData, Long}
 use Rattle.spk_payload.specs.Spelling as payload
 use Rattle.spk_packets.specs.Message.{Message, WillData, Connect, Publish, Subscribe, Disconnect}
+use Rattle.spk_topics.specs.Levels.{joined}
 use Rattle.spk_topics.specs.Spark.{topic_of}
 use Rattle.spk_topics.specs.Spark.Named.{of_node, of_device, of_state}
 use Rattle.spk_topics.specs.declared.spark.Verb.TheVariants.{Death, Command}
@@ -34,7 +35,7 @@ will_of c bd time = record { topic = death_topic c; message = payload.spelling (
 
 -- the client id is `group/node` (own rule)
 abbrev pub client_of : Config → List ℕ
-client_of c = c.group ++ codes "/" ++ c.node
+client_of c = joined (c.group ∷ c.node ∷ [])
 
 -- CONNECT, with clean session
 abbrev pub connect_of : Config → ℕ → ℕ → Message

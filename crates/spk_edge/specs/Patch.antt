@@ -1,0 +1,2 @@
+-- What a plan changes.
+use Rattle.std.specs.Prelude.{ℕ}

@@ -1,0 +1,14 @@
+//! An edge node of Sparkplug 3.0.0 (chapters 5 and 6) over MQTT 3.1.1, without IO: it is told what comes, and answers the
+//! packets to send.
+#![tactic(auto)]
+
+mod config;
+mod ends;
+mod message;
+mod node;
+mod texts;
+
+pub use config::{EdgeConfig, Numbering, Record};
+pub use message::{Out, Published, Write};
+pub use node::EdgeNode;
+pub use spk_edge_rules::{EdgeFault, Phase, laws};
