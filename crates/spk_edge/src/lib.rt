@@ -6,6 +6,7 @@ mod config;
 mod ends;
 mod message;
 mod node;
+mod sealing;
 mod texts;
 
 pub use config::{EdgeConfig, Numbering, Record};
