@@ -1,2 +1,3 @@
 mod Written
 mod Numbered
+mod Turned

@@ -102,6 +102,7 @@ pub record GivenData : Type 0 where
   pub writes : List WriteData
   pub close : Bool
   pub phase : Phase
+  pub heard : Option ℕ
   pub store : Option (store.Call ChangeData)
 
 abbrev pub given_view : Given → GivenData
@@ -111,6 +112,7 @@ given_view g = record {
   writes = map write_view g.writes.items;
   close = g.close;
   phase = g.phase;
+  heard = g.heard;
   store = option_map call_view g.store;
 }
 
@@ -123,13 +125,14 @@ unnumbered c d = record {
   opens = opens d;
 }
 
--- what the rules give, as the code has it
-abbrev pub given_of : Config → rules.Given → GivenData
-given_of c g = record {
+-- what the rules give, as the code has it, and the greatest timestamp heard after it
+abbrev pub given_of : Config → Option ℕ → rules.Given → GivenData
+given_of c heard g = record {
   plain = g.plain;
   messages = map (unnumbered c) g.drafts;
   writes = g.writes;
   close = g.close;
   phase = g.phase;
+  heard = heard;
   store = g.store;
 }

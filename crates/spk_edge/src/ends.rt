@@ -86,7 +86,7 @@ fn subscribe(alloc: Global, config: &EdgeConfig) -> Result<Packet, AllocError>
 impl EdgeNode {
     /// Nothing: the phase stays.
     pub(crate) fn nothing(&self) -> Given
-        ensures { given_view result ≡ given_of self.now.config (rule.nothing self.now.standing.asked) }
+        ensures { given_view result ≡ given_of self.now.config self.now.standing.asked.heard (rule.nothing self.now.standing.asked) }
     {
         Given {
             plain: Vec::new(self.alloc),
@@ -94,6 +94,7 @@ impl EdgeNode {
             writes: Vec::new(self.alloc),
             close: false,
             phase: self.tally.phase,
+            heard: self.tally.heard,
             store: None,
         }
     }
@@ -101,7 +102,7 @@ impl EdgeNode {
     /// CONNECT, and the phase Connecting.
     pub(crate) fn opening(&self, now: u64) -> Result<Given, AllocError>
         ensures { IfOk result (λ g. given_view g ≡
-            given_of self.now.config (rule.opening self.now.config self.now.standing.asked now)) }
+            given_of self.now.config self.now.standing.asked.heard (rule.opening self.now.config self.now.standing.asked now)) }
     {
         let mut given = self.nothing();
         given.plain.push(connect(self.alloc, &self.config, self.tally.bd, now)?)?;
@@ -112,7 +113,7 @@ impl EdgeNode {
     /// SUBSCRIBE, and the phase Waiting.
     pub(crate) fn joining(&self) -> Result<Given, AllocError>
         ensures { IfOk result (λ g. given_view g ≡
-            given_of self.now.config (rule.joining self.now.config self.now.standing.asked)) }
+            given_of self.now.config self.now.standing.asked.heard (rule.joining self.now.config self.now.standing.asked)) }
     {
         let mut given = self.nothing();
         given.plain.push(subscribe(self.alloc, &self.config)?)?;
@@ -123,7 +124,7 @@ impl EdgeNode {
     /// NDEATH, DISCONNECT, and the connection is closed.
     pub(crate) fn leaving(&self) -> Result<Given, AllocError>
         ensures { IfOk result (λ g. given_view g ≡
-            given_of self.now.config (rule.leaving self.now.config self.now.standing.asked)) }
+            given_of self.now.config self.now.standing.asked.heard (rule.leaving self.now.config self.now.standing.asked)) }
     {
         let mut given = self.nothing();
         let tally = &self.tally;
@@ -137,7 +138,7 @@ impl EdgeNode {
     /// The connection is gone.
     pub(crate) fn cutting(&self) -> Given
         ensures { given_view result ≡
-            given_of self.now.config (record (rule.nothing self.now.standing.asked) { phase = Phase.Idle }) }
+            given_of self.now.config self.now.standing.asked.heard (record (rule.nothing self.now.standing.asked) { phase = Phase.Idle }) }
     {
         let mut given = self.nothing();
         given.phase = Phase::Idle;
@@ -146,7 +147,7 @@ impl EdgeNode {
 
     /// A node whose connection wasn't accepted closes it.
     pub(crate) fn turned_away(&self) -> Given
-        ensures { given_view result ≡ given_of self.now.config (rule.turned_away self.now.standing.asked) }
+        ensures { given_view result ≡ given_of self.now.config self.now.standing.asked.heard (rule.turned_away self.now.standing.asked) }
     {
         let mut given = self.nothing();
         if let Phase::Connecting = self.tally.phase {

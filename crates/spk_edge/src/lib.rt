@@ -2,6 +2,7 @@
 //! packets to send.
 #![tactic(auto)]
 
+mod births;
 mod config;
 mod ends;
 mod message;

@@ -2,6 +2,7 @@
 use spk_edge_rules::Phase;
 use spk_packets::Packet;
 use spk_payload::{Payload, Value};
+use spk_state::Primary;
 use spk_store::Change;
 
 /// A value that a command asks to be written.
@@ -55,5 +56,7 @@ pub(crate) struct Given {
     pub(crate) writes: Vec<Write>,
     pub(crate) close: bool,
     pub(crate) phase: Phase,
+    /// The greatest timestamp heard of the primary host after it.
+    pub(crate) heard: Primary,
     pub(crate) store: Option<StoreCall>,
 }

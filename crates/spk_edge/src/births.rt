@@ -1,0 +1,91 @@
+//! Births (Sparkplug 3.0.0, chapter 6, NBIRTH and DBIRTH).
+ghost use Rattle.std.specs.Prelude.{◌≡◌, ◌∷◌, ◌++◌, [], IfOk, map, true, Some, string_bytes};
+ghost use Rattle.std.specs.Option.{option_map};
+ghost use Rattle.spk_payload.specs.View.{metric_view};
+ghost use Rattle.spk_device.specs.Book.{births_of, has_owner};
+ghost use Rattle.spk_edge_rules.specs.Births as births;
+ghost use Rattle.spk_edge.specs.View.{config_view, message_view, unnumbered};
+
+
+use crate::message::Published;
+use crate::node::EdgeNode;
+use crate::texts::{device_topic, node_topic, session_metric};
+use spk_device::{DeviceFault, Owner};
+use spk_payload::{Metric, Payload, Raw};
+use spk_topics::Verb;
+use std::alloc::{AllocError, Global};
+
+/// The metrics get the stamp of their birth.
+fn stamp_metrics(metrics: &mut [Metric], stamp: u64)
+    ensures { map metric_view metrics.new ≡ map (births.stamped stamp) (map metric_view metrics.old) }
+{
+    for metric in metrics.iter_mut() {
+        metric.timestamp = Some(stamp);
+    }
+}
+
+/// The metric `Node Control/Rebirth`.
+fn rebirth_metric(alloc: Global, stamp: u64) -> Result<Metric, AllocError>
+    ensures { IfOk result (λ m. metric_view m ≡ births.rebirth_metric stamp) }
+{
+    Ok(Metric {
+        name: Some(String::from_str(alloc, "Node Control/Rebirth")?),
+        alias: None,
+        timestamp: Some(stamp),
+        datatype: Some(11),
+        historical: None,
+        transient: None,
+        null: None,
+        value: Some(Raw::Flag(false)),
+    })
+}
+
+
+impl EdgeNode {
+    /// The metrics of an owner that is there, as its birth lists them.
+    fn own_metrics(&self, stamp: u64, owner: Owner) -> Result<Vec<Metric>, AllocError>
+        requires { has_owner self.now.standing.asked.book owner ≡ true }
+        ensures { IfOk result (λ ms. map metric_view ms.items ≡ births.own_metrics self.now.standing.asked.book stamp owner) }
+    {
+        match self.registry.births(owner) {
+            Ok(mut metrics) => {
+                stamp_metrics(&mut metrics, stamp);
+                Ok(metrics)
+            }
+            Err(DeviceFault::NoMemory) => Err(AllocError),
+            Err(DeviceFault::Refused(_)) => unreachable!(),
+        }
+    }
+
+    /// The metrics of an NBIRTH.
+    fn node_metrics(&self, stamp: u64) -> Result<Vec<Metric>, AllocError>
+        ensures { IfOk result (λ ms. map metric_view ms.items ≡
+            (births.node_birth self.now.standing.asked.book self.now.standing.asked.will_bd stamp).metrics) }
+    {
+        let mut own = self.own_metrics(stamp, Owner::Node)?;
+        let mut metrics = Vec::with_capacity(self.alloc, own.len() + 2)?;
+        metrics.push(session_metric(self.alloc, self.tally.will_bd, Some(stamp))?)?;
+        metrics.push(rebirth_metric(self.alloc, stamp)?)?;
+        metrics.append(&mut own)?;
+        Ok(metrics)
+    }
+
+    /// NBIRTH.
+    fn node_birth(&self, stamp: u64) -> Result<Published, AllocError>
+        ensures { IfOk result (λ m. message_view m ≡ unnumbered self.now.config
+            (births.node_birth self.now.standing.asked.book self.now.standing.asked.will_bd stamp)) }
+    {
+        let topic = node_topic(self.alloc, &self.config, Verb::Birth)?;
+        let metrics = self.node_metrics(stamp)?;
+        Ok(Published {
+            topic,
+            payload: Payload {
+                timestamp: Some(stamp),
+                metrics,
+                seq: None,
+            },
+            stamp,
+            opens: true,
+        })
+    }
+}
