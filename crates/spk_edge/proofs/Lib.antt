@@ -1,3 +1,5 @@
 mod Written
 mod Numbered
 mod Turned
+mod Devices
+mod Changed

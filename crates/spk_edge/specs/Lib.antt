@@ -1,3 +1,4 @@
 pub mod View
 pub mod Sealing
+pub mod Listed
 pub mod Patch

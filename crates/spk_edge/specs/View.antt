@@ -14,6 +14,7 @@ use Rattle.spk_store.specs.Calls as store
 use Rattle.spk_store.specs.declared.change.Change.{Change}
 use Rattle.spk_edge_rules.specs.declared.phase.Phase.{Phase}
 use Rattle.spk_edge_rules.specs.Config.{Config}
+use Rattle.spk_edge_rules.specs.Inputs as inputs
 use Rattle.spk_edge_rules.specs.Inputs.{ChangeData, WriteData}
 use Rattle.spk_edge_rules.specs.Messages.{Draft, named_by, opens}
 use Rattle.spk_edge_rules.specs.Rules as rules
@@ -23,6 +24,9 @@ use Rattle.spk_edge.specs.declared.config.Record.{Record}
 use Rattle.spk_edge.specs.declared.config.EdgeConfig.{EdgeConfig}
 use Rattle.spk_edge.specs.declared.config.Numbering.{Numbering}
 use Rattle.spk_edge.specs.declared.config.Numbering.TheVariants.{RunsOn, Restarts}
+use Rattle.spk_edge.specs.declared.input.Act.{Act}
+use Rattle.spk_edge.specs.declared.input.Act.TheVariants.{Open, Accepted, Change as Changing, Stop, Cut, TurnedAway, Pass}
+use Rattle.spk_edge.specs.declared.input.Input.{Input}
 use Rattle.spk_edge.specs.declared.message.Given.{Given}
 use Rattle.spk_edge.specs.declared.message.Published.{Published}
 use Rattle.spk_edge.specs.declared.message.StoreCall.{StoreCall}
@@ -136,3 +140,17 @@ given_of c heard g = record {
   heard = heard;
   store = g.store;
 }
+
+-- ---- what it is told
+
+abbrev pub act_view : Act → inputs.Act
+act_view Open = inputs.Open
+act_view Accepted = inputs.Accepted
+act_view (Changing alias value) = inputs.Change alias (option_map typed_view value.now)
+act_view Stop = inputs.Stop
+act_view Cut = inputs.Cut
+act_view TurnedAway = inputs.TurnedAway
+act_view Pass = inputs.Pass
+
+abbrev pub input_view : Input → inputs.Input
+input_view i = record { now = i.now; ack = i.ack; act = act_view i.act }

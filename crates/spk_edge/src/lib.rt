@@ -3,10 +3,13 @@
 #![tactic(auto)]
 
 mod births;
+mod changing;
 mod config;
 mod ends;
+mod input;
 mod message;
 mod node;
+mod plan;
 mod sealing;
 mod texts;
 
