@@ -3,3 +3,5 @@ mod Numbered
 mod Turned
 mod Devices
 mod Changed
+mod Lasts
+mod Seals

@@ -1,3 +1,112 @@
--- What a plan changes.
-use Rattle.std.specs.Prelude.{◌≡◌, ℕ, List, [], ◌∷◌, ◌++◌, map, Option, Some, None, Result, Ok, Err}
+-- What a plan says, and what it changes.
+use Rattle.std.specs.Prelude.{◌≡◌, ◌⊎◌, ℕ, ◌+◌, ◌%◌, ◌^◌, Bool, true, false, List, ◌++◌, map, nat_lt, Option, Some, None, Result, Ok, Err, if◌then◌else◌}
+use Rattle.std.specs.List.{last_or, list_all}
 use Rattle.std.specs.Option.{option_map}
+use Rattle.spk_payload.specs.Typing.{typed_view}
+use Rattle.spk_packets.specs.Message as packets
+use Rattle.spk_packets.specs.Spelling.{spelling}
+use Rattle.spk_device.specs.Book.{Book}
+use Rattle.spk_device.specs.Calls.{unless_refused}
+use Rattle.spk_device.specs.Step.{set_refusal, with_value}
+use Rattle.spk_store.specs.Calls as store
+use Rattle.spk_store.specs.Data.{Kept}
+use Rattle.spk_store.specs.Step.{after_push}
+use Rattle.spk_store.specs.declared.change.Change.{Change}
+use Rattle.spk_edge_rules.specs.declared.fault.EdgeFault.{EdgeFault}
+use Rattle.spk_edge_rules.specs.declared.fault.EdgeFault.TheVariants.{NoMemory, ClockEnd, TooLarge}
+use Rattle.spk_edge_rules.specs.declared.phase.Phase.{Phase}
+use Rattle.spk_edge_rules.specs.Answers.{Answer, is_writable}
+use Rattle.spk_edge_rules.specs.Inputs as inputs
+use Rattle.spk_edge_rules.specs.Inputs.{ChangeData}
+use Rattle.spk_edge_rules.specs.Rules.{Asked}
+use Rattle.spk_edge_rules.specs.Step as step
+use Rattle.spk_edge.specs.Sealing.{bytes_of, numbered, seq_past, wire_of}
+use Rattle.spk_edge.specs.View.{GivenData, MessageData, NodeData, change_view, message_view, unnumbered, write_view}
+use Rattle.spk_edge.specs.declared.node.Tally.{Tally}
+use Rattle.spk_edge.specs.declared.plan.Plan.{Plan}
+use Rattle.spk_edge.specs.declared.plan.Setting.{Setting}
+use Rattle.spk_edge.specs.declared.plan.Setting.TheVariants.{Nothing, Value}
+
+-- ---- the data after a plan is taken up
+
+-- what a registry refuses leaves it as it is
+abbrev pub setting_book : Book → Setting → Book
+setting_book b Nothing = b
+setting_book b (Value alias value) =
+    unless_refused (set_refusal b alias (option_map typed_view value)) (with_value b alias (option_map typed_view value)) b
+
+abbrev pub kept_after : Kept ChangeData → Option Change → Kept ChangeData
+kept_after s None = s
+kept_after s (Some change) = after_push s (change_view change)
+
+abbrev pub patched : NodeData → Plan → NodeData
+patched n p = record {
+  config = n.config;
+  standing = record {
+    asked = record {
+      phase = p.tally.phase;
+      book = setting_book n.standing.asked.book p.setting;
+      store = kept_after n.standing.asked.store p.kept;
+      heard = p.tally.heard;
+      stamp = p.tally.stamp;
+      bd = p.tally.bd;
+      will_bd = p.tally.will_bd;
+      will_time = p.tally.will_time;
+    };
+    seq = p.tally.seq;
+  };
+}
+
+-- ---- what a plan says
+
+-- The plan answers what the rules ask: these packets as bytes, writes and closing, these messages under their numbers; and
+-- what it changes is what the rules' step changes.
+pub record IsPlan (n : NodeData) (i : inputs.Input) (p : Plan) : Type 0 where
+  pub answer : Answer
+  pub answered : step.answer_at n.config n.standing i ≡ Ok answer
+  pub packets : map bytes_of p.out.packets.items ≡ map spelling answer.packets
+  pub writes : map write_view p.out.writes.items ≡ answer.given.writes
+  pub close : p.out.close ≡ answer.given.close
+  pub messages : map message_view p.messages.items
+      ≡ numbered n.config.numbering n.standing.seq (map (unnumbered n.config) answer.given.drafts)
+  pub after : patched n p ≡ record n { standing = step.stepped n.config n.standing i answer.given }
+
+-- memory was refused, or the rules refuse the input with this fault
+abbrev pub IsRefusal : NodeData → inputs.Input → EdgeFault → Type 0
+IsRefusal n i e = (e ≡ NoMemory) ⊎ (step.answer_at n.config n.standing i ≡ Err e)
+
+-- ---- what was given, and its plan
+
+-- the counts after an input
+pub record IsTallyAfter (a : Asked) (i : inputs.Input) (phase : Phase) (heard : Option ℕ) (messages : List MessageData) (seq : ℕ) (t : Tally) : Type 0 where
+  pub of_phase : t.phase ≡ phase
+  pub of_heard : t.heard ≡ heard
+  pub stamp : t.stamp ≡ last_or a.stamp (map (λ m. m.stamp) messages)
+  pub of_seq : t.seq ≡ seq
+  pub bd : t.bd ≡ (if step.is_open i.act then (a.bd + 1) % 256 else a.bd)
+  pub will_bd : t.will_bd ≡ (if step.is_open i.act then a.bd else a.will_bd)
+  pub will_time : t.will_time ≡ (if step.is_open i.act then i.now else a.will_time)
+
+abbrev pub are_timely : List MessageData → Bool
+are_timely messages = list_all (λ m. nat_lt m.stamp (2 ^ 63)) messages
+
+abbrev pub numbers_of : NodeData → GivenData → List MessageData
+numbers_of n g = numbered n.config.numbering n.standing.seq g.messages
+
+abbrev pub packets_of : NodeData → GivenData → List packets.Message
+packets_of n g = g.plain ++ map wire_of (numbers_of n g)
+
+pub record IsSealed (n : NodeData) (i : inputs.Input) (g : GivenData) (setting : Setting) (p : Plan) : Type 0 where
+  pub timely : are_timely g.messages ≡ true
+  pub writable : list_all is_writable (packets_of n g) ≡ true
+  pub packets : map bytes_of p.out.packets.items ≡ map spelling (packets_of n g)
+  pub writes : map write_view p.out.writes.items ≡ g.writes
+  pub close : p.out.close ≡ g.close
+  pub messages : map message_view p.messages.items ≡ numbers_of n g
+  pub tally : IsTallyAfter n.standing.asked i g.phase g.heard (numbers_of n g) (seq_past n.config.numbering n.standing.seq g.messages) p.tally
+  pub set : p.setting ≡ setting
+  pub kept : option_map (λ change. store.Push (change_view change)) p.kept ≡ g.kept
+
+abbrev pub IsUnsealed : NodeData → GivenData → EdgeFault → Type 0
+IsUnsealed n g e = (e ≡ NoMemory) ⊎ (((e ≡ ClockEnd) × (are_timely g.messages ≡ false))
+    ⊎ ((e ≡ TooLarge) × (are_timely g.messages ≡ true) × (list_all is_writable (packets_of n g) ≡ false)))

@@ -29,8 +29,6 @@ use Rattle.spk_edge.specs.declared.input.Act.TheVariants.{Open, Accepted, Change
 use Rattle.spk_edge.specs.declared.input.Input.{Input}
 use Rattle.spk_edge.specs.declared.message.Given.{Given}
 use Rattle.spk_edge.specs.declared.message.Published.{Published}
-use Rattle.spk_edge.specs.declared.message.StoreCall.{StoreCall}
-use Rattle.spk_edge.specs.declared.message.StoreCall.TheVariants.{Keep, DropFront}
 use Rattle.spk_edge.specs.declared.message.Write.{Write}
 use Rattle.spk_edge.specs.declared.node.EdgeNode.TheInside.{Inside}
 
@@ -96,10 +94,6 @@ message_view m = record { topic = string_bytes m.topic; payload = payload_view m
 abbrev pub write_view : Write → WriteData
 write_view w = record { alias = w.alias; value = typed_view w.value }
 
-abbrev pub call_view : StoreCall → store.Call ChangeData
-call_view (Keep change) = store.Push (change_view change)
-call_view (DropFront n is_lost) = store.DropFront n is_lost
-
 pub record GivenData : Type 0 where
   pub plain : List packets.Message
   pub messages : List MessageData
@@ -107,7 +101,7 @@ pub record GivenData : Type 0 where
   pub close : Bool
   pub phase : Phase
   pub heard : Option ℕ
-  pub store : Option (store.Call ChangeData)
+  pub kept : Option (store.Call ChangeData)
 
 abbrev pub given_view : Given → GivenData
 given_view g = record {
@@ -117,7 +111,7 @@ given_view g = record {
   close = g.close;
   phase = g.phase;
   heard = g.heard;
-  store = option_map call_view g.store;
+  kept = option_map (λ change. store.Push (change_view change)) g.kept;
 }
 
 -- a message of the rules before it has its number
@@ -138,7 +132,7 @@ given_of c heard g = record {
   close = g.close;
   phase = g.phase;
   heard = heard;
-  store = g.store;
+  kept = g.store;
 }
 
 -- ---- what it is told

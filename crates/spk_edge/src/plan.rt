@@ -5,20 +5,22 @@ ghost use Rattle.spk_packets.specs.Spelling.{spelling};
 ghost use Rattle.spk_packets.specs.View.{view};
 ghost use Rattle.spk_edge_rules.specs.Answers.{is_writable};
 ghost use Rattle.spk_edge_rules.specs.Rules as rule;
-ghost use Rattle.spk_edge_rules.specs.Step.{answer_at};
+ghost use Rattle.spk_edge_rules.specs.Step as step;
 ghost use Rattle.spk_edge.specs.Patch as patch;
 ghost use Rattle.spk_edge.specs.Sealing as seal;
-ghost use Rattle.spk_edge.specs.View.{given_of, given_view, input_view, message_view, numbering_view};
+ghost use Rattle.spk_edge.specs.View.{act_view, given_of, given_view, input_view, kept_view, message_view, numbering_view};
 
 use crate::changing::copied;
 use crate::input::{Act, Input};
-use crate::message::{Given, Out, Published, StoreCall};
+use crate::message::{Given, Out, Published};
 use crate::node::{EdgeNode, Tally};
 use crate::sealing::{number, written_messages, written_packets};
-use spk_device::Alias;
+use spk_device::{Alias, Registry};
 use spk_edge_rules::{EdgeFault, Phase};
 use spk_packets::Packet;
 use spk_payload::Value;
+use spk_state::Primary;
+use spk_store::{Change, Store};
 use std::alloc::{AllocError, Global};
 
 /// The first moment that isn't one.
@@ -38,7 +40,15 @@ pub struct Plan {
     pub(crate) messages: Vec<Published>,
     pub(crate) tally: Tally,
     pub(crate) setting: Setting,
-    pub(crate) store: Option<StoreCall>,
+    /// A change that is to be kept.
+    pub(crate) kept: Option<Change>,
+}
+
+/// What was taken up: what is answered, and what was published. The last of the packets are the messages' bytes.
+#[derive(Debug, PartialEq, Drop)]
+pub struct Taken {
+    pub out: Out,
+    pub messages: Vec<Published>,
 }
 
 /// Whether all stamps are below the end.
@@ -77,4 +87,103 @@ fn last_stamp(before: Option<u64>, messages: &[Published]) -> Option<u64>
         last = Some(message.stamp);
     }
     last
+}
+
+/// Whether a connection is to be opened.
+fn is_open(act: &Act<'_>) -> bool
+    ensures { result ≡ step.is_open (act_view act.now) }
+{
+    match act {
+        Act::Open => true,
+        _ => false,
+    }
+}
+
+/// Sets what is to be set.
+fn set(registry: &mut Registry, setting: Setting)
+    ensures { registry.new ≡ patch.setting_book registry.old setting }
+{
+    match setting {
+        Setting::Nothing => {}
+        Setting::Value(alias, value) => {
+            let _ = registry.set(alias, value);
+        }
+    }
+}
+
+/// Keeps what is to be kept.
+fn keep(store: &mut Store, kept: Option<Change>)
+    ensures { kept_view store.new ≡ patch.kept_after (kept_view store.old) kept }
+{
+    if let Some(change) = kept {
+        store.push(change);
+    }
+}
+
+impl EdgeNode {
+    /// What it counts after an input that gave these messages, when this number comes next.
+    fn tally_after(&self, input: Input<'_>, phase: Phase, heard: Primary, messages: &[Published], seq: u8) -> Tally
+        ensures { patch.IsTallyAfter self.now.standing.asked (input_view input.entry) phase heard (map message_view messages.now) seq result }
+    {
+        let mut tally = Tally {
+            phase,
+            heard,
+            stamp: last_stamp(self.tally.stamp, messages),
+            seq,
+            bd: self.tally.bd,
+            will_bd: self.tally.will_bd,
+            will_time: self.tally.will_time,
+        };
+        if is_open(&input.act) {
+            tally.bd = self.tally.bd.wrapping_add(1);
+            tally.will_bd = self.tally.bd;
+            tally.will_time = input.now;
+        }
+        tally
+    }
+
+    /// The plan of what was given.
+    fn sealed(&self, input: Input<'_>, given: Given, setting: Setting) -> Result<Plan, EdgeFault>
+        requires { AllByRecursion (λ m. seal.AreKnown m.payload.metrics) (map message_view given.messages.items) }
+        ensures sealed { IfOk result (patch.IsSealed self.now (input_view input.entry) (given_view given) setting) }
+        ensures fault { IfErr result (patch.IsUnsealed self.now (given_view given)) }
+    {
+        if !are_timely(&given.messages) {
+            return Err(EdgeFault::ClockEnd);
+        }
+        let mut messages = given.messages;
+        let seq = number(&mut messages, self.config.numbering, self.tally.seq);
+        let packets = packets(self.alloc, &given.plain, &messages)?;
+        let tally = self.tally_after(input, given.phase, given.heard, &messages, seq);
+        Ok(Plan {
+            out: Out {
+                packets,
+                writes: given.writes,
+                close: given.close,
+            },
+            messages,
+            tally,
+            setting,
+            kept: given.kept,
+        })
+    }
+
+    /// What a plan says is so from now on.
+    pub fn take_up(&mut self, plan: Plan) -> Taken
+        ensures data { self.new ≡ patch.patched self.old plan }
+        ensures out { result.out ≡ plan.out }
+        ensures messages { result.messages ≡ plan.messages }
+    {
+        let Plan {
+            out,
+            messages,
+            tally,
+            setting,
+            kept,
+        } = plan;
+        set(&mut self.registry, setting);
+        keep(&mut self.store, kept);
+        self.tally = tally;
+        Taken { out, messages }
+    }
 }
