@@ -5,3 +5,4 @@ mod Devices
 mod Changed
 mod Lasts
 mod Seals
+mod Plans

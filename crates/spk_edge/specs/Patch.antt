@@ -1,8 +1,8 @@
 -- What a plan says, and what it changes.
-use Rattle.std.specs.Prelude.{◌≡◌, ◌⊎◌, ℕ, ◌+◌, ◌%◌, ◌^◌, Bool, true, false, List, ◌++◌, map, nat_lt, Option, Some, None, Result, Ok, Err, if◌then◌else◌}
+use Rattle.std.specs.Prelude.{◌≡◌, ◌⊎◌, ℕ, ◌+◌, ◌%◌, ◌^◌, Bool, true, false, List, ◌∷◌, ◌++◌, map, nat_lt, Option, Some, None, Result, Ok, Err, if◌then◌else◌}
 use Rattle.std.specs.List.{last_or, list_all}
 use Rattle.std.specs.Option.{option_map}
-use Rattle.spk_payload.specs.Typing.{typed_view}
+use Rattle.spk_payload.specs.Typing.{Typed, typed_view}
 use Rattle.spk_packets.specs.Message as packets
 use Rattle.spk_packets.specs.Spelling.{spelling}
 use Rattle.spk_device.specs.Book.{Book}
@@ -18,10 +18,12 @@ use Rattle.spk_edge_rules.specs.declared.phase.Phase.{Phase}
 use Rattle.spk_edge_rules.specs.Answers.{Answer, is_writable}
 use Rattle.spk_edge_rules.specs.Inputs as inputs
 use Rattle.spk_edge_rules.specs.Inputs.{ChangeData}
+use Rattle.spk_edge_rules.specs.Rules as rule
 use Rattle.spk_edge_rules.specs.Rules.{Asked}
 use Rattle.spk_edge_rules.specs.Step as step
 use Rattle.spk_edge.specs.Sealing.{bytes_of, numbered, seq_past, wire_of}
-use Rattle.spk_edge.specs.View.{GivenData, MessageData, NodeData, change_view, message_view, unnumbered, write_view}
+use Rattle.spk_edge.specs.View.{GivenData, MessageData, NodeData, change_view, given_of, given_view, message_view, unnumbered, write_view}
+use Rattle.spk_edge.specs.declared.message.Given.{Given}
 use Rattle.spk_edge.specs.declared.node.Tally.{Tally}
 use Rattle.spk_edge.specs.declared.plan.Plan.{Plan}
 use Rattle.spk_edge.specs.declared.plan.Setting.{Setting}
@@ -110,3 +112,35 @@ pub record IsSealed (n : NodeData) (i : inputs.Input) (g : GivenData) (setting :
 abbrev pub IsUnsealed : NodeData → GivenData → EdgeFault → Type 0
 IsUnsealed n g e = (e ≡ NoMemory) ⊎ (((e ≡ ClockEnd) × (are_timely g.messages ≡ false))
     ⊎ ((e ≡ TooLarge) × (are_timely g.messages ≡ true) × (list_all is_writable (packets_of n g) ≡ false)))
+
+-- ---- what an act gives
+
+-- what the rules' act gives, as the code has it
+pub record IsGivenBy (n : NodeData) (i : inputs.Input) (g : Given) : Type 0 where
+  pub given : rule.Given
+  pub acted : rule.acts n.config n.standing.asked i.now i.act ≡ Ok given
+  pub is : given_view g ≡ given_of n.config (step.heard_after n.config n.standing.asked.heard i.act) given
+
+-- memory was refused, or the act is, or its stamp is past the clock's end
+abbrev pub IsRefusedBy : NodeData → inputs.Input → EdgeFault → Type 0
+IsRefusedBy n i e = (e ≡ NoMemory) ⊎ ((rule.acts n.config n.standing.asked i.now i.act ≡ Err e)
+    ⊎ ((e ≡ ClockEnd) × ((g : rule.Given) × (rule.acts n.config n.standing.asked i.now i.act ≡ Ok g) × (rule.is_timely g ≡ false))))
+
+-- an acknowledgement stands first
+abbrev pub acked_data : Option ℕ → GivenData → GivenData
+acked_data None g = g
+acked_data (Some id) g = record g { plain = packets.PubAck id ∷ g.plain }
+
+-- what an act sets
+abbrev pub setting_view : Setting → Option (ℕ × Option Typed)
+setting_view Nothing = None
+setting_view (Value alias value) = Some (alias, option_map typed_view value)
+
+abbrev pub act_setting : inputs.Act → Option (ℕ × Option Typed)
+act_setting (inputs.Change alias value) = Some (alias, value)
+act_setting _ = None
+
+-- devices don't turn by it
+abbrev pub IsNoTurn : inputs.Act → Type 0
+IsNoTurn (inputs.Turn name up) = ⊥
+IsNoTurn _ = Unit {0}

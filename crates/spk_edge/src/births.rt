@@ -1,17 +1,19 @@
 //! Births (Sparkplug 3.0.0, chapter 6, NBIRTH and DBIRTH).
-ghost use Rattle.std.specs.Prelude.{◌≡◌, ◌∷◌, ◌++◌, [], IfOk, OnOk, map, true, Some, string_bytes};
+ghost use Rattle.std.specs.Prelude.{◌≡◌, ◌∷◌, ◌++◌, [], IfOk, IfErr, OnOk, map, true, false, ◌⊎◌, ◌≤◌, ◌^◌, Some, string_bytes};
 ghost use Rattle.std.specs.Option.{option_map};
 ghost use Rattle.spk_payload.specs.View.{metric_view};
 ghost use Rattle.spk_device.specs.Book.{births_of, device_at, has_owner};
 ghost use Rattle.spk_edge_rules.specs.Births as births;
 ghost use Rattle.spk_edge.specs.Listed.{birth_if_up, device_message};
-ghost use Rattle.spk_edge.specs.View.{config_view, message_view, unnumbered};
+ghost use Rattle.spk_edge_rules.specs.Rules as rule;
+ghost use Rattle.spk_edge.specs.View.{config_view, given_of, given_view, message_view, unnumbered};
 
 
-use crate::message::Published;
+use crate::message::{Given, Published};
 use crate::node::EdgeNode;
 use crate::texts::{device_topic, node_topic, session_metric};
 use spk_device::{DeviceFault, Owner};
+use spk_edge_rules::{EdgeFault, Phase};
 use spk_payload::{Metric, Payload, Raw};
 use spk_topics::Verb;
 use std::alloc::{AllocError, Global};
@@ -135,5 +137,37 @@ impl EdgeNode {
             self.push_birth(&mut messages, number, stamp)?;
         }
         Ok(messages)
+    }
+
+    /// The stamp of an NBIRTH; ClockEnd where there is none below 2^63.
+    fn birth_stamp(&self, now: u64) -> Result<u64, EdgeFault>
+        ensures stamp { IfOk result (λ s. s ≡ births.birth_stamp self.now.standing.asked.stamp now) }
+        ensures fault { IfErr result (λ e. (e ≡ EdgeFault.ClockEnd) × (2 ^ 63 ≤ births.birth_stamp self.now.standing.asked.stamp now)) }
+    {
+        match self.tally.stamp {
+            None => Ok(now),
+            Some(last) => {
+                if last >= 1 << 63 {
+                    return Err(EdgeFault::ClockEnd);
+                }
+                Ok(now.max(last + 1))
+            }
+        }
+    }
+
+    /// SUBSCRIBE, and the births where there is no primary host.
+    pub(crate) fn accepting(&self, now: u64) -> Result<Given, EdgeFault>
+        ensures given { IfOk result (λ g. given_view g ≡ given_of self.now.config self.now.standing.asked.heard
+            (rule.accepting self.now.config self.now.standing.asked now)) }
+        ensures fault { IfErr result (λ e. (e ≡ EdgeFault.NoMemory) ⊎ ((e ≡ EdgeFault.ClockEnd)
+            × (rule.is_timely (rule.accepting self.now.config self.now.standing.asked now) ≡ false))) }
+    {
+        let mut given = self.joining()?;
+        if self.config.primary.is_none() {
+            let stamp = self.birth_stamp(now)?;
+            given.messages = self.births(stamp)?;
+            given.phase = Phase::Born;
+        }
+        Ok(given)
     }
 }

@@ -120,6 +120,27 @@ fn keep(store: &mut Store, kept: Option<Change>)
     }
 }
 
+/// What came at QoS 1 is acknowledged first.
+fn acked(given: Given, ack: Option<u16>) -> Result<Given, AllocError>
+    ensures { IfOk result (λ g. given_view g ≡ patch.acked_data ack (given_view given)) }
+{
+    let mut given = given;
+    if let Some(id) = ack {
+        given.plain.insert(0, Packet::PubAck { id })?;
+    }
+    Ok(given)
+}
+
+/// What an act sets.
+fn set_by(alloc: Global, act: &Act<'_>) -> Result<Setting, AllocError>
+    ensures { IfOk result (λ s. patch.setting_view s ≡ patch.act_setting (act_view act.now)) }
+{
+    match act {
+        Act::Change(alias, value) => Ok(Setting::Value(*alias, copied(alloc, value)?)),
+        _ => Ok(Setting::Nothing),
+    }
+}
+
 impl EdgeNode {
     /// What it counts after an input that gave these messages, when this number comes next.
     fn tally_after(&self, input: Input<'_>, phase: Phase, heard: Primary, messages: &[Published], seq: u8) -> Tally
@@ -185,5 +206,53 @@ impl EdgeNode {
         keep(&mut self.store, kept);
         self.tally = tally;
         Taken { out, messages }
+    }
+
+    /// Whether an act is taken in the present phase.
+    fn fits(&self, act: &Act<'_>) -> bool
+        ensures { result ≡ rule.fits self.now.standing.asked.phase (act_view act.now) }
+    {
+        match act {
+            Act::Open => self.tally.phase == Phase::Idle,
+            Act::Accepted => self.tally.phase == Phase::Connecting,
+            Act::Stop => self.tally.phase == Phase::Waiting || self.tally.phase == Phase::Born,
+            Act::Change(_, _) | Act::Cut | Act::TurnedAway | Act::Pass => true,
+        }
+    }
+
+    /// What the act gives.
+    fn given(&self, input: Input<'_>) -> Result<Given, EdgeFault>
+        ensures given { IfOk result (patch.IsGivenBy self.now (input_view input.entry)) }
+        ensures fault { IfErr result (patch.IsRefusedBy self.now (input_view input.entry)) }
+    {
+        match input.act {
+            Act::Open => Ok(self.opening(input.now)?),
+            Act::Accepted => self.accepting(input.now),
+            Act::Change(alias, value) => self.changing(input.now, alias, value),
+            Act::Stop => Ok(self.leaving()?),
+            Act::Cut => Ok(self.cutting()),
+            Act::TurnedAway => Ok(self.turned_away()),
+            Act::Pass => Ok(self.nothing()),
+        }
+    }
+
+    /// The plan of an input. It makes all growths, and changes nothing.
+    ///
+    /// Refuses in this order: WrongPhase (60), ClockEnd (61) for a moment of 2^63 or more, what the act itself refuses,
+    /// ClockEnd for a stamp that is needed, TooLarge (64).
+    pub fn plan(&self, input: Input<'_>) -> Result<Plan, EdgeFault>
+        ensures planned { IfOk result (patch.IsPlan self.now (input_view input.entry)) }
+        ensures refused { IfErr result (patch.IsRefusal self.now (input_view input.entry)) }
+    {
+        if !self.fits(&input.act) {
+            return Err(EdgeFault::WrongPhase);
+        }
+        if input.now >= END {
+            return Err(EdgeFault::ClockEnd);
+        }
+        let given = self.given(input)?;
+        let given = acked(given, input.ack)?;
+        let setting = set_by(self.alloc, &input.act)?;
+        self.sealed(input, given, setting)
     }
 }
