@@ -25,14 +25,15 @@ use Rattle.spk_edge_rules.specs.Rules as rule
 use Rattle.spk_edge_rules.specs.Rules.{acked, acts, fits, is_timely, on_ok, rules, timely}
 use Rattle.spk_edge_rules.specs.Step as step
 use Rattle.spk_edge_rules.proofs.Known as known
-use Rattle.spk_edge.specs.Patch.{IsGivenBy, IsNoTurn, IsPlan, IsRefusal, IsRefusedBy, IsSealed, IsUnsealed, acked_data, act_setting, are_timely, kept_after, numbers_of, packets_of, patched, setting_book, setting_view}
+use Rattle.spk_edge.specs.Patch.{IsDone, IsGivenBy, IsNoTurn, IsPlan, IsRefusal, IsRefusedBy, IsSealed, IsUnsealed, acked_data, act_setting, are_timely, kept_after, numbers_of, packets_of, patched, setting_book, setting_view}
 use Rattle.spk_edge.specs.Sealing as seal
-use Rattle.spk_edge.specs.Sealing.{AllKnown, numbered, seq_past, wire_of, with_number}
-use Rattle.spk_edge.specs.View.{GivenData, MessageData, NodeData, act_view, change_view, given_of, given_view, input_view, unnumbered}
+use Rattle.spk_edge.specs.Sealing.{AllKnown, numbered, bytes_of, seq_past, wire_of, with_number}
+use Rattle.spk_edge.specs.View.{GivenData, MessageData, NodeData, act_view, change_view, given_of, given_view, input_view, unnumbered, write_view}
 use Rattle.spk_edge.specs.declared.input.Act.{Act}
 use Rattle.spk_edge.specs.declared.input.Act.TheVariants.{Open, Accepted, Change as Changing, Stop, Cut, TurnedAway, Pass}
 use Rattle.spk_edge.specs.declared.input.Input.{Input}
 use Rattle.spk_edge.specs.declared.message.Given.{Given}
+use Rattle.spk_edge.specs.declared.message.Out.{Out}
 use Rattle.spk_edge.specs.declared.plan.Plan.{Plan}
 use Rattle.spk_edge.specs.declared.plan.Setting.{Setting}
 use Rattle.spk_edge.specs.declared.plan.Setting.TheVariants.{Nothing, Value}
@@ -268,3 +269,14 @@ if-ok P Q (Err e) f p = tt
 pub if-err : {X E : Type 0} (P Q : E → Type 0) (r : Result X E) → ((e : E) → P e → Q e) → IfErr r P → IfErr r Q
 if-err P Q (Ok x) f p = tt
 if-err P Q (Err e) f p = f e p
+
+-- a plan that was taken up was done
+pub done_by : (n : NodeData) (i : inputs.Input) (p : Plan) (after : NodeData) (out : Out) → IsPlan n i p → after ≡ patched n p → out ≡ p.out → IsDone n i after out
+done_by n i p after out plan is same = record {
+  answer = plan.answer;
+  answered = plan.answered;
+  packets = ap (λ (o : Out). map bytes_of o.packets.items) same ∙ plan.packets;
+  writes = ap (λ (o : Out). map write_view o.writes.items) same ∙ plan.writes;
+  close = ap (λ (o : Out). o.close) same ∙ plan.close;
+  stands = is ∙ plan.after;
+}

@@ -1,7 +1,7 @@
 -- What a plan says, and what it changes.
-use Rattle.std.specs.Prelude.{◌≡◌, ◌⊎◌, ℕ, ◌+◌, ◌%◌, ◌^◌, Bool, true, false, List, ◌∷◌, ◌++◌, map, nat_lt, Option, Some, None, Result, Ok, Err, if◌then◌else◌}
+use Rattle.std.specs.Prelude.{◌≡◌, ◌⊎◌, ℕ, ◌+◌, ◌%◌, ◌^◌, Bool, true, false, ◌&&◌, nat_le, List, ◌∷◌, ◌++◌, map, nat_lt, Option, Some, None, Result, Ok, Err, if◌then◌else◌}
 use Rattle.std.specs.List.{last_or, list_all}
-use Rattle.std.specs.Option.{option_map}
+use Rattle.std.specs.Option.{option_map, option_map_or}
 use Rattle.spk_payload.specs.Typing.{Typed, typed_view}
 use Rattle.spk_packets.specs.Message as packets
 use Rattle.spk_packets.specs.Spelling.{spelling}
@@ -14,7 +14,10 @@ use Rattle.spk_store.specs.Step.{after_push}
 use Rattle.spk_store.specs.declared.change.Change.{Change}
 use Rattle.spk_edge_rules.specs.declared.fault.EdgeFault.{EdgeFault}
 use Rattle.spk_edge_rules.specs.declared.fault.EdgeFault.TheVariants.{NoMemory, ClockEnd, TooLarge}
+use Rattle.spk_topics.specs.Spark.{is_name}
 use Rattle.spk_edge_rules.specs.declared.phase.Phase.{Phase}
+use Rattle.spk_edge_rules.specs.declared.phase.Phase.TheVariants.{Idle}
+use Rattle.spk_edge_rules.specs.Config.{Config, Setup}
 use Rattle.spk_edge_rules.specs.Answers.{Answer, is_writable}
 use Rattle.spk_edge_rules.specs.Inputs as inputs
 use Rattle.spk_edge_rules.specs.Inputs.{ChangeData}
@@ -24,6 +27,7 @@ use Rattle.spk_edge_rules.specs.Step as step
 use Rattle.spk_edge.specs.Sealing.{bytes_of, numbered, seq_past, wire_of}
 use Rattle.spk_edge.specs.View.{GivenData, MessageData, NodeData, change_view, given_of, given_view, message_view, unnumbered, write_view}
 use Rattle.spk_edge.specs.declared.message.Given.{Given}
+use Rattle.spk_edge.specs.declared.message.Out.{Out}
 use Rattle.spk_edge.specs.declared.node.Tally.{Tally}
 use Rattle.spk_edge.specs.declared.plan.Plan.{Plan}
 use Rattle.spk_edge.specs.declared.plan.Setting.{Setting}
@@ -144,3 +148,35 @@ act_setting _ = None
 abbrev pub IsNoTurn : inputs.Act → Type 0
 IsNoTurn (inputs.Turn name up) = ⊥
 IsNoTurn _ = Unit {0}
+
+-- ---- what was done
+
+-- The input was done: it answers what the rules ask, and the data are those after their step.
+pub record IsDone (n : NodeData) (i : inputs.Input) (after : NodeData) (out : Out) : Type 0 where
+  pub answer : Answer
+  pub answered : step.answer_at n.config n.standing i ≡ Ok answer
+  pub packets : map bytes_of out.packets.items ≡ map spelling answer.packets
+  pub writes : map write_view out.writes.items ≡ answer.given.writes
+  pub close : out.close ≡ answer.given.close
+  pub stands : after ≡ record n { standing = step.stepped n.config n.standing i answer.given }
+
+-- an input that nothing acknowledges
+abbrev pub plain_input : ℕ → inputs.Act → inputs.Input
+plain_input now act = record { now = now; ack = None; act = act }
+
+-- the data after a cut, which is always done
+abbrev pub after_cut : NodeData → NodeData
+after_cut n = record n { standing =
+    step.stepped n.config n.standing (plain_input 0 inputs.Cut) (record (rule.nothing n.standing.asked) { phase = Idle }) }
+
+-- ---- names and limits
+
+abbrev pub is_good : Config → ℕ → Bool
+is_good c capacity = is_name c.group && is_name c.node && option_map_or is_name c.primary true && nat_le 1 capacity && nat_le capacity 4096
+
+abbrev pub setup_of : Config → ℕ → step.Record → Book → Setup
+setup_of c capacity r b = record { config = c; capacity = capacity; seq = r.seq; bd = r.bd; stamp = r.stamp; book = b }
+
+-- a node as it is made
+abbrev pub made : Config → ℕ → step.Record → Book → NodeData
+made c capacity r b = record { config = c; standing = step.fresh_standing (setup_of c capacity r b) }

@@ -3,6 +3,7 @@
 #![tactic(auto)]
 
 mod births;
+mod calls;
 mod changing;
 mod config;
 mod ends;
