@@ -3,12 +3,13 @@ use Rattle.std.proofs.Common.{◌≡◌, ◌⊎◌, inl, inr, ◌∙◌, ap, sym
 use Rattle.std.specs.Prelude.{IfOk, IfErr}
 use Rattle.std.specs.List.{AllByRecursion, last_or, list_all}
 use Rattle.std.specs.Option.{option_map}
+use Rattle.std.specs.String.{string_bytes}
 use Rattle.spk_payload.specs.Typing.{Typed, typed_view}
 use Rattle.spk_packets.specs.Message as packets
 use Rattle.spk_packets.specs.Spelling.{spelling}
 use Rattle.spk_device.specs.Book.{Book}
 use Rattle.spk_device.specs.Calls.{unless_refused}
-use Rattle.spk_device.specs.Step.{set_refusal, with_value}
+use Rattle.spk_device.specs.Step.{set_refusal, turn_refusal, with_turn, with_value}
 use Rattle.spk_device.specs.declared.fault.Refusal.{Refusal}
 use Rattle.spk_sequence.specs.NodeRecord.{Numbering, RunsOn, Restarts}
 use Rattle.spk_store.specs.Data.{Kept}
@@ -25,7 +26,7 @@ use Rattle.spk_edge_rules.specs.Rules as rule
 use Rattle.spk_edge_rules.specs.Rules.{acked, acts, fits, is_timely, on_ok, rules, timely}
 use Rattle.spk_edge_rules.specs.Step as step
 use Rattle.spk_edge_rules.proofs.Known as known
-use Rattle.spk_edge.specs.Patch.{IsDone, IsGivenBy, IsNoTurn, IsPlan, IsRefusal, IsRefusedBy, IsSealed, IsUnsealed, acked_data, act_setting, are_timely, kept_after, numbers_of, packets_of, patched, setting_book, setting_view}
+use Rattle.spk_edge.specs.Patch.{IsDone, IsGivenBy, IsPlan, IsRefusal, IsRefusedBy, IsSealed, IsUnsealed, acked_data, act_setting, are_timely, kept_after, numbers_of, packets_of, patched, setting_book, setting_view, Sets, SetsNothing, SetsValue, SetsTurn}
 use Rattle.spk_edge.specs.Sealing as seal
 use Rattle.spk_edge.specs.Sealing.{AllKnown, numbered, bytes_of, seq_past, wire_of, with_number}
 use Rattle.spk_edge.specs.View.{GivenData, MessageData, NodeData, act_view, change_view, given_of, given_view, input_view, unnumbered, write_view}
@@ -36,7 +37,7 @@ use Rattle.spk_edge.specs.declared.message.Given.{Given}
 use Rattle.spk_edge.specs.declared.message.Out.{Out}
 use Rattle.spk_edge.specs.declared.plan.Plan.{Plan}
 use Rattle.spk_edge.specs.declared.plan.Setting.{Setting}
-use Rattle.spk_edge.specs.declared.plan.Setting.TheVariants.{Nothing, Value}
+use Rattle.spk_edge.specs.declared.plan.Setting.TheVariants.{Nothing, Value, Turn}
 
 -- ---- messages
 
@@ -184,39 +185,54 @@ accepted b None g g' e = refl
 accepted b (Some why) g g' e = absurd (let x : ⊥ = cc in x)
 
 set-value : (b : Book) (alias : ℕ) (value : Option Typed) (s : Setting) (g g' : rule.Given) → rule.refused_or (set_refusal b alias value) g ≡ Ok g'
-    → setting_view s ≡ Some (alias, value) → setting_book b s ≡ with_value b alias value
+    → setting_view s ≡ SetsValue alias value → setting_book b s ≡ with_value b alias value
 set-value b alias value Nothing g g' ok set = absurd (let x : ⊥ = cc in x)
+set-value b alias value (Turn name up) g g' ok set = absurd (let x : ⊥ = cc in x)
 set-value b alias value (Value other given) g g' ok set =
-    let same : (other, option_map typed_view given) ≡ (alias, value) = cc in
-    ap (λ (e : ℕ × Option Typed). unless_refused (set_refusal b e.0 e.1) (with_value b e.0 e.1) b) same
+    let same : other ≡ alias = cc in
+    let equal : option_map typed_view given ≡ value = cc in
+    ap (λ a. unless_refused (set_refusal b a (option_map typed_view given)) (with_value b a (option_map typed_view given)) b) same
+    ∙ ap (λ v. unless_refused (set_refusal b alias v) (with_value b alias v) b) equal
     ∙ ap (λ r. unless_refused r (with_value b alias value) b) (accepted b (set_refusal b alias value) g g' ok)
 
-no-value : (b : Book) (s : Setting) → setting_view s ≡ None → setting_book b s ≡ b
+set-turn : (b : Book) (name : List ℕ) (up : Bool) (s : Setting) (g g' : rule.Given) → rule.refused_or (turn_refusal b name) g ≡ Ok g'
+    → setting_view s ≡ SetsTurn name up → setting_book b s ≡ with_turn b name up
+set-turn b name up Nothing g g' ok set = absurd (let x : ⊥ = cc in x)
+set-turn b name up (Value alias value) g g' ok set = absurd (let x : ⊥ = cc in x)
+set-turn b name up (Turn other way) g g' ok set =
+    let same : string_bytes other ≡ name = cc in
+    let equal : way ≡ up = cc in
+    ap (λ a. unless_refused (turn_refusal b a) (with_turn b a way) b) same
+    ∙ ap (λ v. unless_refused (turn_refusal b name) (with_turn b name v) b) equal
+    ∙ ap (λ r. unless_refused r (with_turn b name up) b) (accepted b (turn_refusal b name) g g' ok)
+
+no-value : (b : Book) (s : Setting) → setting_view s ≡ SetsNothing → setting_book b s ≡ b
 no-value b Nothing set = refl
 no-value b (Value alias value) set = absurd (let x : ⊥ = cc in x)
+no-value b (Turn name up) set = absurd (let x : ⊥ = cc in x)
 
-book-is : (c : Config) (a : rule.Asked) (now : ℕ) (act : inputs.Act) (s : Setting) (g : rule.Given) → IsNoTurn act → acts c a now act ≡ Ok g → setting_view s ≡ act_setting act
+book-is : (c : Config) (a : rule.Asked) (now : ℕ) (act : inputs.Act) (s : Setting) (g : rule.Given) → acts c a now act ≡ Ok g → setting_view s ≡ act_setting act
     → setting_book a.book s ≡ step.book_after a.book act
-book-is c a now (inputs.Change alias value) s g fine ok set = set-value a.book alias value s _ g ok set
-book-is c a now inputs.Open s g fine ok set = no-value a.book s set
-book-is c a now inputs.Accepted s g fine ok set = no-value a.book s set
-book-is c a now (inputs.Turn name up) s g fine ok set = absurd fine
-book-is c a now (inputs.Command topic payload) s g fine ok set = no-value a.book s set
-book-is c a now (inputs.State payload) s g fine ok set = no-value a.book s set
-book-is c a now inputs.Drain s g fine ok set = no-value a.book s set
-book-is c a now inputs.Stop s g fine ok set = no-value a.book s set
-book-is c a now inputs.Cut s g fine ok set = no-value a.book s set
-book-is c a now inputs.TurnedAway s g fine ok set = no-value a.book s set
-book-is c a now inputs.Pass s g fine ok set = no-value a.book s set
+book-is c a now (inputs.Change alias value) s g ok set = set-value a.book alias value s _ g ok set
+book-is c a now inputs.Open s g ok set = no-value a.book s set
+book-is c a now inputs.Accepted s g ok set = no-value a.book s set
+book-is c a now (inputs.Turn name up) s g ok set = set-turn a.book name up s _ g ok set
+book-is c a now (inputs.Command topic payload) s g ok set = no-value a.book s set
+book-is c a now (inputs.State payload) s g ok set = no-value a.book s set
+book-is c a now inputs.Drain s g ok set = no-value a.book s set
+book-is c a now inputs.Stop s g ok set = no-value a.book s set
+book-is c a now inputs.Cut s g ok set = no-value a.book s set
+book-is c a now inputs.TurnedAway s g ok set = no-value a.book s set
+book-is c a now inputs.Pass s g ok set = no-value a.book s set
 
 -- the data after the plan are the data after the step
-after-is : (n : NodeData) (i : inputs.Input) (g : rule.Given) (setting : Setting) (p : Plan) → IsNoTurn i.act → acts n.config n.standing.asked i.now i.act ≡ Ok g
+after-is : (n : NodeData) (i : inputs.Input) (g : rule.Given) (setting : Setting) (p : Plan) → acts n.config n.standing.asked i.now i.act ≡ Ok g
     → setting_view setting ≡ act_setting i.act → IsSealed n i (given_of n.config (step.heard_after n.config n.standing.asked.heard i.act) (acked i.ack g)) setting p
     → patched n p ≡ record n { standing = step.stepped n.config n.standing i (acked i.ack g) }
-after-is n i g setting p fine acted set s =
+after-is n i g setting p acted set s =
     let c = n.config in
     let book : setting_book n.standing.asked.book p.setting ≡ step.book_after n.standing.asked.book i.act =
-    ap (setting_book n.standing.asked.book) s.set ∙ book-is c n.standing.asked i.now i.act setting g fine acted set in
+    ap (setting_book n.standing.asked.book) s.set ∙ book-is c n.standing.asked i.now i.act setting g acted set in
     let kept : kept_after n.standing.asked.store p.kept ≡ step.store_after n.standing.asked.store (acked i.ack g).store =
     kept-is n.standing.asked.store p.kept ∙ ap (step.store_after n.standing.asked.store) s.kept in
     let stamp : p.tally.stamp ≡ step.stamp_after n.standing.asked.stamp (acked i.ack g).drafts =
@@ -224,9 +240,9 @@ after-is n i g setting p fine acted set s =
     let seq : p.tally.seq ≡ step.seq_after c n.standing.seq (acked i.ack g).drafts = s.tally.of_seq ∙ seqs-are c n.standing.seq (acked i.ack g).drafts in
     rw (s.tally.of_phase, book, kept, s.tally.of_heard, stamp, s.tally.bd, s.tally.will_bd, s.tally.will_time, seq) refl
 
-pub planned : (n : NodeData) (i : inputs.Input) (g g' : Given) (setting : Setting) (p : Plan) → IsNoTurn i.act → fits n.standing.asked.phase i.act ≡ true → nat_lt i.now (2 ^ 63) ≡ true
+pub planned : (n : NodeData) (i : inputs.Input) (g g' : Given) (setting : Setting) (p : Plan) → fits n.standing.asked.phase i.act ≡ true → nat_lt i.now (2 ^ 63) ≡ true
     → IsGivenBy n i g → given_view g' ≡ acked_data i.ack (given_view g) → setting_view setting ≡ act_setting i.act → IsSealed n i (given_view g') setting p → IsPlan n i p
-planned n i g g' setting p fine fit now given is set sealed =
+planned n i g g' setting p fit now given is set sealed =
     let heard = step.heard_after n.config n.standing.asked.heard i.act in
     let r = acked i.ack given.given in
     let s : IsSealed n i (given_of n.config heard r) setting p = subst (λ (d : GivenData). IsSealed n i d setting p) (same-data n i g g' given is) sealed in
@@ -240,7 +256,7 @@ planned n i g g' setting p fine fit now given is set sealed =
       writes = s.writes;
       close = s.close;
       messages = s.messages;
-      after = after-is n i given.given setting p fine given.acted set s;
+      after = after-is n i given.given setting p given.acted set s;
     }
 
 -- ---- from the code's input
@@ -252,15 +268,6 @@ gave-is n i act r g is acted given = record {
   acted = ap (λ (a : Act). acts n.config n.standing.asked i.now (act_view a)) is ∙ acted;
   is = given ∙ ap (λ (a : Act). given_of n.config (step.heard_after n.config n.standing.asked.heard (act_view a)) r) (sym is);
 }
-
-pub no_turn : (act : Act) → IsNoTurn (act_view act)
-no_turn Open = tt
-no_turn Accepted = tt
-no_turn (Changing alias value) = tt
-no_turn Stop = tt
-no_turn Cut = tt
-no_turn TurnedAway = tt
-no_turn Pass = tt
 
 pub if-ok : {X E : Type 0} (P Q : X → Type 0) (r : Result X E) → ((x : X) → P x → Q x) → IfOk r P → IfOk r Q
 if-ok P Q (Ok x) f p = f x p

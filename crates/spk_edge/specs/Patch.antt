@@ -2,12 +2,13 @@
 use Rattle.std.specs.Prelude.{◌≡◌, ◌⊎◌, ℕ, ◌+◌, ◌%◌, ◌^◌, Bool, true, false, ◌&&◌, nat_le, List, ◌∷◌, ◌++◌, map, nat_lt, Option, Some, None, Result, Ok, Err, if◌then◌else◌}
 use Rattle.std.specs.List.{last_or, list_all}
 use Rattle.std.specs.Option.{option_map, option_map_or}
+use Rattle.std.specs.String.{string_bytes}
 use Rattle.spk_payload.specs.Typing.{Typed, typed_view}
 use Rattle.spk_packets.specs.Message as packets
 use Rattle.spk_packets.specs.Spelling.{spelling}
 use Rattle.spk_device.specs.Book.{Book}
 use Rattle.spk_device.specs.Calls.{unless_refused}
-use Rattle.spk_device.specs.Step.{set_refusal, with_value}
+use Rattle.spk_device.specs.Step.{set_refusal, turn_refusal, with_turn, with_value}
 use Rattle.spk_store.specs.Calls as store
 use Rattle.spk_store.specs.Data.{Kept}
 use Rattle.spk_store.specs.Step.{after_push}
@@ -31,7 +32,7 @@ use Rattle.spk_edge.specs.declared.message.Out.{Out}
 use Rattle.spk_edge.specs.declared.node.Tally.{Tally}
 use Rattle.spk_edge.specs.declared.plan.Plan.{Plan}
 use Rattle.spk_edge.specs.declared.plan.Setting.{Setting}
-use Rattle.spk_edge.specs.declared.plan.Setting.TheVariants.{Nothing, Value}
+use Rattle.spk_edge.specs.declared.plan.Setting.TheVariants.{Nothing, Value, Turn}
 
 -- ---- the data after a plan is taken up
 
@@ -40,6 +41,7 @@ abbrev pub setting_book : Book → Setting → Book
 setting_book b Nothing = b
 setting_book b (Value alias value) =
     unless_refused (set_refusal b alias (option_map typed_view value)) (with_value b alias (option_map typed_view value)) b
+setting_book b (Turn name up) = unless_refused (turn_refusal b (string_bytes name)) (with_turn b (string_bytes name) up) b
 
 abbrev pub kept_after : Kept ChangeData → Option Change → Kept ChangeData
 kept_after s None = s
@@ -136,18 +138,20 @@ acked_data None g = g
 acked_data (Some id) g = record g { plain = packets.PubAck id ∷ g.plain }
 
 -- what an act sets
-abbrev pub setting_view : Setting → Option (ℕ × Option Typed)
-setting_view Nothing = None
-setting_view (Value alias value) = Some (alias, option_map typed_view value)
+pub data Sets : Type 0 where
+  SetsNothing : Sets
+  SetsValue : (alias : ℕ) (value : Option Typed) → Sets
+  SetsTurn : (name : List ℕ) (up : Bool) → Sets
 
-abbrev pub act_setting : inputs.Act → Option (ℕ × Option Typed)
-act_setting (inputs.Change alias value) = Some (alias, value)
-act_setting _ = None
+abbrev pub setting_view : Setting → Sets
+setting_view Nothing = SetsNothing
+setting_view (Value alias value) = SetsValue alias (option_map typed_view value)
+setting_view (Turn name up) = SetsTurn (string_bytes name) up
 
--- devices don't turn by it
-abbrev pub IsNoTurn : inputs.Act → Type 0
-IsNoTurn (inputs.Turn name up) = ⊥
-IsNoTurn _ = Unit {0}
+abbrev pub act_setting : inputs.Act → Sets
+act_setting (inputs.Change alias value) = SetsValue alias value
+act_setting (inputs.Turn name up) = SetsTurn name up
+act_setting _ = SetsNothing
 
 -- ---- what was done
 

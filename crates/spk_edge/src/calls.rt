@@ -1,5 +1,7 @@
 //! The calls of an edge node: each plans its input and takes the plan up.
 ghost use Rattle.std.specs.Prelude.{◌≡◌, ◌⊎◌, IfOk, IfErr, OnErr, OnOk, true, false};
+ghost use Rattle.std.specs.Option.{option_map};
+ghost use Rattle.spk_payload.specs.Typing.{typed_view};
 ghost use Rattle.spk_edge_rules.specs.Inputs as inputs;
 ghost use Rattle.spk_edge.specs.Patch as patch;
 ghost use Rattle.spk_edge.specs.View.{input_view};
@@ -46,6 +48,35 @@ impl EdgeNode {
             now,
             ack: None,
             act: Act::Accepted,
+        })
+    }
+
+    /// A metric has a value: one NDATA or DDATA when Born, else the change is kept. A value equal to the present one does
+    /// nothing, and a change of a device that is down only sets the value. Taken in every phase.
+    pub fn change(&mut self, now: u64, alias: Alias, value: &Option<Value>) -> Result<Out, EdgeFault>
+        ensures done { IfOk result (patch.IsDone self.old
+            (patch.plain_input now (inputs.Change alias (option_map typed_view value.now))) self.new) }
+        ensures refused { IfErr result (patch.IsRefusal self.old
+            (patch.plain_input now (inputs.Change alias (option_map typed_view value.now)))) }
+        ensures err { OnErr result (self.new ≡ self.old) }
+    {
+        self.tell(Input {
+            now,
+            ack: None,
+            act: Act::Change(alias, value),
+        })
+    }
+
+    /// A device is up or down: a DBIRTH or a DDEATH when Born. Nothing where it is so already. Taken in every phase.
+    pub fn device(&mut self, now: u64, name: &str, up: bool) -> Result<Out, EdgeFault>
+        ensures done { IfOk result (patch.IsDone self.old (patch.plain_input now (inputs.Turn name.now up)) self.new) }
+        ensures refused { IfErr result (patch.IsRefusal self.old (patch.plain_input now (inputs.Turn name.now up))) }
+        ensures err { OnErr result (self.new ≡ self.old) }
+    {
+        self.tell(Input {
+            now,
+            ack: None,
+            act: Act::Device(name, up),
         })
     }
 

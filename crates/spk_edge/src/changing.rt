@@ -1,5 +1,5 @@
 //! Changes of metrics, and devices that come and go.
-ghost use Rattle.std.specs.Prelude.{◌≡◌, ◌⊎◌, ◌∷◌, [], IfOk, IfErr, OnOk, map, string_bytes};
+ghost use Rattle.std.specs.Prelude.{◌≡◌, ◌⊎◌, ◌∷◌, [], IfOk, IfErr, OnOk, map, string_bytes, Some, None};
 ghost use Rattle.std.specs.Option.{option_map, option_map_or};
 ghost use Rattle.spk_topics.specs.Spark.{topic_of};
 ghost use Rattle.spk_edge_rules.specs.Messages.{spark_of};
@@ -213,5 +213,48 @@ impl EdgeNode {
                 }
             }
         }
+    }
+
+    /// The message of a device that comes up or goes down.
+    fn turn_message(&self, now: u64, number: usize, name: &str, up: bool) -> Result<Published, AllocError>
+        requires { book.number_of self.now.standing.asked.book name.now ≡ Some number }
+        ensures { IfOk result (λ m. message_view m ≡ unnumbered self.now.config
+            (births.turn_draft self.now.standing.asked.book (births.later_stamp self.now.standing.asked.stamp now) name.now up)) }
+    {
+        let stamp = self.later_stamp(now);
+        if up {
+            return self.device_birth(number, name, stamp);
+        }
+        Ok(Published {
+            topic: device_topic(self.alloc, &self.config, Verb::Death, name)?,
+            payload: Payload {
+                timestamp: Some(stamp),
+                metrics: Vec::new(self.alloc),
+                seq: None,
+            },
+            stamp,
+            opens: false,
+        })
+    }
+
+    /// A device that comes up or goes down.
+    pub(crate) fn turning(&self, now: u64, name: &str, up: bool) -> Result<Given, EdgeFault>
+        ensures given { IfOk result (λ g. given_view g ≡ given_of self.now.config self.now.standing.asked.heard
+            (rule.turning self.now.standing.asked now name.now up)) }
+        ensures accepted { OnOk result (turn_refusal self.now.standing.asked.book name.now ≡ None) }
+        ensures fault { IfErr result (λ e. (e ≡ EdgeFault.NoMemory) ⊎ ((r : Refusal) × (e ≡ EdgeFault.Device r)
+            × (turn_refusal self.now.standing.asked.book name.now ≡ Some r))) }
+    {
+        let Some(number) = self.registry.device_number(name) else {
+            return Err(EdgeFault::Device(spk_device::Refusal::NoSuch));
+        };
+        let mut given = self.nothing();
+        if self.registry.is_device_up(name) == Some(up) {
+            return Ok(given);
+        }
+        if let Phase::Born = self.tally.phase {
+            given.messages.push(self.turn_message(now, number, name, up)?)?;
+        }
+        Ok(given)
     }
 }

@@ -11,6 +11,8 @@ pub enum Act<'a> {
     Accepted,
     /// A metric, by its alias, has a value.
     Change(Alias, &'a Option<Value>),
+    /// A device, by its name, is up or down.
+    Device(&'a str, bool),
     /// The session is to be ended in order.
     Stop,
     /// The connection is gone.

@@ -31,6 +31,7 @@ const END: u64 = 1 << 63;
 pub(crate) enum Setting {
     Nothing,
     Value(Alias, Option<Value>),
+    Turn(String, bool),
 }
 
 /// What an input comes to: what is answered, and what changes.
@@ -108,6 +109,12 @@ fn set(registry: &mut Registry, setting: Setting)
         Setting::Value(alias, value) => {
             let _ = registry.set(alias, value);
         }
+        Setting::Turn(name, true) => {
+            let _ = registry.device_up(name.as_str());
+        }
+        Setting::Turn(name, false) => {
+            let _ = registry.device_down(name.as_str());
+        }
     }
 }
 
@@ -137,6 +144,7 @@ fn set_by(alloc: Global, act: &Act<'_>) -> Result<Setting, AllocError>
 {
     match act {
         Act::Change(alias, value) => Ok(Setting::Value(*alias, copied(alloc, value)?)),
+        Act::Device(name, up) => Ok(Setting::Turn(String::from_str(alloc, name)?, *up)),
         _ => Ok(Setting::Nothing),
     }
 }
@@ -216,7 +224,7 @@ impl EdgeNode {
             Act::Open => self.tally.phase == Phase::Idle,
             Act::Accepted => self.tally.phase == Phase::Connecting,
             Act::Stop => self.tally.phase == Phase::Waiting || self.tally.phase == Phase::Born,
-            Act::Change(_, _) | Act::Cut | Act::TurnedAway | Act::Pass => true,
+            Act::Change(_, _) | Act::Device(_, _) | Act::Cut | Act::TurnedAway | Act::Pass => true,
         }
     }
 
@@ -229,6 +237,7 @@ impl EdgeNode {
             Act::Open => Ok(self.opening(input.now)?),
             Act::Accepted => self.accepting(input.now),
             Act::Change(alias, value) => self.changing(input.now, alias, value),
+            Act::Device(name, up) => self.turning(input.now, name, up),
             Act::Stop => Ok(self.leaving()?),
             Act::Cut => Ok(self.cutting()),
             Act::TurnedAway => Ok(self.turned_away()),
