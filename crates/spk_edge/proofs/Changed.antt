@@ -1,5 +1,5 @@
 -- When a change is told.
-use Rattle.std.proofs.Common.{◌≡◌, ◌∙◌, ap, subst, ℕ, ◌+◌, ◌<◌, ◌≤◌, Bool, true, false, not, ◌&&◌, cond, List, length, Option, Some, None, refl, arith}
+use Rattle.std.proofs.Common.{◌≡◌, subst, ℕ, ◌+◌, ◌<◌, ◌≤◌, Bool, true, false, not, ◌&&◌, cond, List, length, Option, Some, None, refl, arith}
 use Rattle.std.specs.Prelude.{IfSome}
 use Rattle.std.specs.Str.{bytes_eq}
 use Rattle.std.proofs.lemmas.Bool.{lt-ltb}
@@ -8,7 +8,7 @@ use Rattle.spk_device.specs.declared.owner.Owner.TheVariants.{Device}
 use Rattle.spk_device.proofs.PlaceLemmas.{position_from-within}
 use Rattle.spk_payload.specs.Typing.{Typed}
 use Rattle.spk_device.specs.Step.{change_unless, set_change}
-use Rattle.spk_device.specs.declared.outcome.Outcome.TheVariants.{Changed, Same}
+use Rattle.spk_device.specs.declared.outcome.Outcome.TheVariants.{Changed}
 use Rattle.spk_edge_rules.specs.Births.{owner_at, owner_is_up}
 use Rattle.spk_edge_rules.specs.Rules as rule
 use Rattle.spk_edge_rules.specs.Rules.{Given, changing, is_same_value, nothing, telling}

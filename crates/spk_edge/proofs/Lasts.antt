@@ -1,7 +1,7 @@
 -- Lists read to their end, and a store with one more.
-use Rattle.std.proofs.Common.{◌≡◌, ◌∙◌, ap, sym, refl, ℕ, ◌+◌, ◌-◌, ◌<◌, ◌≤◌, Bool, true, cond, List, [], ◌∷◌, ◌++◌, length, map, take, drop, get_or, Option, Some, None, nat_le}
+use Rattle.std.proofs.Common.{◌≡◌, ◌∙◌, ap, sym, refl, ℕ, ◌+◌, ◌-◌, ◌<◌, cond, List, [], ◌∷◌, ◌++◌, length, map, take, drop, get_or, Option, Some, nat_le}
 use Rattle.std.specs.List.{last_or, drop-map}
-use Rattle.std.proofs.lemmas.List.{take_more, map_push, map-append, length-map}
+use Rattle.std.proofs.lemmas.List.{take_more, map_push, length-map}
 use Rattle.spk_store.specs.Data.{Kept}
 use Rattle.spk_store.specs.Step.{after_push, counted, last_of}
 use Rattle.spk_store.specs.declared.change.Change.{Change}
@@ -19,11 +19,11 @@ stamps ms = map (λ (m : MessageData). m.stamp) (map message_view ms)
 pub last-more : (before : Option ℕ) (ms : List Published) (i : ℕ) (m : Published) → i < length ms → m ≡ get_or ms i m
     → Some m.stamp ≡ last_or before (stamps (take (i + 1) ms))
 last-more before ms i m lt is = sym (
-  ap (λ (l : List Published). last_or before (stamps l)) (take_more ms i m lt)
-  ∙ ap (λ (l : List MessageData). last_or before (map (λ (m : MessageData). m.stamp) l)) (map_push message_view (take i ms) (get_or ms i m))
-  ∙ ap (last_or before) (map_push (λ (m : MessageData). m.stamp) (map message_view (take i ms)) (message_view (get_or ms i m)))
-  ∙ last_or-snoc before (stamps (take i ms)) (get_or ms i m).stamp
-  ∙ ap (λ (m : Published). Some m.stamp) (sym is))
+    ap (λ (l : List Published). last_or before (stamps l)) (take_more ms i m lt)
+    ∙ ap (λ (l : List MessageData). last_or before (map (λ (m : MessageData). m.stamp) l)) (map_push message_view (take i ms) (get_or ms i m))
+    ∙ ap (last_or before) (map_push (λ (m : MessageData). m.stamp) (map message_view (take i ms)) (message_view (get_or ms i m)))
+    ∙ last_or-snoc before (stamps (take i ms)) (get_or ms i m).stamp
+    ∙ ap (λ (m : Published). Some m.stamp) (sym is))
 
 -- a store seen as plain data, with one change more
 pub push-view : (s : Kept Change) (c : Change) → kept_view (after_push s c) ≡ after_push (kept_view s) (change_view c)

@@ -1,5 +1,5 @@
 -- A list whose elements are turned one after the other, in place.
-use Rattle.std.proofs.Common.{◌≡◌, ℕ, zero, suc, ◌+◌, ◌%◌, ◌<◌, ◌≤◌, List, [], ◌∷◌, ◌++◌, length, map, take, drop, set, get_or, refl, sym, ap, subst, ◌∙◌, arith}
+use Rattle.std.proofs.Common.{◌≡◌, ℕ, zero, suc, ◌+◌, ◌<◌, ◌≤◌, List, [], ◌∷◌, ◌++◌, length, map, take, drop, set, get_or, refl, sym, ap, ◌∙◌, arith}
 use Rattle.spk_sequence.specs.NodeRecord.{Numbering}
 use Rattle.spk_edge.specs.Sealing.{next_in, number_in, numbered, seq_past, with_number}
 use Rattle.spk_edge.specs.View.{MessageData}
@@ -22,21 +22,19 @@ number-step V numbering (suc i) seq (c ∷ cur) [] x new e lt is turned = absurd
 number-step V numbering zero seq (c ∷ cur) (m ∷ ms) x new e lt is turned =
     let first : V c ≡ m = cc in
     let rest : map V cur ≡ ms = cc in
-    let same : V x ≡ m = ap V is ∙ first in
-    (
+    let same : V x ≡ m = ap V is ∙ first in (
       ap (λ (y : MessageData). y ∷ map V cur) (turned ∙ ap (λ (y : MessageData). with_number (number_in numbering seq y) y) same)
-      ∙ ap (λ (l : List MessageData). with_number (number_in numbering seq m) m ∷ l) rest,
+          ∙ ap (λ (l : List MessageData). with_number (number_in numbering seq m) m ∷ l) rest,
       ap (next_in numbering seq) same,
     )
 number-step V numbering (suc i) seq (c ∷ cur) (m ∷ ms) x new e lt is turned =
     let z : suc i + 1 ≡ suc (i + 1) = omega arith in
     let first : V c ≡ with_number (number_in numbering seq m) m = cc in
     let rest : map V cur ≡ so_far numbering (next_in numbering seq m) ms i = cc in
-    let later = number-step V numbering i (next_in numbering seq m) cur ms x new rest (omega (arith, lt)) is turned in
-    (
+    let later = number-step V numbering i (next_in numbering seq m) cur ms x new rest (omega (arith, lt)) is turned in (
       ap (λ (y : MessageData). y ∷ map V (set cur i new)) first
-      ∙ ap (λ (l : List MessageData). with_number (number_in numbering seq m) m ∷ l) later.0
-      ∙ ap (λ k. so_far numbering seq (m ∷ ms) k) (sym z),
+          ∙ ap (λ (l : List MessageData). with_number (number_in numbering seq m) m ∷ l) later.0
+          ∙ ap (λ k. so_far numbering seq (m ∷ ms) k) (sym z),
       later.1 ∙ ap (λ k. next_so_far numbering seq (m ∷ ms) k) (sym z),
     )
 

@@ -1,7 +1,7 @@
 -- A plan answers what the rules ask.
-use Rattle.std.proofs.Common.{◌≡◌, ◌⊎◌, inl, inr, ◌∙◌, ap, sym, refl, subst, ℕ, ◌+◌, ◌%◌, ◌^◌, nat_lt, Bool, true, false, not, ◌&&◌, cond, List, [], ◌∷◌, ◌++◌, map, Option, Some, None, Result, Ok, Err}
+use Rattle.std.proofs.Common.{◌≡◌, inl, inr, ◌∙◌, ap, sym, refl, subst, ℕ, ◌+◌, ◌%◌, ◌^◌, nat_lt, Bool, true, false, not, ◌&&◌, cond, List, [], ◌∷◌, ◌++◌, map, Option, Some, None, Result, Ok, Err}
 use Rattle.std.specs.Prelude.{IfOk, IfErr}
-use Rattle.std.specs.List.{AllByRecursion, last_or, list_all}
+use Rattle.std.specs.List.{last_or, list_all}
 use Rattle.std.specs.Option.{option_map}
 use Rattle.std.specs.String.{string_bytes}
 use Rattle.spk_payload.specs.Typing.{Typed, typed_view}
@@ -26,12 +26,11 @@ use Rattle.spk_edge_rules.specs.Rules as rule
 use Rattle.spk_edge_rules.specs.Rules.{acked, acts, fits, is_timely, on_ok, rules, timely}
 use Rattle.spk_edge_rules.specs.Step as step
 use Rattle.spk_edge_rules.proofs.Known as known
-use Rattle.spk_edge.specs.Patch.{IsDone, IsGivenBy, IsPlan, IsRefusal, IsRefusedBy, IsSealed, IsUnsealed, acked_data, act_setting, are_timely, kept_after, numbers_of, packets_of, patched, setting_book, setting_view, Sets, SetsNothing, SetsValue, SetsTurn}
+use Rattle.spk_edge.specs.Patch.{IsDone, IsGivenBy, IsPlan, IsRefusal, IsRefusedBy, IsSealed, IsUnsealed, acked_data, act_setting, are_timely, kept_after, packets_of, patched, setting_book, setting_view, SetsNothing, SetsValue, SetsTurn}
 use Rattle.spk_edge.specs.Sealing as seal
 use Rattle.spk_edge.specs.Sealing.{AllKnown, numbered, bytes_of, seq_past, wire_of, with_number}
 use Rattle.spk_edge.specs.View.{GivenData, MessageData, NodeData, act_view, change_view, given_of, given_view, input_view, unnumbered, write_view}
 use Rattle.spk_edge.specs.declared.input.Act.{Act}
-use Rattle.spk_edge.specs.declared.input.Act.TheVariants.{Open, Accepted, Change as Changing, Stop, Cut, TurnedAway, Pass}
 use Rattle.spk_edge.specs.declared.input.Input.{Input}
 use Rattle.spk_edge.specs.declared.message.Given.{Given}
 use Rattle.spk_edge.specs.declared.message.Out.{Out}
@@ -108,8 +107,8 @@ wrong_phase n i never = inr (ap (λ b. answered n (cond (not b) (Err fault.Wrong
 
 pub clock_end : (n : NodeData) (i : inputs.Input) → fits n.standing.asked.phase i.act ≡ true → nat_lt i.now (2 ^ 63) ≡ false → IsRefusal n i fault.ClockEnd
 clock_end n i fit never = inr (
-  ap (λ b. answered n (cond (not b) (Err fault.WrongPhase) (cond (not (nat_lt i.now (2 ^ 63))) (Err fault.ClockEnd) (on_ok (acts n.config n.standing.asked i.now i.act) (λ g. timely (acked i.ack g)))))) fit
-  ∙ ap (λ b. answered n (cond (not b) (Err fault.ClockEnd) (on_ok (acts n.config n.standing.asked i.now i.act) (λ g. timely (acked i.ack g))))) never)
+    ap (λ b. answered n (cond (not b) (Err fault.WrongPhase) (cond (not (nat_lt i.now (2 ^ 63))) (Err fault.ClockEnd) (on_ok (acts n.config n.standing.asked i.now i.act) (λ g. timely (acked i.ack g)))))) fit
+    ∙ ap (λ b. answered n (cond (not b) (Err fault.ClockEnd) (on_ok (acts n.config n.standing.asked i.now i.act) (λ g. timely (acked i.ack g))))) never)
 
 acked-timely : (ack : Option ℕ) (g : rule.Given) → is_timely (acked ack g) ≡ is_timely g
 acked-timely None g = refl
@@ -118,8 +117,8 @@ acked-timely (Some id) g = refl
 late : (n : NodeData) (i : inputs.Input) (g : rule.Given) → fits n.standing.asked.phase i.act ≡ true → nat_lt i.now (2 ^ 63) ≡ true
     → acts n.config n.standing.asked i.now i.act ≡ Ok g → is_timely g ≡ false → IsRefusal n i fault.ClockEnd
 late n i g fit now is never = inr (
-  ap (answered n) (rules-are n.config n.standing.asked i (gave g) fit now is)
-  ∙ ap (λ b. answered n (cond b (Ok (acked i.ack g)) (Err fault.ClockEnd))) (acked-timely i.ack g ∙ never))
+    ap (answered n) (rules-are n.config n.standing.asked i (gave g) fit now is)
+    ∙ ap (λ b. answered n (cond b (Ok (acked i.ack g)) (Err fault.ClockEnd))) (acked-timely i.ack g ∙ never))
 
 pub act_refused : (n : NodeData) (i : inputs.Input) (e : EdgeFault) → fits n.standing.asked.phase i.act ≡ true → nat_lt i.now (2 ^ 63) ≡ true → IsRefusedBy n i e → IsRefusal n i e
 act_refused n i e fit now (inl memory) = inl memory
@@ -168,9 +167,9 @@ sealed_refused n i g g' e fit now given is unsealed =
     by (inl memory) = inl memory
     by (inr (inl (end, never))) = subst (IsRefusal n i) (sym end) (inr (all-timely n i given.given false (timely-is false never) fit now given.acted))
     by (inr (inr (large, good, never))) = subst (IsRefusal n i) (sym large) (inr (
-      all-timely n i given.given true (timely-is true good) fit now given.acted
-      ∙ ap (λ b. cond b (Ok (answer-of (acked i.ack given.given))) (Err fault.TooLarge))
-      (ap (list_all is_writable) (sym (sent n (step.heard_after n.config n.standing.asked.heard i.act) (acked i.ack given.given))) ∙ never)))
+        all-timely n i given.given true (timely-is true good) fit now given.acted
+        ∙ ap (λ b. cond b (Ok (answer-of (acked i.ack given.given))) (Err fault.TooLarge))
+        (ap (list_all is_writable) (sym (sent n (step.heard_after n.config n.standing.asked.heard i.act) (acked i.ack given.given))) ∙ never)))
       where
         answer-of : rule.Given → Answer
         answer-of r = record { given = r; packets = r.plain ++ step.wires n.config n.standing.seq r.drafts }

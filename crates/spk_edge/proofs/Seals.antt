@@ -1,14 +1,12 @@
 -- What is numbered and written is what was given.
-use Rattle.std.proofs.Common.{◌≡◌, ◌⊎◌, inl, inr, ◌∙◌, ap, sym, refl, subst, ℕ, Bool, true, false, not, List, [], ◌∷◌, ◌++◌, map, Some, suc, length, take, drop, ◌≤◌, arith}
+use Rattle.std.proofs.Common.{◌≡◌, inl, inr, ◌∙◌, ap, sym, refl, subst, ℕ, Bool, true, false, not, List, [], ◌∷◌, ◌++◌, map, suc, length, take, drop, arith}
 use Rattle.std.specs.List.{AllByRecursion, list_all}
 use Rattle.std.proofs.Math.ListN.{drop_of_length-le}
 use Rattle.std.proofs.lemmas.List.{append-nil, length-map, take_all}
-use Rattle.spk_payload.specs.Meaning.{MetricData}
 use Rattle.spk_packets.specs.Message as packets
 use Rattle.spk_sequence.specs.NodeRecord.{Numbering}
 use Rattle.spk_edge_rules.specs.Answers.{is_writable}
 use Rattle.spk_edge_rules.specs.declared.fault.EdgeFault.{EdgeFault}
-use Rattle.spk_edge_rules.specs.declared.fault.EdgeFault.TheVariants.{NoMemory, ClockEnd, TooLarge}
 use Rattle.spk_edge.specs.Patch.{IsUnsealed, are_timely, numbers_of, packets_of}
 use Rattle.spk_edge.specs.Sealing.{AllKnown, AreKnown, IsUnwritten, next_in, numbered, wire_of}
 use Rattle.spk_edge.specs.View.{GivenData, MessageData, NodeData, message_view}

@@ -1,7 +1,7 @@
 -- The births of devices, one after the other.
-use Rattle.std.specs.Prelude.{ℕ, List, [], ◌∷◌, map, filter, Option, Some, None, slice_get, if◌then◌else◌}
+use Rattle.std.specs.Prelude.{ℕ, List, [], ◌∷◌, map, filter, Option, Some, None, if◌then◌else◌}
 use Rattle.std.specs.List.{enumerate_from}
-use Rattle.spk_device.specs.Book.{Book, DeviceData, device_at}
+use Rattle.spk_device.specs.Book.{Book, DeviceData}
 use Rattle.spk_edge_rules.specs.Births.{device_birth}
 use Rattle.spk_edge_rules.specs.Config.{Config}
 use Rattle.spk_edge.specs.View.{MessageData, unnumbered}

@@ -1,5 +1,5 @@
 -- What a plan says, and what it changes.
-use Rattle.std.specs.Prelude.{◌≡◌, ◌⊎◌, ℕ, ◌+◌, ◌%◌, ◌^◌, Bool, true, false, ◌&&◌, nat_le, List, ◌∷◌, ◌++◌, map, nat_lt, Option, Some, None, Result, Ok, Err, if◌then◌else◌}
+use Rattle.std.specs.Prelude.{◌≡◌, ◌⊎◌, ℕ, ◌+◌, ◌%◌, ◌^◌, Bool, true, false, ◌&&◌, nat_le, List, ◌∷◌, ◌++◌, map, nat_lt, Option, Some, None, Ok, Err, if◌then◌else◌}
 use Rattle.std.specs.List.{last_or, list_all}
 use Rattle.std.specs.Option.{option_map, option_map_or}
 use Rattle.std.specs.String.{string_bytes}
@@ -170,8 +170,10 @@ plain_input now act = record { now = now; ack = None; act = act }
 
 -- the data after a cut, which is always done
 abbrev pub after_cut : NodeData → NodeData
-after_cut n = record n { standing =
-    step.stepped n.config n.standing (plain_input 0 inputs.Cut) (record (rule.nothing n.standing.asked) { phase = Idle }) }
+after_cut n = record n {
+  standing =
+      step.stepped n.config n.standing (plain_input 0 inputs.Cut) (record (rule.nothing n.standing.asked) { phase = Idle });
+}
 
 -- ---- names and limits
 

@@ -1,9 +1,9 @@
 -- What contracts see of the crate's types.
-use Rattle.std.specs.Prelude.{ℕ, Bool, List, map, Option, Some, None, Vec}
+use Rattle.std.specs.Prelude.{ℕ, Bool, List, map, Option, Some, None}
 use Rattle.std.specs.Option.{option_map}
 use Rattle.std.specs.String.{string_bytes}
 use Rattle.spk_payload.specs.Meaning.{PayloadData}
-use Rattle.spk_payload.specs.Typing.{Typed, typed_view}
+use Rattle.spk_payload.specs.Typing.{typed_view}
 use Rattle.spk_payload.specs.View.{payload_view}
 use Rattle.spk_packets.specs.Message as packets
 use Rattle.spk_packets.specs.View.{view}

@@ -8,7 +8,6 @@ ghost use Rattle.spk_edge.specs.Listed.{birth_if_up, device_message};
 ghost use Rattle.spk_edge_rules.specs.Rules as rule;
 ghost use Rattle.spk_edge.specs.View.{config_view, given_of, given_view, message_view, unnumbered};
 
-
 use crate::message::{Given, Published};
 use crate::node::EdgeNode;
 use crate::texts::{device_topic, node_topic, session_metric};
@@ -42,7 +41,6 @@ fn rebirth_metric(alloc: Global, stamp: u64) -> Result<Metric, AllocError>
         value: Some(Raw::Flag(false)),
     })
 }
-
 
 impl EdgeNode {
     /// The metrics of an owner that is there, as its birth lists them.
@@ -93,7 +91,12 @@ impl EdgeNode {
     }
 
     /// DBIRTH of the device of a number and a name.
-    pub(crate) fn device_birth(&self, number: usize, name: &str, stamp: u64) -> Result<Published, AllocError>
+    pub(crate) fn device_birth(
+        &self,
+        number: usize,
+        name: &str,
+        stamp: u64,
+    ) -> Result<Published, AllocError>
         requires { has_owner self.now.standing.asked.book (Owner.Device number) ≡ true }
         ensures { IfOk result (λ m. message_view m ≡
             device_message self.now.config self.now.standing.asked.book stamp (number, record { name = name.now; up = true })) }
@@ -113,7 +116,12 @@ impl EdgeNode {
     }
 
     /// The DBIRTH of a device, if it is up, behind other births.
-    fn push_birth(&self, messages: &mut Vec<Published>, number: usize, stamp: u64) -> Result<(), AllocError>
+    fn push_birth(
+        &self,
+        messages: &mut Vec<Published>,
+        number: usize,
+        stamp: u64,
+    ) -> Result<(), AllocError>
         ensures { OnOk result (map message_view messages.new.items ≡ map message_view messages.old.items
             ++ birth_if_up self.now.config self.now.standing.asked.book stamp number (device_at self.now.standing.asked.book number)) }
     {

@@ -53,7 +53,12 @@ impl EdgeNode {
 
     /// A metric has a value: one NDATA or DDATA when Born, else the change is kept. A value equal to the present one does
     /// nothing, and a change of a device that is down only sets the value. Taken in every phase.
-    pub fn change(&mut self, now: u64, alias: Alias, value: &Option<Value>) -> Result<Out, EdgeFault>
+    pub fn change(
+        &mut self,
+        now: u64,
+        alias: Alias,
+        value: &Option<Value>,
+    ) -> Result<Out, EdgeFault>
         ensures done { IfOk result (patch.IsDone self.old
             (patch.plain_input now (inputs.Change alias (option_map typed_view value.now))) self.new) }
         ensures refused { IfErr result (patch.IsRefusal self.old

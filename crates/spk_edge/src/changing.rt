@@ -134,7 +134,12 @@ impl EdgeNode {
     }
 
     /// A data message of an owner.
-    pub(crate) fn data_message(&self, owner: Owner, stamp: u64, metrics: Vec<Metric>) -> Result<Published, AllocError>
+    pub(crate) fn data_message(
+        &self,
+        owner: Owner,
+        stamp: u64,
+        metrics: Vec<Metric>,
+    ) -> Result<Published, AllocError>
         ensures { IfOk result (λ m. message_view m ≡ unnumbered self.now.config
             (births.data_draft self.now.standing.asked.book owner stamp (map metric_view metrics.items))) }
     {
@@ -152,7 +157,12 @@ impl EdgeNode {
     }
 
     /// The data message of one change.
-    fn change_message(&self, now: u64, alias: Alias, value: &Option<Value>) -> Result<Published, AllocError>
+    fn change_message(
+        &self,
+        now: u64,
+        alias: Alias,
+        value: &Option<Value>,
+    ) -> Result<Published, AllocError>
         ensures { IfOk result (λ m. message_view m ≡ unnumbered self.now.config
             (births.data_draft self.now.standing.asked.book (births.owner_at self.now.standing.asked.book alias)
             (births.later_stamp self.now.standing.asked.stamp now)
@@ -166,10 +176,18 @@ impl EdgeNode {
     }
 
     /// A change that is kept.
-    fn kept_change(&self, now: u64, alias: Alias, value: &Option<Value>) -> Result<Change, AllocError>
+    fn kept_change(
+        &self,
+        now: u64,
+        alias: Alias,
+        value: &Option<Value>,
+    ) -> Result<Change, AllocError>
         ensures { IfOk result (λ c. change_view c ≡ record {
-            owner = births.owner_at self.now.standing.asked.book alias;
-            alias = alias; value = option_map typed_view value.now; time = now }) }
+          owner = births.owner_at self.now.standing.asked.book alias;
+          alias = alias;
+          value = option_map typed_view value.now;
+          time = now;
+        }) }
     {
         Ok(Change {
             owner: self.owner(alias),
@@ -186,7 +204,9 @@ impl EdgeNode {
     {
         let mut given = self.nothing();
         if let Phase::Born = self.tally.phase {
-            given.messages.push(self.change_message(now, alias, value)?)?;
+            given
+                .messages
+                .push(self.change_message(now, alias, value)?)?;
         } else {
             given.kept = Some(self.kept_change(now, alias, value)?);
         }
@@ -194,7 +214,12 @@ impl EdgeNode {
     }
 
     /// A change of a metric.
-    pub(crate) fn changing(&self, now: u64, alias: Alias, value: &Option<Value>) -> Result<Given, EdgeFault>
+    pub(crate) fn changing(
+        &self,
+        now: u64,
+        alias: Alias,
+        value: &Option<Value>,
+    ) -> Result<Given, EdgeFault>
         ensures given { IfOk result (λ g. given_view g ≡ given_of self.now.config self.now.standing.asked.heard
             (rule.changing self.now.standing.asked now alias (option_map typed_view value.now))) }
         ensures accepted { OnOk result (
@@ -216,7 +241,13 @@ impl EdgeNode {
     }
 
     /// The message of a device that comes up or goes down.
-    fn turn_message(&self, now: u64, number: usize, name: &str, up: bool) -> Result<Published, AllocError>
+    fn turn_message(
+        &self,
+        now: u64,
+        number: usize,
+        name: &str,
+        up: bool,
+    ) -> Result<Published, AllocError>
         requires { book.number_of self.now.standing.asked.book name.now ≡ Some number }
         ensures { IfOk result (λ m. message_view m ≡ unnumbered self.now.config
             (births.turn_draft self.now.standing.asked.book (births.later_stamp self.now.standing.asked.stamp now) name.now up)) }
@@ -253,7 +284,9 @@ impl EdgeNode {
             return Ok(given);
         }
         if let Phase::Born = self.tally.phase {
-            given.messages.push(self.turn_message(now, number, name, up)?)?;
+            given
+                .messages
+                .push(self.turn_message(now, number, name, up)?)?;
         }
         Ok(given)
     }

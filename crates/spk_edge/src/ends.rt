@@ -105,7 +105,9 @@ impl EdgeNode {
             given_of self.now.config self.now.standing.asked.heard (rule.opening self.now.config self.now.standing.asked now)) }
     {
         let mut given = self.nothing();
-        given.plain.push(connect(self.alloc, &self.config, self.tally.bd, now)?)?;
+        given
+            .plain
+            .push(connect(self.alloc, &self.config, self.tally.bd, now)?)?;
         given.phase = Phase::Connecting;
         Ok(given)
     }

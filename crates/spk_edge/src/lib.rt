@@ -15,6 +15,8 @@ mod sealing;
 mod texts;
 
 pub use config::{EdgeConfig, Numbering, Record};
+pub use input::{Act, Input};
 pub use message::{Out, Published, Write};
 pub use node::EdgeNode;
+pub use plan::{Plan, Taken};
 pub use spk_edge_rules::{EdgeFault, Phase, laws};

@@ -83,7 +83,12 @@ impl EdgeNode {
     ///
     /// Refuses with BadConfig (63) a group, node or primary host that can't stand in a topic, and a capacity outside 1 to
     /// 4,096.
-    pub fn new(alloc: Global, config: EdgeConfig, start: Record, registry: Registry) -> Result<EdgeNode, EdgeFault>
+    pub fn new(
+        alloc: Global,
+        config: EdgeConfig,
+        start: Record,
+        registry: Registry,
+    ) -> Result<EdgeNode, EdgeFault>
         ensures made { IfOk result (λ n. n ≡ patch.made (config_view config) config.capacity (record_view start) registry) }
         ensures good { OnOk result (patch.is_good (config_view config) config.capacity ≡ true) }
         ensures fault { IfErr result (λ e. (e ≡ EdgeFault.NoMemory)

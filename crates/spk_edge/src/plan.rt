@@ -64,7 +64,11 @@ fn are_timely(messages: &[Published]) -> bool
 }
 
 /// Plain packets, and behind them the messages, as bytes.
-fn packets(alloc: Global, plain: &[Packet], messages: &[Published]) -> Result<Vec<Vec<u8>>, EdgeFault>
+fn packets(
+    alloc: Global,
+    plain: &[Packet],
+    messages: &[Published],
+) -> Result<Vec<Vec<u8>>, EdgeFault>
     requires { AllByRecursion (λ m. seal.AreKnown (message_view m).payload.metrics) messages.now }
     ensures bytes { IfOk result (λ out. map seal.bytes_of out.items ≡
         map spelling (map view plain.now ++ map (λ m. seal.wire_of (message_view m)) messages.now)) }
@@ -151,7 +155,14 @@ fn set_by(alloc: Global, act: &Act<'_>) -> Result<Setting, AllocError>
 
 impl EdgeNode {
     /// What it counts after an input that gave these messages, when this number comes next.
-    fn tally_after(&self, input: Input<'_>, phase: Phase, heard: Primary, messages: &[Published], seq: u8) -> Tally
+    fn tally_after(
+        &self,
+        input: Input<'_>,
+        phase: Phase,
+        heard: Primary,
+        messages: &[Published],
+        seq: u8,
+    ) -> Tally
         ensures { patch.IsTallyAfter self.now.standing.asked (input_view input.entry) phase heard (map message_view messages.now) seq result }
     {
         let mut tally = Tally {

@@ -68,7 +68,10 @@ fn written_message(alloc: Global, message: &Published) -> Result<Vec<u8>, EdgeFa
 }
 
 /// The messages' bytes, in order.
-pub(crate) fn written_messages(alloc: Global, messages: &[Published]) -> Result<Vec<Vec<u8>>, EdgeFault>
+pub(crate) fn written_messages(
+    alloc: Global,
+    messages: &[Published],
+) -> Result<Vec<Vec<u8>>, EdgeFault>
     requires { AllByRecursion (λ m. seal.AreKnown (message_view m).payload.metrics) messages.now }
     ensures bytes { IfOk result (λ out. map seal.bytes_of out.items ≡ map spelling (map (λ m. seal.wire_of (message_view m)) messages.now)) }
     ensures writable { OnOk result (list_all is_writable (map (λ m. seal.wire_of (message_view m)) messages.now) ≡ true) }
@@ -87,13 +90,7 @@ fn number_of(numbering: Numbering, seq: u8, message: &Published) -> u8
 {
     match numbering {
         Numbering::RunsOn => seq,
-        Numbering::Restarts => {
-            if message.opens {
-                0
-            } else {
-                seq
-            }
-        }
+        Numbering::Restarts => { if message.opens { 0 } else { seq } }
     }
 }
 

@@ -38,7 +38,11 @@ fn device_type(kind: Verb) -> &'static str
 }
 
 /// The topic of the node (Sparkplug 3.0.0, chapter 4).
-pub(crate) fn node_topic(alloc: Global, config: &EdgeConfig, kind: Verb) -> Result<String, AllocError>
+pub(crate) fn node_topic(
+    alloc: Global,
+    config: &EdgeConfig,
+    kind: Verb,
+) -> Result<String, AllocError>
     ensures { IfOk result (λ t. string_bytes t ≡
         topic_of (of_node (string_bytes config.now.group) kind (string_bytes config.now.node))) }
 {
@@ -49,7 +53,12 @@ pub(crate) fn node_topic(alloc: Global, config: &EdgeConfig, kind: Verb) -> Resu
 }
 
 /// The topic of one of its devices.
-pub(crate) fn device_topic(alloc: Global, config: &EdgeConfig, kind: Verb, device: &str) -> Result<String, AllocError>
+pub(crate) fn device_topic(
+    alloc: Global,
+    config: &EdgeConfig,
+    kind: Verb,
+    device: &str,
+) -> Result<String, AllocError>
     ensures { IfOk result (λ t. string_bytes t ≡
         topic_of (of_device (string_bytes config.now.group) kind (string_bytes config.now.node) device.now)) }
 {

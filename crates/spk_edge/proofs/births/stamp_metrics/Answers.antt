@@ -1,4 +1,4 @@
-use Rattle.std.proofs.Common.{◌≡◌, ◌<◌, ◌∙◌, sym, ap, ℕ, length, map, arith, Some, get_or}
+use Rattle.std.proofs.Common.{◌≡◌, ◌<◌, ◌∙◌, sym, ap, length, map, arith, Some, get_or}
 use Rattle.std.proofs.lemmas.List.{length-map}
 use Rattle.spk_payload.specs.View.{metric_view}
 use Rattle.spk_payload.specs.declared.metric.Metric.{Metric}

@@ -1,7 +1,7 @@
-use Rattle.std.proofs.Common.{◌≡◌, ◌<◌, ◌+◌, ◌%◌, ◌∙◌, sym, ap, ℕ, length, map, arith, Some, set, get_or}
+use Rattle.std.proofs.Common.{◌≡◌, ◌<◌, ◌+◌, ◌%◌, ◌∙◌, sym, ap, ℕ, length, map, arith, Some, get_or}
 use Rattle.std.proofs.lemmas.List.{length-map}
-use Rattle.spk_edge.specs.Sealing.{next_in, number_in, with_number}
-use Rattle.spk_edge.specs.View.{MessageData, message_view, numbering_view}
+use Rattle.spk_edge.specs.Sealing.{number_in, with_number}
+use Rattle.spk_edge.specs.View.{message_view, numbering_view}
 use Rattle.spk_edge.specs.declared.message.Published.{Published}
 use Rattle.spk_edge.proofs.Numbered.{next_so_far, number-step, so_far-all}
 use Rattle.spk_edge.proofs.sealing.number.Goals as goal

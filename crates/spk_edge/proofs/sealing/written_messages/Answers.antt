@@ -1,9 +1,7 @@
-use Rattle.std.proofs.Common.{◌≡◌, ◌∙◌, sym, ap, subst, true, List, map, take}
+use Rattle.std.proofs.Common.{◌∙◌, sym, ap, map}
 use Rattle.std.proofs.lemmas.Result.{err_from_is_err_and}
 use Rattle.std.specs.List.{list_all}
 use Rattle.spk_packets.specs.Spelling as packet
-use Rattle.spk_packets.specs.View.{view}
-use Rattle.spk_packets.specs.declared.packet.Packet.{Packet}
 use Rattle.spk_edge_rules.specs.Answers.{is_writable}
 use Rattle.spk_edge.specs.Sealing.{AreKnown, wire_of}
 use Rattle.spk_edge.specs.View.{message_view}

@@ -1,7 +1,7 @@
-use Rattle.std.proofs.Common.{◌≡◌, ◌∙◌, ◌<◌, ◌≤◌, ◌++◌, ◌∷◌, [], ℕ, List, ap, sym, arith, map, length}
+use Rattle.std.proofs.Common.{◌∙◌, ◌<◌, ◌≤◌, ◌++◌, ◌∷◌, [], ℕ, List, ap, sym, arith, map, length}
 use Rattle.std.specs.List.{enumerate_from, filter}
 use Rattle.spk_device.specs.Book.{DeviceData}
-use Rattle.spk_edge_rules.specs.Births.{births_at, device_birth, node_birth}
+use Rattle.spk_edge_rules.specs.Births.{device_birth, node_birth}
 use Rattle.spk_edge.specs.Listed.{births_from}
 use Rattle.spk_edge.specs.View.{MessageData, NodeData, message_view, unnumbered}
 use Rattle.spk_edge.specs.declared.message.Published.{Published}

@@ -1,13 +1,12 @@
-use Rattle.std.proofs.Common.{◌≡◌, ◌∙◌, ap, sym, refl, ℕ, true, List, ◌++◌, map, length}
+use Rattle.std.proofs.Common.{◌≡◌, ◌∙◌, ap, sym, refl, true, List, ◌++◌, map, length}
 use Rattle.std.specs.List.{last_or, list_all}
 use Rattle.std.proofs.lemmas.Result.{err_from_is_err_and}
-use Rattle.spk_packets.specs.Message as packets
 use Rattle.spk_packets.specs.Spelling.{spelling}
 use Rattle.spk_packets.specs.View.{view}
 use Rattle.spk_packets.specs.declared.packet.Packet.{Packet}
 use Rattle.spk_edge_rules.specs.Answers.{is_writable}
 use Rattle.spk_edge.specs.Patch.{are_timely, numbers_of, packets_of}
-use Rattle.spk_edge.specs.Sealing.{numbered, seq_past, wire_of}
+use Rattle.spk_edge.specs.Sealing.{seq_past, wire_of}
 use Rattle.spk_edge.specs.View.{MessageData, NodeData, given_view, message_view, numbering_view}
 use Rattle.spk_edge.specs.declared.message.Published.{Published}
 use Rattle.spk_edge.proofs.Seals.{numbers-are, refilled, same-packets, still-known, unsealed}
