@@ -1,3 +1,4 @@
 pub mod View
 pub mod Sealing
 pub mod Patch
+pub mod Ordered

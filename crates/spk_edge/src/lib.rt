@@ -3,6 +3,7 @@
 #![tactic(auto)]
 
 mod births;
+mod command;
 mod config;
 mod ends;
 mod message;
