@@ -4,6 +4,8 @@
 
 mod births;
 mod command;
+#[cfg(test)]
+mod command_tests;
 mod config;
 mod ends;
 mod message;
