@@ -14,6 +14,7 @@ use Rattle.spk_store.specs.Calls as store
 use Rattle.spk_store.specs.declared.change.Change.{Change}
 use Rattle.spk_edge_rules.specs.declared.phase.Phase.{Phase}
 use Rattle.spk_edge_rules.specs.Config.{Config}
+use Rattle.spk_edge_rules.specs.Inputs as inputs
 use Rattle.spk_edge_rules.specs.Inputs.{ChangeData, WriteData}
 use Rattle.spk_edge_rules.specs.Messages.{Draft, named_by, opens}
 use Rattle.spk_edge_rules.specs.Rules as rules
@@ -23,10 +24,11 @@ use Rattle.spk_edge.specs.declared.config.Record.{Record}
 use Rattle.spk_edge.specs.declared.config.EdgeConfig.{EdgeConfig}
 use Rattle.spk_edge.specs.declared.config.Numbering.{Numbering}
 use Rattle.spk_edge.specs.declared.config.Numbering.TheVariants.{RunsOn, Restarts}
+use Rattle.spk_edge.specs.declared.input.Act.{Act}
+use Rattle.spk_edge.specs.declared.input.Act.TheVariants.{Open, Accepted, Change as Changing, Stop, Cut, TurnedAway, Pass}
+use Rattle.spk_edge.specs.declared.input.Input.{Input}
 use Rattle.spk_edge.specs.declared.message.Given.{Given}
 use Rattle.spk_edge.specs.declared.message.Published.{Published}
-use Rattle.spk_edge.specs.declared.message.StoreCall.{StoreCall}
-use Rattle.spk_edge.specs.declared.message.StoreCall.TheVariants.{Keep, DropFront}
 use Rattle.spk_edge.specs.declared.message.Write.{Write}
 use Rattle.spk_edge.specs.declared.node.EdgeNode.TheInside.{Inside}
 
@@ -92,10 +94,6 @@ message_view m = record { topic = string_bytes m.topic; payload = payload_view m
 abbrev pub write_view : Write → WriteData
 write_view w = record { alias = w.alias; value = typed_view w.value }
 
-abbrev pub call_view : StoreCall → store.Call ChangeData
-call_view (Keep change) = store.Push (change_view change)
-call_view (DropFront n is_lost) = store.DropFront n is_lost
-
 pub record GivenData : Type 0 where
   pub plain : List packets.Message
   pub messages : List MessageData
@@ -103,7 +101,7 @@ pub record GivenData : Type 0 where
   pub close : Bool
   pub phase : Phase
   pub heard : Option ℕ
-  pub store : Option (store.Call ChangeData)
+  pub kept : Option (store.Call ChangeData)
 
 abbrev pub given_view : Given → GivenData
 given_view g = record {
@@ -113,7 +111,7 @@ given_view g = record {
   close = g.close;
   phase = g.phase;
   heard = g.heard;
-  store = option_map call_view g.store;
+  kept = option_map (λ change. store.Push (change_view change)) g.kept;
 }
 
 -- a message of the rules before it has its number
@@ -134,5 +132,19 @@ given_of c heard g = record {
   close = g.close;
   phase = g.phase;
   heard = heard;
-  store = g.store;
+  kept = g.store;
 }
+
+-- ---- what it is told
+
+abbrev pub act_view : Act → inputs.Act
+act_view Open = inputs.Open
+act_view Accepted = inputs.Accepted
+act_view (Changing alias value) = inputs.Change alias (option_map typed_view value.now)
+act_view Stop = inputs.Stop
+act_view Cut = inputs.Cut
+act_view TurnedAway = inputs.TurnedAway
+act_view Pass = inputs.Pass
+
+abbrev pub input_view : Input → inputs.Input
+input_view i = record { now = i.now; ack = i.ack; act = act_view i.act }

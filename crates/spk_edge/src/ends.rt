@@ -95,7 +95,7 @@ impl EdgeNode {
             close: false,
             phase: self.tally.phase,
             heard: self.tally.heard,
-            store: None,
+            kept: None,
         }
     }
 

@@ -3,13 +3,17 @@
 #![tactic(auto)]
 
 mod births;
+mod calls;
+mod changing;
 mod command;
 #[cfg(test)]
 mod command_tests;
 mod config;
 mod ends;
+mod input;
 mod message;
 mod node;
+mod plan;
 mod sealing;
 mod texts;
 

@@ -38,15 +38,6 @@ pub struct Published {
     pub opens: bool,
 }
 
-/// What is done to the kept changes.
-#[derive(Debug, PartialEq, Drop)]
-pub(crate) enum StoreCall {
-    /// One more is kept.
-    Keep(Change),
-    /// So many go from the front, as lost or not.
-    DropFront(usize, bool),
-}
-
 /// What the rules give, before packets are encoded and messages numbered.
 #[derive(Debug, PartialEq, Drop)]
 pub(crate) struct Given {
@@ -58,5 +49,6 @@ pub(crate) struct Given {
     pub(crate) phase: Phase,
     /// The greatest timestamp heard of the primary host after it.
     pub(crate) heard: Primary,
-    pub(crate) store: Option<StoreCall>,
+    /// A change that is to be kept.
+    pub(crate) kept: Option<Change>,
 }

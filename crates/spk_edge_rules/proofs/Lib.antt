@@ -7,3 +7,4 @@ mod Records
 mod Tellings
 mod Told
 mod Bytes
+pub mod Known
