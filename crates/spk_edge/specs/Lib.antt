@@ -2,3 +2,4 @@ pub mod View
 pub mod Sealing
 pub mod Listed
 pub mod Patch
+pub mod Ordered

@@ -5,6 +5,9 @@
 mod births;
 mod calls;
 mod changing;
+mod command;
+#[cfg(test)]
+mod command_tests;
 mod config;
 mod ends;
 mod input;
