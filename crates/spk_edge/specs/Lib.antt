@@ -1,0 +1,5 @@
+pub mod View
+pub mod Sealing
+pub mod Listed
+pub mod Patch
+pub mod Ordered

@@ -1,0 +1,107 @@
+//! The calls of an edge node: each plans its input and takes the plan up.
+ghost use Rattle.std.specs.Prelude.{◌≡◌, ◌⊎◌, IfOk, IfErr, OnErr, OnOk, true, false};
+ghost use Rattle.std.specs.Option.{option_map};
+ghost use Rattle.spk_payload.specs.Typing.{typed_view};
+ghost use Rattle.spk_edge_rules.specs.Inputs as inputs;
+ghost use Rattle.spk_edge.specs.Patch as patch;
+ghost use Rattle.spk_edge.specs.View.{input_view};
+
+use crate::input::{Act, Input};
+use crate::message::Out;
+use crate::node::EdgeNode;
+use crate::plan::Taken;
+use spk_device::Alias;
+use spk_edge_rules::{EdgeFault, Phase};
+use spk_payload::Value;
+
+impl EdgeNode {
+    /// Does what an input asks.
+    fn tell(&mut self, input: Input<'_>) -> Result<Out, EdgeFault>
+        ensures done { IfOk result (patch.IsDone self.old (input_view input.entry) self.new) }
+        ensures refused { IfErr result (patch.IsRefusal self.old (input_view input.entry)) }
+        ensures err { OnErr result (self.new ≡ self.old) }
+    {
+        let plan = self.plan(input)?;
+        Ok(self.take_up(plan).out)
+    }
+
+    /// Opens a connection: CONNECT, with the will of the next session. Taken when Idle.
+    pub fn open(&mut self, now: u64) -> Result<Out, EdgeFault>
+        ensures done { IfOk result (patch.IsDone self.old (patch.plain_input now inputs.Open) self.new) }
+        ensures refused { IfErr result (patch.IsRefusal self.old (patch.plain_input now inputs.Open)) }
+        ensures err { OnErr result (self.new ≡ self.old) }
+    {
+        self.tell(Input {
+            now,
+            ack: None,
+            act: Act::Open,
+        })
+    }
+
+    /// The server accepted: SUBSCRIBE, and the births where there is no primary host. Taken when Connecting.
+    pub fn accepted(&mut self, now: u64) -> Result<Out, EdgeFault>
+        ensures done { IfOk result (patch.IsDone self.old (patch.plain_input now inputs.Accepted) self.new) }
+        ensures refused { IfErr result (patch.IsRefusal self.old (patch.plain_input now inputs.Accepted)) }
+        ensures err { OnErr result (self.new ≡ self.old) }
+    {
+        self.tell(Input {
+            now,
+            ack: None,
+            act: Act::Accepted,
+        })
+    }
+
+    /// A metric has a value: one NDATA or DDATA when Born, else the change is kept. A value equal to the present one does
+    /// nothing, and a change of a device that is down only sets the value. Taken in every phase.
+    pub fn change(
+        &mut self,
+        now: u64,
+        alias: Alias,
+        value: &Option<Value>,
+    ) -> Result<Out, EdgeFault>
+        ensures done { IfOk result (patch.IsDone self.old
+            (patch.plain_input now (inputs.Change alias (option_map typed_view value.now))) self.new) }
+        ensures refused { IfErr result (patch.IsRefusal self.old
+            (patch.plain_input now (inputs.Change alias (option_map typed_view value.now)))) }
+        ensures err { OnErr result (self.new ≡ self.old) }
+    {
+        self.tell(Input {
+            now,
+            ack: None,
+            act: Act::Change(alias, value),
+        })
+    }
+
+    /// A device is up or down: a DBIRTH or a DDEATH when Born. Nothing where it is so already. Taken in every phase.
+    pub fn device(&mut self, now: u64, name: &str, up: bool) -> Result<Out, EdgeFault>
+        ensures done { IfOk result (patch.IsDone self.old (patch.plain_input now (inputs.Turn name.now up)) self.new) }
+        ensures refused { IfErr result (patch.IsRefusal self.old (patch.plain_input now (inputs.Turn name.now up))) }
+        ensures err { OnErr result (self.new ≡ self.old) }
+    {
+        self.tell(Input {
+            now,
+            ack: None,
+            act: Act::Device(name, up),
+        })
+    }
+
+    /// Ends the session in order: NDEATH, DISCONNECT. Taken when Waiting or Born.
+    pub fn stop(&mut self, now: u64) -> Result<Out, EdgeFault>
+        ensures done { IfOk result (patch.IsDone self.old (patch.plain_input now inputs.Stop) self.new) }
+        ensures refused { IfErr result (patch.IsRefusal self.old (patch.plain_input now inputs.Stop)) }
+        ensures err { OnErr result (self.new ≡ self.old) }
+    {
+        self.tell(Input {
+            now,
+            ack: None,
+            act: Act::Stop,
+        })
+    }
+
+    /// The connection is gone. Takes no memory.
+    pub fn cut(&mut self)
+        ensures { self.new ≡ patch.after_cut self.old }
+    {
+        self.tally.phase = Phase::Idle;
+    }
+}

@@ -1,0 +1,25 @@
+//! An edge node of Sparkplug 3.0.0 (chapters 5 and 6) over MQTT 3.1.1, without IO: it is told what comes, and answers the
+//! packets to send.
+#![tactic(auto)]
+
+mod births;
+mod calls;
+mod changing;
+mod command;
+#[cfg(test)]
+mod command_tests;
+mod config;
+mod ends;
+mod input;
+mod message;
+mod node;
+mod plan;
+mod sealing;
+mod texts;
+
+pub use config::{EdgeConfig, Numbering, Record};
+pub use input::{Act, Input};
+pub use message::{Out, Published, Write};
+pub use node::EdgeNode;
+pub use plan::{Plan, Taken};
+pub use spk_edge_rules::{EdgeFault, Phase, laws};

@@ -1,0 +1,278 @@
+//! What an input comes to: a plan makes all growths, and what it plans is taken up without memory.
+ghost use Rattle.std.specs.Prelude.{◌≡◌, ◌⊎◌, ◌++◌, ◌^◌, IfOk, IfErr, OnOk, map, true, false, nat_lt, Ok, Err};
+ghost use Rattle.std.specs.List.{AllByRecursion, list_all, last_or};
+ghost use Rattle.spk_packets.specs.Spelling.{spelling};
+ghost use Rattle.spk_packets.specs.View.{view};
+ghost use Rattle.spk_edge_rules.specs.Answers.{is_writable};
+ghost use Rattle.spk_edge_rules.specs.Rules as rule;
+ghost use Rattle.spk_edge_rules.specs.Step as step;
+ghost use Rattle.spk_edge.specs.Patch as patch;
+ghost use Rattle.spk_edge.specs.Sealing as seal;
+ghost use Rattle.spk_edge.specs.View.{act_view, given_of, given_view, input_view, kept_view, message_view, numbering_view};
+
+use crate::changing::copied;
+use crate::input::{Act, Input};
+use crate::message::{Given, Out, Published};
+use crate::node::{EdgeNode, Tally};
+use crate::sealing::{number, written_messages, written_packets};
+use spk_device::{Alias, Registry};
+use spk_edge_rules::{EdgeFault, Phase};
+use spk_packets::Packet;
+use spk_payload::Value;
+use spk_state::Primary;
+use spk_store::{Change, Store};
+use std::alloc::{AllocError, Global};
+
+/// The first moment that isn't one.
+const END: u64 = 1 << 63;
+
+/// What is set in the registry.
+#[derive(Drop)]
+pub(crate) enum Setting {
+    Nothing,
+    Value(Alias, Option<Value>),
+    Turn(String, bool),
+}
+
+/// What an input comes to: what is answered, and what changes.
+#[derive(Drop)]
+pub struct Plan {
+    pub(crate) out: Out,
+    pub(crate) messages: Vec<Published>,
+    pub(crate) tally: Tally,
+    pub(crate) setting: Setting,
+    /// A change that is to be kept.
+    pub(crate) kept: Option<Change>,
+}
+
+/// What was taken up: what is answered, and what was published. The last of the packets are the messages' bytes.
+#[derive(Debug, PartialEq, Drop)]
+pub struct Taken {
+    pub out: Out,
+    pub messages: Vec<Published>,
+}
+
+/// Whether all stamps are below the end.
+fn are_timely(messages: &[Published]) -> bool
+    ensures { result ≡ list_all (λ m. nat_lt m.stamp (2 ^ 63)) (map message_view messages.now) }
+{
+    let mut timely = true;
+    for message in messages {
+        timely = timely && message.stamp < END;
+    }
+    timely
+}
+
+/// Plain packets, and behind them the messages, as bytes.
+fn packets(
+    alloc: Global,
+    plain: &[Packet],
+    messages: &[Published],
+) -> Result<Vec<Vec<u8>>, EdgeFault>
+    requires { AllByRecursion (λ m. seal.AreKnown (message_view m).payload.metrics) messages.now }
+    ensures bytes { IfOk result (λ out. map seal.bytes_of out.items ≡
+        map spelling (map view plain.now ++ map (λ m. seal.wire_of (message_view m)) messages.now)) }
+    ensures writable { OnOk result (list_all is_writable
+        (map view plain.now ++ map (λ m. seal.wire_of (message_view m)) messages.now) ≡ true) }
+    ensures fault { IfErr result (seal.IsUnwritten
+        (map view plain.now ++ map (λ m. seal.wire_of (message_view m)) messages.now)) }
+{
+    let mut out = written_packets(alloc, plain)?;
+    let mut more = written_messages(alloc, messages)?;
+    out.append(&mut more)?;
+    Ok(out)
+}
+
+/// The stamp of the last message, or else the one before.
+fn last_stamp(before: Option<u64>, messages: &[Published]) -> Option<u64>
+    ensures { result ≡ last_or before (map (λ m. m.stamp) (map message_view messages.now)) }
+{
+    let mut last = before;
+    for message in messages {
+        last = Some(message.stamp);
+    }
+    last
+}
+
+/// Whether a connection is to be opened.
+fn is_open(act: &Act<'_>) -> bool
+    ensures { result ≡ step.is_open (act_view act.now) }
+{
+    match act {
+        Act::Open => true,
+        _ => false,
+    }
+}
+
+/// Sets what is to be set.
+fn set(registry: &mut Registry, setting: Setting)
+    ensures { registry.new ≡ patch.setting_book registry.old setting }
+{
+    match setting {
+        Setting::Nothing => {}
+        Setting::Value(alias, value) => {
+            let _ = registry.set(alias, value);
+        }
+        Setting::Turn(name, true) => {
+            let _ = registry.device_up(name.as_str());
+        }
+        Setting::Turn(name, false) => {
+            let _ = registry.device_down(name.as_str());
+        }
+    }
+}
+
+/// Keeps what is to be kept.
+fn keep(store: &mut Store, kept: Option<Change>)
+    ensures { kept_view store.new ≡ patch.kept_after (kept_view store.old) kept }
+{
+    if let Some(change) = kept {
+        store.push(change);
+    }
+}
+
+/// What came at QoS 1 is acknowledged first.
+fn acked(given: Given, ack: Option<u16>) -> Result<Given, AllocError>
+    ensures { IfOk result (λ g. given_view g ≡ patch.acked_data ack (given_view given)) }
+{
+    let mut given = given;
+    if let Some(id) = ack {
+        given.plain.insert(0, Packet::PubAck { id })?;
+    }
+    Ok(given)
+}
+
+/// What an act sets.
+fn set_by(alloc: Global, act: &Act<'_>) -> Result<Setting, AllocError>
+    ensures { IfOk result (λ s. patch.setting_view s ≡ patch.act_setting (act_view act.now)) }
+{
+    match act {
+        Act::Change(alias, value) => Ok(Setting::Value(*alias, copied(alloc, value)?)),
+        Act::Device(name, up) => Ok(Setting::Turn(String::from_str(alloc, name)?, *up)),
+        _ => Ok(Setting::Nothing),
+    }
+}
+
+impl EdgeNode {
+    /// What it counts after an input that gave these messages, when this number comes next.
+    fn tally_after(
+        &self,
+        input: Input<'_>,
+        phase: Phase,
+        heard: Primary,
+        messages: &[Published],
+        seq: u8,
+    ) -> Tally
+        ensures { patch.IsTallyAfter self.now.standing.asked (input_view input.entry) phase heard (map message_view messages.now) seq result }
+    {
+        let mut tally = Tally {
+            phase,
+            heard,
+            stamp: last_stamp(self.tally.stamp, messages),
+            seq,
+            bd: self.tally.bd,
+            will_bd: self.tally.will_bd,
+            will_time: self.tally.will_time,
+        };
+        if is_open(&input.act) {
+            tally.bd = self.tally.bd.wrapping_add(1);
+            tally.will_bd = self.tally.bd;
+            tally.will_time = input.now;
+        }
+        tally
+    }
+
+    /// The plan of what was given.
+    fn sealed(&self, input: Input<'_>, given: Given, setting: Setting) -> Result<Plan, EdgeFault>
+        requires { AllByRecursion (λ m. seal.AreKnown m.payload.metrics) (map message_view given.messages.items) }
+        ensures sealed { IfOk result (patch.IsSealed self.now (input_view input.entry) (given_view given) setting) }
+        ensures fault { IfErr result (patch.IsUnsealed self.now (given_view given)) }
+    {
+        if !are_timely(&given.messages) {
+            return Err(EdgeFault::ClockEnd);
+        }
+        let mut messages = given.messages;
+        let seq = number(&mut messages, self.config.numbering, self.tally.seq);
+        let packets = packets(self.alloc, &given.plain, &messages)?;
+        let tally = self.tally_after(input, given.phase, given.heard, &messages, seq);
+        Ok(Plan {
+            out: Out {
+                packets,
+                writes: given.writes,
+                close: given.close,
+            },
+            messages,
+            tally,
+            setting,
+            kept: given.kept,
+        })
+    }
+
+    /// What a plan says is so from now on.
+    pub fn take_up(&mut self, plan: Plan) -> Taken
+        ensures data { self.new ≡ patch.patched self.old plan }
+        ensures out { result.out ≡ plan.out }
+        ensures messages { result.messages ≡ plan.messages }
+    {
+        let Plan {
+            out,
+            messages,
+            tally,
+            setting,
+            kept,
+        } = plan;
+        set(&mut self.registry, setting);
+        keep(&mut self.store, kept);
+        self.tally = tally;
+        Taken { out, messages }
+    }
+
+    /// Whether an act is taken in the present phase.
+    fn fits(&self, act: &Act<'_>) -> bool
+        ensures { result ≡ rule.fits self.now.standing.asked.phase (act_view act.now) }
+    {
+        match act {
+            Act::Open => self.tally.phase == Phase::Idle,
+            Act::Accepted => self.tally.phase == Phase::Connecting,
+            Act::Stop => self.tally.phase == Phase::Waiting || self.tally.phase == Phase::Born,
+            Act::Change(_, _) | Act::Device(_, _) | Act::Cut | Act::TurnedAway | Act::Pass => true,
+        }
+    }
+
+    /// What the act gives.
+    fn given(&self, input: Input<'_>) -> Result<Given, EdgeFault>
+        ensures given { IfOk result (patch.IsGivenBy self.now (input_view input.entry)) }
+        ensures fault { IfErr result (patch.IsRefusedBy self.now (input_view input.entry)) }
+    {
+        match input.act {
+            Act::Open => Ok(self.opening(input.now)?),
+            Act::Accepted => self.accepting(input.now),
+            Act::Change(alias, value) => self.changing(input.now, alias, value),
+            Act::Device(name, up) => self.turning(input.now, name, up),
+            Act::Stop => Ok(self.leaving()?),
+            Act::Cut => Ok(self.cutting()),
+            Act::TurnedAway => Ok(self.turned_away()),
+            Act::Pass => Ok(self.nothing()),
+        }
+    }
+
+    /// The plan of an input. It makes all growths, and changes nothing.
+    ///
+    /// Refuses in this order: WrongPhase (60), ClockEnd (61) for a moment of 2^63 or more, what the act itself refuses,
+    /// ClockEnd for a stamp that is needed, TooLarge (64).
+    pub fn plan(&self, input: Input<'_>) -> Result<Plan, EdgeFault>
+        ensures planned { IfOk result (patch.IsPlan self.now (input_view input.entry)) }
+        ensures refused { IfErr result (patch.IsRefusal self.now (input_view input.entry)) }
+    {
+        if !self.fits(&input.act) {
+            return Err(EdgeFault::WrongPhase);
+        }
+        if input.now >= END {
+            return Err(EdgeFault::ClockEnd);
+        }
+        let given = self.given(input)?;
+        let given = acked(given, input.ack)?;
+        let setting = set_by(self.alloc, &input.act)?;
+        self.sealed(input, given, setting)
+    }
+}

@@ -1,0 +1,10 @@
+mod Rows
+mod Chains
+mod Numbers
+mod Courses
+mod Moments
+mod Records
+mod Tellings
+mod Told
+mod Bytes
+pub mod Known

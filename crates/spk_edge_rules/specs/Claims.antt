@@ -1,0 +1,89 @@
+-- What the laws say of every run, in the standard's words.
+use Rattle.std.specs.Prelude.{◌≡◌, ℕ, ◌⊎◌, true, false, List, [], ◌∷◌, Option, Some, None, slice_get, if◌then◌else◌}
+use Rattle.std.specs.List.{AllByRecursion}
+use Rattle.spk_payload.specs.Meaning.{MetricData}
+use Rattle.spk_payload.specs.Spelling.{PayloadFits}
+use Rattle.spk_packets.specs.Grammar.{Spells}
+use Rattle.spk_packets.specs.Message as packets
+use Rattle.spk_device.specs.Book.{Book, DeviceData}
+use Rattle.spk_device.specs.declared.owner.Owner.TheVariants.{Node, Device}
+use Rattle.spk_edge_rules.specs.Births.{births_at, own_metrics, rebirth_metric}
+use Rattle.spk_edge_rules.specs.Config.{Config, Setup}
+use Rattle.spk_edge_rules.specs.Inputs.{Act, Open, Accepted, Change, Turn, Command, State, Drain, Stop, Cut, TurnedAway, Pass}
+use Rattle.spk_edge_rules.specs.Messages.{Draft, is_birth, opens, payload_of, wire}
+use Rattle.spk_edge_rules.specs.Packets.{session_metric}
+use Rattle.spk_edge_rules.specs.Run.{Done, Message, session_number}
+
+-- an NBIRTH begins with the bdSeq of its session
+abbrev pub SaysSession : Setup → Message → Type 0
+SaysSession s m = opens m.draft ≡ true →
+    (rest : List MetricData) × (m.draft.metrics ≡ session_metric (session_number s m.session) (Some m.draft.stamp) ∷ rest)
+
+-- A DBIRTH of a device of a registry lists the device's metrics.
+pub record IsDeviceBirth (b : Book) (name : List ℕ) (d : Draft) : Type 0 where
+  pub number : ℕ
+  pub device : DeviceData
+  pub there : slice_get b.devices number ≡ Some device
+  pub named : device.name ≡ name
+  pub metrics : d.metrics ≡ own_metrics b d.stamp (Device number)
+
+-- What a birth lists: an NBIRTH the bdSeq, the rebirth control and the node's metrics, a DBIRTH its device's, as the
+-- registry has them, in order of adding.
+abbrev pub IsBirthOf : Book → ℕ → Draft → Option (List ℕ) → Type 0
+IsBirthOf b bd d None =
+    d.metrics ≡ session_metric bd (Some d.stamp) ∷ rebirth_metric d.stamp ∷ own_metrics b d.stamp Node
+IsBirthOf b bd d (Some name) = IsDeviceBirth b name d
+
+abbrev pub ListsWhatIs : Book → ℕ → Draft → Type 0
+ListsWhatIs b bd d = is_birth d.verb ≡ true → IsBirthOf b bd d d.device
+
+-- An NBIRTH stands first, and a DBIRTH follows for each device that is up, in order of adding; nothing else.
+abbrev pub AreWholeBirths : Book → ℕ → List Draft → Type 0
+AreWholeBirths b bd drafts =
+    AllByRecursion (λ d. opens d ≡ false) drafts ⊎ ((stamp : ℕ) × (drafts ≡ births_at b bd stamp))
+
+-- ---- between an accepted open and the next stop, cut or closing
+
+pub data Link : Type 0 where
+  Closed : Link
+  Asked : Link
+  Joined : Link
+
+abbrev pub accepted_by : Link → Link
+accepted_by Closed = Closed
+accepted_by Asked = Joined
+accepted_by Joined = Joined
+
+abbrev pub link_by : Act → Link → Link
+link_by Open link = Asked
+link_by Accepted link = accepted_by link
+link_by (Change alias value) link = link
+link_by (Turn name up) link = link
+link_by (Command topic payload) link = link
+link_by (State payload) link = link
+link_by Drain link = link
+link_by Stop link = Closed
+link_by Cut link = Closed
+link_by TurnedAway link = link
+link_by Pass link = link
+
+-- a connection is asked for by Open, joined once it is accepted, and closed by a stop, a cut or the node itself
+abbrev pub link_of : List Done → Link
+link_of [] = Closed
+link_of (e ∷ h) = if e.given.close then Closed else link_by e.input.act (link_of h)
+
+-- ---- bytes
+
+-- the bytes spell the packet of a message under its number, whose payload can be spelled
+pub record IsWhole (bytes : List ℕ) (c : Config) (number : ℕ) (d : Draft) : Type 0 where
+  pub spelled : Spells bytes (wire c number d)
+  pub fits : PayloadFits (payload_of number d)
+
+-- what a PUBLISH is about, and what it carries
+abbrev pub topic_in : packets.Message → List ℕ
+topic_in (packets.Publish dup qos retain topic id payload) = topic
+topic_in _ = []
+
+abbrev pub payload_in : packets.Message → List ℕ
+payload_in (packets.Publish dup qos retain topic id payload) = payload
+payload_in _ = []

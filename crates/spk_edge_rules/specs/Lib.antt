@@ -1,0 +1,13 @@
+pub mod Config
+pub mod Messages
+pub mod Inputs
+pub mod Packets
+pub mod Births
+pub mod Commands
+pub mod Rules
+pub mod Arriving
+pub mod Answers
+pub mod Step
+pub mod Run
+pub mod Claims
+pub mod Fault

@@ -1,0 +1,246 @@
+-- What an edge node does at an input (Sparkplug 3.0.0, chapters 5 and 6; the phases, the stamps and what is kept are own
+-- rules), from what may be asked of it before.
+use Rattle.std.specs.Prelude.{ℕ, ◌^◌, min, Bool, true, false, not, ◌&&◌, List, [], ◌∷◌, map, take, Option, Some, None, Result, Ok, Err, is_some, nat_lt, if◌then◌else◌}
+use Rattle.std.specs.List.{list_all}
+use Rattle.std.specs.Option.{option_map_or}
+use Rattle.spk_payload.specs.Typing.{Typed}
+use Rattle.spk_packets.specs.Message.{Message, PubAck}
+use Rattle.spk_device.specs.Book.{Book, gauge_at, is_owner, is_up}
+use Rattle.spk_device.specs.Step.{set_refusal, turn_refusal}
+use Rattle.spk_device.specs.Values.{flag_eq, value_eq}
+use Rattle.spk_device.specs.declared.fault.Refusal.{Refusal}
+use Rattle.spk_store.specs.Data.{Kept}
+use Rattle.spk_store.specs.Step.{run_of}
+use Rattle.spk_store.specs.Calls.{Call, Push, DropFront}
+use Rattle.spk_state.specs.Step.{heard_as}
+use Rattle.spk_state.specs.Text.{state_at}
+use Rattle.spk_state.specs.declared.fault.StateFault.TheVariants.{BadState}
+use Rattle.spk_state.specs.declared.primary.Heard.{Heard}
+use Rattle.spk_state.specs.declared.primary.Heard.TheVariants.{Online, Offline, Ignored}
+use Rattle.spk_state.specs.declared.state.State as read
+use Rattle.spk_edge_rules.specs.declared.fault.EdgeFault.{EdgeFault}
+use Rattle.spk_edge_rules.specs.declared.fault.EdgeFault.TheVariants as fault
+use Rattle.spk_edge_rules.specs.declared.phase.Phase.{Phase}
+use Rattle.spk_edge_rules.specs.declared.phase.Phase.TheVariants.{Idle, Connecting, Waiting, Born}
+use Rattle.spk_edge_rules.specs.Births.{births_at, birth_stamp, data_draft, data_metric, kept_metric, later_stamp, owner_at, owner_is_up, turn_draft}
+use Rattle.spk_edge_rules.specs.Commands.{Order, command_of, writes_in, wants_rebirth}
+use Rattle.spk_edge_rules.specs.Config.{Config}
+use Rattle.spk_edge_rules.specs.Inputs.{Act, Open, Accepted, Change, Turn, Command, State, Drain, Stop, Cut, TurnedAway, Pass, Input, ChangeData, WriteData}
+use Rattle.spk_edge_rules.specs.Messages.{Draft}
+use Rattle.spk_edge_rules.specs.Packets.{connect_of, subscribe_of, farewell}
+
+-- What the rules look at: the phase, the registry, the kept changes, the greatest timestamp heard of the primary host, the
+-- last stamp, the bdSeq that comes next, and the bdSeq and the moment of the session opened last.
+pub record Asked : Type 0 where
+  pub phase : Phase
+  pub book : Book
+  pub store : Kept ChangeData
+  pub heard : Option ℕ
+  pub stamp : Option ℕ
+  pub bd : ℕ
+  pub will_bd : ℕ
+  pub will_time : ℕ
+
+-- What they give: packets, then numbered messages before they have their numbers, the writes of a command, whether the
+-- connection is to be closed, the phase after it, and what is done to the kept changes.
+pub record Given : Type 0 where
+  pub plain : List Message
+  pub drafts : List Draft
+  pub writes : List WriteData
+  pub close : Bool
+  pub phase : Phase
+  pub store : Option (Call ChangeData)
+
+abbrev pub nothing : Asked → Given
+nothing a = record { plain = []; drafts = []; writes = []; close = false; phase = a.phase; store = None }
+
+-- ---- phases
+
+abbrev pub is_born : Phase → Bool
+is_born Born = true
+is_born Waiting = false
+is_born Connecting = false
+is_born Idle = false
+
+abbrev pub is_waiting : Phase → Bool
+is_waiting Waiting = true
+is_waiting Born = false
+is_waiting Connecting = false
+is_waiting Idle = false
+
+abbrev pub is_connecting : Phase → Bool
+is_connecting Connecting = true
+is_connecting Waiting = false
+is_connecting Born = false
+is_connecting Idle = false
+
+abbrev pub is_idle : Phase → Bool
+is_idle Idle = true
+is_idle Connecting = false
+is_idle Waiting = false
+is_idle Born = false
+
+-- the server accepted the connection, and it stands
+abbrev pub is_joined : Phase → Bool
+is_joined Waiting = true
+is_joined Born = true
+is_joined Connecting = false
+is_joined Idle = false
+
+-- the phases in which an input is taken
+abbrev pub fits : Phase → Act → Bool
+fits phase Open = is_idle phase
+fits phase Accepted = is_connecting phase
+fits phase (Change alias value) = true
+fits phase (Turn name up) = true
+fits phase (Command topic payload) = is_joined phase
+fits phase (State payload) = is_joined phase
+fits phase Drain = is_born phase
+fits phase Stop = is_joined phase
+fits phase Cut = true
+fits phase TurnedAway = true
+fits phase Pass = true
+
+-- ---- births and ends
+
+-- the births, and the phase Born
+abbrev pub born : Asked → ℕ → Given → Given
+born a now g = record g { drafts = births_at a.book a.will_bd (birth_stamp a.stamp now); phase = Born }
+
+-- NDEATH, DISCONNECT, and the connection is closed
+abbrev pub leaving : Config → Asked → Given
+leaving c a = record (nothing a) { plain = farewell c a.will_bd a.will_time; close = true; phase = Idle }
+
+abbrev pub opening : Config → Asked → ℕ → Given
+opening c a now = record (nothing a) { plain = connect_of c a.bd now ∷ []; phase = Connecting }
+
+-- with a primary host the births wait until it is online
+abbrev pub joining : Config → Asked → Given
+joining c a = record (nothing a) { plain = subscribe_of c ∷ []; phase = Waiting }
+
+abbrev pub accepting : Config → Asked → ℕ → Given
+accepting c a now = if is_some c.primary then joining c a else born a now (joining c a)
+
+abbrev pub turned_away : Asked → Given
+turned_away a = if is_connecting a.phase then record (nothing a) { close = true; phase = Idle } else nothing a
+
+-- ---- changes and devices
+
+abbrev pub refused_or : Option Refusal → Given → Result Given EdgeFault
+refused_or (Some refusal) g = Err (fault.Device refusal)
+refused_or None g = Ok g
+
+-- a value equal to the present one does nothing
+abbrev pub is_same_value : Book → ℕ → Option Typed → Bool
+is_same_value b alias value = option_map_or (λ g. value_eq g.value value) (gauge_at b alias) false
+
+-- one NDATA or DDATA when Born, else the change is kept
+abbrev pub telling : Asked → ℕ → ℕ → Option Typed → Given
+telling a now alias value =
+    let stamp = later_stamp a.stamp now in
+    if is_born a.phase
+    then record (nothing a) { drafts = data_draft a.book (owner_at a.book alias) stamp (data_metric a.book alias stamp None value ∷ []) ∷ [] }
+    else record (nothing a) { store = Some (Push (record { owner = owner_at a.book alias; alias = alias; value = value; time = now })) }
+
+-- a change of a device that is down only sets the value
+abbrev pub changing : Asked → ℕ → ℕ → Option Typed → Given
+changing a now alias value =
+    if not (is_same_value a.book alias value) && owner_is_up a.book (owner_at a.book alias) then telling a now alias value else nothing a
+
+abbrev pub is_so_already : Book → List ℕ → Bool → Bool
+is_so_already b name up = option_map_or (λ was. flag_eq was up) (is_up b name) false
+
+-- a DBIRTH or a DDEATH when Born
+abbrev pub turning : Asked → ℕ → List ℕ → Bool → Given
+turning a now name up =
+    if not (is_so_already a.book name up) && is_born a.phase
+    then record (nothing a) { drafts = turn_draft a.book (later_stamp a.stamp now) name up ∷ [] }
+    else nothing a
+
+-- ---- commands and STATE
+
+-- the writes, and the births where a rebirth is asked for of a node that is Born
+abbrev pub obeying : Asked → ℕ → List Order → Given
+obeying a now orders =
+    let g = record (nothing a) { writes = writes_in orders } in
+    if wants_rebirth orders && is_born a.phase then born a now g else g
+
+abbrev pub commanded : Asked → ℕ → Option (List Order) → Result Given EdgeFault
+commanded a now None = Err fault.BadCommand
+commanded a now (Some orders) = Ok (obeying a now orders)
+
+-- a Waiting node gives its births when the primary host is online, a Born one leaves when it is offline
+abbrev pub hearing : Config → Asked → ℕ → Heard → Given
+hearing c a now Online = if is_waiting a.phase then born a now (nothing a) else nothing a
+hearing c a now Offline = if is_born a.phase then leaving c a else nothing a
+hearing c a now Ignored = nothing a
+
+abbrev pub heard_in : Config → Asked → ℕ → Option read.State → Result Given EdgeFault
+heard_in c a now None = Err (fault.State BadState)
+heard_in c a now (Some s) = Ok (hearing c a now (heard_as a.heard s))
+
+abbrev pub stating : Config → Asked → ℕ → List ℕ → Result Given EdgeFault
+stating c a now payload = if is_some c.primary then heard_in c a now (state_at payload) else Ok (nothing a)
+
+-- ---- kept changes
+
+-- two changes are of one owner
+abbrev pub have_one_owner : ChangeData → ChangeData → Bool
+have_one_owner x y = is_owner x.owner y.owner
+
+-- at most so many go into one message
+abbrev pub most : ℕ
+most = 32
+
+abbrev pub front_run : List ChangeData → ℕ
+front_run changes = min most (run_of have_one_owner changes)
+
+-- The front run of one owner goes out as historical data; one whose device is down is dropped, as lost.
+abbrev pub draining : Asked → ℕ → List ChangeData → Given
+draining a now [] = nothing a
+draining a now (x ∷ xs) =
+    let n = front_run (x ∷ xs) in
+    if owner_is_up a.book x.owner
+    then record (nothing a) {
+      drafts = data_draft a.book x.owner (later_stamp a.stamp now) (map (kept_metric a.book) (take n (x ∷ xs))) ∷ [];
+      store = Some (DropFront n false);
+    }
+    else record (nothing a) { store = Some (DropFront n true) }
+
+-- ---- all of them
+
+abbrev pub acts : Config → Asked → ℕ → Act → Result Given EdgeFault
+acts c a now Open = Ok (opening c a now)
+acts c a now Accepted = Ok (accepting c a now)
+acts c a now (Change alias value) = refused_or (set_refusal a.book alias value) (changing a now alias value)
+acts c a now (Turn name up) = refused_or (turn_refusal a.book name) (turning a now name up)
+acts c a now (Command topic payload) = commanded a now (command_of c a.book topic payload)
+acts c a now (State payload) = stating c a now payload
+acts c a now Drain = Ok (draining a now a.store.items)
+acts c a now Stop = Ok (leaving c a)
+acts c a now Cut = Ok (record (nothing a) { phase = Idle })
+acts c a now TurnedAway = Ok (turned_away a)
+acts c a now Pass = Ok (nothing a)
+
+abbrev pub on_ok : {A B E : Type 0} → Result A E → (A → Result B E) → Result B E
+on_ok (Ok x) f = f x
+on_ok (Err e) f = Err e
+
+-- moments and stamps are below 2^63
+abbrev pub is_timely : Given → Bool
+is_timely g = list_all (λ d. nat_lt d.stamp (2 ^ 63)) g.drafts
+
+abbrev pub timely : Given → Result Given EdgeFault
+timely g = if is_timely g then Ok g else Err fault.ClockEnd
+
+-- what came at QoS 1 is acknowledged first
+abbrev pub acked : Option ℕ → Given → Given
+acked None g = g
+acked (Some id) g = record g { plain = PubAck id ∷ g.plain }
+
+-- The order of refusals: the phase, the clock, then what the act itself refuses, and last a stamp past the clock's end.
+abbrev pub rules : Config → Asked → Input → Result Given EdgeFault
+rules c a i =
+    if not (fits a.phase i.act) then Err fault.WrongPhase
+    else if not (nat_lt i.now (2 ^ 63)) then Err fault.ClockEnd
+    else on_ok (acts c a i.now i.act) (λ g. timely (acked i.ack g))

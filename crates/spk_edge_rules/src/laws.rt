@@ -1,0 +1,104 @@
+//! Laws on lists of inputs: functions that do nothing, whose contracts speak of definitions alone.
+ghost use Rattle.std.specs.Prelude.{◌≡◌, ℕ, ◌-◌, ◌^◌, ◌<◌, List, [], ◌∷◌, ◌++◌, length, min, slice_get, Some, None, Ok, Err, IsTrue};
+ghost use Rattle.std.specs.List.{AllByRecursion};
+ghost use Rattle.spk_payload.specs.Meaning.{MeansPayload, PayloadData};
+ghost use Rattle.spk_payload.specs.Spelling.{spelling};
+ghost use Rattle.spk_packets.specs.Grammar.{Spells};
+ghost use Rattle.spk_packets.specs.Message as packets;
+ghost use Rattle.spk_topics.specs.Spark.{has_names, topic_of};
+ghost use Rattle.spk_sequence.specs.NodeRecord as sequence;
+ghost use Rattle.spk_store.specs.Kept as kept;
+ghost use Rattle.spk_edge_rules.specs.declared.fault.EdgeFault.{EdgeFault};
+ghost use Rattle.spk_edge_rules.specs.Answers.{Answer};
+ghost use Rattle.spk_edge_rules.specs.Claims.{AreWholeBirths, IsWhole, Joined, ListsWhatIs, SaysSession, link_of, payload_in, topic_in};
+ghost use Rattle.spk_edge_rules.specs.Config.{Config, Setup};
+ghost use Rattle.spk_edge_rules.specs.Inputs.{Input, Open};
+ghost use Rattle.spk_edge_rules.specs.Messages.{Draft, named_by, opens, payload_of, wire};
+ghost use Rattle.spk_edge_rules.specs.Packets.{connect_of, death_payload, will_of};
+ghost use Rattle.spk_edge_rules.specs.Run.{Message, asked_of, book_of, calls_of, opened, outline, published, record_of, right_at, run_of, session_number};
+ghost use Rattle.spk_edge_rules.specs.Step.{answer_at, record_at, standing_of};
+
+/// For every node and every list of inputs, newest first, whatever the node begins with.
+pub fn any_list()
+    // stepping the data answers as the rules ask of the list: each message under the number of its position
+    ensures same_steps { (s : Setup) (is : List Input) (i : Input) →
+        answer_at s.config (standing_of s is) i ≡ right_at s (run_of s is) i }
+
+    // and what the rules look at is what was set, kept, heard, opened and published so far
+    ensures standing { (s : Setup) (is : List Input) → (standing_of s is).asked ≡ asked_of s (run_of s is) }
+
+    // a node that runs after it goes on behind its last message, its last session and its last stamp
+    ensures goes_on { (s : Setup) (is : List Input) →
+        record_at s.config (standing_of s is) ≡ record_of s (run_of s is) }
+
+    // a refused input uses no number, publishes nothing, and leaves the data as they were
+    ensures refused { (s : Setup) (is : List Input) (i : Input) (fault : EdgeFault) →
+        right_at s (run_of s is) i ≡ Err fault →
+        (run_of s (i ∷ is) ≡ run_of s is) × (standing_of s (i ∷ is) ≡ standing_of s is) }
+
+    // what was published is a node record: births one by one, sessions and stamps that never fall, and each NBIRTH newer
+    // than all before it
+    ensures record { (s : Setup) (is : List Input) → sequence.IsNodeRecord (outline (published (run_of s is))) }
+
+    // a birth begins exactly where the message is an NBIRTH
+    ensures openings { (s : Setup) (is : List Input) (p : ℕ) (m : Message) →
+        slice_get (published (run_of s is)) p ≡ Some m →
+        sequence.opens (outline (published (run_of s is))) p ≡ opens m.draft }
+
+    // each NBIRTH begins with the bdSeq of its session
+    ensures sessions { (s : Setup) (is : List Input) → AllByRecursion (SaysSession s) (published (run_of s is)) }
+
+    // a birth lists the metrics of its owner in order of adding, with the values last set
+    ensures births { (s : Setup) (is : List Input) (i : Input) (answer : Answer) →
+        right_at s (run_of s is) i ≡ Ok answer →
+        AllByRecursion (ListsWhatIs (book_of s (run_of s is)) (session_number s (opened (run_of s is) - 1)))
+        answer.given.drafts }
+
+    // an NBIRTH is followed by a DBIRTH for each device that is up, in order of adding, and by nothing else
+    ensures whole_births { (s : Setup) (is : List Input) (i : Input) (answer : Answer) →
+        right_at s (run_of s is) i ≡ Ok answer →
+        AreWholeBirths (book_of s (run_of s is)) (session_number s (opened (run_of s is) - 1)) answer.given.drafts }
+
+    // a numbered message is given only between an accepted open and the next stop, cut or closing
+    ensures joined { (s : Setup) (is : List Input) (i : Input) (answer : Answer) →
+        right_at s (run_of s is) i ≡ Ok answer → 0 < length answer.given.drafts →
+        link_of (run_of s (i ∷ is)) ≡ Joined }
+
+    // no more changes are dropped than are kept, and lost are those overwritten or dropped for a device that is down
+    ensures kept { (s : Setup) (is : List Input) → kept.IsLawful s.capacity (calls_of (run_of s is)) }
+    ensures lost { (s : Setup) (is : List Input) →
+        (standing_of s is).asked.store.lost ≡ min (kept.lost_of s.capacity (calls_of (run_of s is))) (2 ^ 64 - 1) }
+{}
+
+/// Of each message's bytes: whoever reads them by the grammar reads that message and nothing else.
+pub fn messages()
+    // bytes that spell the packet of a message spell that packet alone, whatever follows them
+    ensures alone { (c : Config) (number : ℕ) (d : Draft) (bytes other x y : List ℕ) (p : packets.Message) →
+        IsWhole bytes c number d → Spells other p → bytes ++ x ≡ other ++ y →
+        (bytes ≡ other) × (p ≡ wire c number d) }
+
+    // its payload means these metrics, under that number and that stamp, and nothing else
+    ensures means { (c : Config) (number : ℕ) (d : Draft) (bytes : List ℕ) → IsWhole bytes c number d →
+        MeansPayload (spelling (payload_of number d)) (payload_of number d) }
+    ensures read { (c : Config) (number : ℕ) (d : Draft) (bytes : List ℕ) (p : packets.Message) (q : PayloadData) →
+        IsWhole bytes c number d → Spells bytes p → MeansPayload (payload_in p) q →
+        (topic_in p ≡ topic_of (named_by c d)) × (q.seq ≡ Some number) × (q.timestamp ≡ Some d.stamp) × (q.metrics ≡ d.metrics) }
+
+    // an Open gives the CONNECT of the next session
+    ensures opens { (s : Setup) (is : List Input) (i : Input) (answer : Answer) → i.act ≡ Open → i.ack ≡ None →
+        right_at s (run_of s is) i ≡ Ok answer →
+        answer.packets ≡ connect_of s.config (session_number s (opened (run_of s is))) i.now ∷ [] }
+
+    // whose will is an NDEATH of the node that means the bdSeq of that session, and nothing else
+    ensures will { (c : Config) (bd time : ℕ) (q : PayloadData) → bd < 256 → time < 2 ^ 63 →
+        MeansPayload (will_of c bd time).message (death_payload bd time) ×
+        (MeansPayload (will_of c bd time).message q → q ≡ death_payload bd time) }
+
+    // messages of different nodes have different topics
+    ensures topics { (b c : Config) (d e : Draft) → IsTrue (has_names (named_by b d)) → IsTrue (has_names (named_by c e)) →
+        topic_of (named_by b d) ≡ topic_of (named_by c e) → (b.group ≡ c.group) × (b.node ≡ c.node) }
+{
+    spk_payload::laws::canonical();
+    spk_packets::laws::prefix_free();
+    spk_topics::laws::one_topic();
+}
