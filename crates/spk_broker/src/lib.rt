@@ -8,6 +8,8 @@ mod guest;
 mod post;
 mod retained;
 mod seat;
+#[cfg(test)]
+mod tests;
 
 pub use broker::{Broker, Conn};
 pub use fault::BrokerFault;

@@ -319,6 +319,39 @@ a_full_session_gets_qos_0 : hand (post_of 0) (full_seat false) ≡ record {
 }
 a_full_session_gets_qos_0 = refl
 
+-- a full session and one that listens to its will, with a retained message of QoS 1
+abbrev full_broker : Broker
+full_broker = record {
+  limit = 128;
+  given = 9;
+  made = 4;
+  clock = 0;
+  guests = [];
+  seats = full_seat false ∷ (record {
+    key = 4;
+    client = codes "y";
+    kept = false;
+    here = Some (record { conn = 8; alive = 0; heard = 0; will = None; drops = 0 });
+    grants = (codes "w", 0) ∷ [];
+    used = [];
+    last = 0;
+    copies = [];
+  }) ∷ [];
+  retained = (codes "a", record { payload = codes "x"; qos = 1 }) ∷ (codes "b", record { payload = codes "y"; qos = 0 }) ∷ [];
+}
+
+-- SUBACK and what is sent before stand, the rest of the SUBSCRIBE gives nothing, and the will goes at the end of the call
+a_retained_message_too_many_closes : outs full_broker (Packet 9 (Subscribe 1 ((codes "b", 1) ∷ (codes "a", 1) ∷ (codes "b", 1) ∷ [])) 0 ∷ [])
+    ≡ (to 9 (SubAck 1 (1 ∷ 1 ∷ 1 ∷ [])) ∷ to 9 (kept_as (codes "b") (codes "y")) ∷ to 8 (plain (codes "w") (codes "6")) ∷ [], 9 ∷ []) ∷ []
+unfolding step route route_some has_bad_text has_bad_body is_qos_two spelling body shortest
+a_retained_message_too_many_closes = refl
+
+-- a full session still gets what is granted at QoS 0
+a_full_session_gets_retained_qos_0 : outs full_broker (Packet 9 (Subscribe 1 ((codes "a", 0) ∷ [])) 0 ∷ [])
+    ≡ (to 9 (SubAck 1 (0 ∷ [])) ∷ to 9 (kept_as (codes "a") (codes "x")) ∷ [], []) ∷ []
+unfolding step route route_some has_bad_text has_bad_body is_qos_two spelling body shortest
+a_full_session_gets_retained_qos_0 = refl
+
 -- ---- limits
 
 -- the 10,000th pair of session and filter is granted, the 10,001st gets 128, and a filter that stands gets its new grant
