@@ -1,5 +1,5 @@
 -- A plan answers what the rules ask.
-use Rattle.std.proofs.Common.{◌≡◌, inl, inr, ◌∙◌, ap, sym, refl, subst, ℕ, ◌+◌, ◌%◌, ◌^◌, nat_lt, Bool, true, false, not, ◌&&◌, cond, List, [], ◌∷◌, ◌++◌, map, Option, Some, None, Result, Ok, Err}
+use Rattle.std.proofs.Common.{◌⊎◌, ◌≡◌, inl, inr, ◌∙◌, ap, sym, refl, subst, ℕ, ◌+◌, ◌%◌, ◌^◌, nat_lt, Bool, true, false, not, ◌&&◌, cond, List, [], ◌∷◌, ◌++◌, map, Option, Some, None, Result, Ok, Err}
 use Rattle.std.specs.Prelude.{IfOk, IfErr}
 use Rattle.std.specs.List.{last_or, list_all}
 use Rattle.std.specs.Option.{option_map}
@@ -18,6 +18,7 @@ use Rattle.spk_store.specs.declared.change.Change.{Change}
 use Rattle.spk_edge_rules.specs.declared.fault.EdgeFault.{EdgeFault}
 use Rattle.spk_edge_rules.specs.declared.fault.EdgeFault.TheVariants as fault
 use Rattle.spk_edge_rules.specs.Answers.{Answer, checked, is_writable}
+use Rattle.spk_edge_rules.specs.Commands.{Order, command_of}
 use Rattle.spk_edge_rules.specs.Config.{Config}
 use Rattle.spk_edge_rules.specs.Inputs as inputs
 use Rattle.spk_edge_rules.specs.Inputs.{ChangeData}
@@ -286,3 +287,27 @@ done_by n i p after out plan is same = record {
   close = ap (λ (o : Out). o.close) same ∙ plan.close;
   stands = is ∙ plan.after;
 }
+
+-- ---- commands
+
+pub command-given : (n : NodeData) (i : Input) (topic payload : List ℕ) (orders : List Order) (g : Given) → act_view i.act ≡ inputs.Command topic payload
+    → command_of n.config n.standing.asked.book topic payload ≡ Some orders → given_view g ≡ given_of n.config n.standing.asked.heard (rule.obeying n.standing.asked i.now orders)
+    → IsGivenBy n (input_view i) g
+command-given n i topic payload orders g is some given = record {
+  given = rule.obeying n.standing.asked i.now orders;
+  acted = ap (acts n.config n.standing.asked i.now) is ∙ ap (rule.commanded n.standing.asked i.now) some;
+  is = given ∙ ap (λ a. given_of n.config (step.heard_after n.config n.standing.asked.heard a) (rule.obeying n.standing.asked i.now orders)) (sym is);
+}
+
+pub command-late : (n : NodeData) (i : Input) (topic payload : List ℕ) (orders : List Order) (e : EdgeFault) → act_view i.act ≡ inputs.Command topic payload
+    → command_of n.config n.standing.asked.book topic payload ≡ Some orders
+    → (e ≡ fault.NoMemory) ⊎ ((e ≡ fault.ClockEnd) × (is_timely (rule.obeying n.standing.asked i.now orders) ≡ false)) → IsRefusedBy n (input_view i) e
+command-late n i topic payload orders e is some (inl memory) = inl memory
+command-late n i topic payload orders e is some (inr (end, never)) =
+    inr (inr (end, (rule.obeying n.standing.asked i.now orders, ap (acts n.config n.standing.asked i.now) is ∙ ap (rule.commanded n.standing.asked i.now) some, never)))
+
+pub command-refused : (n : NodeData) (i : Input) (topic payload : List ℕ) (e : EdgeFault) → act_view i.act ≡ inputs.Command topic payload
+    → (e ≡ fault.NoMemory) ⊎ ((e ≡ fault.BadCommand) × (command_of n.config n.standing.asked.book topic payload ≡ None)) → IsRefusedBy n (input_view i) e
+command-refused n i topic payload e is (inl memory) = inl memory
+command-refused n i topic payload e is (inr (bad, none)) =
+    subst (IsRefusedBy n (input_view i)) (sym bad) (inr (inl (ap (acts n.config n.standing.asked i.now) is ∙ ap (rule.commanded n.standing.asked i.now) none)))

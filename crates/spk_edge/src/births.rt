@@ -6,14 +6,17 @@ ghost use Rattle.spk_device.specs.Book.{births_of, device_at, has_owner};
 ghost use Rattle.spk_edge_rules.specs.Births as births;
 ghost use Rattle.spk_edge.specs.Listed.{birth_if_up, device_message};
 ghost use Rattle.spk_edge_rules.specs.Rules as rule;
+ghost use Rattle.spk_edge.specs.Ordered.{order_view};
 ghost use Rattle.spk_edge.specs.View.{config_view, given_of, given_view, message_view, unnumbered};
 
+use crate::command::{Order, wants_rebirth, writes_in};
 use crate::message::{Given, Published};
 use crate::node::EdgeNode;
 use crate::texts::{device_topic, node_topic, session_metric};
 use spk_device::{DeviceFault, Owner};
 use spk_edge_rules::{EdgeFault, Phase};
 use spk_payload::{Metric, Payload, Raw};
+use spk_state::Heard;
 use spk_topics::Verb;
 use std::alloc::{AllocError, Global};
 
@@ -160,6 +163,63 @@ impl EdgeNode {
                 }
                 Ok(now.max(last + 1))
             }
+        }
+    }
+
+    /// The births, beside what was given, and the phase Born; ClockEnd where the NBIRTH has no stamp below 2^63.
+    pub(crate) fn bearing(&self, now: u64, given: Given) -> Result<Given, EdgeFault>
+        ensures given { IfOk result (λ g. given_view g ≡ record (given_view given) {
+          messages = map (unnumbered self.now.config) (births.births_at self.now.standing.asked.book
+              self.now.standing.asked.will_bd (births.birth_stamp self.now.standing.asked.stamp now));
+          phase = Phase.Born;
+        }) }
+        ensures fault { IfErr result (λ e. (e ≡ EdgeFault.NoMemory) ⊎ ((e ≡ EdgeFault.ClockEnd)
+            × (2 ^ 63 ≤ births.birth_stamp self.now.standing.asked.stamp now))) }
+    {
+        let stamp = self.birth_stamp(now)?;
+        let mut given = given;
+        given.messages = self.births(stamp)?;
+        given.phase = Phase::Born;
+        Ok(given)
+    }
+
+    /// The writes, and the births where a rebirth is asked for of a node that is Born.
+    pub(crate) fn obeying(&self, now: u64, orders: Vec<Order>) -> Result<Given, EdgeFault>
+        ensures given { IfOk result (λ g. given_view g ≡ given_of self.now.config self.now.standing.asked.heard
+            (rule.obeying self.now.standing.asked now (map order_view orders.items))) }
+        ensures fault { IfErr result (λ e. (e ≡ EdgeFault.NoMemory) ⊎ ((e ≡ EdgeFault.ClockEnd)
+            × (rule.is_timely (rule.obeying self.now.standing.asked now (map order_view orders.items)) ≡ false))) }
+    {
+        let asked = wants_rebirth(&orders) && self.tally.phase == Phase::Born;
+        let mut given = self.nothing();
+        given.writes = writes_in(self.alloc, orders)?;
+        if asked {
+            return self.bearing(now, given);
+        }
+        Ok(given)
+    }
+
+    /// The births of a Waiting node whose primary host is online; a Born one leaves when it is offline.
+    pub(crate) fn hearing(&self, now: u64, heard: Heard) -> Result<Given, EdgeFault>
+        ensures given { IfOk result (λ g. given_view g ≡ given_of self.now.config self.now.standing.asked.heard
+            (rule.hearing self.now.config self.now.standing.asked now heard)) }
+        ensures fault { IfErr result (λ e. (e ≡ EdgeFault.NoMemory) ⊎ ((e ≡ EdgeFault.ClockEnd)
+            × (rule.is_timely (rule.hearing self.now.config self.now.standing.asked now heard) ≡ false))) }
+    {
+        match heard {
+            Heard::Online => {
+                if self.tally.phase == Phase::Waiting {
+                    return self.bearing(now, self.nothing());
+                }
+                Ok(self.nothing())
+            }
+            Heard::Offline => {
+                if self.tally.phase == Phase::Born {
+                    return Ok(self.leaving()?);
+                }
+                Ok(self.nothing())
+            }
+            Heard::Ignored => Ok(self.nothing()),
         }
     }
 

@@ -85,6 +85,22 @@ impl EdgeNode {
         })
     }
 
+    /// A message on a topic of commands: the values to write, and the births again where a rebirth is asked for of a node
+    /// that is Born. Done whole, or refused with BadCommand (62). Taken when Waiting or Born.
+    pub fn command(&mut self, now: u64, topic: &str, payload: &[u8]) -> Result<Out, EdgeFault>
+        ensures done { IfOk result (patch.IsDone self.old
+            (patch.plain_input now (inputs.Command topic.now payload.now)) self.new) }
+        ensures refused { IfErr result (patch.IsRefusal self.old
+            (patch.plain_input now (inputs.Command topic.now payload.now))) }
+        ensures err { OnErr result (self.new ≡ self.old) }
+    {
+        self.tell(Input {
+            now,
+            ack: None,
+            act: Act::Command(topic, payload),
+        })
+    }
+
     /// Ends the session in order: NDEATH, DISCONNECT. Taken when Waiting or Born.
     pub fn stop(&mut self, now: u64) -> Result<Out, EdgeFault>
         ensures done { IfOk result (patch.IsDone self.old (patch.plain_input now inputs.Stop) self.new) }

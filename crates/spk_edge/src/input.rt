@@ -13,6 +13,8 @@ pub enum Act<'a> {
     Change(Alias, &'a Option<Value>),
     /// A device, by its name, is up or down.
     Device(&'a str, bool),
+    /// A message on a topic of commands: its topic and its payload.
+    Command(&'a str, &'a [u8]),
     /// The session is to be ended in order.
     Stop,
     /// The connection is gone.

@@ -11,6 +11,7 @@ ghost use Rattle.spk_edge.specs.Sealing as seal;
 ghost use Rattle.spk_edge.specs.View.{act_view, given_of, given_view, input_view, kept_view, message_view, numbering_view};
 
 use crate::changing::copied;
+use crate::command::orders_of;
 use crate::input::{Act, Input};
 use crate::message::{Given, Out, Published};
 use crate::node::{EdgeNode, Tally};
@@ -234,7 +235,8 @@ impl EdgeNode {
         match act {
             Act::Open => self.tally.phase == Phase::Idle,
             Act::Accepted => self.tally.phase == Phase::Connecting,
-            Act::Stop => self.tally.phase == Phase::Waiting || self.tally.phase == Phase::Born,
+            Act::Stop | Act::Command(_, _) => self.tally.phase == Phase::Waiting
+                || self.tally.phase == Phase::Born,
             Act::Change(_, _) | Act::Device(_, _) | Act::Cut | Act::TurnedAway | Act::Pass => true,
         }
     }
@@ -249,6 +251,10 @@ impl EdgeNode {
             Act::Accepted => self.accepting(input.now),
             Act::Change(alias, value) => self.changing(input.now, alias, value),
             Act::Device(name, up) => self.turning(input.now, name, up),
+            Act::Command(topic, payload) => {
+                let orders = orders_of(self.alloc, &self.config, &self.registry, topic, payload)?;
+                self.obeying(input.now, orders)
+            }
             Act::Stop => Ok(self.leaving()?),
             Act::Cut => Ok(self.cutting()),
             Act::TurnedAway => Ok(self.turned_away()),
