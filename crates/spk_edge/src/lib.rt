@@ -15,6 +15,8 @@ mod message;
 mod node;
 mod plan;
 mod sealing;
+#[cfg(test)]
+mod tests;
 mod texts;
 
 pub use config::{EdgeConfig, Numbering, Record};
