@@ -213,48 +213,58 @@ fn a_writer_that_fails_makes_the_status_1(rt: HostRuntime) {
 #[test]
 fn a_fault_is_noted_with_its_place(rt: HostRuntime) {
     let table = [
-        ("show", "0805120b", "Truncated in the field at byte 2 of 4"),
-        ("show", "12ff01", "Truncated in the field at byte 0 of 3"),
+        (
+            "show",
+            "0805120b",
+            "sparkplug: Truncated in the field at byte 2 of 4\n",
+        ),
+        (
+            "show",
+            "12ff01",
+            "sparkplug: Truncated in the field at byte 0 of 3\n",
+        ),
         (
             "show",
             "080512040a02c328",
-            "NotText in the field at byte 4 of 8",
+            "sparkplug: NotText in the field at byte 4 of 8\n",
         ),
         (
             "show",
             "08051207200152020a0000",
-            "FieldZero in the field at byte 10 of 11",
+            "sparkplug: FieldZero in the field at byte 10 of 11\n",
         ),
         (
             "show",
             "88800005120300017a",
-            "FieldZero in the field at byte 6 of 9",
+            "sparkplug: FieldZero in the field at byte 6 of 9\n",
         ),
         (
             "show",
             "0d000000000900000000000000000b0000",
-            "Group in the field at byte 14 of 17",
+            "sparkplug: Group in the field at byte 14 of 17\n",
         ),
-        ("packets", "c000e0", "More in the packet at byte 2 of 3"),
+        (
+            "packets",
+            "c000e0",
+            "sparkplug: More in the packet at byte 2 of 3\n",
+        ),
         (
             "packets",
             "c000e00000",
-            "BadType in the packet at byte 4 of 5",
+            "sparkplug: BadType in the packet at byte 4 of 5\n",
         ),
-        ("packets", "36", "BadFlags in the packet at byte 0 of 1"),
+        (
+            "packets",
+            "36",
+            "sparkplug: BadFlags in the packet at byte 0 of 1\n",
+        ),
     ];
     for (command, digits, place) in table {
         let words = ["sparkplug", command, digits];
         let (notes, held) = noted(&rt, &words);
         let (whole, _status) = printed(&rt, &words);
         assert_eq!(rt; held, whole, "of {digits}");
-        assert!(rt; notes.starts_with(b"sparkplug: "), "of {digits}");
-        assert_eq!(rt;
-            &notes[11..notes.len().saturating_sub(1)],
-            place.as_bytes(),
-            "of {digits}"
-        );
-        assert!(rt; notes.ends_with(b"\n"), "of {digits}");
+        assert_eq!(rt; notes.as_slice(), place.as_bytes(), "of {digits}");
     }
     for words in [
         ["sparkplug", "show", "0805"],
