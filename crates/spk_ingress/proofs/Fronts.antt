@@ -1,5 +1,5 @@
 -- What the packet reader answers of bytes that are one packet.
-use Rattle.std.proofs.Common.{◌≡◌, ℕ, ◌≤◌, List, length, refl, sym, ◌∙◌, ap, arith, take, Result, Ok, Err, subst}
+use Rattle.std.proofs.Common.{◌≡◌, ℕ, ◌<◌, ◌≤◌, List, length, refl, sym, ◌∙◌, ap, arith, take, Result, Ok, Err, subst}
 use Rattle.std.proofs.Math.Seq.{take-length}
 use Rattle.spk_packets.specs.Message.{Message}
 use Rattle.spk_packets.specs.Grammar.{Spells}
@@ -16,8 +16,8 @@ spells_whole bytes p s = subst (λ xs. Spells xs p) (sym (take-length bytes)) s
 pub whole_view : (bytes : List ℕ) (p : Message) (packet : Packet) (n : ℕ) → Spells bytes p → Gives front_view (Ok (packet, n)) (Ok (p, length bytes)) → Spells bytes (view packet)
 whole_view bytes p packet n s g = (let e : (p, length bytes) ≡ front_view (packet, n) = cc in subst (λ q. Spells bytes q) (ap (λ (y : Message × ℕ). y.0) e) s)
 
-pub whole_count : (bytes : List ℕ) (p : Message) (packet : Packet) (n : ℕ) → Gives front_view (Ok (packet, n)) (Ok (p, length bytes)) → n ≡ length bytes
-whole_count bytes p packet n g = (let e : (p, length bytes) ≡ front_view (packet, n) = cc in sym (ap (λ (y : Message × ℕ). y.1) e))
+pub front_count : (p : Message) (packet : Packet) (m n : ℕ) → Gives front_view (Ok (packet, m)) (Ok (p, n)) → m ≡ n
+front_count p packet m n g = (let e : (p, n) ≡ front_view (packet, m) = cc in sym (ap (λ (y : Message × ℕ). y.1) e))
 
 -- where there is an answer, want of memory alone may stand in its place
 pub memory_alone : (e : PacketFault) (y : Message × ℕ) → Fails e (Ok y) → e ≡ NoMemory
@@ -31,3 +31,7 @@ memory_alone BadBody y f = absurd (cc)
 memory_alone TooLarge y f = absurd (cc)
 memory_alone QosTwo y f = absurd (cc)
 memory_alone BadLevel y f = absurd (cc)
+
+-- a packet has at least one byte
+pub some_byte : (bytes : List ℕ) (p : Message) → Spells bytes p → 0 < length bytes
+some_byte bytes p s = rw s.parts (omega arith)

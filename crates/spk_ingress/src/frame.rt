@@ -38,6 +38,29 @@ impl Whole {
         self.bytes.as_slice()
     }
 
+    /// The packet at the front of the bytes, copied. More may follow. Refused as the packet reader refuses the bytes,
+    /// or for want of memory.
+    pub fn front(alloc: Global, bytes: &[u8]) -> Result<Whole, PacketFault>
+        ensures front { IfOk result (λ w. take (length w) bytes.now ≡ w) }
+        ensures one { IfOk result (λ w. IsOnePacket w × (0 < length w) × (length w ≤ length bytes.now)) }
+        ensures refused { IfErr result (λ e. IsNamed e (first_of (refusals bytes.now))) }
+        ensures only { (n : ℕ) → n ≤ length bytes.now → IsOnePacket (take n bytes.now) → IfErr result (λ e. e ≡ PacketFault.NoMemory) }
+    {
+        let count = match count_of(alloc, bytes) {
+            Ok(count) => count,
+            Err(fault) => return Err(fault),
+        };
+        let copy = Vec::from_slice(alloc, &bytes[..count])?;
+        Ok(Whole { bytes: copy })
+    }
+
+    /// How many bytes there are.
+    pub fn len(&self) -> usize
+        ensures { result ≡ length self.now }
+    {
+        self.bytes.len()
+    }
+
     /// The bytes, given back.
     pub fn into_vec(self) -> Vec<u8>
         ensures { result.items ≡ self }
@@ -60,8 +83,8 @@ impl Whole {
 /// How many bytes the packet at the front takes.
 fn count_of(alloc: Global, bytes: &[u8]) -> Result<usize, PacketFault>
     ensures found { IfOk result (λ n. (n ≤ length bytes.now) × (p : packets.Message) × Spells (take n bytes.now) p) }
-    ensures whole { (p : packets.Message) → Spells bytes.now p → IfOk result (λ n. n ≡ length bytes.now) }
-    ensures memory { (p : packets.Message) → Spells bytes.now p → IfErr result (λ e. e ≡ PacketFault.NoMemory) }
+    ensures front { (p : packets.Message) (n : ℕ) → n ≤ length bytes.now → Spells (take n bytes.now) p → IfOk result (λ m. m ≡ n) }
+    ensures memory { (p : packets.Message) (n : ℕ) → n ≤ length bytes.now → Spells (take n bytes.now) p → IfErr result (λ e. e ≡ PacketFault.NoMemory) }
     ensures refused { IfErr result (λ e. IsNamed e (first_of (refusals bytes.now))) }
 {
     match decode(alloc, bytes) {
