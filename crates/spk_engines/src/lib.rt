@@ -5,7 +5,10 @@
 mod device;
 mod fault;
 mod reading;
+mod writing;
 
 pub use device::Failures;
 pub use fault::EngineFault;
+pub use reading::read_frames;
+pub use writing::write_items;
 

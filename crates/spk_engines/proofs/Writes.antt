@@ -1,0 +1,50 @@
+-- Items that are written one behind the other.
+use Rattle.std.proofs.Common.{◌≡◌, ℕ, List, [], ◌∷◌, ◌++◌, Option, Some, None, refl, sym, ◌∙◌, ap, subst}
+use Rattle.std.specs.List.{flat_map}
+use Rattle.std.proofs.lemmas.List.{append_assoc, append-nil}
+use Rattle.std.specs.Io.KnownBytes.{Appends}
+use Rattle.spk_rings.specs.declared.item.Item.{Item}
+use Rattle.spk_rings.specs.declared.inlet.Inlet.{Inlet}
+use Rattle.spk_rings.specs.Ring.{SameInlet}
+use Rattle.spk_engines.specs.Writing.{Writes, bytes_of}
+
+pub bytes_end : (items : List Item) (i : Item) → bytes_of (items ++ i ∷ []) ≡ bytes_of items ++ i.bytes
+bytes_end [] i = append-nil i.bytes
+bytes_end (x ∷ items) i = ap (λ l. x.bytes ++ l) (bytes_end items i) ∙ sym (append_assoc x.bytes (bytes_of items) i.bytes)
+
+pub appends_then : (a b c : Option (List ℕ)) (xs ys : List ℕ) → Appends a b xs → Appends b c ys → Appends a c (xs ++ ys)
+appends_then None b c xs ys f g = tt
+appends_then (Some l) None c xs ys f g = absurd f
+appends_then (Some l) (Some m) None xs ys f g = absurd g
+appends_then (Some l) (Some m) (Some n) xs ys f g = g ∙ ap (λ k. k ++ ys) f ∙ append_assoc l xs ys
+
+pub appends_none : (a : Option (List ℕ)) → Appends a a []
+appends_none None = tt
+appends_none (Some l) = sym (append-nil l)
+
+-- nothing was taken yet
+pub writes_none : (a : Option (List ℕ)) (t : List Item) → Writes a a t t []
+writes_none a t = record { items = []; bytes = []; took = sym (append-nil t); parts = refl; wrote = appends_none a }
+
+-- more of the same items was written
+pub writes_more : (a b c : Option (List ℕ)) (t u : List Item) (rest left bytes : List ℕ) → Writes a b t u rest → bytes ++ left ≡ rest → Appends b c bytes → Writes a c t u left
+writes_more a b c t u rest left bytes w e g = record {
+  items = w.items;
+  bytes = w.bytes ++ bytes;
+  took = w.took;
+  parts = append_assoc w.bytes bytes left ∙ ap (λ l. w.bytes ++ l) e ∙ w.parts;
+  wrote = appends_then a b c w.bytes bytes w.wrote g;
+}
+
+-- one item more was taken
+pub writes_item : (a b : Option (List ℕ)) (t u v : List Item) (i : Item) → Writes a b t u [] → v ≡ u ++ i ∷ [] → Writes a b t v i.bytes
+writes_item a b t u v i w e = record {
+  items = w.items ++ i ∷ [];
+  bytes = w.bytes;
+  took = e ∙ ap (λ l. l ++ i ∷ []) w.took ∙ append_assoc t w.items (i ∷ []);
+  parts = ap (λ l. l ++ i.bytes) (sym (append-nil w.bytes) ∙ w.parts) ∙ sym (bytes_end w.items i);
+  wrote = w.wrote;
+}
+
+pub same_then : (a b c : Inlet) → SameInlet a b → SameInlet b c → SameInlet a c
+same_then a b c s t = (t.0 ∙ s.0, t.1 ∙ s.1, t.2 ∙ s.2, t.3 ∙ s.3)
