@@ -7,7 +7,7 @@ use Rattle.std.specs.Io.KnownBytes.{Consumes, Keeps, IsAtEnd}
 use Rattle.spk_ingress.specs.Frame.{IsOnePacket}
 use Rattle.spk_ingress.specs.declared.frame.Frame.{Frame}
 use Rattle.spk_ingress.specs.declared.frame.Frame.TheVariants as frame
-use Rattle.spk_engines.specs.Reading.{AllPackets, Cuts, Reads, WantsMore, Ends, IsWhole, IsPart, IsFront, IsPiece, TakesIn}
+use Rattle.spk_engines.specs.Reading.{AllPackets, Cuts, Reads, WantsMore, Ends, IsWhole, IsPart, IsFront, IsPiece}
 use Rattle.spk_packets.specs.declared.fault.PacketFault.{PacketFault}
 use Rattle.spk_packets.specs.Fault.{first_of}
 use Rattle.spk_packets.specs.Refusals.{refusals}

@@ -5,10 +5,11 @@
 mod device;
 mod fault;
 mod reading;
+#[cfg(test)]
+mod tests;
 mod writing;
 
 pub use device::Failures;
 pub use fault::EngineFault;
 pub use reading::read_frames;
 pub use writing::write_items;
-

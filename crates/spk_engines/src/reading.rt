@@ -199,7 +199,14 @@ pub fn read_frames<R: Wait, S: Read + Failures>(
         if count == 0 {
             return end(rt, ingress, pass, Frame::Cut);
         }
-        match take_in(rt, alloc, ingress, pass, &mut waiting, front_of(piece.as_slice(), count)) {
+        match take_in(
+            rt,
+            alloc,
+            ingress,
+            pass,
+            &mut waiting,
+            front_of(piece.as_slice(), count),
+        ) {
             Ok(None) => {}
             Ok(Some(fault)) => return end(rt, ingress, pass, Frame::Fault(fault)),
             Err(fault) => return Err(fault),

@@ -1,8 +1,7 @@
-use Rattle.std.proofs.Common.{◌≡◌, ◌<◌, ◌∙◌, sym, ap, refl, subst, arith, Some, None, take, ◌++◌, List, ℕ, Option, length}
+use Rattle.std.proofs.Common.{◌≡◌, ◌<◌, ◌∙◌, sym, ap, refl, subst, arith, Some, None, take, ◌++◌, length}
 use Rattle.spk_ingress.specs.Passes.{frames_put}
-use Rattle.spk_ingress.specs.declared.frame.Frame.{Frame}
 use Rattle.spk_ingress.specs.declared.frame.Frame.TheVariants as frame
-use Rattle.spk_engines.specs.Reading.{Reads, IsPiece, TakesIn, Cuts}
+use Rattle.spk_engines.specs.Reading.{Reads, IsPiece, TakesIn}
 use Rattle.spk_engines.proofs.Streams.{reads_none, wants_start, reads_end, reads_piece, taken_front, whole_end, part_end, cut_ends, fault_ends}
 use Rattle.spk_engines.proofs.reading.read_frames.Goals as goal
 
@@ -20,7 +19,7 @@ loop-init g c = record {
 pub returns-then-count-eq0-clause-whole : goal.returns-then-count-eq0-clause-whole
 returns-then-count-eq0-clause-whole g c =
     let piece : IsPiece (g.S.Read.remaining c.loop.reader) (g.S.Read.remaining c.read_piece.new.reader) c.read_piece.new.piece.items (Some c.in-Ok-Some.count) =
-        subst (IsPiece (g.S.Read.remaining c.loop.reader) (g.S.Read.remaining c.read_piece.new.reader) c.read_piece.new.piece.items) c.in-Ok-Some.field-0-is c.in-Ok-Some.ensures.piece in
+    subst (IsPiece (g.S.Read.remaining c.loop.reader) (g.S.Read.remaining c.read_piece.new.reader) c.read_piece.new.piece.items) c.in-Ok-Some.field-0-is c.in-Ok-Some.ensures.piece in
     whole_end (g.S.Read.remaining c.args.reader.now) (g.S.Read.remaining c.read_piece.new.reader) c.loop.waiting.items (frames_put c.args.pass.now) (frames_put c.loop.pass) (frames_put c.end.new.pass) frame.Cut c.end.result
     (reads_end (g.S.Read.remaining c.args.reader.now) (g.S.Read.remaining c.loop.reader) (g.S.Read.remaining c.read_piece.new.reader) c.loop.waiting.items c.read_piece.new.piece.items c.in-Ok-Some.count (frames_put c.args.pass.now) (frames_put c.loop.pass) c.loop.invariant.reads piece c.if-count-eq0.true)
     (cut_ends (g.S.Read.remaining c.read_piece.new.reader) c.loop.waiting.items (piece.2 c.if-count-eq0.true) c.loop.invariant.wants)
@@ -29,7 +28,7 @@ returns-then-count-eq0-clause-whole g c =
 pub returns-then-count-eq0-clause-part : goal.returns-then-count-eq0-clause-part
 returns-then-count-eq0-clause-part g c =
     let piece : IsPiece (g.S.Read.remaining c.loop.reader) (g.S.Read.remaining c.read_piece.new.reader) c.read_piece.new.piece.items (Some c.in-Ok-Some.count) =
-        subst (IsPiece (g.S.Read.remaining c.loop.reader) (g.S.Read.remaining c.read_piece.new.reader) c.read_piece.new.piece.items) c.in-Ok-Some.field-0-is c.in-Ok-Some.ensures.piece in
+    subst (IsPiece (g.S.Read.remaining c.loop.reader) (g.S.Read.remaining c.read_piece.new.reader) c.read_piece.new.piece.items) c.in-Ok-Some.field-0-is c.in-Ok-Some.ensures.piece in
     part_end (g.S.Read.remaining c.args.reader.now) (g.S.Read.remaining c.read_piece.new.reader) c.loop.waiting.items (frames_put c.args.pass.now) (frames_put c.loop.pass) (frames_put c.end.new.pass) c.end.result
     (reads_end (g.S.Read.remaining c.args.reader.now) (g.S.Read.remaining c.loop.reader) (g.S.Read.remaining c.read_piece.new.reader) c.loop.waiting.items c.read_piece.new.piece.items c.in-Ok-Some.count (frames_put c.args.pass.now) (frames_put c.loop.pass) c.loop.invariant.reads piece c.if-count-eq0.true)
     c.end.ensures.closed
@@ -37,10 +36,10 @@ returns-then-count-eq0-clause-part g c =
 pub returns-in-Ok-Some-take_in-clause-whole : goal.returns-in-Ok-Some-take_in-clause-whole
 returns-in-Ok-Some-take_in-clause-whole g c =
     let piece : IsPiece (g.S.Read.remaining c.loop.reader) (g.S.Read.remaining c.read_piece.new.reader) c.read_piece.new.piece.items (Some c.in-Ok-Some.count) =
-        subst (IsPiece (g.S.Read.remaining c.loop.reader) (g.S.Read.remaining c.read_piece.new.reader) c.read_piece.new.piece.items) c.in-Ok-Some.field-0-is c.in-Ok-Some.ensures.piece in
+    subst (IsPiece (g.S.Read.remaining c.loop.reader) (g.S.Read.remaining c.read_piece.new.reader) c.read_piece.new.piece.items) c.in-Ok-Some.field-0-is c.in-Ok-Some.ensures.piece in
     let seen : c.front_of.result.now ≡ take c.in-Ok-Some.count c.read_piece.new.piece.items = c.front_of.ensures ∙ ap (λ l. take c.in-Ok-Some.count l) c.as_slice.ensures.value in
     let taken : TakesIn (Some c.in-Ok-Some-take_in.fault) (c.loop.waiting.items ++ c.front_of.result.now) c.take_in.new.waiting.items (frames_put c.loop.pass) (frames_put c.take_in.new.pass) =
-        subst (λ f. TakesIn f (c.loop.waiting.items ++ c.front_of.result.now) c.take_in.new.waiting.items (frames_put c.loop.pass) (frames_put c.take_in.new.pass)) c.in-Ok-Some-take_in.field-0-is c.in-Ok-Some-take_in.ensures.ok in
+    subst (λ f. TakesIn f (c.loop.waiting.items ++ c.front_of.result.now) c.take_in.new.waiting.items (frames_put c.loop.pass) (frames_put c.take_in.new.pass)) c.in-Ok-Some-take_in.field-0-is c.in-Ok-Some-take_in.ensures.ok in
     whole_end (g.S.Read.remaining c.args.reader.now) (g.S.Read.remaining c.read_piece.new.reader) c.take_in.new.waiting.items (frames_put c.args.pass.now) (frames_put c.take_in.new.pass) (frames_put c.end-in-Ok-Some-take_in.new.pass) (frame.Fault c.in-Ok-Some-take_in.fault) c.end-in-Ok-Some-take_in.result
     (reads_piece (g.S.Read.remaining c.args.reader.now) (g.S.Read.remaining c.loop.reader) (g.S.Read.remaining c.read_piece.new.reader) c.loop.waiting.items c.read_piece.new.piece.items c.take_in.new.waiting.items c.in-Ok-Some.count (frames_put c.args.pass.now) (frames_put c.loop.pass) (frames_put c.take_in.new.pass) c.loop.invariant.reads piece
     (taken_front c.read_piece.new.piece.items c.in-Ok-Some.count c.loop.waiting.items c.take_in.new.waiting.items (frames_put c.loop.pass) (frames_put c.take_in.new.pass) c.front_of.result.now seen taken.0))
@@ -50,10 +49,10 @@ returns-in-Ok-Some-take_in-clause-whole g c =
 pub returns-in-Ok-Some-take_in-clause-part : goal.returns-in-Ok-Some-take_in-clause-part
 returns-in-Ok-Some-take_in-clause-part g c =
     let piece : IsPiece (g.S.Read.remaining c.loop.reader) (g.S.Read.remaining c.read_piece.new.reader) c.read_piece.new.piece.items (Some c.in-Ok-Some.count) =
-        subst (IsPiece (g.S.Read.remaining c.loop.reader) (g.S.Read.remaining c.read_piece.new.reader) c.read_piece.new.piece.items) c.in-Ok-Some.field-0-is c.in-Ok-Some.ensures.piece in
+    subst (IsPiece (g.S.Read.remaining c.loop.reader) (g.S.Read.remaining c.read_piece.new.reader) c.read_piece.new.piece.items) c.in-Ok-Some.field-0-is c.in-Ok-Some.ensures.piece in
     let seen : c.front_of.result.now ≡ take c.in-Ok-Some.count c.read_piece.new.piece.items = c.front_of.ensures ∙ ap (λ l. take c.in-Ok-Some.count l) c.as_slice.ensures.value in
     let taken : TakesIn (Some c.in-Ok-Some-take_in.fault) (c.loop.waiting.items ++ c.front_of.result.now) c.take_in.new.waiting.items (frames_put c.loop.pass) (frames_put c.take_in.new.pass) =
-        subst (λ f. TakesIn f (c.loop.waiting.items ++ c.front_of.result.now) c.take_in.new.waiting.items (frames_put c.loop.pass) (frames_put c.take_in.new.pass)) c.in-Ok-Some-take_in.field-0-is c.in-Ok-Some-take_in.ensures.ok in
+    subst (λ f. TakesIn f (c.loop.waiting.items ++ c.front_of.result.now) c.take_in.new.waiting.items (frames_put c.loop.pass) (frames_put c.take_in.new.pass)) c.in-Ok-Some-take_in.field-0-is c.in-Ok-Some-take_in.ensures.ok in
     part_end (g.S.Read.remaining c.args.reader.now) (g.S.Read.remaining c.read_piece.new.reader) c.take_in.new.waiting.items (frames_put c.args.pass.now) (frames_put c.take_in.new.pass) (frames_put c.end-in-Ok-Some-take_in.new.pass) c.end-in-Ok-Some-take_in.result
     (reads_piece (g.S.Read.remaining c.args.reader.now) (g.S.Read.remaining c.loop.reader) (g.S.Read.remaining c.read_piece.new.reader) c.loop.waiting.items c.read_piece.new.piece.items c.take_in.new.waiting.items c.in-Ok-Some.count (frames_put c.args.pass.now) (frames_put c.loop.pass) (frames_put c.take_in.new.pass) c.loop.invariant.reads piece
     (taken_front c.read_piece.new.piece.items c.in-Ok-Some.count c.loop.waiting.items c.take_in.new.waiting.items (frames_put c.loop.pass) (frames_put c.take_in.new.pass) c.front_of.result.now seen taken.0))
@@ -62,25 +61,26 @@ returns-in-Ok-Some-take_in-clause-part g c =
 pub returns-in-Err-take_in-clause-part : goal.returns-in-Err-take_in-clause-part
 returns-in-Err-take_in-clause-part g c =
     let piece : IsPiece (g.S.Read.remaining c.loop.reader) (g.S.Read.remaining c.read_piece.new.reader) c.read_piece.new.piece.items (Some c.in-Ok-Some.count) =
-        subst (IsPiece (g.S.Read.remaining c.loop.reader) (g.S.Read.remaining c.read_piece.new.reader) c.read_piece.new.piece.items) c.in-Ok-Some.field-0-is c.in-Ok-Some.ensures.piece in
-    let seen : c.front_of.result.now ≡ take c.in-Ok-Some.count c.read_piece.new.piece.items = c.front_of.ensures ∙ ap (λ l. take c.in-Ok-Some.count l) c.as_slice.ensures.value in
-    (c.in-Err-take_in.ensures.part.0,
-    (reads_piece (g.S.Read.remaining c.args.reader.now) (g.S.Read.remaining c.loop.reader) (g.S.Read.remaining c.read_piece.new.reader) c.loop.waiting.items c.read_piece.new.piece.items c.in-Err-take_in.ensures.part.0 c.in-Ok-Some.count (frames_put c.args.pass.now) (frames_put c.loop.pass) (frames_put c.take_in.new.pass) c.loop.invariant.reads piece
-    (taken_front c.read_piece.new.piece.items c.in-Ok-Some.count c.loop.waiting.items c.in-Err-take_in.ensures.part.0 (frames_put c.loop.pass) (frames_put c.take_in.new.pass) c.front_of.result.now seen c.in-Err-take_in.ensures.part.1)))
+    subst (IsPiece (g.S.Read.remaining c.loop.reader) (g.S.Read.remaining c.read_piece.new.reader) c.read_piece.new.piece.items) c.in-Ok-Some.field-0-is c.in-Ok-Some.ensures.piece in
+    let seen : c.front_of.result.now ≡ take c.in-Ok-Some.count c.read_piece.new.piece.items = c.front_of.ensures ∙ ap (λ l. take c.in-Ok-Some.count l) c.as_slice.ensures.value in (
+      c.in-Err-take_in.ensures.part.0,
+      (reads_piece (g.S.Read.remaining c.args.reader.now) (g.S.Read.remaining c.loop.reader) (g.S.Read.remaining c.read_piece.new.reader) c.loop.waiting.items c.read_piece.new.piece.items c.in-Err-take_in.ensures.part.0 c.in-Ok-Some.count (frames_put c.args.pass.now) (frames_put c.loop.pass) (frames_put c.take_in.new.pass) c.loop.invariant.reads piece
+          (taken_front c.read_piece.new.piece.items c.in-Ok-Some.count c.loop.waiting.items c.in-Err-take_in.ensures.part.0 (frames_put c.loop.pass) (frames_put c.take_in.new.pass) c.front_of.result.now seen c.in-Err-take_in.ensures.part.1)),
+    )
 
 pub loop-preserved : goal.loop-preserved
 loop-preserved g c =
     let piece : IsPiece (g.S.Read.remaining c.loop.reader) (g.S.Read.remaining c.read_piece.new.reader) c.read_piece.new.piece.items (Some c.in-Ok-Some.count) =
-        subst (IsPiece (g.S.Read.remaining c.loop.reader) (g.S.Read.remaining c.read_piece.new.reader) c.read_piece.new.piece.items) c.in-Ok-Some.field-0-is c.in-Ok-Some.ensures.piece in
+    subst (IsPiece (g.S.Read.remaining c.loop.reader) (g.S.Read.remaining c.read_piece.new.reader) c.read_piece.new.piece.items) c.in-Ok-Some.field-0-is c.in-Ok-Some.ensures.piece in
     let seen : c.front_of.result.now ≡ take c.in-Ok-Some.count c.read_piece.new.piece.items = c.front_of.ensures ∙ ap (λ l. take c.in-Ok-Some.count l) c.as_slice.ensures.value in
     let taken : TakesIn None (c.loop.waiting.items ++ c.front_of.result.now) c.take_in.new.waiting.items (frames_put c.loop.pass) (frames_put c.take_in.new.pass) =
-        subst (λ f. TakesIn f (c.loop.waiting.items ++ c.front_of.result.now) c.take_in.new.waiting.items (frames_put c.loop.pass) (frames_put c.take_in.new.pass)) c.in-Ok-None-take_in.field-0-is c.in-Ok-None-take_in.ensures.ok in
+    subst (λ f. TakesIn f (c.loop.waiting.items ++ c.front_of.result.now) c.take_in.new.waiting.items (frames_put c.loop.pass) (frames_put c.take_in.new.pass)) c.in-Ok-None-take_in.field-0-is c.in-Ok-None-take_in.ensures.ok in
     record {
       into = c.in-Ok-None-take_in.ensures.pass.0;
       sender = c.in-Ok-None-take_in.ensures.pass.1 ∙ c.loop.invariant.sender;
       room = (let sized : length c.read_piece.new.piece.items ≡ length c.loop.piece.items = c.in-Ok-Some.ensures.len in let some : 0 < length c.loop.piece.items = c.loop.invariant.room in omega arith);
       before = c.loop.invariant.before;
       reads = (reads_piece (g.S.Read.remaining c.args.reader.now) (g.S.Read.remaining c.loop.reader) (g.S.Read.remaining c.read_piece.new.reader) c.loop.waiting.items c.read_piece.new.piece.items c.take_in.new.waiting.items c.in-Ok-Some.count (frames_put c.args.pass.now) (frames_put c.loop.pass) (frames_put c.take_in.new.pass) c.loop.invariant.reads piece
-    (taken_front c.read_piece.new.piece.items c.in-Ok-Some.count c.loop.waiting.items c.take_in.new.waiting.items (frames_put c.loop.pass) (frames_put c.take_in.new.pass) c.front_of.result.now seen taken.0));
+          (taken_front c.read_piece.new.piece.items c.in-Ok-Some.count c.loop.waiting.items c.take_in.new.waiting.items (frames_put c.loop.pass) (frames_put c.take_in.new.pass) c.front_of.result.now seen taken.0));
       wants = taken.1;
     }

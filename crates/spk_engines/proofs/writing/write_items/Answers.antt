@@ -1,8 +1,6 @@
-use Rattle.std.proofs.Common.{◌≡◌, ◌∙◌, sym, refl, subst, ap, Some, None, List, ℕ, [], arith, Option}
+use Rattle.std.proofs.Common.{◌≡◌, ◌∙◌, sym, subst, Some, [], arith}
 use Rattle.spk_rings.specs.Ring.{SameInlet, popped}
-use Rattle.spk_rings.specs.declared.inlet.Inlet.{Inlet}
 use Rattle.spk_engines.specs.Writing.{Writes, rest_of, IsWithin}
-use Rattle.spk_engines.specs.declared.writing.Underway.{Underway}
 use Rattle.spk_engines.proofs.Writes.{writes_more, writes_item, same_then}
 use Rattle.spk_engines.proofs.writing.write_items.Goals as goal
 use Rattle.spk_engines.proofs.writing.write_items.Goals.{in-Some+in-Ok, in-None+in-Some-next, in-None+in-None-next+else-gone}
@@ -10,36 +8,36 @@ use Rattle.spk_engines.proofs.writing.write_items.Goals.{in-Some+in-Ok, in-None+
 pub loop-preserved : goal.loop-preserved
 loop-preserved g c = elim c.match-current.branch [
   | in-Some+in-Ok w ↦ record {
-      same = subst (SameInlet c.args.inlet.now) (sym w.inlet-is) c.loop.invariant.same;
-      before = c.loop.invariant.before;
-      within = subst IsWithin (sym w.current-is) w.in-Ok.ensures.within;
-      writes = rw (w.writer-is, w.inlet-is, w.current-is)
+    same = subst (SameInlet c.args.inlet.now) (sym w.inlet-is) c.loop.invariant.same;
+    before = c.loop.invariant.before;
+    within = subst IsWithin (sym w.current-is) w.in-Ok.ensures.within;
+    writes = rw (w.writer-is, w.inlet-is, w.current-is)
         (writes_more (g.W.Write.contents c.args.writer.now) (g.W.Write.contents c.loop.writer) (g.W.Write.contents w.write_some.new.writer) (popped c.args.inlet.now) (popped c.loop.inlet)
-          (rest_of (Some w.in-Some.underway)) (rest_of w.in-Ok.next) w.in-Ok.ensures.wrote.0
-          (subst (λ u. Writes (g.W.Write.contents c.args.writer.now) (g.W.Write.contents c.loop.writer) (popped c.args.inlet.now) (popped c.loop.inlet) (rest_of u)) w.in-Some.is c.loop.invariant.writes)
-          w.in-Ok.ensures.wrote.1 w.in-Ok.ensures.wrote.2);
-    }
+        (rest_of (Some w.in-Some.underway)) (rest_of w.in-Ok.next) w.in-Ok.ensures.wrote.0
+        (subst (λ u. Writes (g.W.Write.contents c.args.writer.now) (g.W.Write.contents c.loop.writer) (popped c.args.inlet.now) (popped c.loop.inlet) (rest_of u)) w.in-Some.is c.loop.invariant.writes)
+        w.in-Ok.ensures.wrote.1 w.in-Ok.ensures.wrote.2);
+  }
   | in-None+in-Some-next w ↦
-    let before : Writes (g.W.Write.contents c.args.writer.now) (g.W.Write.contents c.loop.writer) (popped c.args.inlet.now) (popped c.loop.inlet) [] =
-        subst (λ u. Writes (g.W.Write.contents c.args.writer.now) (g.W.Write.contents c.loop.writer) (popped c.args.inlet.now) (popped c.loop.inlet) (rest_of u)) w.in-None.is c.loop.invariant.writes in
-    record {
-      same = subst (SameInlet c.args.inlet.now) (sym w.inlet-is) (same_then c.args.inlet.now c.loop.inlet w.next.new.self c.loop.invariant.same (same_then c.loop.inlet w.gone-gone.new.self w.next.new.self w.gone-gone.ensures.end w.next.ensures.end));
-      before = c.loop.invariant.before;
-      within = subst IsWithin (sym w.current-is) (omega arith);
-      writes = rw (w.writer-is, w.inlet-is, w.current-is)
-        (writes_item (g.W.Write.contents c.args.writer.now) (g.W.Write.contents c.loop.writer) (popped c.args.inlet.now) (popped w.gone-gone.new.self) (popped w.next.new.self) w.in-Some-next.item
-          (subst (λ t. Writes (g.W.Write.contents c.args.writer.now) (g.W.Write.contents c.loop.writer) (popped c.args.inlet.now) t []) (sym w.gone-gone.ensures.same) before)
-          w.in-Some-next.ensures.some);
-    }
+      let before : Writes (g.W.Write.contents c.args.writer.now) (g.W.Write.contents c.loop.writer) (popped c.args.inlet.now) (popped c.loop.inlet) [] =
+      subst (λ u. Writes (g.W.Write.contents c.args.writer.now) (g.W.Write.contents c.loop.writer) (popped c.args.inlet.now) (popped c.loop.inlet) (rest_of u)) w.in-None.is c.loop.invariant.writes in
+      record {
+        same = subst (SameInlet c.args.inlet.now) (sym w.inlet-is) (same_then c.args.inlet.now c.loop.inlet w.next.new.self c.loop.invariant.same (same_then c.loop.inlet w.gone-gone.new.self w.next.new.self w.gone-gone.ensures.end w.next.ensures.end));
+        before = c.loop.invariant.before;
+        within = subst IsWithin (sym w.current-is) (omega arith);
+        writes = rw (w.writer-is, w.inlet-is, w.current-is)
+            (writes_item (g.W.Write.contents c.args.writer.now) (g.W.Write.contents c.loop.writer) (popped c.args.inlet.now) (popped w.gone-gone.new.self) (popped w.next.new.self) w.in-Some-next.item
+            (subst (λ t. Writes (g.W.Write.contents c.args.writer.now) (g.W.Write.contents c.loop.writer) (popped c.args.inlet.now) t []) (sym w.gone-gone.ensures.same) before)
+            w.in-Some-next.ensures.some);
+      }
   | in-None+in-None-next+else-gone w ↦
-    let before : Writes (g.W.Write.contents c.args.writer.now) (g.W.Write.contents c.loop.writer) (popped c.args.inlet.now) (popped c.loop.inlet) [] =
-        subst (λ u. Writes (g.W.Write.contents c.args.writer.now) (g.W.Write.contents c.loop.writer) (popped c.args.inlet.now) (popped c.loop.inlet) (rest_of u)) w.in-None.is c.loop.invariant.writes in
-    let stays : popped w.next.new.self ≡ popped c.loop.inlet = (w.next.ensures.none w.in-None-next.is).0 ∙ w.gone-gone.ensures.same in
-    record {
-      same = subst (SameInlet c.args.inlet.now) (sym w.inlet-is) (same_then c.args.inlet.now c.loop.inlet w.next.new.self c.loop.invariant.same (same_then c.loop.inlet w.gone-gone.new.self w.next.new.self w.gone-gone.ensures.end w.next.ensures.end));
-      before = c.loop.invariant.before;
-      within = subst IsWithin (sym w.current-is) tt;
-      writes = rw (w.writer-is, w.inlet-is, w.current-is)
-        (subst (λ t. Writes (g.W.Write.contents c.args.writer.now) (g.W.Write.contents c.loop.writer) (popped c.args.inlet.now) t []) (sym stays) before);
-    }
+      let before : Writes (g.W.Write.contents c.args.writer.now) (g.W.Write.contents c.loop.writer) (popped c.args.inlet.now) (popped c.loop.inlet) [] =
+      subst (λ u. Writes (g.W.Write.contents c.args.writer.now) (g.W.Write.contents c.loop.writer) (popped c.args.inlet.now) (popped c.loop.inlet) (rest_of u)) w.in-None.is c.loop.invariant.writes in
+      let stays : popped w.next.new.self ≡ popped c.loop.inlet = (w.next.ensures.none w.in-None-next.is).0 ∙ w.gone-gone.ensures.same in
+      record {
+        same = subst (SameInlet c.args.inlet.now) (sym w.inlet-is) (same_then c.args.inlet.now c.loop.inlet w.next.new.self c.loop.invariant.same (same_then c.loop.inlet w.gone-gone.new.self w.next.new.self w.gone-gone.ensures.end w.next.ensures.end));
+        before = c.loop.invariant.before;
+        within = subst IsWithin (sym w.current-is) tt;
+        writes = rw (w.writer-is, w.inlet-is, w.current-is)
+            (subst (λ t. Writes (g.W.Write.contents c.args.writer.now) (g.W.Write.contents c.loop.writer) (popped c.args.inlet.now) t []) (sym stays) before);
+      }
 ]
