@@ -1,5 +1,5 @@
 //! Frames from many senders to one taker.
-ghost use Rattle.std.specs.Prelude.{◌≡◌, ◌↔◌, ◌+◌, ◌<◌, ◌≤◌, ℕ, true, false, get_or, [], ◌∷◌, ◌++◌, length, IfOk, IfErr, OnOk, OnErr};
+ghost use Rattle.std.specs.Prelude.{◌≡◌, ◌↔◌, ◌+◌, ◌<◌, ◌≤◌, ℕ, true, false, get_or, [], ◌∷◌, ◌++◌, length, IfOk, IfErr, OnOk, OnErr, IfSome, None};
 ghost use Rattle.spk_ingress.specs.Lanes.{share_of};
 ghost use Rattle.spk_ingress.specs.Passes.{IsCapacity, AreSenders, PutsInto, TakesFrom, ArePasses, AllPutInto, IsSettled, AreLengths, TakesNone, IsMarked, AllTaken, frames_put, frames_taken};
 
@@ -119,6 +119,29 @@ impl Ingress {
             sender,
             number,
             frame,
+        })
+    }
+
+    /// As `take`, but where no frame waits it doesn't wait for one: None. It is None also where no more come. The
+    /// handle to wait is the channel's: it may wait for another call that is at the same place.
+    pub fn take_now<R: Wait>(&self, rt: &R, pass: &mut TakePass) -> Option<Taken>
+        requires { TakesFrom self.now pass.old }
+        ensures pass { TakesFrom self.now pass.new }
+        ensures some { IfSome result (λ t. frames_taken pass.new ≡ frames_taken pass.old ++ (record { sender = t.sender; frame = t.frame }) ∷ []) }
+        ensures sender { IfSome result (λ t. t.sender < self.now.senders) }
+        ensures number { IfSome result (λ t. t.number ≡ length (share_of t.sender (frames_taken pass.old))) }
+        ensures none { result ≡ None → frames_taken pass.new ≡ frames_taken pass.old }
+    {
+        let Ok(message) = pass.end.try_recv_as::<Takes, R>(rt, &mut pass.seat) else {
+            return None;
+        };
+        let sender = message.sender;
+        let before = pass.counts[sender];
+        pass.counts[sender] = before + 1;
+        Some(Taken {
+            sender,
+            number: before,
+            frame: message.frame,
         })
     }
 }
