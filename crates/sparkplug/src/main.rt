@@ -1,8 +1,10 @@
 //! The program `sparkplug`: Sparkplug B payloads and MQTT packets on the command line.
 #![tactic(auto)]
 
+mod broker;
 mod fault;
 mod files;
+mod machine;
 mod packets;
 mod places;
 mod run;
@@ -11,6 +13,7 @@ mod texts;
 mod words;
 
 use files::MachineFiles;
+use std::alloc::{AllocError, Global};
 use std::process::ExitCode;
 use std::{env, io};
 
@@ -21,33 +24,48 @@ mod packets_tests;
 #[cfg(test)]
 mod tests;
 
-/// A run on the machine, and its status.
-fn on_machine(rt: &HostRuntime) -> io::Result<u8> {
-    let given: Vec<String> = match env::args(rt) {
-        Ok(given) => given.collect(rt.alloc())?,
-        Err(error) if error.kind() == io::ErrorKind::InvalidData => {
-            print!(rt; "{}", run::NOT_TEXT)?;
-            return Ok(2);
-        }
-        Err(error) => return Err(error),
-    };
-    let mut words = Vec::new(rt.alloc());
-    for word in &given {
+/// The words that the program was called with, or None where one isn't text.
+fn given_words(rt: &HostRuntime) -> io::Result<Option<Vec<String>>> {
+    match env::args(rt) {
+        Ok(given) => Ok(Some(given.collect(rt.alloc())?)),
+        Err(error) if error.kind() == io::ErrorKind::InvalidData => Ok(None),
+        Err(error) => Err(error),
+    }
+}
+
+/// The same words, lent.
+fn lent(alloc: Global, given: &[String]) -> Result<Vec<&str>, AllocError> {
+    let mut words = Vec::new(alloc);
+    for word in given {
         words.push(word.as_str())?;
     }
-    let mut files = MachineFiles { rt };
-    let mut writer = io::writer(rt);
-    let mut notes = rt.stderr();
-    Ok(run::run_with_notes(rt, &words, &mut files, &mut writer, &mut notes))
+    Ok(words)
+}
+
+/// Says that there was no memory even for the words.
+fn no_memory(rt: &HostRuntime) -> io::Result<u8> {
+    println!(rt; "fault NoMemory (1)")?;
+    Ok(1)
 }
 
 fn main(rt: HostRuntime) -> io::Result<ExitCode> {
-    let status = match on_machine(&rt) {
-        Err(error) if error.kind() == io::ErrorKind::OutOfMemory => {
-            println!(rt; "fault NoMemory (1)")?;
-            1
+    let given = match given_words(&rt) {
+        Ok(Some(given)) => given,
+        Ok(None) => {
+            print!(rt; "{}", run::NOT_TEXT)?;
+            return Ok(ExitCode::from(2));
         }
-        answer => answer?,
+        Err(error) if error.kind() == io::ErrorKind::OutOfMemory => {
+            return Ok(ExitCode::from(no_memory(&rt)?));
+        }
+        Err(error) => return Err(error),
     };
+    let Ok(words) = lent(rt.alloc(), given.as_slice()) else {
+        return Ok(ExitCode::from(no_memory(&rt)?));
+    };
+    let mut files = MachineFiles { rt: &rt };
+    let mut writer = io::writer(&rt);
+    let mut notes = rt.stderr();
+    let status = run::run_with_notes(&rt, words.as_slice(), &mut files, &mut writer, &mut notes);
     Ok(ExitCode::from(status))
 }

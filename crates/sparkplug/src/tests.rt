@@ -1,13 +1,14 @@
 use crate::fixtures::{expect, noted, printed, printed_into};
+use crate::machine::Machine;
 use std::process::Abort;
 
 /// Checks what `show` prints of these digits, with status 0.
-fn shows(rt: &(impl Abort + AllocGlobal), digits: &str, text: &str) {
+fn shows(rt: &(impl Abort + Machine), digits: &str, text: &str) {
     expect(rt, &["sparkplug", "show", digits], text, 0);
 }
 
 /// Checks the fault of these digits, with status 1.
-fn faults(rt: &(impl Abort + AllocGlobal), digits: &str, text: &str) {
+fn faults(rt: &(impl Abort + Machine), digits: &str, text: &str) {
     expect(rt, &["sparkplug", "show", digits], text, 1);
 }
 

@@ -1,6 +1,6 @@
 //! The command line.
 
-use clap::{Arg, ArgAction, Command};
+use clap::{Arg, ArgAction, Command, value_parser};
 use std::alloc::{AllocError, Global};
 
 const ABOUT: &str = "Sparkplug B: what payloads and packets say, over decoders that are proved";
@@ -33,6 +33,21 @@ prints
 
 A packet identifier that isn't there is `-`. A message is `hex:` and digits. After a PUBLISH on a topic of
 Sparkplug stand `sparkplug`, its kind and its names. What stands before a fault is printed first.
+
+Status: 0 is done; 1 is a fault, printed as `fault NAME (number)`, or output that could not be written;
+2 is a command line that isn't one. docs/FAULTS.md tells each fault by its number.";
+
+const SERVE: &str = "\
+Example, with mosquitto's clients in two more terminals:
+  sparkplug serve --port 1883
+  mosquitto_sub -p 1883 -t 'plant/#'
+  mosquitto_pub -p 1883 -t plant/a -m 1
+prints
+  listening 1883
+and mosquitto_sub prints 1.
+
+It listens on every address of the machine, without TLS and without passwords; what it holds is lost when it
+is ended. It ends by itself once that many clients have come and gone, and prints `served K`.
 
 Status: 0 is done; 1 is a fault, printed as `fault NAME (number)`, or output that could not be written;
 2 is a command line that isn't one. docs/FAULTS.md tells each fault by its number.";
@@ -75,6 +90,29 @@ fn packets<'a>(alloc: Global) -> Result<Command<'a>, AllocError> {
     )
 }
 
+fn serve<'a>(alloc: Global) -> Result<Command<'a>, AllocError> {
+    let port = Arg::new(alloc, "port")
+        .long("port")
+        .value_name("N")
+        .help("The port that it listens on, 1 to 65535")
+        .required(true)
+        .value_parser(value_parser!(u16).range(1..=65535))
+        .action(ArgAction::Set);
+    let clients = Arg::new(alloc, "clients")
+        .long("clients")
+        .value_name("K")
+        .help("How many clients it serves before it ends, 1 to 1000")
+        .default_value("1000")
+        .value_parser(value_parser!(u16).range(1..=1000))
+        .action(ArgAction::Set);
+    let command = Command::new(alloc, "serve").arg(port)?.arg(clients)?;
+    Ok(
+        command
+            .about("Runs an MQTT 3.1.1 broker (QoS 0 and 1)")
+            .after_help(SERVE),
+    )
+}
+
 /// The commands that there are.
 pub(crate) fn command_line<'a>(alloc: Global) -> Result<Command<'a>, AllocError> {
     let command = Command::new(alloc, "sparkplug")
@@ -85,5 +123,6 @@ pub(crate) fn command_line<'a>(alloc: Global) -> Result<Command<'a>, AllocError>
         .arg_required_else_help(true);
     command
         .subcommand(show(alloc)?)?
-        .subcommand(packets(alloc)?)
+        .subcommand(packets(alloc)?)?
+        .subcommand(serve(alloc)?)
 }

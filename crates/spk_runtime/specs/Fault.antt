@@ -1,0 +1,9 @@
+-- The numbers of the refusals.
+use Rattle.std.specs.Prelude.{ℕ}
+use Rattle.spk_runtime.specs.declared.fault.ServeFault.{ServeFault}
+use Rattle.spk_runtime.specs.declared.fault.ServeFault.TheVariants.{NoMemory, BadPlan, Device}
+
+abbrev pub number_of : ServeFault → ℕ
+number_of NoMemory = 1
+number_of BadPlan = 92
+number_of Device = 96

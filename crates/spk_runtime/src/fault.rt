@@ -1,0 +1,41 @@
+//! The refusals of `serve`.
+ghost use Rattle.std.specs.Prelude.{◌≡◌};
+ghost use Rattle.spk_runtime.specs.Fault.{number_of};
+
+use std::alloc::{AllocError, AllocFailed};
+use thiserror::Error;
+
+/// Why `serve` ended early.
+#[derive(Clone, Copy, Debug, PartialEq, Eq, Error)]
+pub enum ServeFault {
+    /// A growth was refused.
+    #[error("NoMemory")]
+    NoMemory = 1,
+    /// The number of clients isn't 1 to 1,000.
+    #[error("BadPlan")]
+    BadPlan = 92,
+    /// Listening, accepting or the writer failed.
+    #[error("Device")]
+    Device = 96,
+}
+
+impl ServeFault {
+    /// The fault's number.
+    pub fn number(self) -> u32
+        ensures { result ≡ number_of self }
+    {
+        self as u32
+    }
+}
+
+impl From<AllocError> for ServeFault {
+    fn from(_failed: AllocError) -> ServeFault {
+        ServeFault::NoMemory
+    }
+}
+
+impl<T: Drop> From<AllocFailed<T>> for ServeFault {
+    fn from(_failed: AllocFailed<T>) -> ServeFault {
+        ServeFault::NoMemory
+    }
+}
