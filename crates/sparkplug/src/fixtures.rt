@@ -1,8 +1,10 @@
 //! What the tests run the program on: files in memory, and a writer that fails.
 
+use crate::broker::Serves;
 use crate::files::Files;
-use crate::machine::Machine;
 use crate::run::{run, run_with_notes};
+use spk_runtime::ServeFault;
+use std::alloc::Global;
 use std::io::{self, Read, Write};
 use std::process::Abort;
 
@@ -77,6 +79,25 @@ impl Files for Texts {
     }
 }
 
+/// Sockets on which all clients come and go at once, but on port 1, which is in use.
+#[derive(Drop)]
+struct Guests;
+
+impl Serves for Guests {
+    fn serve<W: Write>(
+        &mut self,
+        _alloc: Global,
+        port: u16,
+        clients: usize,
+        out: &mut W,
+    ) -> Result<u32, ServeFault> {
+        if port == 1 || writeln!(out, "listening {port}").is_err() {
+            return Err(ServeFault::Device);
+        }
+        Ok(u32::try_from(clients).unwrap_or(u32::MAX))
+    }
+}
+
 /// A writer that holds what it is given up to `room` bytes, and fails at the next.
 #[derive(Drop)]
 struct Narrow {
@@ -104,7 +125,7 @@ impl Write for Narrow {
 const REFUSED: &[u8; 19] = b"fault NoMemory (1)\n";
 
 /// Room for more than any run here prints, so that no write wants memory. Where memory was refused it is made again.
-fn empty(rt: &(impl Abort + Machine)) -> Vec<u8> {
+fn empty(rt: &(impl Abort + AllocGlobal)) -> Vec<u8> {
     match Vec::with_capacity(rt.alloc(), 8_192) {
         Ok(held) => held,
         Err(_) => Vec::with_capacity(rt.alloc(), 8_192).expect(rt, "memory is there again"),
@@ -112,17 +133,17 @@ fn empty(rt: &(impl Abort + Machine)) -> Vec<u8> {
 }
 
 /// What a writer with this room holds after a run, and the status.
-fn once(rt: &(impl Abort + Machine), words: &[&str], room: usize) -> (Vec<u8>, u8) {
+fn once(rt: &(impl Abort + AllocGlobal), words: &[&str], room: usize) -> (Vec<u8>, u8) {
     let held = empty(rt);
     let mut narrow = Narrow { held, room };
-    let status = run(rt, words, &mut Texts, &mut narrow);
+    let status = run(rt, words, &mut Texts, &mut Guests, &mut narrow);
     let Narrow { held, room: _ } = narrow;
     (held, status)
 }
 
 /// What a run prints, and its status. Where memory was refused, that fault stands behind whole lines of what is
 /// printed, but not behind all of it, and the status is 1; the run is made again.
-pub(crate) fn printed(rt: &(impl Abort + Machine), words: &[&str]) -> (Vec<u8>, u8) {
+pub(crate) fn printed(rt: &(impl Abort + AllocGlobal), words: &[&str]) -> (Vec<u8>, u8) {
     let (held, status) = once(rt, words, usize::MAX);
     if !held.ends_with(REFUSED) {
         return (held, status);
@@ -142,7 +163,7 @@ pub(crate) fn printed(rt: &(impl Abort + Machine), words: &[&str]) -> (Vec<u8>, 
 /// What a writer with this room holds after a run, and the status. Where memory was refused it holds what it has room
 /// for of that fault, and the status is 1; the run is made again.
 pub(crate) fn printed_into(
-    rt: &(impl Abort + Machine),
+    rt: &(impl Abort + AllocGlobal),
     words: &[&str],
     room: usize,
 ) -> (Vec<u8>, u8) {
@@ -156,20 +177,20 @@ pub(crate) fn printed_into(
 }
 
 /// What a run notes, and what it prints. Where memory was refused the run is made again.
-pub(crate) fn noted(rt: &(impl Abort + Machine), words: &[&str]) -> (Vec<u8>, Vec<u8>) {
+pub(crate) fn noted(rt: &(impl Abort + AllocGlobal), words: &[&str]) -> (Vec<u8>, Vec<u8>) {
     let mut notes = empty(rt);
     let mut held = empty(rt);
-    let _status = run_with_notes(rt, words, &mut Texts, &mut held, &mut notes);
+    let _status = run_with_notes(rt, words, &mut Texts, &mut Guests, &mut held, &mut notes);
     if held.ends_with(REFUSED) {
         held.clear();
         notes.clear();
-        let _status = run_with_notes(rt, words, &mut Texts, &mut held, &mut notes);
+        let _status = run_with_notes(rt, words, &mut Texts, &mut Guests, &mut held, &mut notes);
     }
     (notes, held)
 }
 
 /// Checks what a run prints, and its status.
-pub(crate) fn expect(rt: &(impl Abort + Machine), words: &[&str], text: &str, status: u8) {
+pub(crate) fn expect(rt: &(impl Abort + AllocGlobal), words: &[&str], text: &str, status: u8) {
     let (held, answer) = printed(rt, words);
     assert_eq!(rt; held.as_slice(), text.as_bytes(), "of {words:?}");
     assert_eq!(rt; answer, status, "of {words:?}");

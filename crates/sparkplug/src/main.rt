@@ -4,7 +4,6 @@
 mod broker;
 mod fault;
 mod files;
-mod machine;
 mod packets;
 mod places;
 mod run;
@@ -12,6 +11,7 @@ mod show;
 mod texts;
 mod words;
 
+use broker::MachineSockets;
 use files::MachineFiles;
 use std::alloc::{AllocError, Global};
 use std::process::ExitCode;
@@ -64,8 +64,16 @@ fn main(rt: HostRuntime) -> io::Result<ExitCode> {
         return Ok(ExitCode::from(no_memory(&rt)?));
     };
     let mut files = MachineFiles { rt: &rt };
+    let mut sockets = MachineSockets { rt: &rt };
     let mut writer = io::writer(&rt);
     let mut notes = rt.stderr();
-    let status = run::run_with_notes(&rt, words.as_slice(), &mut files, &mut writer, &mut notes);
+    let status = run::run_with_notes(
+        &rt,
+        words.as_slice(),
+        &mut files,
+        &mut sockets,
+        &mut writer,
+        &mut notes,
+    );
     Ok(ExitCode::from(status))
 }

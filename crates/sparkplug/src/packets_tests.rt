@@ -1,9 +1,8 @@
 use crate::fixtures::expect;
-use crate::machine::Machine;
 use std::process::Abort;
 
 /// Checks what `packets` prints of these digits, and its status.
-fn lists(rt: &(impl Abort + Machine), digits: &str, text: &str, status: u8) {
+fn lists(rt: &(impl Abort + AllocGlobal), digits: &str, text: &str, status: u8) {
     expect(rt, &["sparkplug", "packets", digits], text, status);
 }
 

@@ -1,9 +1,8 @@
 //! A run of the program: words in, lines and a status out.
 
-use crate::broker::serve_clients;
+use crate::broker::{Serves, serve_clients};
 use crate::fault::Stop;
 use crate::files::{Files, text_of};
-use crate::machine::Machine;
 use crate::packets::packets;
 use crate::show::show;
 use crate::words::command_line;
@@ -54,14 +53,14 @@ impl Write for Silence {
     }
 }
 
-fn command<R: Machine, F: Files, W: Write, N: Write>(
-    rt: &R,
+fn command<F: Files, S: Serves, W: Write, N: Write>(
+    alloc: Global,
     words: &[&str],
     files: &mut F,
+    sockets: &mut S,
     out: &mut W,
     notes: &mut N,
 ) -> Result<(), Stop> {
-    let alloc = rt.alloc();
     let matches = match command_line(alloc)?.try_get_matches_from(words) {
         Ok(matches) => matches,
         Err(error) => return Err(refusal(alloc, &error)?),
@@ -75,7 +74,7 @@ fn command<R: Machine, F: Files, W: Write, N: Write>(
         return packets(alloc, out, notes, digits.as_str());
     }
     if let Some(given) = matches.subcommand_matches("serve") {
-        return serve_clients(rt, given, out);
+        return serve_clients(alloc, given, sockets, out);
     }
     Ok(())
 }
@@ -96,15 +95,16 @@ fn ending<W: Write>(out: &mut W, stop: Stop) -> io::Result<u8> {
     }
 }
 
-fn buffered<R: Machine, F: Files, W: Write + Drop, N: Write>(
-    rt: &R,
+fn buffered<F: Files, S: Serves, W: Write + Drop, N: Write>(
+    alloc: Global,
     words: &[&str],
     files: &mut F,
+    sockets: &mut S,
     writer: W,
     notes: &mut N,
 ) -> io::Result<u8> {
-    let mut out = BufWriter::new(rt.alloc(), writer)?;
-    let status = match command(rt, words, files, &mut out, notes) {
+    let mut out = BufWriter::new(alloc, writer)?;
+    let status = match command(alloc, words, files, sockets, &mut out, notes) {
         Ok(()) => 0,
         Err(stop) => ending(&mut out, stop)?,
     };
@@ -115,25 +115,27 @@ fn buffered<R: Machine, F: Files, W: Write + Drop, N: Write>(
 /// Runs the program on its words, the first of which is its own name, and answers its status: 0 where the work was
 /// done or help was asked for, 1 at a fault, which is printed as `fault NAME (number)`, or where the writer failed,
 /// 2 where the words aren't a command. All texts go to the writer.
-pub fn run<R: Machine, F: Files, W: Write>(
+pub fn run<R: AllocGlobal, F: Files, S: Serves, W: Write>(
     rt: &R,
     words: &[&str],
     files: &mut F,
+    sockets: &mut S,
     writer: &mut W,
 ) -> u8 {
-    run_with_notes(rt, words, files, writer, &mut Silence)
+    run_with_notes(rt, words, files, sockets, writer, &mut Silence)
 }
 
 /// The same. The notes get a line for people where a fault has a place: at which byte it stands. What becomes of the
 /// notes changes nothing else.
-pub(crate) fn run_with_notes<R: Machine, F: Files, W: Write, N: Write>(
+pub(crate) fn run_with_notes<R: AllocGlobal, F: Files, S: Serves, W: Write, N: Write>(
     rt: &R,
     words: &[&str],
     files: &mut F,
+    sockets: &mut S,
     writer: &mut W,
     notes: &mut N,
 ) -> u8 {
-    match buffered(rt, words, files, &mut *writer, notes) {
+    match buffered(rt.alloc(), words, files, sockets, &mut *writer, notes) {
         Ok(status) => status,
         Err(error) => {
             if error.kind() == io::ErrorKind::OutOfMemory {

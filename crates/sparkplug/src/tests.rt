@@ -1,14 +1,13 @@
 use crate::fixtures::{expect, noted, printed, printed_into};
-use crate::machine::Machine;
 use std::process::Abort;
 
 /// Checks what `show` prints of these digits, with status 0.
-fn shows(rt: &(impl Abort + Machine), digits: &str, text: &str) {
+fn shows(rt: &(impl Abort + AllocGlobal), digits: &str, text: &str) {
     expect(rt, &["sparkplug", "show", digits], text, 0);
 }
 
 /// Checks the fault of these digits, with status 1.
-fn faults(rt: &(impl Abort + Machine), digits: &str, text: &str) {
+fn faults(rt: &(impl Abort + AllocGlobal), digits: &str, text: &str) {
     expect(rt, &["sparkplug", "show", digits], text, 1);
 }
 
@@ -274,4 +273,47 @@ fn a_fault_is_noted_with_its_place(rt: HostRuntime) {
         let (notes, _held) = noted(&rt, &words);
         assert!(rt; notes.is_empty(), "of {words:?}");
     }
+}
+
+#[test]
+fn a_port_is_served(rt: HostRuntime) {
+    let table = [
+        (
+            ["--port", "1883", "--clients", "2"],
+            "listening 1883\nserved 2\n",
+            0,
+        ),
+        (
+            ["--port", "65535", "--clients", "1000"],
+            "listening 65535\nserved 1000\n",
+            0,
+        ),
+        (["--port", "1", "--clients", "1"], "fault Device (96)\n", 1),
+    ];
+    for ([port, number, clients, count], text, status) in table {
+        expect(
+            &rt,
+            &["sparkplug", "serve", port, number, clients, count],
+            text,
+            status,
+        );
+    }
+    expect(
+        &rt,
+        &["sparkplug", "serve", "--port", "9"],
+        "listening 9\nserved 1000\n",
+        0,
+    );
+    for (number, count) in [
+        ("0", "1"),
+        ("65536", "1"),
+        ("9", "0"),
+        ("9", "1001"),
+        ("x", "1"),
+    ] {
+        let words = ["sparkplug", "serve", "--port", number, "--clients", count];
+        let (_held, status) = printed(&rt, &words);
+        assert_eq!(rt; status, 2, "of {words:?}");
+    }
+    assert_eq!(rt; printed(&rt, &["sparkplug", "serve"]).1, 2);
 }
