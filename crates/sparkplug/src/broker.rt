@@ -1,58 +1,36 @@
 //! `serve`: the broker over TCP.
 
-use crate::fault::Stop;
-use clap::ArgMatches;
 use spk_runtime::{ServeFault, serve};
-use std::alloc::Global;
+use std::io;
 use std::io::Write;
 use std::net::{Net, TcpListener, TcpStream};
 use std::sync::Wait;
 use std::thread::Threads;
 use std::time::Clock;
 
-/// Where a command serves clients: on the machine's sockets, or nowhere.
-pub trait Serves {
-    /// Serves so many clients on this port, and answers how many came. It writes `listening N` once they can come.
-    fn serve<W: Write>(
-        &mut self,
-        alloc: Global,
-        port: u16,
-        clients: usize,
-        out: &mut W,
-    ) -> Result<u32, ServeFault>;
+/// Says how serving went, and answers the status.
+pub(crate) fn said<W: Write>(out: &mut W, answer: Result<u32, ServeFault>) -> io::Result<u8> {
+    let status = match answer {
+        Ok(served) => {
+            writeln!(out, "served {served}")?;
+            0
+        }
+        Err(fault) => {
+            let number = fault.number();
+            writeln!(out, "fault {fault} ({number})")?;
+            1
+        }
+    };
+    out.flush()?;
+    Ok(status)
 }
 
-/// The machine's sockets.
-#[derive(Drop)]
-pub struct MachineSockets<'a, R> {
-    pub rt: &'a R,
-}
-
-impl<R> Serves for MachineSockets<'_, R>
+/// Serves so many clients on this port, and answers the status. All texts go to the writer.
+pub(crate) fn serve_clients<R, W: Write>(rt: &R, port: u16, clients: u16, out: &mut W) -> u8
 where
-    R: Threads + Wait + Net<Listener = TcpListener, Stream = TcpStream> + Clock + Sync,
+    R: AllocGlobal + Threads + Wait + Clock + Sync,
+    R: Net<Listener = TcpListener, Stream = TcpStream>,
 {
-    fn serve<W: Write>(
-        &mut self,
-        alloc: Global,
-        port: u16,
-        clients: usize,
-        out: &mut W,
-    ) -> Result<u32, ServeFault> {
-        serve(self.rt, alloc, port, clients, out)
-    }
-}
-
-/// Serves the clients that come to a port, and says how many they were.
-pub(crate) fn serve_clients<S: Serves, W: Write>(
-    alloc: Global,
-    given: &ArgMatches<'_>,
-    sockets: &mut S,
-    out: &mut W,
-) -> Result<(), Stop> {
-    let port = given.get_one::<u16>("port").unwrap_or(0);
-    let clients = given.get_one::<u16>("clients").unwrap_or(0);
-    let served = sockets.serve(alloc, port, usize::from(clients), out)?;
-    writeln!(out, "served {served}")?;
-    Ok(())
+    let answer = serve(rt, rt.alloc(), port, usize::from(clients), out);
+    said(out, answer).unwrap_or(1)
 }

@@ -1,10 +1,7 @@
 //! What the tests run the program on: files in memory, and a writer that fails.
 
-use crate::broker::Serves;
 use crate::files::Files;
-use crate::run::{run, run_with_notes};
-use spk_runtime::ServeFault;
-use std::alloc::Global;
+use crate::run::{Outcome, run, run_with_notes};
 use std::io::{self, Read, Write};
 use std::process::Abort;
 
@@ -79,25 +76,6 @@ impl Files for Texts {
     }
 }
 
-/// Sockets on which all clients come and go at once, but on port 1, which is in use.
-#[derive(Drop)]
-struct Guests;
-
-impl Serves for Guests {
-    fn serve<W: Write>(
-        &mut self,
-        _alloc: Global,
-        port: u16,
-        clients: usize,
-        out: &mut W,
-    ) -> Result<u32, ServeFault> {
-        if port == 1 || writeln!(out, "listening {port}").is_err() {
-            return Err(ServeFault::Device);
-        }
-        Ok(u32::try_from(clients).unwrap_or(u32::MAX))
-    }
-}
-
 /// A writer that holds what it is given up to `room` bytes, and fails at the next.
 #[derive(Drop)]
 struct Narrow {
@@ -136,9 +114,12 @@ fn empty(rt: &(impl Abort + AllocGlobal)) -> Vec<u8> {
 fn once(rt: &(impl Abort + AllocGlobal), words: &[&str], room: usize) -> (Vec<u8>, u8) {
     let held = empty(rt);
     let mut narrow = Narrow { held, room };
-    let status = run(rt, words, &mut Texts, &mut Guests, &mut narrow);
+    let outcome = run(rt, words, &mut Texts, &mut narrow);
     let Narrow { held, room: _ } = narrow;
-    (held, status)
+    match outcome {
+        Outcome::Over(status) => (held, status),
+        Outcome::Serve { .. } => (held, u8::MAX),
+    }
 }
 
 /// What a run prints, and its status. Where memory was refused, that fault stands behind whole lines of what is
@@ -180,11 +161,11 @@ pub(crate) fn printed_into(
 pub(crate) fn noted(rt: &(impl Abort + AllocGlobal), words: &[&str]) -> (Vec<u8>, Vec<u8>) {
     let mut notes = empty(rt);
     let mut held = empty(rt);
-    let _status = run_with_notes(rt, words, &mut Texts, &mut Guests, &mut held, &mut notes);
+    let _outcome = run_with_notes(rt, words, &mut Texts, &mut held, &mut notes);
     if held.ends_with(REFUSED) {
         held.clear();
         notes.clear();
-        let _status = run_with_notes(rt, words, &mut Texts, &mut Guests, &mut held, &mut notes);
+        let _outcome = run_with_notes(rt, words, &mut Texts, &mut held, &mut notes);
     }
     (notes, held)
 }
@@ -194,4 +175,18 @@ pub(crate) fn expect(rt: &(impl Abort + AllocGlobal), words: &[&str], text: &str
     let (held, answer) = printed(rt, words);
     assert_eq!(rt; held.as_slice(), text.as_bytes(), "of {words:?}");
     assert_eq!(rt; answer, status, "of {words:?}");
+}
+
+/// The port and the number of clients that a run asks to serve, if it does. Where memory was refused the run is made
+/// again.
+pub(crate) fn served(rt: &(impl Abort + AllocGlobal), words: &[&str]) -> Option<(u16, u16)> {
+    let mut held = empty(rt);
+    let mut outcome = run(rt, words, &mut Texts, &mut held);
+    if held.ends_with(REFUSED) {
+        outcome = run(rt, words, &mut Texts, &mut held);
+    }
+    match outcome {
+        Outcome::Serve { port, clients } => Some((port, clients)),
+        Outcome::Over(_) => None,
+    }
 }

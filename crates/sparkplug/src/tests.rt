@@ -1,5 +1,8 @@
-use crate::fixtures::{expect, noted, printed, printed_into};
+use crate::broker::said;
+use crate::fixtures::{expect, noted, printed, printed_into, served};
+use spk_runtime::ServeFault;
 use std::process::Abort;
+use std::test::Fail;
 
 /// Checks what `show` prints of these digits, with status 0.
 fn shows(rt: &(impl Abort + AllocGlobal), digits: &str, text: &str) {
@@ -278,42 +281,46 @@ fn a_fault_is_noted_with_its_place(rt: HostRuntime) {
 #[test]
 fn a_port_is_served(rt: HostRuntime) {
     let table = [
-        (
-            ["--port", "1883", "--clients", "2"],
-            "listening 1883\nserved 2\n",
-            0,
-        ),
-        (
-            ["--port", "65535", "--clients", "1000"],
-            "listening 65535\nserved 1000\n",
-            0,
-        ),
-        (["--port", "1", "--clients", "1"], "fault Device (96)\n", 1),
+        ("1883", "2", Some((1883u16, 2u16))),
+        ("65535", "1000", Some((65535, 1000))),
+        ("0", "1", None),
+        ("65536", "1", None),
+        ("9", "0", None),
+        ("9", "1001", None),
+        ("x", "1", None),
     ];
-    for ([port, number, clients, count], text, status) in table {
-        expect(
-            &rt,
-            &["sparkplug", "serve", port, number, clients, count],
-            text,
-            status,
-        );
+    for (port, clients, wanted) in table {
+        let words = ["sparkplug", "serve", "--port", port, "--clients", clients];
+        assert_eq!(rt; served(&rt, &words), wanted, "of {words:?}");
+        if wanted.is_none() {
+            assert_eq!(rt; printed(&rt, &words).1, 2, "of {words:?}");
+        }
     }
-    expect(
-        &rt,
-        &["sparkplug", "serve", "--port", "9"],
-        "listening 9\nserved 1000\n",
-        0,
-    );
-    for (number, count) in [
-        ("0", "1"),
-        ("65536", "1"),
-        ("9", "0"),
-        ("9", "1001"),
-        ("x", "1"),
-    ] {
-        let words = ["sparkplug", "serve", "--port", number, "--clients", count];
-        let (_held, status) = printed(&rt, &words);
-        assert_eq!(rt; status, 2, "of {words:?}");
-    }
+    let most = served(&rt, &["sparkplug", "serve", "--port", "9"]);
+    assert_eq!(rt; most, Some((9, 1000)));
     assert_eq!(rt; printed(&rt, &["sparkplug", "serve"]).1, 2);
+}
+
+#[test]
+fn how_serving_went_is_said(rt: HostRuntime) -> Result<(), Fail> {
+    let table = [
+        (Ok(2), b"served 2\n".as_slice(), 0),
+        (
+            Err(ServeFault::Device),
+            b"fault Device (96)\n".as_slice(),
+            1,
+        ),
+        (
+            Err(ServeFault::NoMemory),
+            b"fault NoMemory (1)\n".as_slice(),
+            1,
+        ),
+    ];
+    for (answer, text, status) in table {
+        let mut held = [0u8; 32];
+        let mut out = held.as_mut_slice();
+        assert_eq!(rt; said(&mut out, answer).map_err(|_| "room")?, status);
+        assert!(rt; held.starts_with(text));
+    }
+    Ok(())
 }

@@ -1,0 +1,159 @@
+// A load for an MQTT 3.1.1 server on this machine: PUBS publishers with COUNT messages of 64 bytes each, SUBS subscribers to all of
+// them. usage: load PORT PUBS SUBS QOS COUNT WINDOW RATE. WINDOW: how many messages of a publisher may be under way (as the first
+// subscriber counts). RATE: messages a second of each publisher, 0 for as many as go. Prints: delivered messages a second, and the
+// median and the 99th percentile of the time from send to receipt, in microseconds.
+#include <arpa/inet.h>
+#include <netinet/tcp.h>
+#include <pthread.h>
+#include <stdatomic.h>
+#include <stdint.h>
+#include <stdio.h>
+#include <stdlib.h>
+#include <string.h>
+#include <time.h>
+#include <unistd.h>
+
+static int port, pubs, subs, qos, count, window, rate;
+static atomic_long seen[64], delivered, ready;
+static uint32_t *times;
+static atomic_long timed;
+
+static uint64_t now(void) {
+    struct timespec t;
+    clock_gettime(CLOCK_MONOTONIC, &t);
+    return (uint64_t)t.tv_sec * 1000000000u + (uint64_t)t.tv_nsec;
+}
+
+static void die(const char *what) {
+    fprintf(stderr, "load: %s\n", what);
+    exit(1);
+}
+
+static void put(int s, const void *bytes, size_t len) {
+    const char *p = bytes;
+    while (len > 0) {
+        ssize_t n = write(s, p, len);
+        if (n <= 0) die("the server closed a connection");
+        p += n;
+        len -= (size_t)n;
+    }
+}
+
+static void get(int s, void *bytes, size_t len) {
+    char *p = bytes;
+    while (len > 0) {
+        ssize_t n = read(s, p, len);
+        if (n <= 0) die("the server closed a connection");
+        p += n;
+        len -= (size_t)n;
+    }
+}
+
+static int join_server(void) {
+    struct sockaddr_in a = {.sin_family = AF_INET, .sin_port = htons((uint16_t)port)};
+    inet_pton(AF_INET, "127.0.0.1", &a.sin_addr);
+    int s = socket(AF_INET, SOCK_STREAM, 0), one = 1;
+    if (connect(s, (struct sockaddr *)&a, sizeof a) != 0) die("nobody listens");
+    setsockopt(s, IPPROTO_TCP, TCP_NODELAY, &one, sizeof one);
+    static const unsigned char hello[] = {0x10, 12, 0, 4, 'M', 'Q', 'T', 'T', 4, 2, 0, 0, 0, 0};
+    unsigned char answer[4];
+    put(s, hello, sizeof hello);
+    get(s, answer, 4);
+    if (answer[0] != 0x20 || answer[3] != 0) die("CONNECT was refused");
+    return s;
+}
+
+static void *publisher(void *arg) {
+    long me = (long)arg;
+    int s = join_server();
+    unsigned char packet[80], ack[4];
+    atomic_fetch_add(&ready, 1);
+    while (atomic_load(&ready) < pubs + subs) usleep(1000);
+    uint64_t start = now();
+    size_t head = 6u + (qos ? 2 : 0);
+    packet[0] = qos ? 0x32 : 0x30;
+    packet[1] = (unsigned char)(head - 2 + 64);
+    packet[2] = 0, packet[3] = 2, packet[4] = 'b', packet[5] = (unsigned char)('A' + me);
+    memset(packet + head, 'x', 64);
+    for (long i = 0; i < count; i++) {
+        if (rate > 0) {
+            uint64_t due = start + (uint64_t)i * (1000000000u / (uint64_t)rate);
+            uint64_t t = now();
+            if (due > t) usleep((useconds_t)((due - t) / 1000));
+        }
+        if (qos) packet[6] = (unsigned char)((i % 60000 + 1) >> 8), packet[7] = (unsigned char)(i % 60000 + 1);
+        uint64_t t = now();
+        memcpy(packet + head, &t, 8);
+        put(s, packet, head + 64);
+        if (qos && i >= window) get(s, ack, 4);
+        while (subs > 0 && i - atomic_load(&seen[me]) >= window) sched_yield();
+    }
+    for (long i = 0; qos && i < (count < window ? count : window); i++) get(s, ack, 4);
+    while (atomic_load(&delivered) < (long)pubs * subs * count) usleep(500);
+    close(s);
+    return NULL;
+}
+
+static void *subscriber(void *arg) {
+    long me = (long)arg;
+    int s = join_server();
+    unsigned char ask[] = {0x82, 6, 0, 1, 0, 1, '#', (unsigned char)qos}, answer[5];
+    put(s, ask, sizeof ask);
+    get(s, answer, 5);
+    atomic_fetch_add(&ready, 1);
+    unsigned char *held = malloc(1 << 16), acks[1 << 14];
+    size_t have = 0;
+    for (long left = (long)pubs * count; left > 0;) {
+        ssize_t n = read(s, held + have, (1 << 16) - have);
+        if (n <= 0) die("the server closed a subscriber");
+        have += (size_t)n;
+        size_t at = 0, acked = 0;
+        uint64_t t = now();
+        while (have - at >= 2 && have - at >= 2u + held[at + 1]) {
+            unsigned char *p = held + at;
+            size_t head = 6u + ((p[0] & 6) ? 2 : 0);
+            uint64_t sent;
+            memcpy(&sent, p + head, 8);
+            long k = atomic_fetch_add(&timed, 1);
+            if (k < 4000000) times[k] = (uint32_t)((t - sent) / 100);
+            if (p[0] & 6) {
+                unsigned char ack[4] = {0x40, 2, p[6], p[7]};
+                memcpy(acks + acked, ack, 4);
+                acked += 4;
+            }
+            if (me == 0) atomic_fetch_add(&seen[p[5] - 'A'], 1);
+            atomic_fetch_add(&delivered, 1);
+            left--;
+            at += 2u + p[1];
+        }
+        memmove(held, held + at, have - at);
+        have -= at;
+        if (acked) put(s, acks, acked);
+    }
+    close(s);
+    return NULL;
+}
+
+static int up(const void *a, const void *b) {
+    uint32_t x = *(const uint32_t *)a, y = *(const uint32_t *)b;
+    return (x > y) - (x < y);
+}
+
+int main(int argc, char **argv) {
+    if (argc != 8) die("usage: load PORT PUBS SUBS QOS COUNT WINDOW RATE");
+    port = atoi(argv[1]), pubs = atoi(argv[2]), subs = atoi(argv[3]), qos = atoi(argv[4]), count = atoi(argv[5]);
+    window = atoi(argv[6]), rate = atoi(argv[7]);
+    if (pubs < 1 || pubs > 50 || subs < 1 || subs > 200) die("1 to 50 publishers, 1 to 200 subscribers");
+    times = calloc(4000000, 4);
+    pthread_t t[256];
+    for (long i = 0; i < subs; i++) pthread_create(&t[i], NULL, subscriber, (void *)i);
+    for (long i = 0; i < pubs; i++) pthread_create(&t[subs + i], NULL, publisher, (void *)i);
+    while (atomic_load(&ready) < pubs + subs) usleep(200);
+    uint64_t start = now();
+    for (int i = 0; i < subs + pubs; i++) pthread_join(t[i], NULL);
+    double took = (double)(now() - start) / 1e9;
+    long k = atomic_load(&timed) < 4000000 ? atomic_load(&timed) : 4000000;
+    qsort(times, (size_t)k, 4, up);
+    printf("%.0f %.1f %.1f\n", (double)atomic_load(&delivered) / took, times[k / 2] / 10.0, times[k * 99 / 100] / 10.0);
+    return 0;
+}
