@@ -1,13 +1,12 @@
 ghost use Rattle.std.specs.Prelude.{◌≡◌};
 
 use crate::{ServeFault, serve};
-use std::io;
 use std::io::{ErrorKind, Read, Write};
 use std::net::{Ipv4Addr, Net, Shutdown, TcpListener, TcpStream};
 use std::process::Abort;
-use std::thread;
 use std::thread::join;
 use std::time::{Clock, Duration};
+use std::{io, thread};
 
 /// A writer that takes so many bytes.
 #[derive(Drop)]
@@ -31,13 +30,16 @@ impl Write for Narrow {
 }
 
 /// A port on which nobody listens.
-fn free_port<R: Net<Listener = TcpListener> + Abort>(rt: &R) -> u16 {
+fn free_port<R: Net<Listener = TcpListener, Stream = TcpStream> + Abort>(rt: &R) -> u16 {
     let listener = TcpListener::bind(rt, (Ipv4Addr::LOCALHOST, 0)).expect(rt, "a port");
     listener.local_addr().expect(rt, "its number").port()
 }
 
 /// A client of the server on this port, once it listens.
-fn client<R: Net<Stream = TcpStream> + Clock + Abort>(rt: &R, port: u16) -> TcpStream {
+fn client<R: Net<Listener = TcpListener, Stream = TcpStream> + Clock + Abort>(
+    rt: &R,
+    port: u16,
+) -> TcpStream {
     for _ in 0..500 {
         if let Ok(stream) = TcpStream::connect(rt, (Ipv4Addr::LOCALHOST, port)) {
             let wait = Some(Duration::from_secs(20));
@@ -60,7 +62,9 @@ fn gets(rt: &impl Abort, stream: &TcpStream, bytes: &[u8]) {
     let mut found = [0u8; 64];
     let count = bytes.len().min(64);
     let mut reader = stream;
-    reader.read_exact(&mut found[..count]).expect(rt, "the server sends");
+    reader
+        .read_exact(&mut found[..count])
+        .expect(rt, "the server sends");
     assert_eq!(rt; &found[..count], bytes);
 }
 
@@ -76,7 +80,9 @@ fn ends(rt: &impl Abort, stream: &TcpStream) {
 const CONNECT: [u8; 14] = [0x10, 0x0c, 0, 4, b'M', b'Q', b'T', b'T', 4, 2, 0, 60, 0, 0];
 
 /// CONNECT of client `x`, clean session 0.
-const KEPT: [u8; 15] = [0x10, 0x0d, 0, 4, b'M', b'Q', b'T', b'T', 4, 0, 0, 60, 0, 1, b'x'];
+const KEPT: [u8; 15] = [
+    0x10, 0x0d, 0, 4, b'M', b'Q', b'T', b'T', 4, 0, 0, 60, 0, 1, b'x',
+];
 
 /// CONNECT with the will `g` on `w`, QoS 0.
 const WILLED: [u8; 20] = [
@@ -125,7 +131,11 @@ fn what_a_kept_session_missed_is_sent_when_it_is_back(rt: HostRuntime) {
             gets(&rt, &second, &[0x40, 2, 0, 7]);
             let third = client(&rt, port);
             send(&rt, &third, &KEPT);
-            gets(&rt, &third, &[0x20, 2, 1, 0, 0x32, 6, 0, 1, b'a', 0, 1, b'x']);
+            gets(
+                &rt,
+                &third,
+                &[0x20, 2, 1, 0, 0x32, 6, 0, 1, b'a', 0, 1, b'x'],
+            );
         },
     );
     assert_eq!(rt; served, Ok(3));
