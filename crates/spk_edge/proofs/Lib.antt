@@ -6,3 +6,4 @@ mod Changed
 mod Lasts
 mod Seals
 mod Plans
+mod Heard

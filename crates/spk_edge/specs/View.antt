@@ -25,7 +25,7 @@ use Rattle.spk_edge.specs.declared.config.EdgeConfig.{EdgeConfig}
 use Rattle.spk_edge.specs.declared.config.Numbering.{Numbering}
 use Rattle.spk_edge.specs.declared.config.Numbering.TheVariants.{RunsOn, Restarts}
 use Rattle.spk_edge.specs.declared.input.Act.{Act}
-use Rattle.spk_edge.specs.declared.input.Act.TheVariants.{Open, Accepted, Change as Changing, Device, Command, Stop, Cut, TurnedAway, Pass}
+use Rattle.spk_edge.specs.declared.input.Act.TheVariants.{Open, Accepted, Change as Changing, Device, Command, State, Stop, Cut, TurnedAway, Pass}
 use Rattle.spk_edge.specs.declared.input.Input.{Input}
 use Rattle.spk_edge.specs.declared.message.Given.{Given}
 use Rattle.spk_edge.specs.declared.message.Published.{Published}
@@ -143,6 +143,7 @@ act_view Accepted = inputs.Accepted
 act_view (Changing alias value) = inputs.Change alias (option_map typed_view value.now)
 act_view (Device name up) = inputs.Turn name.now up
 act_view (Command topic payload) = inputs.Command topic.now payload.now
+act_view (State payload) = inputs.State payload.now
 act_view Stop = inputs.Stop
 act_view Cut = inputs.Cut
 act_view TurnedAway = inputs.TurnedAway

@@ -16,7 +16,6 @@ use crate::texts::{device_topic, node_topic, session_metric};
 use spk_device::{DeviceFault, Owner};
 use spk_edge_rules::{EdgeFault, Phase};
 use spk_payload::{Metric, Payload, Raw};
-use spk_state::Heard;
 use spk_topics::Verb;
 use std::alloc::{AllocError, Global};
 
@@ -197,30 +196,6 @@ impl EdgeNode {
             return self.bearing(now, given);
         }
         Ok(given)
-    }
-
-    /// The births of a Waiting node whose primary host is online; a Born one leaves when it is offline.
-    pub(crate) fn hearing(&self, now: u64, heard: Heard) -> Result<Given, EdgeFault>
-        ensures given { IfOk result (λ g. given_view g ≡ given_of self.now.config self.now.standing.asked.heard
-            (rule.hearing self.now.config self.now.standing.asked now heard)) }
-        ensures fault { IfErr result (λ e. (e ≡ EdgeFault.NoMemory) ⊎ ((e ≡ EdgeFault.ClockEnd)
-            × (rule.is_timely (rule.hearing self.now.config self.now.standing.asked now heard) ≡ false))) }
-    {
-        match heard {
-            Heard::Online => {
-                if self.tally.phase == Phase::Waiting {
-                    return self.bearing(now, self.nothing());
-                }
-                Ok(self.nothing())
-            }
-            Heard::Offline => {
-                if self.tally.phase == Phase::Born {
-                    return Ok(self.leaving()?);
-                }
-                Ok(self.nothing())
-            }
-            Heard::Ignored => Ok(self.nothing()),
-        }
     }
 
     /// SUBSCRIBE, and the births where there is no primary host.

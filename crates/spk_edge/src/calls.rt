@@ -101,6 +101,22 @@ impl EdgeNode {
         })
     }
 
+    /// A STATE of the primary host (Sparkplug 3.0.0, chapter 6), by its payload. Online gives the births of a Waiting
+    /// node; offline ends the session of a Born one as `stop` does. One earlier than the last one heard says nothing, and
+    /// a node without a primary host hears none. Refused with State (66) where it can't be read. Taken when Waiting or
+    /// Born.
+    pub fn state(&mut self, now: u64, payload: &[u8]) -> Result<Out, EdgeFault>
+        ensures done { IfOk result (patch.IsDone self.old (patch.plain_input now (inputs.State payload.now)) self.new) }
+        ensures refused { IfErr result (patch.IsRefusal self.old (patch.plain_input now (inputs.State payload.now))) }
+        ensures err { OnErr result (self.new ≡ self.old) }
+    {
+        self.tell(Input {
+            now,
+            ack: None,
+            act: Act::State(payload),
+        })
+    }
+
     /// Ends the session in order: NDEATH, DISCONNECT. Taken when Waiting or Born.
     pub fn stop(&mut self, now: u64) -> Result<Out, EdgeFault>
         ensures done { IfOk result (patch.IsDone self.old (patch.plain_input now inputs.Stop) self.new) }

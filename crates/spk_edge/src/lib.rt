@@ -10,6 +10,7 @@ mod command;
 mod command_tests;
 mod config;
 mod ends;
+mod hearing;
 mod input;
 mod message;
 mod node;

@@ -235,7 +235,7 @@ impl EdgeNode {
         match act {
             Act::Open => self.tally.phase == Phase::Idle,
             Act::Accepted => self.tally.phase == Phase::Connecting,
-            Act::Stop | Act::Command(_, _) => self.tally.phase == Phase::Waiting
+            Act::Stop | Act::Command(_, _) | Act::State(_) => self.tally.phase == Phase::Waiting
                 || self.tally.phase == Phase::Born,
             Act::Change(_, _) | Act::Device(_, _) | Act::Cut | Act::TurnedAway | Act::Pass => true,
         }
@@ -255,6 +255,7 @@ impl EdgeNode {
                 let orders = orders_of(self.alloc, &self.config, &self.registry, topic, payload)?;
                 self.obeying(input.now, orders)
             }
+            Act::State(payload) => self.stating(input.now, payload),
             Act::Stop => Ok(self.leaving()?),
             Act::Cut => Ok(self.cutting()),
             Act::TurnedAway => Ok(self.turned_away()),
