@@ -7,3 +7,4 @@ mod Lasts
 mod Seals
 mod Plans
 mod Heard
+mod Drains

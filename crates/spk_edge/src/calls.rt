@@ -117,6 +117,21 @@ impl EdgeNode {
         })
     }
 
+    /// Sends kept changes: those at the front that are of one owner, at most 32, as one message of historical metrics,
+    /// each with the time of its change. Those of a device that is down are dropped, and count as lost. Gives nothing
+    /// where nothing is kept. Taken when Born.
+    pub fn drain(&mut self, now: u64) -> Result<Out, EdgeFault>
+        ensures done { IfOk result (patch.IsDone self.old (patch.plain_input now inputs.Drain) self.new) }
+        ensures refused { IfErr result (patch.IsRefusal self.old (patch.plain_input now inputs.Drain)) }
+        ensures err { OnErr result (self.new ≡ self.old) }
+    {
+        self.tell(Input {
+            now,
+            ack: None,
+            act: Act::Drain,
+        })
+    }
+
     /// Ends the session in order: NDEATH, DISCONNECT. Taken when Waiting or Born.
     pub fn stop(&mut self, now: u64) -> Result<Out, EdgeFault>
         ensures done { IfOk result (patch.IsDone self.old (patch.plain_input now inputs.Stop) self.new) }

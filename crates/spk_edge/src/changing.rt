@@ -12,7 +12,7 @@ ghost use Rattle.spk_edge_rules.specs.Births as births;
 ghost use Rattle.spk_edge_rules.specs.Rules as rule;
 ghost use Rattle.spk_edge.specs.View.{change_view, given_of, given_view, message_view, unnumbered};
 
-use crate::message::{Given, Published};
+use crate::message::{Given, Keeping, Published};
 use crate::node::EdgeNode;
 use crate::texts::{device_topic, node_topic};
 use spk_device::{Alias, Outcome, Owner};
@@ -208,7 +208,7 @@ impl EdgeNode {
                 .messages
                 .push(self.change_message(now, alias, value)?)?;
         } else {
-            given.kept = Some(self.kept_change(now, alias, value)?);
+            given.kept = Keeping::Push(self.kept_change(now, alias, value)?);
         }
         Ok(given)
     }

@@ -7,7 +7,7 @@ ghost use Rattle.spk_edge_rules.specs.Rules as rule;
 ghost use Rattle.spk_edge.specs.View.{config_view, given_of, given_view};
 
 use crate::config::EdgeConfig;
-use crate::message::Given;
+use crate::message::{Given, Keeping};
 use crate::node::EdgeNode;
 use crate::texts::{client_id, death_bytes, device_topic, node_topic, state_topic};
 use spk_edge_rules::Phase;
@@ -95,7 +95,7 @@ impl EdgeNode {
             close: false,
             phase: self.tally.phase,
             heard: self.tally.heard,
-            kept: None,
+            kept: Keeping::Nothing,
         }
     }
 

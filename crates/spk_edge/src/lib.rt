@@ -9,6 +9,7 @@ mod command;
 #[cfg(test)]
 mod command_tests;
 mod config;
+mod draining;
 mod ends;
 mod hearing;
 mod input;

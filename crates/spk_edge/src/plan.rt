@@ -13,7 +13,7 @@ ghost use Rattle.spk_edge.specs.View.{act_view, given_of, given_view, input_view
 use crate::changing::copied;
 use crate::command::orders_of;
 use crate::input::{Act, Input};
-use crate::message::{Given, Out, Published};
+use crate::message::{Given, Keeping, Out, Published};
 use crate::node::{EdgeNode, Tally};
 use crate::sealing::{number, written_messages, written_packets};
 use spk_device::{Alias, Registry};
@@ -21,7 +21,7 @@ use spk_edge_rules::{EdgeFault, Phase};
 use spk_packets::Packet;
 use spk_payload::Value;
 use spk_state::Primary;
-use spk_store::{Change, Store};
+use spk_store::Store;
 use std::alloc::{AllocError, Global};
 
 /// The first moment that isn't one.
@@ -42,8 +42,7 @@ pub struct Plan {
     pub(crate) messages: Vec<Published>,
     pub(crate) tally: Tally,
     pub(crate) setting: Setting,
-    /// A change that is to be kept.
-    pub(crate) kept: Option<Change>,
+    pub(crate) kept: Keeping,
 }
 
 /// What was taken up: what is answered, and what was published. The last of the packets are the messages' bytes.
@@ -123,12 +122,19 @@ fn set(registry: &mut Registry, setting: Setting)
     }
 }
 
-/// Keeps what is to be kept.
-fn keep(store: &mut Store, kept: Option<Change>)
-    ensures { kept_view store.new ≡ patch.kept_after (kept_view store.old) kept }
+/// Does to the kept changes what is to be done.
+fn keep(store: &mut Store, keeping: Keeping)
+    ensures { kept_view store.new ≡ patch.kept_after (kept_view store.old) keeping }
 {
-    if let Some(change) = kept {
-        store.push(change);
+    match keeping {
+        Keeping::Nothing => {}
+        Keeping::Push(change) => {
+            store.push(change);
+        }
+        Keeping::DropFront(count, is_lost) => {
+            let count = count.min(store.len());
+            store.drop_front(count, is_lost);
+        }
     }
 }
 
@@ -235,6 +241,7 @@ impl EdgeNode {
         match act {
             Act::Open => self.tally.phase == Phase::Idle,
             Act::Accepted => self.tally.phase == Phase::Connecting,
+            Act::Drain => self.tally.phase == Phase::Born,
             Act::Stop | Act::Command(_, _) | Act::State(_) => self.tally.phase == Phase::Waiting
                 || self.tally.phase == Phase::Born,
             Act::Change(_, _) | Act::Device(_, _) | Act::Cut | Act::TurnedAway | Act::Pass => true,
@@ -256,6 +263,7 @@ impl EdgeNode {
                 self.obeying(input.now, orders)
             }
             Act::State(payload) => self.stating(input.now, payload),
+            Act::Drain => Ok(self.draining(input.now)?),
             Act::Stop => Ok(self.leaving()?),
             Act::Cut => Ok(self.cutting()),
             Act::TurnedAway => Ok(self.turned_away()),

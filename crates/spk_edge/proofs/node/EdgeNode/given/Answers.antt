@@ -9,7 +9,7 @@ use Rattle.spk_edge.specs.Patch.{IsGivenBy, IsRefusedBy, plain_input}
 use Rattle.spk_edge.specs.View.{NodeData, act_view, config_view, given_of, given_view, input_view}
 use Rattle.spk_edge_rules.specs.Rules as rule
 use Rattle.spk_edge_rules.specs.declared.phase.Phase.TheVariants.{Idle}
-use Rattle.spk_edge.specs.declared.input.Act.TheVariants.{Open, Stop, Cut, Pass}
+use Rattle.spk_edge.specs.declared.input.Act.TheVariants.{Open, Drain, Stop, Cut, Pass}
 use Rattle.spk_edge.proofs.Plans.{command-given, command-late, command-refused, gave-is, if-err, if-ok}
 use Rattle.spk_edge.proofs.Heard.{plain-given, plain-refused}
 use Rattle.spk_edge.proofs.node.EdgeNode.given.Goals as goal
@@ -27,6 +27,11 @@ pub returns-in_ok-leaving-in-Stop-clause-given : goal.returns-in_ok-leaving-in-S
 returns-in_ok-leaving-in-Stop-clause-given c =
     let n = c.args.self.now in
     gave-is n c.args.input Stop (rule.leaving n.config n.standing.asked) c.in_ok-leaving-in-Stop.field-0 c.in-Stop.is refl c.in_ok-leaving-in-Stop.ensures
+
+pub returns-in_ok-draining-in-Drain-clause-given : goal.returns-in_ok-draining-in-Drain-clause-given
+returns-in_ok-draining-in-Drain-clause-given c =
+    let n = c.args.self.now in
+    gave-is n c.args.input Drain (rule.draining n.standing.asked c.args.input.now n.standing.asked.store.items) c.in_ok-draining-in-Drain.field-0 c.in-Drain.is refl c.in_ok-draining-in-Drain.ensures
 
 pub returns-in-Cut-clause-given : goal.returns-in-Cut-clause-given
 returns-in-Cut-clause-given c =
