@@ -1,5 +1,5 @@
 -- Kept changes, one place after the other, and the run at their front.
-use Rattle.std.proofs.Common.{◌≡◌, ◌∙◌, ap, sym, refl, ℕ, zero, suc, ◌+◌, min, cond, List, [], ◌∷◌, ◌++◌, map, take, slice_get, Option, Some, None, unwrap_or, arith}
+use Rattle.std.proofs.Common.{◌≡◌, ◌∙◌, ap, sym, refl, ℕ, zero, suc, ◌+◌, min, cond, List, [], ◌∷◌, ◌++◌, map, take, slice_get, Option, Some, None, arith}
 use Rattle.std.specs.Option.{option_map}
 use Rattle.std.specs.List.{prefix_len}
 use Rattle.spk_payload.specs.Meaning.{MetricData}

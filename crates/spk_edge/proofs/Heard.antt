@@ -1,6 +1,6 @@
 -- What a STATE gives, and how a node that has no input but an act at a moment answers it.
 use Rattle.std.specs.Option.{option_map}
-use Rattle.std.proofs.Common.{◌⊎◌, ◌≡◌, inl, inr, ◌∙◌, ap, sym, refl, subst, ℕ, Bool, true, false, cond, List, Option, Some, None, is_some, Result, Ok, Err}
+use Rattle.std.proofs.Common.{◌⊎◌, ◌≡◌, inl, inr, ◌∙◌, ap, sym, refl, subst, ℕ, Bool, true, false, cond, List, Option, Some, None, is_some, Result, Ok}
 use Rattle.spk_state.specs.Step.{after_heard, heard_as}
 use Rattle.spk_state.specs.Text.{state_at}
 use Rattle.spk_state.specs.declared.fault.StateFault.TheVariants.{BadState}

@@ -12,7 +12,6 @@ use Rattle.spk_device.specs.Calls.{unless_refused}
 use Rattle.spk_device.specs.Step.{set_refusal, turn_refusal, with_turn, with_value}
 use Rattle.spk_device.specs.declared.fault.Refusal.{Refusal}
 use Rattle.spk_sequence.specs.NodeRecord.{Numbering, RunsOn, Restarts}
-use Rattle.spk_store.specs.Data.{Kept}
 use Rattle.spk_store.specs.Step.{after_drop}
 use Rattle.spk_edge_rules.specs.declared.fault.EdgeFault.{EdgeFault}
 use Rattle.spk_edge_rules.specs.declared.fault.EdgeFault.TheVariants as fault
@@ -35,7 +34,6 @@ use Rattle.spk_edge.specs.declared.input.Act.{Act}
 use Rattle.spk_edge.specs.declared.input.Input.{Input}
 use Rattle.spk_edge.specs.declared.message.Given.{Given}
 use Rattle.spk_edge.specs.declared.message.Keeping.{Keeping}
-use Rattle.spk_edge.specs.declared.message.Keeping.TheVariants as Keeping
 use Rattle.spk_edge.specs.declared.message.Out.{Out}
 use Rattle.spk_edge.specs.declared.plan.Plan.{Plan}
 use Rattle.spk_edge.specs.declared.plan.Setting.{Setting}

@@ -27,7 +27,6 @@ use Rattle.spk_edge.specs.Sealing.{bytes_of, numbered, seq_past, wire_of}
 use Rattle.spk_edge.specs.View.{GivenData, MessageData, NodeData, change_view, given_of, given_view, keeping_view, message_view, unnumbered, write_view}
 use Rattle.spk_edge.specs.declared.message.Given.{Given}
 use Rattle.spk_edge.specs.declared.message.Keeping.{Keeping}
-use Rattle.spk_edge.specs.declared.message.Keeping.TheVariants as Keeping
 use Rattle.spk_edge.specs.declared.message.Out.{Out}
 use Rattle.spk_edge.specs.declared.node.Tally.{Tally}
 use Rattle.spk_edge.specs.declared.plan.Plan.{Plan}

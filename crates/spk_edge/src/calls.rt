@@ -2,6 +2,8 @@
 ghost use Rattle.std.specs.Prelude.{◌≡◌, ◌⊎◌, IfOk, IfErr, OnErr, OnOk, true, false};
 ghost use Rattle.std.specs.Option.{option_map};
 ghost use Rattle.spk_payload.specs.Typing.{typed_view};
+ghost use Rattle.spk_packets.specs.View.{view};
+ghost use Rattle.spk_edge_rules.specs.Arriving.{input_of};
 ghost use Rattle.spk_edge_rules.specs.Inputs as inputs;
 ghost use Rattle.spk_edge.specs.Patch as patch;
 ghost use Rattle.spk_edge.specs.View.{input_view};
@@ -12,6 +14,7 @@ use crate::node::EdgeNode;
 use crate::plan::Taken;
 use spk_device::Alias;
 use spk_edge_rules::{EdgeFault, Phase};
+use spk_packets::Packet;
 use spk_payload::Value;
 
 impl EdgeNode {
@@ -130,6 +133,17 @@ impl EdgeNode {
             ack: None,
             act: Act::Drain,
         })
+    }
+
+    /// A packet of the server: `input_of` says which of the others it is, of which each has its own refusals. A PUBLISH of
+    /// QoS 1 is acknowledged by the first packet, and not where it is refused. A CONNACK that doesn't accept closes a
+    /// Connecting node. Taken, and nothing, is any other packet. PINGREQ is the caller's to send.
+    pub fn packet(&mut self, now: u64, packet: &Packet) -> Result<Out, EdgeFault>
+        ensures done { IfOk result (patch.IsDone self.old (input_of self.old.config now (view packet.now)) self.new) }
+        ensures refused { IfErr result (patch.IsRefusal self.old (input_of self.old.config now (view packet.now))) }
+        ensures err { OnErr result (self.new ≡ self.old) }
+    {
+        self.tell(self.input_of(now, packet))
     }
 
     /// Ends the session in order: NDEATH, DISCONNECT. Taken when Waiting or Born.

@@ -2,6 +2,7 @@
 //! packets to send.
 #![tactic(auto)]
 
+mod arriving;
 mod births;
 mod calls;
 mod changing;
