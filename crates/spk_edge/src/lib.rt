@@ -13,9 +13,13 @@ mod config;
 mod draining;
 mod ends;
 mod hearing;
+#[cfg(test)]
+mod host_tests;
 mod input;
 mod message;
 mod node;
+#[cfg(test)]
+mod packet_tests;
 mod plan;
 mod sealing;
 #[cfg(test)]
