@@ -25,6 +25,8 @@ mod sealing;
 #[cfg(test)]
 mod tests;
 mod texts;
+#[cfg(test)]
+mod twin_tests;
 
 pub use config::{EdgeConfig, Numbering, Record};
 pub use input::{Act, Input};
