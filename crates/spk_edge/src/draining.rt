@@ -19,7 +19,8 @@ impl EdgeNode {
     /// The kept change at a place, if there is one, as a historical metric behind others.
     fn push_kept(&self, metrics: &mut Vec<Metric>, place: usize) -> Result<(), AllocError>
         ensures { OnOk result (map metric_view metrics.new.items ≡ map metric_view metrics.old.items
-            ++ kept_if_there self.now.standing.asked.book (slice_get self.now.standing.asked.store.items place)) }
+            ++ kept_if_there self.now.standing.asked.book
+            (slice_get self.now.standing.asked.store.items place)) }
     {
         if let Some(change) = self.store.get(place) {
             metrics.push(self.data_metric(change.alias, change.time, Some(true), &change.value)?)?;
@@ -30,7 +31,8 @@ impl EdgeNode {
     /// The first kept changes, as historical metrics.
     fn kept_metrics(&self, count: usize) -> Result<Vec<Metric>, AllocError>
         ensures { IfOk result (λ ms. map metric_view ms.items ≡
-            map (births.kept_metric self.now.standing.asked.book) (take count self.now.standing.asked.store.items)) }
+            map (births.kept_metric self.now.standing.asked.book)
+            (take count self.now.standing.asked.store.items)) }
     {
         let mut metrics = Vec::with_capacity(self.alloc, count)?;
         for place in 0..count {
@@ -42,8 +44,10 @@ impl EdgeNode {
     /// The message of the first kept changes, which are an owner's.
     fn history_message(&self, now: u64, owner: Owner, count: usize) -> Result<Published, AllocError>
         ensures { IfOk result (λ m. message_view m ≡ unnumbered self.now.config
-            (births.data_draft self.now.standing.asked.book owner (births.later_stamp self.now.standing.asked.stamp now)
-            (map (births.kept_metric self.now.standing.asked.book) (take count self.now.standing.asked.store.items)))) }
+            (births.data_draft self.now.standing.asked.book owner
+            (births.later_stamp self.now.standing.asked.stamp now)
+            (map (births.kept_metric self.now.standing.asked.book)
+            (take count self.now.standing.asked.store.items)))) }
     {
         let metrics = self.kept_metrics(count)?;
         self.data_message(owner, self.later_stamp(now), metrics)
@@ -51,7 +55,8 @@ impl EdgeNode {
 
     /// The first kept changes, which are an owner's, go out in one message; those of one that is down are dropped, as lost.
     fn draining_run(&self, now: u64, owner: Owner, count: usize) -> Result<Given, AllocError>
-        ensures { IfOk result (λ g. given_view g ≡ given_of self.now.config self.now.standing.asked.heard
+        ensures { IfOk result (λ g. given_view g ≡
+            given_of self.now.config self.now.standing.asked.heard
             (drained self.now.standing.asked now owner count self.now.standing.asked.store.items)) }
     {
         let mut given = self.nothing();
@@ -68,7 +73,8 @@ impl EdgeNode {
 
     /// The front run of kept changes, which are of one owner; nothing where none are kept.
     pub(crate) fn draining(&self, now: u64) -> Result<Given, AllocError>
-        ensures { IfOk result (λ g. given_view g ≡ given_of self.now.config self.now.standing.asked.heard
+        ensures { IfOk result (λ g. given_view g ≡
+            given_of self.now.config self.now.standing.asked.heard
             (rule.draining self.now.standing.asked now self.now.standing.asked.store.items)) }
     {
         match self.store.get(0) {

@@ -29,10 +29,12 @@ fn state_in(alloc: Global, payload: &[u8]) -> Result<State, EdgeFault>
 impl EdgeNode {
     /// The births of a Waiting node whose primary host is online; a Born one leaves when it is offline.
     fn hearing(&self, now: u64, heard: Heard) -> Result<Given, EdgeFault>
-        ensures given { IfOk result (λ g. given_view g ≡ given_of self.now.config self.now.standing.asked.heard
+        ensures given { IfOk result (λ g. given_view g ≡
+            given_of self.now.config self.now.standing.asked.heard
             (rule.hearing self.now.config self.now.standing.asked now heard)) }
         ensures fault { IfErr result (λ e. (e ≡ EdgeFault.NoMemory) ⊎ ((e ≡ EdgeFault.ClockEnd)
-            × (rule.is_timely (rule.hearing self.now.config self.now.standing.asked now heard) ≡ false))) }
+            × (rule.is_timely (rule.hearing self.now.config self.now.standing.asked now heard) ≡
+            false))) }
     {
         match heard {
             Heard::Online => {
@@ -55,7 +57,8 @@ impl EdgeNode {
     fn hearing_state(&self, now: u64, state: State) -> Result<Given, EdgeFault>
         ensures given { IfOk result (λ g. given_view g ≡ given_of self.now.config
             (after_heard self.now.standing.asked.heard state)
-            (rule.hearing self.now.config self.now.standing.asked now (heard_as self.now.standing.asked.heard state))) }
+            (rule.hearing self.now.config self.now.standing.asked now
+            (heard_as self.now.standing.asked.heard state))) }
         ensures fault { IfErr result (λ e. (e ≡ EdgeFault.NoMemory) ⊎ ((e ≡ EdgeFault.ClockEnd)
             × (rule.is_timely (rule.hearing self.now.config self.now.standing.asked now
             (heard_as self.now.standing.asked.heard state)) ≡ false))) }
@@ -69,8 +72,10 @@ impl EdgeNode {
 
     /// A STATE of the primary host, by its payload; nothing where there is no such host.
     pub(crate) fn stating(&self, now: u64, payload: &[u8]) -> Result<Given, EdgeFault>
-        ensures given { IfOk result (patch.IsGivenBy self.now (patch.plain_input now (inputs.State payload.now))) }
-        ensures fault { IfErr result (patch.IsRefusedBy self.now (patch.plain_input now (inputs.State payload.now))) }
+        ensures given { IfOk result (patch.IsGivenBy self.now (patch.plain_input now
+            (inputs.State payload.now))) }
+        ensures fault { IfErr result (patch.IsRefusedBy self.now (patch.plain_input now
+            (inputs.State payload.now))) }
     {
         if self.config.primary.is_none() {
             return Ok(self.nothing());

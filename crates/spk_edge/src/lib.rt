@@ -27,6 +27,7 @@ mod tests;
 mod texts;
 #[cfg(test)]
 mod twin_tests;
+mod values;
 
 pub use config::{EdgeConfig, Numbering, Record};
 pub use input::{Act, Input};

@@ -10,12 +10,12 @@ ghost use Rattle.spk_edge.specs.Patch as patch;
 ghost use Rattle.spk_edge.specs.Sealing as seal;
 ghost use Rattle.spk_edge.specs.View.{act_view, given_of, given_view, input_view, kept_view, message_view, numbering_view};
 
-use crate::changing::copied;
 use crate::command::orders_of;
 use crate::input::{Act, Input};
 use crate::message::{Given, Keeping, Out, Published};
 use crate::node::{EdgeNode, Tally};
 use crate::sealing::{number, written_messages, written_packets};
+use crate::values::copied;
 use spk_device::{Alias, Registry};
 use spk_edge_rules::{EdgeFault, Phase};
 use spk_packets::Packet;
@@ -71,7 +71,8 @@ fn packets(
 ) -> Result<Vec<Vec<u8>>, EdgeFault>
     requires { AllByRecursion (λ m. seal.AreKnown (message_view m).payload.metrics) messages.now }
     ensures bytes { IfOk result (λ out. map seal.bytes_of out.items ≡
-        map spelling (map view plain.now ++ map (λ m. seal.wire_of (message_view m)) messages.now)) }
+        map spelling (map view plain.now ++ map (λ m. seal.wire_of
+        (message_view m)) messages.now)) }
     ensures writable { OnOk result (list_all is_writable
         (map view plain.now ++ map (λ m. seal.wire_of (message_view m)) messages.now) ≡ true) }
     ensures fault { IfErr result (seal.IsUnwritten
@@ -170,7 +171,8 @@ impl EdgeNode {
         messages: &[Published],
         seq: u8,
     ) -> Tally
-        ensures { patch.IsTallyAfter self.now.standing.asked (input_view input.entry) phase heard (map message_view messages.now) seq result }
+        ensures { patch.IsTallyAfter self.now.standing.asked (input_view input.entry) phase heard
+            (map message_view messages.now) seq result }
     {
         let mut tally = Tally {
             phase,
@@ -191,8 +193,10 @@ impl EdgeNode {
 
     /// The plan of what was given.
     fn sealed(&self, input: Input<'_>, given: Given, setting: Setting) -> Result<Plan, EdgeFault>
-        requires { AllByRecursion (λ m. seal.AreKnown m.payload.metrics) (map message_view given.messages.items) }
-        ensures sealed { IfOk result (patch.IsSealed self.now (input_view input.entry) (given_view given) setting) }
+        requires { AllByRecursion (λ m. seal.AreKnown m.payload.metrics)
+            (map message_view given.messages.items) }
+        ensures sealed { IfOk result (patch.IsSealed self.now (input_view input.entry)
+            (given_view given) setting) }
         ensures fault { IfErr result (patch.IsUnsealed self.now (given_view given)) }
     {
         if !are_timely(&given.messages) {

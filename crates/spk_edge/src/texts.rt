@@ -36,7 +36,8 @@ pub(crate) fn device_topic(
     device: &str,
 ) -> Result<String, AllocError>
     ensures { IfOk result (λ t. string_bytes t ≡
-        topic_of (of_device (string_bytes config.now.group) kind (string_bytes config.now.node) device.now)) }
+        topic_of (of_device (string_bytes config.now.group) kind
+        (string_bytes config.now.node) device.now)) }
 {
     let group = config.group.as_str();
     let node = config.node.as_str();
