@@ -1,9 +1,9 @@
 -- Lists read to their end, and a store with one more.
-use Rattle.std.proofs.Common.{◌≡◌, ◌∙◌, ap, sym, refl, ℕ, ◌+◌, ◌-◌, ◌<◌, cond, List, [], ◌∷◌, ◌++◌, length, map, take, drop, get_or, Option, Some, nat_le}
+use Rattle.std.proofs.Common.{◌≡◌, ◌∙◌, ap, sym, refl, ℕ, ◌+◌, ◌-◌, ◌<◌, min, Bool, cond, List, [], ◌∷◌, ◌++◌, length, map, take, drop, get_or, Option, Some, nat_le}
 use Rattle.std.specs.List.{last_or, drop-map}
 use Rattle.std.proofs.lemmas.List.{take_more, map_push, length-map}
 use Rattle.spk_store.specs.Data.{Kept}
-use Rattle.spk_store.specs.Step.{after_push, counted, last_of}
+use Rattle.spk_store.specs.Step.{after_drop, after_push, counted, last_of}
 use Rattle.spk_store.specs.declared.change.Change.{Change}
 use Rattle.spk_edge_rules.specs.Inputs.{ChangeData}
 use Rattle.spk_edge.specs.View.{MessageData, change_view, kept_view, message_view}
@@ -37,3 +37,12 @@ push-view s c =
     ∙ ap (last_of s.capacity) all in
     ap (λ (l : List ChangeData). let k : Kept ChangeData = record { items = l; capacity = s.capacity; lost = (after_push s c).lost } in k) items
     ∙ ap (λ n. let k : Kept ChangeData = record { items = last_of s.capacity (map change_view s.items ++ change_view c ∷ []); capacity = s.capacity; lost = cond (nat_le s.capacity n) (counted s.lost 1) s.lost } in k) (sym size)
+
+-- one with fewer at the front
+pub drop-view : (s : Kept Change) (n : ℕ) (is_lost : Bool) → kept_view (after_drop s (min n (length s.items)) is_lost)
+    ≡ after_drop (kept_view s) (min n (length (map change_view s.items))) is_lost
+drop-view s n is_lost =
+    let size : length (map change_view s.items) ≡ length s.items = length-map s.items change_view in
+    let m = min n (length s.items) in
+    ap (λ (l : List ChangeData). let k : Kept ChangeData = record { items = l; capacity = s.capacity; lost = (after_drop s m is_lost).lost } in k) (sym (drop-map change_view m s.items))
+    ∙ ap (λ k. after_drop (kept_view s) (min n k) is_lost) (sym size)

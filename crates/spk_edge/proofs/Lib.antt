@@ -6,3 +6,5 @@ mod Changed
 mod Lasts
 mod Seals
 mod Plans
+mod Heard
+mod Drains

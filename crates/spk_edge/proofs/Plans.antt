@@ -1,5 +1,5 @@
 -- A plan answers what the rules ask.
-use Rattle.std.proofs.Common.{◌⊎◌, ◌≡◌, inl, inr, ◌∙◌, ap, sym, refl, subst, ℕ, ◌+◌, ◌%◌, ◌^◌, nat_lt, Bool, true, false, not, ◌&&◌, cond, List, [], ◌∷◌, ◌++◌, map, Option, Some, None, Result, Ok, Err}
+use Rattle.std.proofs.Common.{◌⊎◌, ◌≡◌, inl, inr, ◌∙◌, ap, sym, refl, subst, ℕ, ◌+◌, ◌%◌, ◌^◌, min, length, arith, nat_lt, Bool, true, false, not, ◌&&◌, cond, List, [], ◌∷◌, ◌++◌, map, Option, Some, None, Result, Ok, Err}
 use Rattle.std.specs.Prelude.{IfOk, IfErr}
 use Rattle.std.specs.List.{last_or, list_all}
 use Rattle.std.specs.Option.{option_map}
@@ -12,9 +12,7 @@ use Rattle.spk_device.specs.Calls.{unless_refused}
 use Rattle.spk_device.specs.Step.{set_refusal, turn_refusal, with_turn, with_value}
 use Rattle.spk_device.specs.declared.fault.Refusal.{Refusal}
 use Rattle.spk_sequence.specs.NodeRecord.{Numbering, RunsOn, Restarts}
-use Rattle.spk_store.specs.Data.{Kept}
-use Rattle.spk_store.specs.Calls as store
-use Rattle.spk_store.specs.declared.change.Change.{Change}
+use Rattle.spk_store.specs.Step.{after_drop}
 use Rattle.spk_edge_rules.specs.declared.fault.EdgeFault.{EdgeFault}
 use Rattle.spk_edge_rules.specs.declared.fault.EdgeFault.TheVariants as fault
 use Rattle.spk_edge_rules.specs.Answers.{Answer, checked, is_writable}
@@ -26,14 +24,16 @@ use Rattle.spk_edge_rules.specs.Messages.{Draft, opens, wire}
 use Rattle.spk_edge_rules.specs.Rules as rule
 use Rattle.spk_edge_rules.specs.Rules.{acked, acts, fits, is_timely, on_ok, rules, timely}
 use Rattle.spk_edge_rules.specs.Step as step
+use Rattle.spk_edge_rules.proofs.Courses.{KeepsLaw, rules-lawful}
 use Rattle.spk_edge_rules.proofs.Known as known
 use Rattle.spk_edge.specs.Patch.{IsDone, IsGivenBy, IsPlan, IsRefusal, IsRefusedBy, IsSealed, IsUnsealed, acked_data, act_setting, are_timely, kept_after, packets_of, patched, setting_book, setting_view, SetsNothing, SetsValue, SetsTurn}
 use Rattle.spk_edge.specs.Sealing as seal
 use Rattle.spk_edge.specs.Sealing.{AllKnown, numbered, bytes_of, seq_past, wire_of, with_number}
-use Rattle.spk_edge.specs.View.{GivenData, MessageData, NodeData, act_view, change_view, given_of, given_view, input_view, unnumbered, write_view}
+use Rattle.spk_edge.specs.View.{GivenData, MessageData, NodeData, act_view, given_of, given_view, input_view, keeping_view, unnumbered, write_view}
 use Rattle.spk_edge.specs.declared.input.Act.{Act}
 use Rattle.spk_edge.specs.declared.input.Input.{Input}
 use Rattle.spk_edge.specs.declared.message.Given.{Given}
+use Rattle.spk_edge.specs.declared.message.Keeping.{Keeping}
 use Rattle.spk_edge.specs.declared.message.Out.{Out}
 use Rattle.spk_edge.specs.declared.plan.Plan.{Plan}
 use Rattle.spk_edge.specs.declared.plan.Setting.{Setting}
@@ -175,9 +175,12 @@ sealed_refused n i g g' e fit now given is unsealed =
         answer-of : rule.Given → Answer
         answer-of r = record { given = r; packets = r.plain ++ step.wires n.config n.standing.seq r.drafts }
 
-kept-is : (s : Kept ChangeData) (k : Option Change) → kept_after s k ≡ step.store_after s (option_map (λ (c : Change). store.Push (change_view c)) k)
-kept-is s None = refl
-kept-is s (Some change) = refl
+kept-is : (a : rule.Asked) (k : Keeping) → KeepsLaw a (keeping_view k) → kept_after a.store k ≡ step.store_after a.store (keeping_view k)
+kept-is a Keeping.Nothing few = refl
+kept-is a (Keeping.Push change) few = refl
+kept-is a (Keeping.DropFront n is_lost) few =
+    let whole : min n (length a.store.items) ≡ n = omega (arith, few) in
+    ap (λ m. after_drop a.store m is_lost) whole
 
 -- what is set is what the act sets
 accepted : (b : Book) (r : Option Refusal) (g g' : rule.Given) → rule.refused_or r g ≡ Ok g' → r ≡ None
@@ -228,13 +231,13 @@ book-is c a now inputs.Pass s g ok set = no-value a.book s set
 -- the data after the plan are the data after the step
 after-is : (n : NodeData) (i : inputs.Input) (g : rule.Given) (setting : Setting) (p : Plan) → acts n.config n.standing.asked i.now i.act ≡ Ok g
     → setting_view setting ≡ act_setting i.act → IsSealed n i (given_of n.config (step.heard_after n.config n.standing.asked.heard i.act) (acked i.ack g)) setting p
-    → patched n p ≡ record n { standing = step.stepped n.config n.standing i (acked i.ack g) }
-after-is n i g setting p acted set s =
+    → KeepsLaw n.standing.asked (acked i.ack g).store → patched n p ≡ record n { standing = step.stepped n.config n.standing i (acked i.ack g) }
+after-is n i g setting p acted set s lawful =
     let c = n.config in
     let book : setting_book n.standing.asked.book p.setting ≡ step.book_after n.standing.asked.book i.act =
     ap (setting_book n.standing.asked.book) s.set ∙ book-is c n.standing.asked i.now i.act setting g acted set in
     let kept : kept_after n.standing.asked.store p.kept ≡ step.store_after n.standing.asked.store (acked i.ack g).store =
-    kept-is n.standing.asked.store p.kept ∙ ap (step.store_after n.standing.asked.store) s.kept in
+    kept-is n.standing.asked p.kept (subst (λ o. KeepsLaw n.standing.asked o) (sym s.kept) lawful) ∙ ap (step.store_after n.standing.asked.store) s.kept in
     let stamp : p.tally.stamp ≡ step.stamp_after n.standing.asked.stamp (acked i.ack g).drafts =
     s.tally.stamp ∙ ap (last_or n.standing.asked.stamp) (stamps-are c n.standing.seq (acked i.ack g).drafts) in
     let seq : p.tally.seq ≡ step.seq_after c n.standing.seq (acked i.ack g).drafts = s.tally.of_seq ∙ seqs-are c n.standing.seq (acked i.ack g).drafts in
@@ -248,15 +251,18 @@ planned n i g g' setting p fit now given is set sealed =
     let s : IsSealed n i (given_of n.config heard r) setting p = subst (λ (d : GivenData). IsSealed n i d setting p) (same-data n i g g' given is) sealed in
     let ps = r.plain ++ step.wires n.config n.standing.seq r.drafts in
     let whole : Answer = record { given = r; packets = ps } in
+    let timely : is_timely r ≡ true = sym (timely-are n.config r.drafts) ∙ s.timely in
+    let ruled : rules n.config n.standing.asked i ≡ gave r =
+    rules-are n.config n.standing.asked i (gave given.given) fit now given.acted ∙ ap (λ b. cond b (gave r) (Err fault.ClockEnd)) timely in
     record {
       answer = whole;
-      answered = all-timely n i given.given true (sym (timely-are n.config r.drafts) ∙ s.timely) fit now given.acted
+      answered = all-timely n i given.given true timely fit now given.acted
           ∙ ap (λ b. cond b (answer-ok whole) (Err fault.TooLarge)) (ap (list_all is_writable) (sym (sent n heard r)) ∙ s.writable);
       packets = s.packets ∙ ap (map spelling) (sent n heard r);
       writes = s.writes;
       close = s.close;
       messages = s.messages;
-      after = after-is n i given.given setting p given.acted set s;
+      after = after-is n i given.given setting p given.acted set s (rules-lawful n.config n.standing.asked i r ruled).keeps;
     }
 
 -- ---- from the code's input

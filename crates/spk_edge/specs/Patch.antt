@@ -1,5 +1,5 @@
 -- What a plan says, and what it changes.
-use Rattle.std.specs.Prelude.{◌≡◌, ◌⊎◌, ℕ, ◌+◌, ◌%◌, ◌^◌, Bool, true, false, ◌&&◌, nat_le, List, ◌∷◌, ◌++◌, map, nat_lt, Option, Some, None, Ok, Err, if◌then◌else◌}
+use Rattle.std.specs.Prelude.{◌≡◌, ◌⊎◌, ℕ, ◌+◌, ◌%◌, ◌^◌, min, length, Bool, true, false, ◌&&◌, nat_le, List, ◌∷◌, ◌++◌, map, nat_lt, Option, Some, None, Ok, Err, if◌then◌else◌}
 use Rattle.std.specs.List.{last_or, list_all}
 use Rattle.std.specs.Option.{option_map, option_map_or}
 use Rattle.std.specs.String.{string_bytes}
@@ -9,10 +9,8 @@ use Rattle.spk_packets.specs.Spelling.{spelling}
 use Rattle.spk_device.specs.Book.{Book}
 use Rattle.spk_device.specs.Calls.{unless_refused}
 use Rattle.spk_device.specs.Step.{set_refusal, turn_refusal, with_turn, with_value}
-use Rattle.spk_store.specs.Calls as store
 use Rattle.spk_store.specs.Data.{Kept}
-use Rattle.spk_store.specs.Step.{after_push}
-use Rattle.spk_store.specs.declared.change.Change.{Change}
+use Rattle.spk_store.specs.Step.{after_drop, after_push}
 use Rattle.spk_edge_rules.specs.declared.fault.EdgeFault.{EdgeFault}
 use Rattle.spk_edge_rules.specs.declared.fault.EdgeFault.TheVariants.{NoMemory, ClockEnd, TooLarge}
 use Rattle.spk_topics.specs.Spark.{is_name}
@@ -26,8 +24,9 @@ use Rattle.spk_edge_rules.specs.Rules as rule
 use Rattle.spk_edge_rules.specs.Rules.{Asked}
 use Rattle.spk_edge_rules.specs.Step as step
 use Rattle.spk_edge.specs.Sealing.{bytes_of, numbered, seq_past, wire_of}
-use Rattle.spk_edge.specs.View.{GivenData, MessageData, NodeData, change_view, given_of, given_view, message_view, unnumbered, write_view}
+use Rattle.spk_edge.specs.View.{GivenData, MessageData, NodeData, change_view, given_of, given_view, keeping_view, message_view, unnumbered, write_view}
 use Rattle.spk_edge.specs.declared.message.Given.{Given}
+use Rattle.spk_edge.specs.declared.message.Keeping.{Keeping}
 use Rattle.spk_edge.specs.declared.message.Out.{Out}
 use Rattle.spk_edge.specs.declared.node.Tally.{Tally}
 use Rattle.spk_edge.specs.declared.plan.Plan.{Plan}
@@ -43,9 +42,11 @@ setting_book b (Value alias value) =
     unless_refused (set_refusal b alias (option_map typed_view value)) (with_value b alias (option_map typed_view value)) b
 setting_book b (Turn name up) = unless_refused (turn_refusal b (string_bytes name)) (with_turn b (string_bytes name) up) b
 
-abbrev pub kept_after : Kept ChangeData → Option Change → Kept ChangeData
-kept_after s None = s
-kept_after s (Some change) = after_push s (change_view change)
+-- no more are dropped than are kept
+abbrev pub kept_after : Kept ChangeData → Keeping → Kept ChangeData
+kept_after s Keeping.Nothing = s
+kept_after s (Keeping.Push change) = after_push s (change_view change)
+kept_after s (Keeping.DropFront n is_lost) = after_drop s (min n (length s.items)) is_lost
 
 abbrev pub patched : NodeData → Plan → NodeData
 patched n p = record {
@@ -113,7 +114,7 @@ pub record IsSealed (n : NodeData) (i : inputs.Input) (g : GivenData) (setting :
   pub messages : map message_view p.messages.items ≡ numbers_of n g
   pub tally : IsTallyAfter n.standing.asked i g.phase g.heard (numbers_of n g) (seq_past n.config.numbering n.standing.seq g.messages) p.tally
   pub set : p.setting ≡ setting
-  pub kept : option_map (λ change. store.Push (change_view change)) p.kept ≡ g.kept
+  pub kept : keeping_view p.kept ≡ g.kept
 
 abbrev pub IsUnsealed : NodeData → GivenData → EdgeFault → Type 0
 IsUnsealed n g e = (e ≡ NoMemory) ⊎ (((e ≡ ClockEnd) × (are_timely g.messages ≡ false))

@@ -25,9 +25,11 @@ use Rattle.spk_edge.specs.declared.config.EdgeConfig.{EdgeConfig}
 use Rattle.spk_edge.specs.declared.config.Numbering.{Numbering}
 use Rattle.spk_edge.specs.declared.config.Numbering.TheVariants.{RunsOn, Restarts}
 use Rattle.spk_edge.specs.declared.input.Act.{Act}
-use Rattle.spk_edge.specs.declared.input.Act.TheVariants.{Open, Accepted, Change as Changing, Device, Command, Stop, Cut, TurnedAway, Pass}
+use Rattle.spk_edge.specs.declared.input.Act.TheVariants.{Open, Accepted, Change as Changing, Device, Command, State, Drain, Stop, Cut, TurnedAway, Pass}
 use Rattle.spk_edge.specs.declared.input.Input.{Input}
 use Rattle.spk_edge.specs.declared.message.Given.{Given}
+use Rattle.spk_edge.specs.declared.message.Keeping.{Keeping}
+use Rattle.spk_edge.specs.declared.message.Keeping.TheVariants.{Nothing, Push, DropFront}
 use Rattle.spk_edge.specs.declared.message.Published.{Published}
 use Rattle.spk_edge.specs.declared.message.Write.{Write}
 use Rattle.spk_edge.specs.declared.node.EdgeNode.TheInside.{Inside}
@@ -103,6 +105,12 @@ pub record GivenData : Type 0 where
   pub heard : Option ℕ
   pub kept : Option (store.Call ChangeData)
 
+-- what is done to the kept changes, as a call of the store
+abbrev pub keeping_view : Keeping → Option (store.Call ChangeData)
+keeping_view Nothing = None
+keeping_view (Push change) = Some (store.Push (change_view change))
+keeping_view (DropFront n is_lost) = Some (store.DropFront n is_lost)
+
 abbrev pub given_view : Given → GivenData
 given_view g = record {
   plain = map view g.plain.items;
@@ -111,7 +119,7 @@ given_view g = record {
   close = g.close;
   phase = g.phase;
   heard = g.heard;
-  kept = option_map (λ change. store.Push (change_view change)) g.kept;
+  kept = keeping_view g.kept;
 }
 
 -- a message of the rules before it has its number
@@ -143,6 +151,8 @@ act_view Accepted = inputs.Accepted
 act_view (Changing alias value) = inputs.Change alias (option_map typed_view value.now)
 act_view (Device name up) = inputs.Turn name.now up
 act_view (Command topic payload) = inputs.Command topic.now payload.now
+act_view (State payload) = inputs.State payload.now
+act_view Drain = inputs.Drain
 act_view Stop = inputs.Stop
 act_view Cut = inputs.Cut
 act_view TurnedAway = inputs.TurnedAway

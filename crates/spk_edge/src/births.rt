@@ -16,13 +16,13 @@ use crate::texts::{device_topic, node_topic, session_metric};
 use spk_device::{DeviceFault, Owner};
 use spk_edge_rules::{EdgeFault, Phase};
 use spk_payload::{Metric, Payload, Raw};
-use spk_state::Heard;
 use spk_topics::Verb;
 use std::alloc::{AllocError, Global};
 
 /// The metrics get the stamp of their birth.
 fn stamp_metrics(metrics: &mut [Metric], stamp: u64)
-    ensures { map metric_view metrics.new ≡ map (births.stamped stamp) (map metric_view metrics.old) }
+    ensures { map metric_view metrics.new ≡ map (births.stamped stamp)
+        (map metric_view metrics.old) }
 {
     for metric in metrics.iter_mut() {
         metric.timestamp = Some(stamp);
@@ -49,7 +49,8 @@ impl EdgeNode {
     /// The metrics of an owner that is there, as its birth lists them.
     fn own_metrics(&self, stamp: u64, owner: Owner) -> Result<Vec<Metric>, AllocError>
         requires { has_owner self.now.standing.asked.book owner ≡ true }
-        ensures { IfOk result (λ ms. map metric_view ms.items ≡ births.own_metrics self.now.standing.asked.book stamp owner) }
+        ensures { IfOk result (λ ms. map metric_view ms.items ≡
+            births.own_metrics self.now.standing.asked.book stamp owner) }
     {
         match self.registry.births(owner) {
             Ok(mut metrics) => {
@@ -64,7 +65,8 @@ impl EdgeNode {
     /// The metrics of an NBIRTH.
     fn node_metrics(&self, stamp: u64) -> Result<Vec<Metric>, AllocError>
         ensures { IfOk result (λ ms. map metric_view ms.items ≡
-            (births.node_birth self.now.standing.asked.book self.now.standing.asked.will_bd stamp).metrics) }
+            (births.node_birth self.now.standing.asked.book self.now.standing.asked.will_bd
+            stamp).metrics) }
     {
         let mut own = self.own_metrics(stamp, Owner::Node)?;
         let mut metrics = Vec::with_capacity(self.alloc, own.len() + 2)?;
@@ -102,7 +104,8 @@ impl EdgeNode {
     ) -> Result<Published, AllocError>
         requires { has_owner self.now.standing.asked.book (Owner.Device number) ≡ true }
         ensures { IfOk result (λ m. message_view m ≡
-            device_message self.now.config self.now.standing.asked.book stamp (number, record { name = name.now; up = true })) }
+            device_message self.now.config self.now.standing.asked.book stamp
+            (number, record { name = name.now; up = true })) }
     {
         let topic = device_topic(self.alloc, &self.config, Verb::Birth, name)?;
         let metrics = self.own_metrics(stamp, Owner::Device(number))?;
@@ -125,8 +128,10 @@ impl EdgeNode {
         number: usize,
         stamp: u64,
     ) -> Result<(), AllocError>
-        ensures { OnOk result (map message_view messages.new.items ≡ map message_view messages.old.items
-            ++ birth_if_up self.now.config self.now.standing.asked.book stamp number (device_at self.now.standing.asked.book number)) }
+        ensures { OnOk result (map message_view messages.new.items ≡
+            map message_view messages.old.items
+            ++ birth_if_up self.now.config self.now.standing.asked.book stamp number
+            (device_at self.now.standing.asked.book number)) }
     {
         if let Some(name) = self.registry.device_name(number) {
             if self.registry.is_up(number) == Some(true) {
@@ -152,8 +157,10 @@ impl EdgeNode {
 
     /// The stamp of an NBIRTH; ClockEnd where there is none below 2^63.
     fn birth_stamp(&self, now: u64) -> Result<u64, EdgeFault>
-        ensures stamp { IfOk result (λ s. s ≡ births.birth_stamp self.now.standing.asked.stamp now) }
-        ensures fault { IfErr result (λ e. (e ≡ EdgeFault.ClockEnd) × (2 ^ 63 ≤ births.birth_stamp self.now.standing.asked.stamp now)) }
+        ensures stamp { IfOk result (λ s. s ≡
+            births.birth_stamp self.now.standing.asked.stamp now) }
+        ensures fault { IfErr result (λ e. (e ≡ EdgeFault.ClockEnd)
+            × (2 ^ 63 ≤ births.birth_stamp self.now.standing.asked.stamp now)) }
     {
         match self.tally.stamp {
             None => Ok(now),
@@ -170,7 +177,8 @@ impl EdgeNode {
     pub(crate) fn bearing(&self, now: u64, given: Given) -> Result<Given, EdgeFault>
         ensures given { IfOk result (λ g. given_view g ≡ record (given_view given) {
           messages = map (unnumbered self.now.config) (births.births_at self.now.standing.asked.book
-              self.now.standing.asked.will_bd (births.birth_stamp self.now.standing.asked.stamp now));
+              self.now.standing.asked.will_bd
+              (births.birth_stamp self.now.standing.asked.stamp now));
           phase = Phase.Born;
         }) }
         ensures fault { IfErr result (λ e. (e ≡ EdgeFault.NoMemory) ⊎ ((e ≡ EdgeFault.ClockEnd)
@@ -185,10 +193,12 @@ impl EdgeNode {
 
     /// The writes, and the births where a rebirth is asked for of a node that is Born.
     pub(crate) fn obeying(&self, now: u64, orders: Vec<Order>) -> Result<Given, EdgeFault>
-        ensures given { IfOk result (λ g. given_view g ≡ given_of self.now.config self.now.standing.asked.heard
+        ensures given { IfOk result (λ g. given_view g ≡
+            given_of self.now.config self.now.standing.asked.heard
             (rule.obeying self.now.standing.asked now (map order_view orders.items))) }
         ensures fault { IfErr result (λ e. (e ≡ EdgeFault.NoMemory) ⊎ ((e ≡ EdgeFault.ClockEnd)
-            × (rule.is_timely (rule.obeying self.now.standing.asked now (map order_view orders.items)) ≡ false))) }
+            × (rule.is_timely (rule.obeying self.now.standing.asked now
+            (map order_view orders.items)) ≡ false))) }
     {
         let asked = wants_rebirth(&orders) && self.tally.phase == Phase::Born;
         let mut given = self.nothing();
@@ -199,36 +209,14 @@ impl EdgeNode {
         Ok(given)
     }
 
-    /// The births of a Waiting node whose primary host is online; a Born one leaves when it is offline.
-    pub(crate) fn hearing(&self, now: u64, heard: Heard) -> Result<Given, EdgeFault>
-        ensures given { IfOk result (λ g. given_view g ≡ given_of self.now.config self.now.standing.asked.heard
-            (rule.hearing self.now.config self.now.standing.asked now heard)) }
-        ensures fault { IfErr result (λ e. (e ≡ EdgeFault.NoMemory) ⊎ ((e ≡ EdgeFault.ClockEnd)
-            × (rule.is_timely (rule.hearing self.now.config self.now.standing.asked now heard) ≡ false))) }
-    {
-        match heard {
-            Heard::Online => {
-                if self.tally.phase == Phase::Waiting {
-                    return self.bearing(now, self.nothing());
-                }
-                Ok(self.nothing())
-            }
-            Heard::Offline => {
-                if self.tally.phase == Phase::Born {
-                    return Ok(self.leaving()?);
-                }
-                Ok(self.nothing())
-            }
-            Heard::Ignored => Ok(self.nothing()),
-        }
-    }
-
     /// SUBSCRIBE, and the births where there is no primary host.
     pub(crate) fn accepting(&self, now: u64) -> Result<Given, EdgeFault>
-        ensures given { IfOk result (λ g. given_view g ≡ given_of self.now.config self.now.standing.asked.heard
+        ensures given { IfOk result (λ g. given_view g ≡
+            given_of self.now.config self.now.standing.asked.heard
             (rule.accepting self.now.config self.now.standing.asked now)) }
         ensures fault { IfErr result (λ e. (e ≡ EdgeFault.NoMemory) ⊎ ((e ≡ EdgeFault.ClockEnd)
-            × (rule.is_timely (rule.accepting self.now.config self.now.standing.asked now) ≡ false))) }
+            × (rule.is_timely (rule.accepting self.now.config self.now.standing.asked now) ≡
+            false))) }
     {
         let mut given = self.joining()?;
         if self.config.primary.is_none() {

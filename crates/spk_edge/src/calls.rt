@@ -2,6 +2,8 @@
 ghost use Rattle.std.specs.Prelude.{◌≡◌, ◌⊎◌, IfOk, IfErr, OnErr, OnOk, true, false};
 ghost use Rattle.std.specs.Option.{option_map};
 ghost use Rattle.spk_payload.specs.Typing.{typed_view};
+ghost use Rattle.spk_packets.specs.View.{view};
+ghost use Rattle.spk_edge_rules.specs.Arriving.{input_of};
 ghost use Rattle.spk_edge_rules.specs.Inputs as inputs;
 ghost use Rattle.spk_edge.specs.Patch as patch;
 ghost use Rattle.spk_edge.specs.View.{input_view};
@@ -12,6 +14,7 @@ use crate::node::EdgeNode;
 use crate::plan::Taken;
 use spk_device::Alias;
 use spk_edge_rules::{EdgeFault, Phase};
+use spk_packets::Packet;
 use spk_payload::Value;
 
 impl EdgeNode {
@@ -27,8 +30,10 @@ impl EdgeNode {
 
     /// Opens a connection: CONNECT, with the will of the next session. Taken when Idle.
     pub fn open(&mut self, now: u64) -> Result<Out, EdgeFault>
-        ensures done { IfOk result (patch.IsDone self.old (patch.plain_input now inputs.Open) self.new) }
-        ensures refused { IfErr result (patch.IsRefusal self.old (patch.plain_input now inputs.Open)) }
+        ensures done { IfOk result (patch.IsDone self.old
+            (patch.plain_input now inputs.Open) self.new) }
+        ensures refused { IfErr result (patch.IsRefusal self.old
+            (patch.plain_input now inputs.Open)) }
         ensures err { OnErr result (self.new ≡ self.old) }
     {
         self.tell(Input {
@@ -40,8 +45,10 @@ impl EdgeNode {
 
     /// The server accepted: SUBSCRIBE, and the births where there is no primary host. Taken when Connecting.
     pub fn accepted(&mut self, now: u64) -> Result<Out, EdgeFault>
-        ensures done { IfOk result (patch.IsDone self.old (patch.plain_input now inputs.Accepted) self.new) }
-        ensures refused { IfErr result (patch.IsRefusal self.old (patch.plain_input now inputs.Accepted)) }
+        ensures done { IfOk result (patch.IsDone self.old
+            (patch.plain_input now inputs.Accepted) self.new) }
+        ensures refused { IfErr result (patch.IsRefusal self.old
+            (patch.plain_input now inputs.Accepted)) }
         ensures err { OnErr result (self.new ≡ self.old) }
     {
         self.tell(Input {
@@ -60,7 +67,8 @@ impl EdgeNode {
         value: &Option<Value>,
     ) -> Result<Out, EdgeFault>
         ensures done { IfOk result (patch.IsDone self.old
-            (patch.plain_input now (inputs.Change alias (option_map typed_view value.now))) self.new) }
+            (patch.plain_input now (inputs.Change alias
+            (option_map typed_view value.now))) self.new) }
         ensures refused { IfErr result (patch.IsRefusal self.old
             (patch.plain_input now (inputs.Change alias (option_map typed_view value.now)))) }
         ensures err { OnErr result (self.new ≡ self.old) }
@@ -74,8 +82,10 @@ impl EdgeNode {
 
     /// A device is up or down: a DBIRTH or a DDEATH when Born. Nothing where it is so already. Taken in every phase.
     pub fn device(&mut self, now: u64, name: &str, up: bool) -> Result<Out, EdgeFault>
-        ensures done { IfOk result (patch.IsDone self.old (patch.plain_input now (inputs.Turn name.now up)) self.new) }
-        ensures refused { IfErr result (patch.IsRefusal self.old (patch.plain_input now (inputs.Turn name.now up))) }
+        ensures done { IfOk result (patch.IsDone self.old (patch.plain_input now
+            (inputs.Turn name.now up)) self.new) }
+        ensures refused { IfErr result (patch.IsRefusal self.old (patch.plain_input now
+            (inputs.Turn name.now up))) }
         ensures err { OnErr result (self.new ≡ self.old) }
     {
         self.tell(Input {
@@ -101,10 +111,60 @@ impl EdgeNode {
         })
     }
 
+    /// A STATE of the primary host (Sparkplug 3.0.0, chapter 6), by its payload. Online gives the births of a Waiting
+    /// node; offline ends the session of a Born one as `stop` does. One earlier than the last one heard says nothing, and
+    /// a node without a primary host hears none. Refused with State (66) where it can't be read. Taken when Waiting or
+    /// Born.
+    pub fn state(&mut self, now: u64, payload: &[u8]) -> Result<Out, EdgeFault>
+        ensures done { IfOk result (patch.IsDone self.old (patch.plain_input now
+            (inputs.State payload.now)) self.new) }
+        ensures refused { IfErr result (patch.IsRefusal self.old (patch.plain_input now
+            (inputs.State payload.now))) }
+        ensures err { OnErr result (self.new ≡ self.old) }
+    {
+        self.tell(Input {
+            now,
+            ack: None,
+            act: Act::State(payload),
+        })
+    }
+
+    /// Sends kept changes: those at the front that are of one owner, at most 32, as one message of historical metrics,
+    /// each with the time of its change. Those of a device that is down are dropped, and count as lost. Gives nothing
+    /// where nothing is kept. Taken when Born.
+    pub fn drain(&mut self, now: u64) -> Result<Out, EdgeFault>
+        ensures done { IfOk result (patch.IsDone self.old
+            (patch.plain_input now inputs.Drain) self.new) }
+        ensures refused { IfErr result (patch.IsRefusal self.old
+            (patch.plain_input now inputs.Drain)) }
+        ensures err { OnErr result (self.new ≡ self.old) }
+    {
+        self.tell(Input {
+            now,
+            ack: None,
+            act: Act::Drain,
+        })
+    }
+
+    /// A packet of the server: `input_of` says which of the others it is, of which each has its own refusals. A PUBLISH of
+    /// QoS 1 is acknowledged by the first packet, and not where it is refused. A CONNACK that doesn't accept closes a
+    /// Connecting node. Taken, and nothing, is any other packet. PINGREQ is the caller's to send.
+    pub fn packet(&mut self, now: u64, packet: &Packet) -> Result<Out, EdgeFault>
+        ensures done { IfOk result (patch.IsDone self.old (input_of self.old.config now
+            (view packet.now)) self.new) }
+        ensures refused { IfErr result (patch.IsRefusal self.old (input_of self.old.config now
+            (view packet.now))) }
+        ensures err { OnErr result (self.new ≡ self.old) }
+    {
+        self.tell(self.input_of(now, packet))
+    }
+
     /// Ends the session in order: NDEATH, DISCONNECT. Taken when Waiting or Born.
     pub fn stop(&mut self, now: u64) -> Result<Out, EdgeFault>
-        ensures done { IfOk result (patch.IsDone self.old (patch.plain_input now inputs.Stop) self.new) }
-        ensures refused { IfErr result (patch.IsRefusal self.old (patch.plain_input now inputs.Stop)) }
+        ensures done { IfOk result (patch.IsDone self.old
+            (patch.plain_input now inputs.Stop) self.new) }
+        ensures refused { IfErr result (patch.IsRefusal self.old
+            (patch.plain_input now inputs.Stop)) }
         ensures err { OnErr result (self.new ≡ self.old) }
     {
         self.tell(Input {

@@ -4,44 +4,24 @@ ghost use Rattle.std.specs.Option.{option_map, option_map_or};
 ghost use Rattle.spk_topics.specs.Spark.{topic_of};
 ghost use Rattle.spk_edge_rules.specs.Messages.{spark_of};
 ghost use Rattle.spk_device.specs.declared.fault.Refusal.{Refusal};
-ghost use Rattle.spk_payload.specs.Typing.{typed_view, written_of};
-ghost use Rattle.spk_payload.specs.View.{content_of, metric_view};
+ghost use Rattle.spk_payload.specs.Typing.{typed_view};
+ghost use Rattle.spk_payload.specs.View.{metric_view};
 ghost use Rattle.spk_device.specs.Book as book;
 ghost use Rattle.spk_device.specs.Step.{set_refusal, turn_refusal};
 ghost use Rattle.spk_edge_rules.specs.Births as births;
 ghost use Rattle.spk_edge_rules.specs.Rules as rule;
 ghost use Rattle.spk_edge.specs.View.{change_view, given_of, given_view, message_view, unnumbered};
 
-use crate::message::{Given, Published};
+use crate::message::{Given, Keeping, Published};
 use crate::node::EdgeNode;
 use crate::texts::{device_topic, node_topic};
+use crate::values::{copied, written_value};
 use spk_device::{Alias, Outcome, Owner};
 use spk_edge_rules::{EdgeFault, Phase};
-use spk_payload::{Metric, Payload, PayloadFault, Raw, Value, written};
+use spk_payload::{Metric, Payload, Value};
 use spk_store::Change;
 use spk_topics::Verb;
 use std::alloc::{AllocError, Global};
-
-/// A copy of a value.
-pub(crate) fn copied(alloc: Global, value: &Option<Value>) -> Result<Option<Value>, AllocError>
-    ensures { IfOk result (λ v. option_map typed_view v ≡ option_map typed_view value.now) }
-{
-    match value {
-        Some(value) => Ok(Some(value.copy(alloc)?)),
-        None => Ok(None),
-    }
-}
-
-/// How a value of a datatype is written, if it is.
-fn written_value(alloc: Global, datatype: u32, value: &Value) -> Result<Option<Raw>, AllocError>
-    ensures { IfOk result (λ raw. option_map content_of raw ≡ written_of datatype (typed_view value.now)) }
-{
-    match written(alloc, datatype, value) {
-        Ok(raw) => Ok(Some(raw)),
-        Err(PayloadFault::NoMemory) => Err(AllocError),
-        Err(_) => Ok(None),
-    }
-}
 
 /// The later of a moment and the last stamp.
 fn later(last: Option<u64>, now: u64) -> u64
@@ -63,7 +43,8 @@ impl EdgeNode {
 
     /// The datatype of an alias, 0 where there is none.
     fn datatype(&self, alias: Alias) -> u32
-        ensures { result ≡ option_map_or (λ g. g.datatype) (book.gauge_at self.now.standing.asked.book alias) 0 }
+        ensures { result ≡ option_map_or (λ g. g.datatype)
+            (book.gauge_at self.now.standing.asked.book alias) 0 }
     {
         match self.registry.metric(alias) {
             Some(gauge) => gauge.datatype,
@@ -100,7 +81,8 @@ impl EdgeNode {
         value: &Option<Value>,
     ) -> Result<Metric, AllocError>
         ensures { IfOk result (λ m. metric_view m ≡
-            births.data_metric self.now.standing.asked.book alias time historical (option_map typed_view value.now)) }
+            births.data_metric self.now.standing.asked.book alias time historical
+            (option_map typed_view value.now)) }
     {
         let null = if value.is_none() { Some(true) } else { None };
         let value = match value {
@@ -122,7 +104,8 @@ impl EdgeNode {
     /// The topic of an owner's data.
     fn data_topic(&self, owner: Owner) -> Result<String, AllocError>
         ensures { IfOk result (λ t. string_bytes t ≡
-            topic_of (spark_of self.now.config Verb.Data (births.device_of self.now.standing.asked.book owner))) }
+            topic_of (spark_of self.now.config Verb.Data
+            (births.device_of self.now.standing.asked.book owner))) }
     {
         match owner {
             Owner::Node => node_topic(self.alloc, &self.config, Verb::Data),
@@ -141,7 +124,8 @@ impl EdgeNode {
         metrics: Vec<Metric>,
     ) -> Result<Published, AllocError>
         ensures { IfOk result (λ m. message_view m ≡ unnumbered self.now.config
-            (births.data_draft self.now.standing.asked.book owner stamp (map metric_view metrics.items))) }
+            (births.data_draft self.now.standing.asked.book owner stamp
+            (map metric_view metrics.items))) }
     {
         let topic = self.data_topic(owner)?;
         Ok(Published {
@@ -164,9 +148,11 @@ impl EdgeNode {
         value: &Option<Value>,
     ) -> Result<Published, AllocError>
         ensures { IfOk result (λ m. message_view m ≡ unnumbered self.now.config
-            (births.data_draft self.now.standing.asked.book (births.owner_at self.now.standing.asked.book alias)
+            (births.data_draft self.now.standing.asked.book
+            (births.owner_at self.now.standing.asked.book alias)
             (births.later_stamp self.now.standing.asked.stamp now)
-            (births.data_metric self.now.standing.asked.book alias (births.later_stamp self.now.standing.asked.stamp now) None
+            (births.data_metric self.now.standing.asked.book alias
+            (births.later_stamp self.now.standing.asked.stamp now) None
             (option_map typed_view value.now) ∷ []))) }
     {
         let stamp = self.later_stamp(now);
@@ -199,7 +185,8 @@ impl EdgeNode {
 
     /// One data message when Born, else the change is kept.
     fn telling(&self, now: u64, alias: Alias, value: &Option<Value>) -> Result<Given, AllocError>
-        ensures { IfOk result (λ g. given_view g ≡ given_of self.now.config self.now.standing.asked.heard
+        ensures { IfOk result (λ g. given_view g ≡
+            given_of self.now.config self.now.standing.asked.heard
             (rule.telling self.now.standing.asked now alias (option_map typed_view value.now))) }
     {
         let mut given = self.nothing();
@@ -208,7 +195,7 @@ impl EdgeNode {
                 .messages
                 .push(self.change_message(now, alias, value)?)?;
         } else {
-            given.kept = Some(self.kept_change(now, alias, value)?);
+            given.kept = Keeping::Push(self.kept_change(now, alias, value)?);
         }
         Ok(given)
     }
@@ -220,12 +207,16 @@ impl EdgeNode {
         alias: Alias,
         value: &Option<Value>,
     ) -> Result<Given, EdgeFault>
-        ensures given { IfOk result (λ g. given_view g ≡ given_of self.now.config self.now.standing.asked.heard
+        ensures given { IfOk result (λ g. given_view g ≡
+            given_of self.now.config self.now.standing.asked.heard
             (rule.changing self.now.standing.asked now alias (option_map typed_view value.now))) }
         ensures accepted { OnOk result (
-            set_refusal self.now.standing.asked.book alias (option_map typed_view value.now) ≡ None) }
-        ensures fault { IfErr result (λ e. (e ≡ EdgeFault.NoMemory) ⊎ ((r : Refusal) × (e ≡ EdgeFault.Device r)
-            × (set_refusal self.now.standing.asked.book alias (option_map typed_view value.now) ≡ Some r))) }
+            set_refusal self.now.standing.asked.book alias (option_map typed_view value.now) ≡
+            None) }
+        ensures fault { IfErr result (λ e. (e ≡ EdgeFault.NoMemory) ⊎ ((r : Refusal)
+            × (e ≡ EdgeFault.Device r)
+            × (set_refusal self.now.standing.asked.book alias (option_map typed_view value.now) ≡
+            Some r))) }
     {
         match self.registry.would_set(alias, value) {
             Err(refusal) => Err(EdgeFault::Device(refusal)),
@@ -250,7 +241,8 @@ impl EdgeNode {
     ) -> Result<Published, AllocError>
         requires { book.number_of self.now.standing.asked.book name.now ≡ Some number }
         ensures { IfOk result (λ m. message_view m ≡ unnumbered self.now.config
-            (births.turn_draft self.now.standing.asked.book (births.later_stamp self.now.standing.asked.stamp now) name.now up)) }
+            (births.turn_draft self.now.standing.asked.book
+            (births.later_stamp self.now.standing.asked.stamp now) name.now up)) }
     {
         let stamp = self.later_stamp(now);
         if up {
@@ -270,10 +262,12 @@ impl EdgeNode {
 
     /// A device that comes up or goes down.
     pub(crate) fn turning(&self, now: u64, name: &str, up: bool) -> Result<Given, EdgeFault>
-        ensures given { IfOk result (λ g. given_view g ≡ given_of self.now.config self.now.standing.asked.heard
+        ensures given { IfOk result (λ g. given_view g ≡
+            given_of self.now.config self.now.standing.asked.heard
             (rule.turning self.now.standing.asked now name.now up)) }
         ensures accepted { OnOk result (turn_refusal self.now.standing.asked.book name.now ≡ None) }
-        ensures fault { IfErr result (λ e. (e ≡ EdgeFault.NoMemory) ⊎ ((r : Refusal) × (e ≡ EdgeFault.Device r)
+        ensures fault { IfErr result (λ e. (e ≡ EdgeFault.NoMemory) ⊎ ((r : Refusal)
+            × (e ≡ EdgeFault.Device r)
             × (turn_refusal self.now.standing.asked.book name.now ≡ Some r))) }
     {
         let Some(number) = self.registry.device_number(name) else {

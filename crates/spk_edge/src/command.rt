@@ -44,7 +44,8 @@ fn is_mine(config: &EdgeConfig, group: &str, kind: Verb, node: &str) -> bool
 
 /// To whom the command of a topic is, if it is a command to this node.
 fn target_in(config: &EdgeConfig, topic: Spark) -> Option<Target>
-    ensures { option_map target_view result ≡ rule.target_in (config_view config.now) (spark.named topic) }
+    ensures { option_map target_view result ≡ rule.target_in (config_view config.now)
+        (spark.named topic) }
 {
     match topic {
         Spark::Node { group, kind, node } => {
@@ -72,7 +73,8 @@ fn target_in(config: &EdgeConfig, topic: Spark) -> Option<Target>
 
 /// To whom the command of a topic's text is, if it is a command to this node.
 fn target_of(alloc: Global, config: &EdgeConfig, topic: &str) -> Result<Option<Target>, AllocError>
-    ensures { IfOk result (λ target. option_map target_view target ≡ rule.target_of (config_view config.now) topic.now) }
+    ensures { IfOk result (λ target. option_map target_view target ≡
+        rule.target_of (config_view config.now) topic.now) }
 {
     match Spark::read(alloc, topic) {
         Ok(topic) => Ok(target_in(config, topic)),
@@ -130,7 +132,8 @@ fn flag(value: Option<Raw>) -> Option<bool>
 
 /// A value of a datatype.
 fn value_of(datatype: u32, value: Option<Raw>) -> Option<Value>
-    ensures { option_map typed_view result ≡ option_and_then (typed_of datatype) (option_map content_of value) }
+    ensures { option_map typed_view result ≡ option_and_then (typed_of datatype)
+        (option_map content_of value) }
 {
     match typed(datatype, value?) {
         Ok(value) => Some(value),
@@ -163,7 +166,8 @@ fn datatype_of(registry: &Registry, owner: Owner, alias: Alias) -> Option<u32>
 
 /// The write of a metric's value.
 fn writing(registry: &Registry, owner: Owner, metric: Metric) -> Option<Order>
-    ensures { option_map order_view result ≡ rule.writing_of registry.now (metric_view metric) owner }
+    ensures { option_map order_view result ≡ rule.writing_of registry.now
+        (metric_view metric) owner }
 {
     let alias = alias_in(registry, owner, &metric)?;
     let datatype = datatype_of(registry, owner, alias)?;
@@ -173,7 +177,8 @@ fn writing(registry: &Registry, owner: Owner, metric: Metric) -> Option<Order>
 
 /// What a metric asks, if it is something that can be done.
 fn order_of(registry: &Registry, target: &Target, metric: Metric) -> Option<Order>
-    ensures { option_map order_view result ≡ rule.order_of registry.now (target_view target.now) (metric_view metric) }
+    ensures { option_map order_view result ≡ rule.order_of registry.now (target_view target.now)
+        (metric_view metric) }
 {
     if is_control(target, &metric) {
         match flag(content(metric)) {
@@ -195,10 +200,12 @@ fn orders_in(
     target: &Target,
     metrics: Vec<Metric>,
 ) -> Result<Vec<Order>, EdgeFault>
-    ensures some { IfOk result (λ orders. rule.orders_of registry.now (target_view target.now) (map metric_view metrics.items)
+    ensures some { IfOk result (λ orders. rule.orders_of registry.now (target_view target.now)
+        (map metric_view metrics.items)
         ≡ Some (map order_view orders.items)) }
     ensures fault { IfErr result (λ e. (e ≡ EdgeFault.NoMemory) ⊎ ((e ≡ EdgeFault.BadCommand)
-        × (rule.orders_of registry.now (target_view target.now) (map metric_view metrics.items) ≡ None))) }
+        × (rule.orders_of registry.now (target_view target.now) (map metric_view metrics.items) ≡
+        None))) }
 {
     let mut orders = Vec::with_capacity(alloc, metrics.len())?;
     for metric in metrics {
@@ -219,7 +226,8 @@ pub(crate) fn orders_of(
     topic: &str,
     payload: &[u8],
 ) -> Result<Vec<Order>, EdgeFault>
-    ensures some { IfOk result (λ orders. rule.command_of (config_view config.now) registry.now topic.now payload.now
+    ensures some { IfOk result (λ orders. rule.command_of
+        (config_view config.now) registry.now topic.now payload.now
         ≡ Some (map order_view orders.items)) }
     ensures fault { IfErr result (λ e. (e ≡ EdgeFault.NoMemory) ⊎ ((e ≡ EdgeFault.BadCommand)
         × (rule.command_of (config_view config.now) registry.now topic.now payload.now ≡ None))) }
@@ -249,7 +257,8 @@ pub(crate) fn wants_rebirth(orders: &[Order]) -> bool
 
 /// The writes among the orders, in order.
 pub(crate) fn writes_in(alloc: Global, orders: Vec<Order>) -> Result<Vec<Write>, AllocError>
-    ensures { IfOk result (λ writes. map write_view writes.items ≡ rule.writes_in (map order_view orders.items)) }
+    ensures { IfOk result (λ writes. map write_view writes.items ≡
+        rule.writes_in (map order_view orders.items)) }
 {
     let mut writes = Vec::with_capacity(alloc, orders.len())?;
     for order in orders {

@@ -7,7 +7,7 @@ ghost use Rattle.spk_edge_rules.specs.Rules as rule;
 ghost use Rattle.spk_edge.specs.View.{config_view, given_of, given_view};
 
 use crate::config::EdgeConfig;
-use crate::message::Given;
+use crate::message::{Given, Keeping};
 use crate::node::EdgeNode;
 use crate::texts::{client_id, death_bytes, device_topic, node_topic, state_topic};
 use spk_edge_rules::Phase;
@@ -41,7 +41,8 @@ fn connect(alloc: Global, config: &EdgeConfig, bd: u8, time: u64) -> Result<Pack
 
 /// The NDEATH that ends a session in order.
 fn last_words(alloc: Global, config: &EdgeConfig, bd: u8, time: u64) -> Result<Packet, AllocError>
-    ensures { IfOk result (λ p. view p ∷ view Packet.Disconnect ∷ [] ≡ packets.farewell (config_view config.now) bd time) }
+    ensures { IfOk result (λ p. view p ∷ view Packet.Disconnect ∷ [] ≡
+        packets.farewell (config_view config.now) bd time) }
 {
     Ok(Packet::Publish {
         dup: false,
@@ -62,7 +63,8 @@ fn request(filter: String) -> Request
 
 /// The filters of its commands, and of its primary host.
 fn filters(alloc: Global, config: &EdgeConfig) -> Result<Vec<Request>, AllocError>
-    ensures { IfOk result (λ rs. packets.subscribe_of (config_view config.now) ≡ view (Packet.Subscribe 1 rs)) }
+    ensures { IfOk result (λ rs. packets.subscribe_of (config_view config.now) ≡
+        view (Packet.Subscribe 1 rs)) }
 {
     let mut filters = Vec::with_capacity(alloc, 3)?;
     filters.push(request(node_topic(alloc, config, Verb::Command)?))?;
@@ -86,7 +88,8 @@ fn subscribe(alloc: Global, config: &EdgeConfig) -> Result<Packet, AllocError>
 impl EdgeNode {
     /// Nothing: the phase stays.
     pub(crate) fn nothing(&self) -> Given
-        ensures { given_view result ≡ given_of self.now.config self.now.standing.asked.heard (rule.nothing self.now.standing.asked) }
+        ensures { given_view result ≡ given_of self.now.config self.now.standing.asked.heard
+            (rule.nothing self.now.standing.asked) }
     {
         Given {
             plain: Vec::new(self.alloc),
@@ -95,14 +98,15 @@ impl EdgeNode {
             close: false,
             phase: self.tally.phase,
             heard: self.tally.heard,
-            kept: None,
+            kept: Keeping::Nothing,
         }
     }
 
     /// CONNECT, and the phase Connecting.
     pub(crate) fn opening(&self, now: u64) -> Result<Given, AllocError>
         ensures { IfOk result (λ g. given_view g ≡
-            given_of self.now.config self.now.standing.asked.heard (rule.opening self.now.config self.now.standing.asked now)) }
+            given_of self.now.config self.now.standing.asked.heard
+            (rule.opening self.now.config self.now.standing.asked now)) }
     {
         let mut given = self.nothing();
         given
@@ -115,7 +119,8 @@ impl EdgeNode {
     /// SUBSCRIBE, and the phase Waiting.
     pub(crate) fn joining(&self) -> Result<Given, AllocError>
         ensures { IfOk result (λ g. given_view g ≡
-            given_of self.now.config self.now.standing.asked.heard (rule.joining self.now.config self.now.standing.asked)) }
+            given_of self.now.config self.now.standing.asked.heard
+            (rule.joining self.now.config self.now.standing.asked)) }
     {
         let mut given = self.nothing();
         given.plain.push(subscribe(self.alloc, &self.config)?)?;
@@ -126,7 +131,8 @@ impl EdgeNode {
     /// NDEATH, DISCONNECT, and the connection is closed.
     pub(crate) fn leaving(&self) -> Result<Given, AllocError>
         ensures { IfOk result (λ g. given_view g ≡
-            given_of self.now.config self.now.standing.asked.heard (rule.leaving self.now.config self.now.standing.asked)) }
+            given_of self.now.config self.now.standing.asked.heard
+            (rule.leaving self.now.config self.now.standing.asked)) }
     {
         let mut given = self.nothing();
         let tally = &self.tally;
@@ -140,7 +146,8 @@ impl EdgeNode {
     /// The connection is gone.
     pub(crate) fn cutting(&self) -> Given
         ensures { given_view result ≡
-            given_of self.now.config self.now.standing.asked.heard (record (rule.nothing self.now.standing.asked) { phase = Phase.Idle }) }
+            given_of self.now.config self.now.standing.asked.heard (record
+            (rule.nothing self.now.standing.asked) { phase = Phase.Idle }) }
     {
         let mut given = self.nothing();
         given.phase = Phase::Idle;
@@ -149,7 +156,8 @@ impl EdgeNode {
 
     /// A node whose connection wasn't accepted closes it.
     pub(crate) fn turned_away(&self) -> Given
-        ensures { given_view result ≡ given_of self.now.config self.now.standing.asked.heard (rule.turned_away self.now.standing.asked) }
+        ensures { given_view result ≡ given_of self.now.config self.now.standing.asked.heard
+            (rule.turned_away self.now.standing.asked) }
     {
         let mut given = self.nothing();
         if let Phase::Connecting = self.tally.phase {

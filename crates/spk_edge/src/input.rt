@@ -15,6 +15,10 @@ pub enum Act<'a> {
     Device(&'a str, bool),
     /// A message on a topic of commands: its topic and its payload.
     Command(&'a str, &'a [u8]),
+    /// A message on the topic of the primary host's STATE: its payload.
+    State(&'a [u8]),
+    /// Kept changes are to be sent.
+    Drain,
     /// The session is to be ended in order.
     Stop,
     /// The connection is gone.

@@ -2,6 +2,7 @@
 //! packets to send.
 #![tactic(auto)]
 
+mod arriving;
 mod births;
 mod calls;
 mod changing;
@@ -9,15 +10,24 @@ mod command;
 #[cfg(test)]
 mod command_tests;
 mod config;
+mod draining;
 mod ends;
+mod hearing;
+#[cfg(test)]
+mod host_tests;
 mod input;
 mod message;
 mod node;
+#[cfg(test)]
+mod packet_tests;
 mod plan;
 mod sealing;
 #[cfg(test)]
 mod tests;
 mod texts;
+#[cfg(test)]
+mod twin_tests;
+mod values;
 
 pub use config::{EdgeConfig, Numbering, Record};
 pub use input::{Act, Input};

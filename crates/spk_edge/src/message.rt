@@ -38,6 +38,16 @@ pub struct Published {
     pub opens: bool,
 }
 
+/// What is done to the kept changes.
+#[derive(Debug, PartialEq, Drop)]
+pub(crate) enum Keeping {
+    Nothing,
+    /// One more is kept.
+    Push(Change),
+    /// So many at the front go, and count as lost or not.
+    DropFront(usize, bool),
+}
+
 /// What the rules give, before packets are encoded and messages numbered.
 #[derive(Debug, PartialEq, Drop)]
 pub(crate) struct Given {
@@ -49,6 +59,5 @@ pub(crate) struct Given {
     pub(crate) phase: Phase,
     /// The greatest timestamp heard of the primary host after it.
     pub(crate) heard: Primary,
-    /// A change that is to be kept.
-    pub(crate) kept: Option<Change>,
+    pub(crate) kept: Keeping,
 }

@@ -89,10 +89,12 @@ impl EdgeNode {
         start: Record,
         registry: Registry,
     ) -> Result<EdgeNode, EdgeFault>
-        ensures made { IfOk result (λ n. n ≡ patch.made (config_view config) config.capacity (record_view start) registry) }
+        ensures made { IfOk result (λ n. n ≡ patch.made (config_view config) config.capacity
+            (record_view start) registry) }
         ensures good { OnOk result (patch.is_good (config_view config) config.capacity ≡ true) }
         ensures fault { IfErr result (λ e. (e ≡ EdgeFault.NoMemory)
-            ⊎ ((e ≡ EdgeFault.BadConfig) × (patch.is_good (config_view config) config.capacity ≡ false))) }
+            ⊎ ((e ≡ EdgeFault.BadConfig) × (patch.is_good (config_view config) config.capacity ≡
+            false))) }
     {
         if !is_good(&config) {
             return Err(EdgeFault::BadConfig);

@@ -10,18 +10,18 @@ ghost use Rattle.spk_edge.specs.Patch as patch;
 ghost use Rattle.spk_edge.specs.Sealing as seal;
 ghost use Rattle.spk_edge.specs.View.{act_view, given_of, given_view, input_view, kept_view, message_view, numbering_view};
 
-use crate::changing::copied;
 use crate::command::orders_of;
 use crate::input::{Act, Input};
-use crate::message::{Given, Out, Published};
+use crate::message::{Given, Keeping, Out, Published};
 use crate::node::{EdgeNode, Tally};
 use crate::sealing::{number, written_messages, written_packets};
+use crate::values::copied;
 use spk_device::{Alias, Registry};
 use spk_edge_rules::{EdgeFault, Phase};
 use spk_packets::Packet;
 use spk_payload::Value;
 use spk_state::Primary;
-use spk_store::{Change, Store};
+use spk_store::Store;
 use std::alloc::{AllocError, Global};
 
 /// The first moment that isn't one.
@@ -42,8 +42,7 @@ pub struct Plan {
     pub(crate) messages: Vec<Published>,
     pub(crate) tally: Tally,
     pub(crate) setting: Setting,
-    /// A change that is to be kept.
-    pub(crate) kept: Option<Change>,
+    pub(crate) kept: Keeping,
 }
 
 /// What was taken up: what is answered, and what was published. The last of the packets are the messages' bytes.
@@ -72,7 +71,8 @@ fn packets(
 ) -> Result<Vec<Vec<u8>>, EdgeFault>
     requires { AllByRecursion (λ m. seal.AreKnown (message_view m).payload.metrics) messages.now }
     ensures bytes { IfOk result (λ out. map seal.bytes_of out.items ≡
-        map spelling (map view plain.now ++ map (λ m. seal.wire_of (message_view m)) messages.now)) }
+        map spelling (map view plain.now ++ map (λ m. seal.wire_of
+        (message_view m)) messages.now)) }
     ensures writable { OnOk result (list_all is_writable
         (map view plain.now ++ map (λ m. seal.wire_of (message_view m)) messages.now) ≡ true) }
     ensures fault { IfErr result (seal.IsUnwritten
@@ -123,12 +123,19 @@ fn set(registry: &mut Registry, setting: Setting)
     }
 }
 
-/// Keeps what is to be kept.
-fn keep(store: &mut Store, kept: Option<Change>)
-    ensures { kept_view store.new ≡ patch.kept_after (kept_view store.old) kept }
+/// Does to the kept changes what is to be done.
+fn keep(store: &mut Store, keeping: Keeping)
+    ensures { kept_view store.new ≡ patch.kept_after (kept_view store.old) keeping }
 {
-    if let Some(change) = kept {
-        store.push(change);
+    match keeping {
+        Keeping::Nothing => {}
+        Keeping::Push(change) => {
+            store.push(change);
+        }
+        Keeping::DropFront(count, is_lost) => {
+            let count = count.min(store.len());
+            store.drop_front(count, is_lost);
+        }
     }
 }
 
@@ -164,7 +171,8 @@ impl EdgeNode {
         messages: &[Published],
         seq: u8,
     ) -> Tally
-        ensures { patch.IsTallyAfter self.now.standing.asked (input_view input.entry) phase heard (map message_view messages.now) seq result }
+        ensures { patch.IsTallyAfter self.now.standing.asked (input_view input.entry) phase heard
+            (map message_view messages.now) seq result }
     {
         let mut tally = Tally {
             phase,
@@ -185,8 +193,10 @@ impl EdgeNode {
 
     /// The plan of what was given.
     fn sealed(&self, input: Input<'_>, given: Given, setting: Setting) -> Result<Plan, EdgeFault>
-        requires { AllByRecursion (λ m. seal.AreKnown m.payload.metrics) (map message_view given.messages.items) }
-        ensures sealed { IfOk result (patch.IsSealed self.now (input_view input.entry) (given_view given) setting) }
+        requires { AllByRecursion (λ m. seal.AreKnown m.payload.metrics)
+            (map message_view given.messages.items) }
+        ensures sealed { IfOk result (patch.IsSealed self.now (input_view input.entry)
+            (given_view given) setting) }
         ensures fault { IfErr result (patch.IsUnsealed self.now (given_view given)) }
     {
         if !are_timely(&given.messages) {
@@ -235,7 +245,8 @@ impl EdgeNode {
         match act {
             Act::Open => self.tally.phase == Phase::Idle,
             Act::Accepted => self.tally.phase == Phase::Connecting,
-            Act::Stop | Act::Command(_, _) => self.tally.phase == Phase::Waiting
+            Act::Drain => self.tally.phase == Phase::Born,
+            Act::Stop | Act::Command(_, _) | Act::State(_) => self.tally.phase == Phase::Waiting
                 || self.tally.phase == Phase::Born,
             Act::Change(_, _) | Act::Device(_, _) | Act::Cut | Act::TurnedAway | Act::Pass => true,
         }
@@ -255,6 +266,8 @@ impl EdgeNode {
                 let orders = orders_of(self.alloc, &self.config, &self.registry, topic, payload)?;
                 self.obeying(input.now, orders)
             }
+            Act::State(payload) => self.stating(input.now, payload),
+            Act::Drain => Ok(self.draining(input.now)?),
             Act::Stop => Ok(self.leaving()?),
             Act::Cut => Ok(self.cutting()),
             Act::TurnedAway => Ok(self.turned_away()),

@@ -18,7 +18,8 @@ use std::alloc::{AllocError, Global};
 pub(crate) fn written(alloc: Global, packet: &Packet) -> Result<Vec<u8>, EdgeFault>
     ensures bytes { IfOk result (λ v. seal.bytes_of v ≡ spelling (view packet.now)) }
     ensures writable { OnOk result (is_writable (view packet.now) ≡ true) }
-    ensures fault { IfErr result (λ e. (e ≡ EdgeFault.NoMemory) ⊎ ((e ≡ EdgeFault.TooLarge) × (is_writable (view packet.now) ≡ false))) }
+    ensures fault { IfErr result (λ e. (e ≡ EdgeFault.NoMemory) ⊎ ((e ≡ EdgeFault.TooLarge)
+        × (is_writable (view packet.now) ≡ false))) }
 {
     match encode(alloc, packet) {
         Ok(bytes) => Ok(bytes),
@@ -29,7 +30,8 @@ pub(crate) fn written(alloc: Global, packet: &Packet) -> Result<Vec<u8>, EdgeFau
 
 /// The packets' bytes, in order.
 pub(crate) fn written_packets(alloc: Global, packets: &[Packet]) -> Result<Vec<Vec<u8>>, EdgeFault>
-    ensures bytes { IfOk result (λ out. map seal.bytes_of out.items ≡ map spelling (map view packets.now)) }
+    ensures bytes { IfOk result (λ out. map seal.bytes_of out.items ≡
+        map spelling (map view packets.now)) }
     ensures writable { OnOk result (list_all is_writable (map view packets.now) ≡ true) }
     ensures fault { IfErr result (seal.IsUnwritten (map view packets.now)) }
 {
@@ -58,10 +60,12 @@ fn publish(alloc: Global, message: &Published) -> Result<Packet, AllocError>
 /// A message's bytes.
 fn written_message(alloc: Global, message: &Published) -> Result<Vec<u8>, EdgeFault>
     requires { seal.AreKnown (message_view message.now).payload.metrics }
-    ensures bytes { IfOk result (λ v. seal.bytes_of v ≡ spelling (seal.wire_of (message_view message.now))) }
+    ensures bytes { IfOk result (λ v. seal.bytes_of v ≡
+        spelling (seal.wire_of (message_view message.now))) }
     ensures writable { OnOk result (is_writable (seal.wire_of (message_view message.now)) ≡ true) }
     ensures fault { IfErr result (λ e. (e ≡ EdgeFault.NoMemory)
-        ⊎ ((e ≡ EdgeFault.TooLarge) × (is_writable (seal.wire_of (message_view message.now)) ≡ false))) }
+        ⊎ ((e ≡ EdgeFault.TooLarge) × (is_writable (seal.wire_of (message_view message.now)) ≡
+        false))) }
 {
     let packet = publish(alloc, message)?;
     written(alloc, &packet)
@@ -73,9 +77,12 @@ pub(crate) fn written_messages(
     messages: &[Published],
 ) -> Result<Vec<Vec<u8>>, EdgeFault>
     requires { AllByRecursion (λ m. seal.AreKnown (message_view m).payload.metrics) messages.now }
-    ensures bytes { IfOk result (λ out. map seal.bytes_of out.items ≡ map spelling (map (λ m. seal.wire_of (message_view m)) messages.now)) }
-    ensures writable { OnOk result (list_all is_writable (map (λ m. seal.wire_of (message_view m)) messages.now) ≡ true) }
-    ensures fault { IfErr result (seal.IsUnwritten (map (λ m. seal.wire_of (message_view m)) messages.now)) }
+    ensures bytes { IfOk result (λ out. map seal.bytes_of out.items ≡
+        map spelling (map (λ m. seal.wire_of (message_view m)) messages.now)) }
+    ensures writable { OnOk result (list_all is_writable (map (λ m. seal.wire_of
+        (message_view m)) messages.now) ≡ true) }
+    ensures fault { IfErr result (seal.IsUnwritten (map (λ m. seal.wire_of
+        (message_view m)) messages.now)) }
 {
     let mut out = Vec::with_capacity(alloc, messages.len())?;
     for message in messages {
@@ -96,8 +103,10 @@ fn number_of(numbering: Numbering, seq: u8, message: &Published) -> u8
 
 /// Each message gets its number, in order; the answer is the one that comes next.
 pub(crate) fn number(messages: &mut [Published], numbering: Numbering, seq: u8) -> u8
-    ensures messages { map message_view messages.new ≡ seal.numbered (numbering_view numbering) seq (map message_view messages.old) }
-    ensures next { result ≡ seal.seq_past (numbering_view numbering) seq (map message_view messages.old) }
+    ensures messages { map message_view messages.new ≡ seal.numbered (numbering_view numbering) seq
+        (map message_view messages.old) }
+    ensures next { result ≡ seal.seq_past (numbering_view numbering) seq
+        (map message_view messages.old) }
 {
     let mut next = seq;
     for message in messages.iter_mut() {

@@ -5,7 +5,7 @@ use spk_payload::Value;
 use std::process::Abort;
 
 /// A text. Where memory was refused it is made again.
-fn text(rt: &(impl Abort + AllocGlobal), words: &str) -> String {
+pub(crate) fn text(rt: &(impl Abort + AllocGlobal), words: &str) -> String {
     match String::from_str(rt.alloc(), words) {
         Ok(text) => text,
         Err(_) => String::from_str(rt.alloc(), words).expect(rt, "memory is there again"),
@@ -25,7 +25,7 @@ fn add(rt: &impl Abort, registry: &mut Registry, owner: Owner, value: i64, alias
 }
 
 /// The node `t` 7 (alias 1), and the device D, which is down, `t` 9 (alias 2).
-fn registry(rt: &(impl Abort + AllocGlobal)) -> Registry {
+pub(crate) fn registry(rt: &(impl Abort + AllocGlobal)) -> Registry {
     let mut registry = Registry::new(rt.alloc());
     add(rt, &mut registry, Owner::Node, 7, 1);
     let answer = match registry.add_device("D") {
@@ -37,7 +37,7 @@ fn registry(rt: &(impl Abort + AllocGlobal)) -> Registry {
     registry
 }
 
-fn config(
+pub(crate) fn config(
     rt: &(impl Abort + AllocGlobal),
     group: &str,
     capacity: usize,
@@ -53,14 +53,14 @@ fn config(
     }
 }
 
-const FIRST: Record = Record {
+pub(crate) const FIRST: Record = Record {
     seq: 0,
     bd: 0,
     stamp: None,
 };
 
 /// A node. Where memory was refused it is made again.
-fn node(rt: &(impl Abort + AllocGlobal), numbering: Numbering) -> EdgeNode {
+pub(crate) fn node(rt: &(impl Abort + AllocGlobal), numbering: Numbering) -> EdgeNode {
     let first = EdgeNode::new(
         rt.alloc(),
         config(rt, "G", 3, numbering),
@@ -100,17 +100,20 @@ fn is_spelled(bytes: &[u8], digits: &str) -> bool {
 }
 
 #[derive(Clone, Copy, Debug)]
-enum Call {
+pub(crate) enum Call {
     Open,
     Accepted,
     Change(Alias, i64),
     Device(bool),
     Rebirth,
+    State(&'static [u8]),
+    Drain,
     Stop,
 }
 
 /// A rebirth command, as a host sends it.
-const REBIRTH: &[u8] = b"\x08\x09\x12\x1c\x0a\x14Node Control/Rebirth\x18\x09\x20\x0b\x70\x01";
+pub(crate) const REBIRTH: &[u8] =
+    b"\x08\x09\x12\x1c\x0a\x14Node Control/Rebirth\x18\x09\x20\x0b\x70\x01";
 
 fn once(node: &mut EdgeNode, now: u64, call: Call) -> Result<Out, EdgeFault> {
     match call {
@@ -119,12 +122,14 @@ fn once(node: &mut EdgeNode, now: u64, call: Call) -> Result<Out, EdgeFault> {
         Call::Change(alias, value) => node.change(now, alias, &Some(Value::Signed(value))),
         Call::Device(up) => node.device(now, "D", up),
         Call::Rebirth => node.command(now, "spBv1.0/G/NCMD/N", REBIRTH),
+        Call::State(payload) => node.state(now, payload),
+        Call::Drain => node.drain(now),
         Call::Stop => node.stop(now),
     }
 }
 
 /// A call's answer. Where memory was refused the call is made again.
-fn told(node: &mut EdgeNode, now: u64, call: Call) -> Result<Out, EdgeFault> {
+pub(crate) fn told(node: &mut EdgeNode, now: u64, call: Call) -> Result<Out, EdgeFault> {
     match once(node, now, call) {
         Err(EdgeFault::NoMemory) => once(node, now, call),
         answer => answer,
@@ -132,18 +137,18 @@ fn told(node: &mut EdgeNode, now: u64, call: Call) -> Result<Out, EdgeFault> {
 }
 
 /// A moment, a call, and the packets that it gives, or its refusal.
-type Row = (u64, Call, Result<&'static [&'static str], EdgeFault>);
+pub(crate) type Row = (u64, Call, Result<&'static [&'static str], EdgeFault>);
 
-const CONNECT: &str =
+pub(crate) const CONNECT: &str =
     "103400044d515454040e003c0003472f4e001273704276312e302f472f4e44454154482f4e000f0805120b0a05626453657120045800";
 
 const SUBSCRIBE: &str =
     "822a0001001073704276312e302f472f4e434d442f4e01001273704276312e302f472f44434d442f4e2f2b01";
 
-const NBIRTH: &str =
+pub(crate) const NBIRTH: &str =
     "3052001273704276312e302f472f4e42495254482f4e0806120d0a056264536571180620045800121c0a144e6f646520436f6e74726f6c2f526562697274681806200b7000120b0a017410011806200350071800";
 
-const NDEATH: &str =
+pub(crate) const NDEATH: &str =
     "3225001273704276312e302f472f4e44454154482f4e00020805120b0a05626453657120045800";
 
 static BORN_AGAIN: [Row; 7] = [
@@ -195,21 +200,32 @@ static DEVICE: [Row; 10] = [
     (12, Call::Stop, Err(EdgeFault::WrongPhase)),
 ];
 
-/// Plays rows on a node.
-fn play(rt: &(impl Abort + AllocGlobal), node: &mut EdgeNode, rows: &[Row]) {
-    for (now, call, wanted) in rows {
-        match (told(node, *now, *call), wanted) {
-            (Ok(out), Ok(packets)) => {
-                assert_eq!(rt; out.packets.len(), packets.len(), "of {call:?} at {now}");
-                for (bytes, digits) in out.packets.iter().zip(*packets) {
-                    assert!(rt; is_spelled(bytes, digits), "of {call:?} at {now}");
-                }
-                assert_eq!(rt; out.close, matches!(call, Call::Stop), "of {call:?}");
-                assert!(rt; out.writes.is_empty(), "of {call:?}");
+/// An answer is this one: its packets, of which a DISCONNECT closes, and no writes; or its refusal.
+pub(crate) fn assert_answer(
+    rt: &impl Abort,
+    now: u64,
+    answer: Result<Out, EdgeFault>,
+    wanted: &Result<&'static [&'static str], EdgeFault>,
+) {
+    match (answer, wanted) {
+        (Ok(out), Ok(packets)) => {
+            assert_eq!(rt; out.packets.len(), packets.len(), "at {now}");
+            for (bytes, digits) in out.packets.iter().zip(*packets) {
+                assert!(rt; is_spelled(bytes, digits), "at {now}: {digits}");
             }
-            (Err(fault), Err(named)) => assert_eq!(rt; fault, *named, "of {call:?} at {now}"),
-            _ => assert!(rt; false, "of {call:?} at {now}"),
+            let is_end = packets.last().is_some_and(|digits| *digits == "e000");
+            assert_eq!(rt; out.close, is_end, "at {now}");
+            assert!(rt; out.writes.is_empty(), "at {now}");
         }
+        (Err(fault), Err(named)) => assert_eq!(rt; fault, *named, "at {now}"),
+        _ => assert!(rt; false, "at {now}"),
+    }
+}
+
+/// Plays rows on a node.
+pub(crate) fn play(rt: &impl Abort, node: &mut EdgeNode, rows: &[Row]) {
+    for (now, call, wanted) in rows {
+        assert_answer(rt, *now, told(node, *now, *call), wanted);
     }
 }
 

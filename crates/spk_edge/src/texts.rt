@@ -2,7 +2,7 @@
 ghost use Rattle.std.specs.Prelude.{◌≡◌, IfOk, map, string_bytes};
 ghost use Rattle.spk_payload.specs.Spelling as spelled;
 ghost use Rattle.spk_payload.specs.View.{metric_view, payload_view};
-ghost use Rattle.spk_topics.specs.Spark.{topic_of, node_type, device_type};
+ghost use Rattle.spk_topics.specs.Spark.{topic_of};
 ghost use Rattle.spk_topics.specs.Spark.Named.{of_node, of_device, of_state};
 ghost use Rattle.spk_edge_rules.specs.Packets.{client_of, death_payload, session_metric};
 ghost use Rattle.spk_edge.specs.Sealing.{AreKnown};
@@ -10,32 +10,8 @@ ghost use Rattle.spk_edge.specs.View.{config_view};
 
 use crate::config::EdgeConfig;
 use spk_payload::{Metric, Payload, PayloadFault, Raw, encode};
-use spk_topics::Verb;
+use spk_topics::{Verb, device_type, node_type};
 use std::alloc::{AllocError, Global};
-
-// The third level of an edge node's topic.
-fn node_type(kind: Verb) -> &'static str
-    ensures { result.now ≡ node_type kind }
-{
-    match kind {
-        Verb::Birth => "NBIRTH",
-        Verb::Death => "NDEATH",
-        Verb::Data => "NDATA",
-        Verb::Command => "NCMD",
-    }
-}
-
-// The third level of a device's topic.
-fn device_type(kind: Verb) -> &'static str
-    ensures { result.now ≡ device_type kind }
-{
-    match kind {
-        Verb::Birth => "DBIRTH",
-        Verb::Death => "DDEATH",
-        Verb::Data => "DDATA",
-        Verb::Command => "DCMD",
-    }
-}
 
 /// The topic of the node (Sparkplug 3.0.0, chapter 4).
 pub(crate) fn node_topic(
@@ -60,7 +36,8 @@ pub(crate) fn device_topic(
     device: &str,
 ) -> Result<String, AllocError>
     ensures { IfOk result (λ t. string_bytes t ≡
-        topic_of (of_device (string_bytes config.now.group) kind (string_bytes config.now.node) device.now)) }
+        topic_of (of_device (string_bytes config.now.group) kind
+        (string_bytes config.now.node) device.now)) }
 {
     let group = config.group.as_str();
     let node = config.node.as_str();

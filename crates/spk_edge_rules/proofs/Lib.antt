@@ -1,7 +1,7 @@
 mod Rows
 mod Chains
 mod Numbers
-mod Courses
+pub mod Courses
 mod Moments
 mod Records
 mod Tellings

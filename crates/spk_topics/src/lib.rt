@@ -26,6 +26,6 @@ mod walk;
 pub use fault::TopicFault;
 pub use filter::Filter;
 pub use matching::matches;
-pub use spark::{Spark, Verb};
+pub use spark::{Spark, Verb, device_type, node_type};
 pub use topic::Topic;
 pub use tree::Tree;

@@ -197,8 +197,8 @@ fn is_name(text: &str) -> bool
     !text.is_empty() && !has(text, b'/') && is_plain(text) && !has(text, 0)
 }
 
-// The third level of an edge node's topic.
-fn node_type(kind: Verb) -> &'static str
+/// The third level of an edge node's topic, as `NBIRTH` (Sparkplug 3.0.0, chapter 4). Takes no memory.
+pub fn node_type(kind: Verb) -> &'static str
     ensures { result.now ≡ node_type kind }
 {
     match kind {
@@ -209,8 +209,8 @@ fn node_type(kind: Verb) -> &'static str
     }
 }
 
-// The third level of a device's topic.
-fn device_type(kind: Verb) -> &'static str
+/// The third level of a device's topic, as `DBIRTH` (Sparkplug 3.0.0, chapter 4). Takes no memory.
+pub fn device_type(kind: Verb) -> &'static str
     ensures { result.now ≡ device_type kind }
 {
     match kind {

@@ -4,12 +4,14 @@ use Rattle.spk_edge_rules.specs.Commands.{Order, command_of}
 use Rattle.spk_edge_rules.specs.declared.fault.EdgeFault.{EdgeFault}
 use Rattle.spk_edge_rules.specs.declared.fault.EdgeFault.TheVariants as fault
 use Rattle.spk_edge.specs.Ordered.{order_view}
-use Rattle.spk_edge.specs.Patch.{IsGivenBy, IsRefusedBy}
+use Rattle.spk_edge_rules.specs.Inputs as inputs
+use Rattle.spk_edge.specs.Patch.{IsGivenBy, IsRefusedBy, plain_input}
 use Rattle.spk_edge.specs.View.{NodeData, act_view, config_view, given_of, given_view, input_view}
 use Rattle.spk_edge_rules.specs.Rules as rule
 use Rattle.spk_edge_rules.specs.declared.phase.Phase.TheVariants.{Idle}
-use Rattle.spk_edge.specs.declared.input.Act.TheVariants.{Open, Stop, Cut, Pass}
+use Rattle.spk_edge.specs.declared.input.Act.TheVariants.{Open, Drain, Stop, Cut, Pass}
 use Rattle.spk_edge.proofs.Plans.{command-given, command-late, command-refused, gave-is, if-err, if-ok}
+use Rattle.spk_edge.proofs.Heard.{plain-given, plain-refused}
 use Rattle.spk_edge.proofs.node.EdgeNode.given.Goals as goal
 
 with-same : (a b : Option (List Order)) (e : EdgeFault) → b ≡ a → (e ≡ fault.NoMemory) ⊎ ((e ≡ fault.BadCommand) × (a ≡ None)) → (e ≡ fault.NoMemory) ⊎ ((e ≡ fault.BadCommand) × (b ≡ None))
@@ -25,6 +27,11 @@ pub returns-in_ok-leaving-in-Stop-clause-given : goal.returns-in_ok-leaving-in-S
 returns-in_ok-leaving-in-Stop-clause-given c =
     let n = c.args.self.now in
     gave-is n c.args.input Stop (rule.leaving n.config n.standing.asked) c.in_ok-leaving-in-Stop.field-0 c.in-Stop.is refl c.in_ok-leaving-in-Stop.ensures
+
+pub returns-in_ok-draining-in-Drain-clause-given : goal.returns-in_ok-draining-in-Drain-clause-given
+returns-in_ok-draining-in-Drain-clause-given c =
+    let n = c.args.self.now in
+    gave-is n c.args.input Drain (rule.draining n.standing.asked c.args.input.now n.standing.asked.store.items) c.in_ok-draining-in-Drain.field-0 c.in-Drain.is refl c.in_ok-draining-in-Drain.ensures
 
 pub returns-in-Cut-clause-given : goal.returns-in-Cut-clause-given
 returns-in-Cut-clause-given c =
@@ -72,3 +79,18 @@ returns-in_ok-orders-in-Command-clause-fault c =
     ap (λ (n : NodeData). command_of n.config n.standing.asked.book topic payload) (sym c.self.view_is) ∙ c.in_ok-orders-in-Command.ensures.some in
     if-err (λ e. (e ≡ fault.NoMemory) ⊎ ((e ≡ fault.ClockEnd) × (rule.is_timely (rule.obeying n.standing.asked c.args.input.now orders) ≡ false))) (IsRefusedBy n (input_view c.args.input)) c.obeying.result
     (λ e why. command-late n c.args.input topic payload orders e (ap act_view c.in-Command.is) some why) c.obeying.ensures.fault
+
+-- a STATE, which has no other input but its moment
+pub returns-in-State-clause-given : goal.returns-in-State-clause-given
+returns-in-State-clause-given c =
+    let n = c.args.self.now in
+    let act = inputs.State c.in-State.payload.now in
+    if-ok (IsGivenBy n (plain_input c.args.input.now act)) (IsGivenBy n (input_view c.args.input)) c.stating.result
+    (λ g given. plain-given n c.args.input act g (ap act_view c.in-State.is) given) c.stating.ensures.given
+
+pub returns-in-State-clause-fault : goal.returns-in-State-clause-fault
+returns-in-State-clause-fault c =
+    let n = c.args.self.now in
+    let act = inputs.State c.in-State.payload.now in
+    if-err (IsRefusedBy n (plain_input c.args.input.now act)) (IsRefusedBy n (input_view c.args.input)) c.stating.result
+    (λ e refused. plain-refused n c.args.input act e (ap act_view c.in-State.is) refused) c.stating.ensures.fault
