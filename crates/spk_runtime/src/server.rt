@@ -1,5 +1,6 @@
 //! The server.
-ghost use Rattle.std.specs.Prelude.{◌≡◌, IfSome, IfOk};
+ghost use Rattle.std.specs.Prelude.{◌≡◌, ◌≢◌, ◌≤◌, IfErr, IfOk, OnOk};
+ghost use Rattle.spk_runtime.specs.Fault.{IsCount};
 ghost use Rattle.spk_ingress.specs.Passes.{PutsInto, AllPutInto, TakesFrom};
 
 use crate::accept::{Accepted, accept_all};
@@ -23,7 +24,9 @@ const MOST: usize = 1_000;
 const ROOM: usize = 1_024;
 
 /// Rings for so many clients.
-fn rings(alloc: Global, clients: usize) -> Result<(Vec<Outlet>, Vec<Inlet>), ServeFault> {
+fn rings(alloc: Global, clients: usize) -> Result<(Vec<Outlet>, Vec<Inlet>), ServeFault>
+    ensures { IfErr result (λ e. e ≢ ServeFault.BadPlan) }
+{
     let mut outlets = Vec::with_capacity(alloc, clients)?;
     let mut inlets = Vec::with_capacity(alloc, clients)?;
     for _ in 0..clients {
@@ -37,7 +40,9 @@ fn rings(alloc: Global, clients: usize) -> Result<(Vec<Outlet>, Vec<Inlet>), Ser
 }
 
 /// Places for so many clients.
-fn places_of(alloc: Global, clients: usize) -> Result<Vec<Place>, ServeFault> {
+fn places_of(alloc: Global, clients: usize) -> Result<Vec<Place>, ServeFault>
+    ensures { IfErr result (λ e. e ≢ ServeFault.BadPlan) }
+{
     let mut places = Vec::with_capacity(alloc, clients)?;
     for _ in 0..clients {
         places.push(Place::new())?;
@@ -52,16 +57,18 @@ fn ingress_of<R: Wait>(
     alloc: Global,
     clients: usize,
 ) -> Result<(Ingress, Vec<PutPass>, PutPass, TakePass), ServeFault>
-    ensures { IfOk result (λ r. AllPutInto r.0 r.1.items × PutsInto r.0 r.2 × TakesFrom r.0 r.3) }
+    requires { IsCount clients }
+    ensures opened { IfOk result (λ r. AllPutInto r.0 r.1.items × PutsInto r.0 r.2 × TakesFrom r.0 r.3) }
+    ensures fault { IfErr result (λ e. e ≢ ServeFault.BadPlan) }
 {
     let senders = clients.saturating_add(1);
     let (ingress, mut passes, taker) = match Ingress::open(rt, alloc, ROOM, senders) {
         Ok(opened) => opened,
         Err(OpenFault::NoMemory) => return Err(ServeFault::NoMemory),
-        Err(OpenFault::BadPlan) => return Err(ServeFault::BadPlan),
+        Err(OpenFault::BadPlan) => unreachable!(),
     };
     let Some(own) = passes.pop() else {
-        return Err(ServeFault::BadPlan);
+        return Err(ServeFault::NoMemory);
     };
     Ok((ingress, passes, own, taker))
 }
@@ -89,7 +96,10 @@ fn serve_on<R: Threads + Wait + Clock + Sync>(
     alloc: Global,
     listener: &TcpListener,
     clients: usize,
-) -> Result<u32, ServeFault> {
+) -> Result<u32, ServeFault>
+    requires { IsCount clients }
+    ensures { IfErr result (λ e. e ≢ ServeFault.BadPlan) }
+{
     let (outlets, inlets) = rings(alloc, clients)?;
     let places = places_of(alloc, clients)?;
     let lines = places.as_slice();
@@ -113,7 +123,9 @@ fn serve_on<R: Threads + Wait + Clock + Sync>(
             requires { TakesFrom ingress.now taker }
         { broker(rt, ingress, taker, hub, clients, stopped) },
     );
-    ended?;
+    if ended.is_err() {
+        return Err(ServeFault::NoMemory); // the one fault of the broker's thread
+    }
     if accepted.failed {
         return Err(ServeFault::Device);
     }
@@ -134,6 +146,8 @@ pub fn serve<R, W: Write>(
 ) -> Result<u32, ServeFault>
 where
     R: Threads + Wait + Net<Listener = TcpListener, Stream = TcpStream> + Clock + Sync,
+    ensures ok { OnOk result (IsCount clients) }
+    ensures bad_plan { IfErr result (λ e. e ≡ ServeFault.BadPlan → ¬ (IsCount clients)) }
 {
     if clients == 0 || clients > MOST {
         return Err(ServeFault::BadPlan);
