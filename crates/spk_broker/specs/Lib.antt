@@ -1,2 +1,7 @@
+pub mod Both
+pub mod Drafts
 pub mod Fault
+pub mod Parts
+pub mod Sent
+pub mod Sitting
 pub mod View

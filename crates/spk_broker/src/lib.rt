@@ -3,13 +3,15 @@
 #![tactic(auto)]
 
 mod broker;
+mod desk;
 mod fault;
 mod guest;
+mod out;
 mod post;
-mod retained;
 mod seat;
 #[cfg(test)]
 mod tests;
 
-pub use broker::{Broker, Conn};
+pub use broker::Broker;
 pub use fault::BrokerFault;
+pub use out::{Conn, Out, Outgoing};
