@@ -5,10 +5,12 @@
 mod broker;
 mod desk;
 mod fault;
+mod grants;
 mod guest;
 mod out;
 mod post;
 mod seat;
+mod serving;
 #[cfg(test)]
 mod tests;
 
