@@ -9,6 +9,7 @@ mod grants;
 mod guest;
 mod out;
 mod post;
+mod routing;
 mod seat;
 mod serving;
 #[cfg(test)]
