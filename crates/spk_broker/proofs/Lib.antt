@@ -1,2 +1,4 @@
 pub mod Opening
 mod Rounds
+mod Routes
+mod Refilled

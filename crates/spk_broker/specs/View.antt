@@ -63,7 +63,7 @@ pub record Stands (desk : Desk) (draft : Draft) (turn : Turn) : Type 0 where
   pub sends : (draft_view draft).sends ≡ map outgoing turn.sends
   pub closes : (draft_view draft).closes ≡ turn.closes
   pub waiting : (draft_view draft).waiting ≡ turn.waiting
-  pub room : vec_len desk.retained + length draft.keeps.items ≤ vec_capacity desk.retained
+  pub room : vec_len desk.retained + length (draft_view draft).keeps ≤ vec_capacity desk.retained
   pub lawful : IsLawful turn.broker
 
 -- no call is under way
@@ -76,3 +76,7 @@ broker_view b = desk_was b.desk
 pub record IsKept (b : Inside) : Type 0 where
   pub settled : IsSettled b.desk
   pub lawful : IsLawful (desk_was b.desk)
+
+-- how many messages wait and how many sessions there are
+abbrev pub how_many : Desk → Draft → ℕ
+how_many desk draft = length (draft_view draft).waiting + length (flat_map seat_now desk.seats.items)
