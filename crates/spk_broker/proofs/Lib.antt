@@ -1,1 +1,4 @@
+pub mod Alive
+pub mod Asked
 pub mod Opening
+pub mod Places
