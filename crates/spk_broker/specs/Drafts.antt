@@ -1,7 +1,9 @@
 -- The draft of an answer, and what it stands for.
-use Rattle.std.specs.Prelude.{ℕ, List, [], ◌++◌, map, Option, Some, None}
+use Rattle.std.specs.Prelude.{ℕ, List, [], ◌++◌, map, Option, Some, None, if◌then◌else◌}
+use Rattle.spk_session.specs.PacketIds.{next_id}
+use Rattle.spk_session.specs.Step.{has_room}
 use Rattle.spk_broker_rules.specs.Data as plain
-use Rattle.spk_broker_rules.specs.Step.{Served}
+use Rattle.spk_broker_rules.specs.Step.{Served, bursts, numbered}
 use Rattle.spk_broker.specs.declared.out.Draft.{Draft}
 use Rattle.spk_broker.specs.Parts.{post_view}
 use Rattle.spk_broker.specs.Sent.{Sent, sent_view, outgoing}
@@ -36,3 +38,7 @@ served_by f (Some s) d = with_served (f s) d
 abbrev pub left_by : (plain.Seat → Served) → Option plain.Seat → List plain.Seat
 left_by f None = []
 left_by f (Some s) = (f s).left
+
+-- a message of QoS 1 for a session
+abbrev pub hand_some : plain.Post → plain.Seat → Served
+hand_some post seat = if has_room seat.used then numbered seat post (next_id seat.used seat.last) else bursts seat

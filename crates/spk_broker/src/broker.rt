@@ -92,7 +92,7 @@ impl Broker {
         ensures err { OnErr result (self.new ≡ self.old) }
     {
         let conn = self.desk.given + 1;
-        let clock = self.desk.clock.max(now);
+        let clock = self.desk.clock_before.max(now);
         self.desk.guests.push(Guest {
             conn,
             heard: clock,

@@ -6,10 +6,13 @@ mod asking;
 mod broker;
 mod desk;
 mod fault;
+mod grants;
 mod guest;
 mod out;
 mod post;
+mod routing;
 mod seat;
+mod serving;
 #[cfg(test)]
 mod tests;
 

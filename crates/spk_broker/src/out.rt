@@ -1,5 +1,6 @@
 //! What a call answers, and the draft of it.
-ghost use Rattle.std.specs.Prelude.{◌≡◌, ◌++◌, ◌∷◌, [], IfOk, OnOk, map};
+ghost use Rattle.std.specs.Prelude.{◌≡◌, ◌++◌, ◌∷◌, [], IfOk, OnOk, map, false};
+ghost use Rattle.spk_packets.specs.Message.{Publish};
 ghost use Rattle.spk_packets.specs.View.{view};
 ghost use Rattle.spk_packets.specs.Spelling.{spelling};
 ghost use Rattle.spk_broker.specs.Sent.{outgoing, sort_of};
@@ -116,5 +117,32 @@ impl Draft {
     {
         self.waiting.push_back(post)?;
         Ok(())
+    }
+
+    /// One more PUBLISH for a connection.
+    pub(crate) fn publish(
+        &mut self,
+        conn: Conn,
+        post: &Post,
+        qos: u8,
+        retain: bool,
+        id: Option<u16>,
+    ) -> Result<(), AllocError>
+        ensures { OnOk result (draft_view self.new ≡ record (draft_view self.old) {
+            sends = (draft_view self.old).sends ++ outgoing (record {
+                conn = conn;
+                packet = Publish false qos retain (post_view post.now).topic id (post_view post.now).payload
+            }) ∷ []
+        }) }
+    {
+        let packet = Packet::Publish {
+            dup: false,
+            qos,
+            retain,
+            topic: post.topic.clone()?,
+            id,
+            payload: post.payload.clone()?,
+        };
+        self.say(conn, &packet)
     }
 }

@@ -1,13 +1,31 @@
-use Rattle.std.proofs.Common.{◌∙◌, ◌+◌, [], ◌∷◌, ◌++◌, ap, map}
+use Rattle.std.proofs.Common.{◌≡◌, ◌∙◌, ◌+◌, [], ◌∷◌, ◌++◌, ap, sym, subst, map, refl}
+use Rattle.std.specs.List.{flat_map}
 use Rattle.std.proofs.lemmas.List.{map_push}
+use Rattle.spk_broker_rules.specs.Data as plain
+use Rattle.spk_broker_rules.specs.Lawful.{IsLawful}
 use Rattle.spk_broker_rules.specs.Plan.{Open}
 use Rattle.spk_broker_rules.specs.Step.{step}
-use Rattle.spk_broker.specs.View.{broker_view, guest_was}
-use Rattle.spk_broker.proofs.Opening.{opened}
+use Rattle.spk_broker_rules.proofs.AnyList.{step-lawful}
+use Rattle.spk_broker.specs.View.{desk_was, guest_was, guest_now}
+use Rattle.spk_broker.proofs.Opening.{guests-more, opened, opened-settled, with_guests}
 use Rattle.spk_broker.proofs.broker.Broker.greet.Goals as goal
 
 pub invariant_of-self-2 : goal.invariant_of-self-2
-invariant_of-self-2 c = ?
+invariant_of-self-2 c =
+    let d = c.self.inside.desk in
+    let more = c.push.new.self.items in
+    let all : with_guests (desk_was d) c.max-clock.result (map guest_was more) ≡ (step (desk_was d) (Open c.args.now)).broker =
+    opened (desk_was d) c.args.now c.max-clock.result (map guest_was more) c.max-clock.ensures
+    (ap (map guest_was) c.in_ok-push.ensures.items ∙ map_push guest_was d.guests.items _) in
+    record {
+      settled = opened-settled d c.max-clock.result more c.self.invariant.settled
+      (guests-more d.guests.items more _ c.in_ok-push.ensures.items (ap (λ (b : plain.Broker). b.guests) c.self.invariant.settled) refl);
+      lawful = subst IsLawful (sym all) (step-lawful (desk_was d) (Open c.args.now) c.self.invariant.lawful);
+    }
 
 pub returns-clause-done : goal.returns-clause-done
-returns-clause-done c = ?
+returns-clause-done c =
+    let d = c.self.inside.desk in
+    opened (desk_was d) c.args.now c.max-clock.result (map guest_was c.push.new.self.items) c.max-clock.ensures
+    (ap (map guest_was) c.in_ok-push.ensures.items ∙ map_push guest_was d.guests.items _)
+    ∙ ap (λ b. (step b (Open c.args.now)).broker) c.self.view_is
