@@ -1,4 +1,7 @@
-pub mod Opening
+mod Alive
+mod Asked
+mod Opening
+mod Places
+mod Refilled
 mod Rounds
 mod Routes
-mod Refilled

@@ -1,3 +1,4 @@
+pub mod Asking
 pub mod Both
 pub mod Drafts
 pub mod Fault

@@ -1,5 +1,5 @@
 -- What contracts see of messages, grants, copies and connections.
-use Rattle.std.specs.Prelude.{◌≤◌, ℕ, Bool, true, false, List, map, length, take, string_bytes, Option, Some, None, if◌then◌else◌}
+use Rattle.std.specs.Prelude.{ℕ, List, string_bytes}
 use Rattle.std.specs.Option.{option_map}
 use Rattle.spk_broker_rules.specs.Data as plain
 use Rattle.spk_broker.specs.declared.post.Post.{Post}

@@ -1,5 +1,5 @@
 -- What contracts see of a session: as it was before the call, and as it is by now.
-use Rattle.std.specs.Prelude.{◌≤◌, ℕ, Bool, List, map, length, take, string_bytes, Option, Some, None, if◌then◌else◌}
+use Rattle.std.specs.Prelude.{◌≤◌, map, length, take, string_bytes, Option, Some, None, if◌then◌else◌}
 use Rattle.std.specs.Option.{option_map, option_map_or}
 use Rattle.spk_broker_rules.specs.Data as plain
 use Rattle.spk_broker.specs.Both.{Both}

@@ -1,5 +1,5 @@
 -- What contracts see of the broker: its data before the call, and by now.
-use Rattle.std.specs.Prelude.{◌≡◌, ◌+◌, ◌≤◌, ℕ, Bool, List, [], ◌∷◌, map, length, string_bytes, vec_capacity, vec_len, Option, Some, None, if◌then◌else◌}
+use Rattle.std.specs.Prelude.{◌≡◌, ◌+◌, ◌≤◌, ℕ, List, [], ◌∷◌, map, length, string_bytes, vec_capacity, vec_len, if◌then◌else◌}
 use Rattle.std.specs.List.{flat_map, fold}
 use Rattle.spk_broker_rules.specs.Data as plain
 use Rattle.spk_broker_rules.specs.Lawful.{IsLawful}

@@ -2,6 +2,7 @@
 //! it is made and opens connections; its rules stand in `spk_broker_rules`.
 #![tactic(auto)]
 
+mod asking;
 mod broker;
 mod desk;
 mod fault;

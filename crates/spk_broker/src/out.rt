@@ -86,8 +86,8 @@ impl Draft {
     /// One more packet for a connection.
     pub(crate) fn say(&mut self, conn: Conn, packet: &Packet) -> Result<(), AllocError>
         ensures { OnOk result (draft_view self.new ≡ record (draft_view self.old) {
-            sends = (draft_view self.old).sends
-                ++ outgoing (record { conn = conn; packet = view packet.now }) ∷ []
+          sends = (draft_view self.old).sends
+              ++ outgoing (record { conn = conn; packet = view packet.now }) ∷ [];
         }) }
     {
         let bytes = spelled(self.alloc, packet)?;
@@ -102,7 +102,7 @@ impl Draft {
     /// One more connection to close.
     pub(crate) fn tell(&mut self, conn: Conn) -> Result<(), AllocError>
         ensures { OnOk result (draft_view self.new ≡ record (draft_view self.old) {
-            closes = (draft_view self.old).closes ++ conn ∷ []
+          closes = (draft_view self.old).closes ++ conn ∷ [];
         }) }
     {
         self.closes.push(conn)?;
@@ -112,7 +112,7 @@ impl Draft {
     /// One more message that waits.
     pub(crate) fn queue(&mut self, post: Post) -> Result<(), AllocError>
         ensures { OnOk result (draft_view self.new ≡ record (draft_view self.old) {
-            waiting = (draft_view self.old).waiting ++ post_view post ∷ []
+          waiting = (draft_view self.old).waiting ++ post_view post ∷ [];
         }) }
     {
         self.waiting.push_back(post)?;
