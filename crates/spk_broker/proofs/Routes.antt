@@ -1,7 +1,8 @@
 -- What stands for a turn goes on standing for it while messages are routed.
-use Rattle.std.proofs.Common.{◌≡◌, ℕ, zero, suc, ◌+◌, ◌<◌, ◌≤◌, Bool, true, false, cond, List, [], ◌∷◌, ◌++◌, length, map, refl, sym, ap, subst, ◌∙◌, arith, vec_len, vec_capacity}
+use Rattle.std.proofs.Common.{◌≡◌, ℕ, zero, suc, ◌+◌, ◌<◌, ◌≤◌, Bool, true, false, cond, List, [], ◌∷◌, ◌++◌, length, map, refl, sym, ap, subst, ◌∙◌, arith}
 use Rattle.std.specs.List.{flat_map, fold}
 use Rattle.std.proofs.lemmas.List.{map-append, length-append, length-map}
+use Rattle.indexmap.specs.IndexMap.{spare}
 use Rattle.spk_broker_rules.specs.Data as plain
 use Rattle.spk_broker_rules.specs.Lawful.{IsLawful}
 use Rattle.spk_broker_rules.specs.Plan.{Route}
@@ -33,11 +34,11 @@ keeps-more table keeps m = by m.retain refl
 
 -- the data after it, but for the room
 pub record RoutedOne (m : plain.Post) (d0 d1 : Desk) (x0 x1 : Draft) : Type 0 where
-  pub shape : desk_now d1 ≡ record (desk_now d0) { seats = flat_map seat_now d1.seats.items; retained = map retained_view d1.retained.items }
+  pub shape : desk_now d1 ≡ record (desk_now d0) { seats = flat_map seat_now d1.seats.items; retained = map retained_view d1.retained.entries }
   pub seats : flat_map seat_now d1.seats.items ≡ left_of_round (serve m) (flat_map seat_now d0.seats.items)
-  pub retained : d1.retained.items ≡ d0.retained.items
+  pub retained : d1.retained.entries ≡ d0.retained.entries
   pub drafted : draft_view x1 ≡ record (with_round (serve m) (flat_map seat_now d0.seats.items) (draft_view x0)) { keeps = kept_with m (draft_view x0).keeps }
-  pub room : vec_len d0.retained + length (draft_view x0).keeps ≤ vec_capacity d0.retained → vec_len d1.retained + length (draft_view x1).keeps ≤ vec_capacity d1.retained
+  pub room : length (draft_view x0).keeps ≤ spare d0.retained → length (draft_view x1).keeps ≤ spare d1.retained
 
 abbrev one_of : plain.Post → plain.Broker → plain.Broker
 one_of m b = record b { seats = left_of_round (serve m) b.seats; retained = retained_with b.retained m }
@@ -53,7 +54,7 @@ one-stands m d0 d1 x0 x1 r t s =
     record {
       broker = ap (λ (x : Drafted). with_keeps x.keeps (desk_now d1)) r.drafted
           ∙ ap (with_keeps (kept_with m keeps)) r.shape
-          ∙ ap (λ l. with_keeps (kept_with m keeps) (record (desk_now d0) { seats = l; retained = map retained_view d1.retained.items })) r.seats
+          ∙ ap (λ l. with_keeps (kept_with m keeps) (record (desk_now d0) { seats = l; retained = map retained_view d1.retained.entries })) r.seats
           ∙ ap (λ l. with_keeps (kept_with m keeps) (record (desk_now d0) { seats = left_of_round (serve m) ss; retained = map retained_view l })) r.retained
           ∙ ap (λ l. record (desk_now d0) { seats = left_of_round (serve m) ss; retained = l }) (keeps-more (desk_now d0).retained keeps m)
           ∙ ap (one_of m) s.broker;
@@ -103,7 +104,7 @@ taken-out d x0 x1 ms e u s = record {
   sends = ap (λ (x : Drafted). x.sends) e ∙ s.sends;
   closes = ap (λ (x : Drafted). x.closes) e ∙ s.closes;
   waiting = ap (λ (x : Drafted). x.waiting) e;
-  room = subst (λ (x : Drafted). vec_len d.retained + length x.keeps ≤ vec_capacity d.retained) (sym e) s.room;
+  room = subst (λ (x : Drafted). length x.keeps ≤ spare d.retained) (sym e) s.room;
   lawful = s.lawful;
 }
 
@@ -123,7 +124,7 @@ stands-alike d x0 x1 u e s = record {
   sends = ap (λ (x : Drafted). x.sends) e ∙ s.sends;
   closes = ap (λ (x : Drafted). x.closes) e ∙ s.closes;
   waiting = ap (λ (x : Drafted). x.waiting) e ∙ s.waiting;
-  room = subst (λ (x : Drafted). vec_len d.retained + length x.keeps ≤ vec_capacity d.retained) (sym e) s.room;
+  room = subst (λ (x : Drafted). length x.keeps ≤ spare d.retained) (sym e) s.room;
   lawful = s.lawful;
 }
 

@@ -1,6 +1,7 @@
 //! Routing: each message that waits goes to all sessions before the next.
-ghost use Rattle.std.specs.Prelude.{◌≡◌, ◌+◌, ◌≤◌, length, OnOk, map, vec_len, vec_capacity};
+ghost use Rattle.std.specs.Prelude.{◌≡◌, ◌+◌, ◌≤◌, length, OnOk, map};
 ghost use Rattle.std.specs.List.{flat_map};
+ghost use Rattle.indexmap.specs.IndexMap.{spare};
 ghost use Rattle.spk_broker_rules.specs.Plan.{Route};
 ghost use Rattle.spk_broker_rules.specs.Step.{Turn, act, route_one, serve};
 ghost use Rattle.spk_broker.specs.Drafts.{draft_view};
@@ -8,10 +9,11 @@ ghost use Rattle.spk_broker.specs.Parts.{post_view};
 ghost use Rattle.spk_broker.specs.Rounds.{kept_with, left_of_round, with_round};
 ghost use Rattle.spk_broker.specs.View.{Stands, desk_was, how_many, seat_now, seat_was};
 
-use crate::desk::{Desk, Retained};
+use crate::desk::{Desk, Stored};
 use crate::out::Draft;
 use crate::post::Post;
 use crate::seat::Seat;
+use indexmap::IndexMap;
 use std::alloc::AllocError;
 
 /// What a routed message does to all sessions.
@@ -29,11 +31,14 @@ fn round(seats: &mut [Seat], draft: &mut Draft, post: &Post) -> Result<(), Alloc
 }
 
 /// Room for what is to be retained, where the message is.
-fn keep(retained: &mut Vec<Retained>, draft: &mut Draft, post: Post) -> Result<(), AllocError>
-    ensures same { retained.new.items ≡ retained.old.items }
-    ensures room { OnOk result (
-        vec_len retained.old + length (draft_view draft.old).keeps ≤ vec_capacity retained.old
-        → vec_len retained.new + length (draft_view draft.new).keeps ≤ vec_capacity retained.new) }
+fn keep(
+    retained: &mut IndexMap<String, Stored>,
+    draft: &mut Draft,
+    post: Post,
+) -> Result<(), AllocError>
+    ensures same { retained.new.entries ≡ retained.old.entries }
+    ensures room { OnOk result (length (draft_view draft.old).keeps ≤ spare retained.old
+        → length (draft_view draft.new).keeps ≤ spare retained.new) }
     ensures drafted { OnOk result (draft_view draft.new ≡ record (draft_view draft.old) {
         keeps = kept_with (post_view post) (draft_view draft.old).keeps
     }) }

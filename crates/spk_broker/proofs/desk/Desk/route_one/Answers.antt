@@ -1,6 +1,7 @@
-use Rattle.std.proofs.Common.{◌∙◌, ◌+◌, ◌≤◌, ap, subst, sym, refl, length, vec_len, vec_capacity, List, ◌≡◌, arith}
+use Rattle.std.proofs.Common.{◌∙◌, ◌+◌, ◌≤◌, ap, subst, sym, refl, length, vec_len, List, ◌≡◌, arith}
 use Rattle.std.specs.List.{flat_map}
 use Rattle.std.specs.Vec.{with_items}
+use Rattle.indexmap.specs.IndexMap.{spare}
 use Rattle.spk_broker_rules.specs.Data as plain
 use Rattle.spk_broker.specs.declared.desk.Desk.{Desk}
 use Rattle.spk_broker.specs.Drafts.{Drafted, draft_view}
@@ -28,7 +29,7 @@ facts c =
       seats = ap (flat_map seat_now) back ∙ round.left ∙ ap (λ l. left_of_round (serve m) (flat_map seat_now l)) lent;
       retained = c.in_ok-keep.ensures.same;
       drafted = c.in_ok-keep.ensures.drafted ∙ ap (λ (x : Drafted). record x { keeps = kept_with m x.keeps }) drafted;
-      room = λ h. c.in_ok-keep.ensures.room (subst (λ (l : List plain.Post). vec_len c.args.self.now.retained + length l ≤ vec_capacity c.args.self.now.retained) (sym keeps) h);
+      room = λ h. c.in_ok-keep.ensures.room (subst (λ (l : List plain.Post). length l ≤ spare c.args.self.now.retained) (sym keeps) h);
     }
 
 pub returns-clause-done : goal.returns-clause-done
