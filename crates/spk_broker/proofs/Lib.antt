@@ -1,7 +1,10 @@
 mod Alive
 mod Asked
+mod Flats
 mod Opening
 mod Places
 mod Refilled
 mod Rounds
 mod Routes
+mod Standing
+mod Walks

@@ -4,6 +4,8 @@ pub mod Drafts
 pub mod Fault
 pub mod Parts
 pub mod Rounds
+pub mod Seats
 pub mod Sent
+pub mod Settling
 pub mod Sitting
 pub mod View

@@ -8,11 +8,13 @@ mod desk;
 mod fault;
 mod grants;
 mod guest;
+mod moving;
 mod out;
 mod post;
 mod routing;
 mod seat;
 mod serving;
+mod turning;
 #[cfg(test)]
 mod tests;
 
