@@ -4,6 +4,7 @@ mod Flats
 mod Opening
 mod Places
 mod Refilled
+mod Retained
 mod Rounds
 mod Routes
 mod Standing

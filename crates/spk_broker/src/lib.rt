@@ -11,6 +11,7 @@ mod guest;
 mod moving;
 mod out;
 mod post;
+mod retaining;
 mod routing;
 mod seat;
 mod serving;
