@@ -8,6 +8,7 @@ mod desk;
 mod fault;
 mod grants;
 mod guest;
+mod joining;
 mod out;
 mod post;
 mod routing;
