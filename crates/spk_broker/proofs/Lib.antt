@@ -1,7 +1,10 @@
-pub mod Alive
-pub mod Asked
-pub mod Entered
-pub mod Opening
-pub mod Places
-pub mod Rounds
-pub mod Wholes
+mod Alive
+mod Asked
+mod Changes
+mod Entered
+mod Opening
+mod Places
+mod Refilled
+mod Rounds
+mod Routes
+mod Wholes

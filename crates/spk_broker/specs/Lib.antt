@@ -1,5 +1,6 @@
 pub mod Asking
 pub mod Both
+pub mod Changes
 pub mod Drafts
 pub mod Entering
 pub mod Fault

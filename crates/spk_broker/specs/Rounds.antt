@@ -1,5 +1,5 @@
 -- What a routed message does to all sessions.
-use Rattle.std.specs.Prelude.{◌++◌, List, map}
+use Rattle.std.specs.Prelude.{◌++◌, ◌∷◌, [], List, map, if◌then◌else◌}
 use Rattle.std.specs.List.{flat_map}
 use Rattle.spk_broker_rules.specs.Data as plain
 use Rattle.spk_broker_rules.specs.Step.{Served}
@@ -17,3 +17,7 @@ with_round f ss d = record d {
 -- who is left of them
 abbrev pub left_of_round : (plain.Seat → Served) → List plain.Seat → List plain.Seat
 left_of_round f ss = flat_map (λ (s : plain.Seat). (f s).left) ss
+
+-- a message with RETAIN is to be retained
+abbrev pub kept_with : plain.Post → List plain.Post → List plain.Post
+kept_with m keeps = if m.retain then keeps ++ m ∷ [] else keeps

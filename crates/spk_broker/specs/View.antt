@@ -1,6 +1,7 @@
 -- What contracts see of the broker: its data before the call, and by now.
-use Rattle.std.specs.Prelude.{◌≡◌, ◌+◌, ◌≤◌, ℕ, List, [], ◌∷◌, map, length, string_bytes, vec_capacity, vec_len, if◌then◌else◌}
+use Rattle.std.specs.Prelude.{◌≡◌, ◌+◌, ◌≤◌, ℕ, List, [], ◌∷◌, map, length, string_bytes, String, if◌then◌else◌}
 use Rattle.std.specs.List.{flat_map, fold}
+use Rattle.indexmap.specs.IndexMap.{spare}
 use Rattle.spk_broker_rules.specs.Data as plain
 use Rattle.spk_broker_rules.specs.Lawful.{IsLawful}
 use Rattle.spk_broker_rules.specs.Step.{Turn, retained_with}
@@ -10,7 +11,7 @@ use Rattle.spk_broker.specs.Drafts.{draft_view}
 use Rattle.spk_broker.specs.Sent.{outgoing}
 use Rattle.spk_broker.specs.declared.broker.Broker.TheInside.{Inside}
 use Rattle.spk_broker.specs.declared.desk.Desk.{Desk}
-use Rattle.spk_broker.specs.declared.desk.Retained.{Retained}
+use Rattle.spk_broker.specs.declared.desk.Stored.{Stored}
 use Rattle.spk_broker.specs.declared.guest.Guest.{Guest}
 use Rattle.spk_broker.specs.declared.out.Draft.{Draft}
 
@@ -26,8 +27,11 @@ seat_was b = b.was
 abbrev pub seat_now : Both → List plain.Seat
 seat_now b = option_list b.now
 
-abbrev pub retained_view : Retained → List ℕ × plain.Stored
-retained_view r = (string_bytes r.topic, record { payload = r.payload.items; qos = r.qos })
+abbrev pub stored_view : Stored → plain.Stored
+stored_view s = record { payload = s.payload.items; qos = s.qos }
+
+abbrev pub retained_view : {A : Type 0} → String A × Stored → List ℕ × plain.Stored
+retained_view e = (string_bytes e.0, stored_view e.1)
 
 -- the data before the call
 abbrev pub desk_was : Desk → plain.Broker
@@ -38,7 +42,7 @@ desk_was d = record {
   clock = d.clock_before;
   guests = map guest_was d.guests.items;
   seats = map seat_was d.seats.items;
-  retained = map retained_view d.retained.items;
+  retained = map retained_view d.retained.entries;
 }
 
 -- the data by now, but for what is to be retained
@@ -50,7 +54,7 @@ desk_now d = record {
   clock = d.clock;
   guests = flat_map guest_now d.guests.items;
   seats = flat_map seat_now d.seats.items;
-  retained = map retained_view d.retained.items;
+  retained = map retained_view d.retained.entries;
 }
 
 -- with these messages retained, one after the other
@@ -63,7 +67,7 @@ pub record Stands (desk : Desk) (draft : Draft) (turn : Turn) : Type 0 where
   pub sends : (draft_view draft).sends ≡ map outgoing turn.sends
   pub closes : (draft_view draft).closes ≡ turn.closes
   pub waiting : (draft_view draft).waiting ≡ turn.waiting
-  pub room : vec_len desk.retained + length draft.keeps.items ≤ vec_capacity desk.retained
+  pub room : length (draft_view draft).keeps ≤ spare desk.retained
   pub lawful : IsLawful turn.broker
 
 -- no call is under way
@@ -76,3 +80,7 @@ broker_view b = desk_was b.desk
 pub record IsKept (b : Inside) : Type 0 where
   pub settled : IsSettled b.desk
   pub lawful : IsLawful (desk_was b.desk)
+
+-- how many messages wait and how many sessions there are
+abbrev pub how_many : Desk → Draft → ℕ
+how_many desk draft = length (draft_view draft).waiting + length (flat_map seat_now desk.seats.items)

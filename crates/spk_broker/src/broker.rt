@@ -10,6 +10,7 @@ use crate::desk::Desk;
 use crate::fault::BrokerFault;
 use crate::guest::Guest;
 use crate::out::Conn;
+use indexmap::IndexMap;
 use std::alloc::Global;
 use std::marker::Model;
 
@@ -50,7 +51,7 @@ impl Broker {
                 clock_before: 0,
                 guests: Vec::new(alloc),
                 seats: Vec::new(alloc),
-                retained: Vec::new(alloc),
+                retained: IndexMap::new(alloc),
             },
         }
     }

@@ -2,12 +2,12 @@
 
 use crate::guest::Guest;
 use crate::seat::Seat;
+use indexmap::IndexMap;
 use std::alloc::Global;
 
-/// What is kept of a retained message (section 3.3.1.3).
+/// What is kept of a retained message beside its topic (section 3.3.1.3).
 #[derive(Debug, Drop)]
-pub(crate) struct Retained {
-    pub(crate) topic: String,
+pub(crate) struct Stored {
     pub(crate) payload: Vec<u8>,
     /// 0 or 1.
     pub(crate) qos: u8,
@@ -25,5 +25,5 @@ pub(crate) struct Desk {
     pub(crate) guests: Vec<Guest>,
     pub(crate) seats: Vec<Seat>,
     /// Changed where a call is settled alone.
-    pub(crate) retained: Vec<Retained>,
+    pub(crate) retained: IndexMap<String, Stored>,
 }

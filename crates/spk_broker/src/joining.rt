@@ -2,16 +2,17 @@
 ghost use Rattle.std.specs.Prelude.{◌≡◌, ◌==◌, not, ◌++◌, ◌<◌, ◌∷◌, [], IfOk, OnOk, Some, false, map, string_bytes, vec_capacity, vec_len};
 ghost use Rattle.std.specs.List.{filter};
 ghost use Rattle.spk_broker_rules.specs.Lawful.{IsLawful};
-ghost use Rattle.spk_broker_rules.specs.Step.{away_for, begun, new_seat, other_guests, take_up};
+ghost use Rattle.spk_broker_rules.specs.Step.{away_for, begun, is_away, new_seat, other_guests, sits, take_up};
 ghost use Rattle.spk_broker_rules.specs.Words.{handed_out, resent};
 ghost use Rattle.spk_broker.specs.Asking.{guests_now, seats_now};
+ghost use Rattle.spk_broker.specs.Changes.{IsChanged};
 ghost use Rattle.spk_broker.specs.Drafts.{draft_view};
 ghost use Rattle.spk_broker.specs.Entering.{HasRoom, IsWhole, acked, entered, taken_up, whole};
 ghost use Rattle.spk_broker.specs.Parts.{copy_view, line_now, line_was};
 ghost use Rattle.spk_broker.specs.Sent.{outgoing};
-ghost use Rattle.spk_broker.specs.View.{IsSettled, desk_now, desk_was, guest_was};
+ghost use Rattle.spk_broker.specs.View.{IsSettled, desk_now, desk_was, guest_was, seat_was};
 
-use crate::asking::away_place;
+use crate::asking::{away_place, place_of};
 use crate::desk::Desk;
 use crate::guest::Guest;
 use crate::out::{Conn, Draft};
@@ -112,5 +113,28 @@ impl Seat {
         self.used_before = self.ids.waiting().len();
         self.last_before = self.ids.last();
         self.copies_before = self.copies.len();
+    }
+}
+
+/// The connection of a client takes up its session.
+fn take_up_in(seats: &mut [Seat], client: &str, line: Line)
+    requires settled { seats_now seats.old ≡ map seat_was seats.old }
+    requires line { line_was line ≡ line_now line }
+    ensures { IsChanged seats.old seats.new (is_away client.now) (taken_up (line_now line)) }
+{
+    match away_place(seats, client) {
+        Some(place) => seats[place].take_up(line),
+        None => {}
+    }
+}
+
+/// The session of a connection has no message of this identifier any more.
+fn ack_in(seats: &mut [Seat], conn: Conn, id: u16)
+    requires { seats_now seats.old ≡ map seat_was seats.old }
+    ensures { IsChanged seats.old seats.new (sits conn) (acked id) }
+{
+    match place_of(seats, conn) {
+        Some(place) => seats[place].acked(id),
+        None => {}
     }
 }

@@ -16,7 +16,7 @@ returns c =
     let same : (with_items c.self.inside.copies c.hand_out.new.copies).items ≡ c.hand_out.new.copies = with_items_is c.self.inside.copies c.hand_out.new.copies len in
     let most : c.len-self-inside.result ≡ length (with_items c.self.inside.copies c.hand_out.new.copies).items = c.len-self-inside.ensures ∙ sym len ∙ ap length (sym same) in
     let handed : map copy_view (with_items c.self.inside.copies c.hand_out.new.copies).items ≡ map handed_out (map copy_view c.self.inside.copies.items) =
-          ap (map copy_view) same ∙ c.hand_out.ensures ∙ ap (λ xs. map handed_out (map copy_view xs)) c.deref_mut.ensures.value in
+    ap (map copy_view) same ∙ c.hand_out.ensures ∙ ap (λ xs. map handed_out (map copy_view xs)) c.deref_mut.ensures.value in
     taken-whole c.self.inside c.args.line (with_items c.self.inside.copies c.hand_out.new.copies) (length c.waiting.result.now) c.last-self-inside.result c.len-self-inside.result settled
     c.requires.line handed (ap length c.waiting.ensures.ids) c.last-self-inside.ensures.value most
     ∙ ap (λ (b : Both). whole (taken_up (line_now c.args.line) b.was)) c.self.view_is
