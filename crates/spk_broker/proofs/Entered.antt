@@ -1,11 +1,9 @@
 -- What enters.
-use Rattle.std.proofs.Common.{◌≡◌, ℕ, zero, suc, ◌+◌, ◌<◌, ◌≤◌, Bool, true, false, not, ◌==◌, cond, List, [], ◌∷◌, ◌++◌, length, map, take, drop, set, get_or, refl, sym, ap, ◌∙◌, arith, Option, Some, None}
+use Rattle.std.proofs.Common.{◌≡◌, ℕ, zero, suc, ◌≤◌, Bool, true, false, not, ◌==◌, cond, List, [], ◌∷◌, ◌++◌, length, map, take, drop, refl, sym, ap, ◌∙◌, arith}
 use Rattle.std.specs.List.{filter, flat_map}
-use Rattle.std.proofs.lemmas.List.Elements.{filter-append}
-use Rattle.spk_broker_rules.specs.Data as plain
 use Rattle.spk_broker_rules.specs.Step.{other_guests}
 use Rattle.spk_broker_rules.specs.Words.{handed_out, without_id}
-use Rattle.spk_broker_rules.proofs.Lists.{map-map, filter-map}
+use Rattle.spk_broker_rules.proofs.Lists.{filter-map}
 use Rattle.spk_broker.specs.Asking.{guests_now}
 use Rattle.spk_broker.specs.Parts.{copy_view}
 use Rattle.spk_broker.specs.View.{guest_now, guest_was}

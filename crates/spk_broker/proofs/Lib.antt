@@ -1,10 +1,12 @@
 mod Alive
 mod Asked
 mod Changes
+mod Desks
 mod Entered
 mod Opening
 mod Places
 mod Refilled
 mod Rounds
 mod Routes
+mod Sending
 mod Wholes

@@ -1,13 +1,14 @@
 //! A CONNECT is accepted (sections 3.1.2.4 and 3.1.4): all memory is asked for first, and what enters then needs none.
-ghost use Rattle.std.specs.Prelude.{◌≡◌, ◌==◌, not, ◌++◌, ◌<◌, ◌∷◌, [], IfOk, OnOk, Some, false, map, string_bytes, vec_capacity, vec_len};
+ghost use Rattle.std.specs.Prelude.{◌≡◌, ◌==◌, not, ◌++◌, ◌<◌, ◌∷◌, [], IfOk, IfSome, OnOk, None, Some, false, map, string_bytes, vec_capacity, vec_len};
 ghost use Rattle.std.specs.List.{filter};
 ghost use Rattle.spk_broker_rules.specs.Lawful.{IsLawful};
-ghost use Rattle.spk_broker_rules.specs.Step.{away_for, begun, is_away, new_seat, other_guests, sits, take_up};
+ghost use Rattle.spk_broker_rules.specs.Plan.{Ack, Forget};
+ghost use Rattle.spk_broker_rules.specs.Step.{act, away_for, begun, is_away, new_seat, other_guests, sits, take_up};
 ghost use Rattle.spk_broker_rules.specs.Words.{handed_out, resent};
 ghost use Rattle.spk_broker.specs.Asking.{guests_now, seats_now};
 ghost use Rattle.spk_broker.specs.Changes.{IsChanged};
 ghost use Rattle.spk_broker.specs.Drafts.{draft_view};
-ghost use Rattle.spk_broker.specs.Entering.{HasRoom, IsWhole, acked, entered, taken_up, whole};
+ghost use Rattle.spk_broker.specs.Entering.{HasRoom, IsWhole, acked, again, entered, taken_up, whole, with_sends};
 ghost use Rattle.spk_broker.specs.Parts.{copy_view, line_now, line_was};
 ghost use Rattle.spk_broker.specs.Sent.{outgoing};
 ghost use Rattle.spk_broker.specs.View.{IsSettled, desk_now, desk_was, guest_was, seat_was};
@@ -136,5 +137,80 @@ fn ack_in(seats: &mut [Seat], conn: Conn, id: u16)
     match place_of(seats, conn) {
         Some(place) => seats[place].acked(id),
         None => {}
+    }
+}
+
+/// A copy is sent again, with DUP where it was handed out before (sections 3.3.1.1 and 4.4).
+fn resend(draft: &mut Draft, conn: Conn, copy: &Copy) -> Result<(), AllocError>
+    ensures { OnOk result (draft_view draft.new ≡ with_sends (again conn (copy_view copy.now) ∷ []) (draft_view draft.old)) }
+{
+    let packet = Packet::Publish {
+        dup: copy.handed,
+        qos: 1,
+        retain: copy.post.retain,
+        topic: copy.post.topic.clone()?,
+        id: Some(copy.id),
+        payload: copy.post.payload.clone()?,
+    };
+    draft.say(conn, &packet)
+}
+
+/// All copies are sent again, in the order in which they were made.
+fn resend_all(draft: &mut Draft, conn: Conn, copies: &[Copy]) -> Result<(), AllocError>
+    ensures { OnOk result (draft_view draft.new ≡ with_sends (resent conn (map copy_view copies.now)) (draft_view draft.old)) }
+{
+    for copy in copies {
+        resend(draft, conn, copy)?;
+    }
+    Ok(())
+}
+
+impl Seat {
+    /// What it keeps is sent again.
+    fn resend(&self, draft: &mut Draft, conn: Conn) -> Result<(), AllocError>
+        ensures { OnOk result (IfSome self.now.now (λ s. draft_view draft.new ≡ with_sends (resent conn s.copies) (draft_view draft.old))) }
+    {
+        resend_all(draft, conn, &self.copies)
+    }
+
+    /// The session ends.
+    fn end(&mut self)
+        ensures { self.new ≡ record self.old { now = None } }
+    {
+        self.ended = true;
+    }
+}
+
+impl Desk {
+    /// The session of a connection has no message of this identifier any more (section 4.3.2).
+    pub(crate) fn ack(&mut self, conn: Conn, id: u16)
+        requires settled { IsSettled self.old }
+        requires lawful { IsLawful (desk_was self.old) }
+        ensures done { desk_was self.new ≡ (act (Ack conn id) (begun (desk_was self.old))).broker }
+        ensures settled { IsSettled self.new }
+    {
+        ack_in(&mut self.seats, conn, id);
+    }
+
+    /// What was prepared enters. It takes no memory.
+    pub(crate) fn enter(&mut self, entry: Entry)
+        requires settled { IsSettled self.old }
+        requires lawful { IsLawful (desk_was self.old) }
+        requires whole { IsWhole entry }
+        requires room { HasRoom entry self.old.seats }
+        ensures done { desk_was self.new ≡ entered entry (desk_was self.old) }
+        ensures settled { IsSettled self.new }
+    {
+        match entry {
+            Entry::Made { conn, seat } => {
+                take_guest(&mut self.guests, conn);
+                self.made = seat.key();
+                self.seats.push_reserved(seat);
+            }
+            Entry::Back { client, line } => {
+                take_guest(&mut self.guests, line.conn);
+                take_up_in(&mut self.seats, client.as_str(), line);
+            }
+        }
     }
 }

@@ -1,4 +1,4 @@
-use Rattle.std.proofs.Common.{◌≡◌, ◌<◌, ◌≤◌, ◌∙◌, ◌++◌, ap, map, take, drop, length, arith, get_or, set, sym, refl, rules}
+use Rattle.std.proofs.Common.{◌∙◌, ap, map, set, sym}
 use Rattle.std.proofs.lemmas.List.Edits.{map_over_more}
 use Rattle.spk_broker.specs.Parts.{copy_view}
 use Rattle.spk_broker.specs.declared.seat.Copy.{Copy}

@@ -1,4 +1,4 @@
-use Rattle.std.proofs.Common.{◌≡◌, ◌<◌, ◌∙◌, ap, subst, sym, set, length, get_or}
+use Rattle.std.proofs.Common.{◌∙◌, subst, sym, set}
 use Rattle.spk_broker_rules.specs.Step.{is_away}
 use Rattle.spk_broker.specs.Both.{Both}
 use Rattle.spk_broker.specs.Changes.{IsChanged}
