@@ -1,11 +1,16 @@
-mod Alive
-mod Asked
-mod Flats
-mod Opening
-mod Places
-mod Refilled
-mod Retained
-mod Rounds
-mod Routes
-mod Standing
-mod Walks
+pub mod Alive
+pub mod Asked
+pub mod Changes
+pub mod Desks
+pub mod Entered
+pub mod Flats
+pub mod Opening
+pub mod Places
+pub mod Refilled
+pub mod Retained
+pub mod Rounds
+pub mod Routes
+pub mod Sending
+pub mod Standing
+pub mod Walks
+pub mod Wholes

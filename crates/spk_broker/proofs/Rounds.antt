@@ -88,8 +88,11 @@ left-whole f (b ∷ bs) = by b.now (left-whole f bs)
 -- behind what one does, what the others do
 with-more : (f : plain.Seat → Served) (s : plain.Seat) (ss : List plain.Seat) (d : Drafted) → with_round f ss (with_served (f s) d) ≡ with_round f (s ∷ ss) d
 with-more f s ss d =
-    ap (λ x. record d { sends = x; closes = (d.closes ++ (f s).closes) ++ flat_map (λ (s : plain.Seat). (f s).closes) ss;
-      waiting = (d.waiting ++ (f s).wills) ++ flat_map (λ (s : plain.Seat). (f s).wills) ss })
+    ap (λ x. record d {
+      sends = x;
+      closes = (d.closes ++ (f s).closes) ++ flat_map (λ (s : plain.Seat). (f s).closes) ss;
+      waiting = (d.waiting ++ (f s).wills) ++ flat_map (λ (s : plain.Seat). (f s).wills) ss;
+    })
     (append_assoc d.sends (map outgoing (f s).sends) (map outgoing (flat_map (λ (s : plain.Seat). (f s).sends) ss))
     ∙ ap (λ l. d.sends ++ l) (sym (map-append outgoing (f s).sends (flat_map (λ (s : plain.Seat). (f s).sends) ss))))
     ∙ ap (λ x. record d { sends = (with_round f (s ∷ ss) d).sends; closes = x; waiting = (d.waiting ++ (f s).wills) ++ flat_map (λ (s : plain.Seat). (f s).wills) ss })

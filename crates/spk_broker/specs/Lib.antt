@@ -1,6 +1,8 @@
 pub mod Asking
 pub mod Both
+pub mod Changes
 pub mod Drafts
+pub mod Entering
 pub mod Fault
 pub mod Parts
 pub mod Rounds

@@ -8,6 +8,7 @@ mod desk;
 mod fault;
 mod grants;
 mod guest;
+mod joining;
 mod moving;
 mod out;
 mod post;

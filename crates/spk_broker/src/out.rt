@@ -129,10 +129,10 @@ impl Draft {
         id: Option<u16>,
     ) -> Result<(), AllocError>
         ensures { OnOk result (draft_view self.new ≡ record (draft_view self.old) {
-            sends = (draft_view self.old).sends ++ outgoing (record {
-                conn = conn;
-                packet = Publish false qos retain (post_view post.now).topic id (post_view post.now).payload
-            }) ∷ []
+          sends = (draft_view self.old).sends ++ outgoing (record {
+            conn = conn;
+            packet = Publish false qos retain (post_view post.now).topic id (post_view post.now).payload;
+          }) ∷ [];
         }) }
     {
         let packet = Packet::Publish {

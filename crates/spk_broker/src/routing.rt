@@ -40,7 +40,7 @@ fn keep(
     ensures room { OnOk result (length (draft_view draft.old).keeps ≤ spare retained.old
         → length (draft_view draft.new).keeps ≤ spare retained.new) }
     ensures drafted { OnOk result (draft_view draft.new ≡ record (draft_view draft.old) {
-        keeps = kept_with (post_view post) (draft_view draft.old).keeps
+      keeps = kept_with (post_view post) (draft_view draft.old).keeps;
     }) }
 {
     if post.retain {

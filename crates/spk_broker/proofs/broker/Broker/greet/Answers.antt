@@ -19,7 +19,7 @@ invariant_of-self-2 c =
     (ap (map guest_was) c.in_ok-push.ensures.items ∙ map_push guest_was d.guests.items _) in
     record {
       settled = opened-settled d c.max-clock.result more c.self.invariant.settled
-      (guests-more d.guests.items more _ c.in_ok-push.ensures.items (ap (λ (b : plain.Broker). b.guests) c.self.invariant.settled) refl);
+          (guests-more d.guests.items more _ c.in_ok-push.ensures.items (ap (λ (b : plain.Broker). b.guests) c.self.invariant.settled) refl);
       lawful = subst IsLawful (sym all) (step-lawful (desk_was d) (Open c.args.now) c.self.invariant.lawful);
     }
 
