@@ -4,7 +4,8 @@ use Rattle.std.specs.List.{flat_map, fold}
 use Rattle.indexmap.specs.IndexMap.{spare}
 use Rattle.spk_broker_rules.specs.Data as plain
 use Rattle.spk_broker_rules.specs.Lawful.{IsLawful}
-use Rattle.spk_broker_rules.specs.Step.{Turn, retained_with}
+use Rattle.spk_broker_rules.specs.Plan.{Event, before, plan}
+use Rattle.spk_broker_rules.specs.Step.{Turn, acts, retained_with, seen}
 use Rattle.spk_broker_rules.specs.Table.{Table, has}
 use Rattle.spk_broker_rules.specs.Words.{most_topics, option_list}
 use Rattle.spk_broker.specs.Both.{Both}
@@ -89,3 +90,7 @@ pub record IsKept (b : Inside) : Type 0 where
 -- how many messages wait and how many sessions there are
 abbrev pub how_many : Desk → Draft → ℕ
 how_many desk draft = length (draft_view draft).waiting + length (flat_map seat_now desk.seats.items)
+
+-- a whole event, from any turn: what is noted first, then what the rules plan
+abbrev pub stepped : Event → Turn → Turn
+stepped e t = acts (plan (seen (acts (before e) t).broker e) e) (acts (before e) t)

@@ -16,6 +16,7 @@ mod retaining;
 mod routing;
 mod seat;
 mod serving;
+mod settling;
 mod turning;
 #[cfg(test)]
 mod tests;

@@ -1,5 +1,7 @@
 //! Retained messages (section 3.3.1.3).
 ghost use Rattle.std.specs.Prelude.{◌≡◌, ◌+◌, ◌<◌, ◌≤◌, map, string_bytes};
+ghost use Rattle.std.specs.List.{fold};
+ghost use Rattle.std.specs.VecDeque.{deque_len};
 ghost use Rattle.indexmap.specs.IndexMap.{spare};
 ghost use Rattle.spk_broker_rules.specs.Step.{retained_with};
 ghost use Rattle.spk_broker_rules.specs.Table.{put, remove};
@@ -9,6 +11,7 @@ ghost use Rattle.spk_broker.specs.View.{may_retain, retained_view, stored_view};
 use crate::desk::Stored;
 use crate::post::Post;
 use indexmap::IndexMap;
+use std::collections::VecDeque;
 
 /// The most topics with a retained message (own rule).
 const MOST_TOPICS: usize = 10_000;
@@ -61,4 +64,16 @@ pub(crate) fn retain(retained: &mut IndexMap<String, Stored>, post: Post)
         qos: post.qos,
     };
     replace(retained, post.topic, stored);
+}
+
+/// What is retained after these messages, one after the other.
+pub(crate) fn retain_all(retained: &mut IndexMap<String, Stored>, keeps: VecDeque<Post>)
+    requires { deque_len keeps ≤ spare retained.old }
+    ensures { map retained_view retained.new.entries ≡
+        fold retained_with (map retained_view retained.old.entries) (map post_view keeps.items) }
+{
+    let mut left = keeps;
+    while let Some(post) = left.pop_front() {
+        retain(retained, post);
+    }
 }
