@@ -2,6 +2,7 @@ pub mod Alive
 pub mod Asked
 pub mod Changes
 pub mod Desks
+pub mod Ending
 pub mod Entered
 pub mod Flats
 pub mod Opening

@@ -5,6 +5,7 @@
 mod asking;
 mod broker;
 mod desk;
+mod events;
 mod fault;
 mod grants;
 mod guest;
