@@ -4,6 +4,7 @@ pub mod Changes
 pub mod Desks
 pub mod Ending
 pub mod Entered
+pub mod Finishing
 pub mod Flats
 pub mod Opening
 pub mod Places

@@ -4,6 +4,7 @@
 
 mod asking;
 mod broker;
+mod calls;
 mod desk;
 mod events;
 mod fault;
