@@ -1,12 +1,13 @@
 -- Acts one after the other, and what the rules ask of what stands for a turn.
-use Rattle.std.proofs.Common.{◌≡◌, ℕ, zero, suc, ◌+◌, ◌<◌, ◌&&◌, Bool, true, false, not, cond, List, [], ◌∷◌, ◌++◌, length, take, get_or, refl, sym, ap, subst, ◌∙◌, arith}
+use Rattle.std.proofs.Common.{◌≡◌, ℕ, zero, suc, ◌+◌, ◌<◌, ◌&&◌, Bool, true, false, not, cond, List, [], ◌∷◌, ◌++◌, length, take, get_or, refl, sym, ap, subst, ◌∙◌, arith, Option}
 use Rattle.std.specs.List.{flat_map}
 use Rattle.std.specs.Option.{is_some}
 use Rattle.spk_packets.specs.declared.fault.PacketFault.{PacketFault}
+use Rattle.spk_topics.specs.Text.{topic_refusal}
 use Rattle.spk_session.specs.Step.{is_spent}
 use Rattle.spk_session.specs.declared.answer.Sort.TheVariants as sort
 use Rattle.spk_broker_rules.specs.Data as plain
-use Rattle.spk_broker_rules.specs.Plan.{Act, At, Drop, Fault, Refused, Route, Tick, is_bad_level, shut, turn_away}
+use Rattle.spk_broker_rules.specs.Plan.{Act, At, Drop, Fault, Queue, Refused, Route, Tick, is_bad_level, puback, publish, shut, turn_away}
 use Rattle.spk_broker_rules.specs.Step.{Turn, act, acts, drops_in, seat_at, silent_at}
 use Rattle.spk_broker.specs.Asking.{seats_now}
 use Rattle.spk_broker.specs.declared.desk.Desk.{Desk}
@@ -57,3 +58,10 @@ fault-stands d1 d2 x1 x2 conn now f t b s e done =
     subst (λ u. Stands d2 x2 u)
     (ap (λ c. acts (cond c (turn_away conn 1) (shut conn)) (act (At now) t))
     (sym e ∙ ap (λ (k : plain.Broker). is_bad_level f && not (is_some (seat_at conn k.seats))) s.broker)) done
+
+-- ---- publishes
+
+pub publish-stands : (d2 : Desk) (x2 : Draft) (conn : ℕ) (id : Option ℕ) (post : plain.Post) (t : Turn) (b : Bool) → is_some (topic_refusal post.topic) ≡ b
+    → Stands d2 x2 (acts (cond b (shut conn) (puback conn id ++ Queue post ∷ Route ∷ [])) t) → Stands d2 x2 (acts (publish conn id post) t)
+publish-stands d2 x2 conn id post t b e done =
+    subst (λ u. Stands d2 x2 u) (ap (λ c. acts (cond c (shut conn) (puback conn id ++ Queue post ∷ Route ∷ [])) t) (sym e)) done

@@ -5,6 +5,7 @@ pub mod Drafts
 pub mod Entering
 pub mod Fault
 pub mod Parts
+pub mod Plain
 pub mod Rounds
 pub mod Seats
 pub mod Sent

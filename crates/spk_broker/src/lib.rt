@@ -13,6 +13,7 @@ mod guest;
 mod joining;
 mod moving;
 mod out;
+mod packets;
 mod post;
 mod retaining;
 mod routing;
