@@ -1,12 +1,16 @@
-mod Alive
-mod Asked
-mod Changes
-mod Desks
-mod Entered
-mod Opening
-mod Places
-mod Refilled
-mod Rounds
-mod Routes
-mod Sending
-mod Wholes
+pub mod Alive
+pub mod Asked
+pub mod Changes
+pub mod Desks
+pub mod Entered
+pub mod Flats
+pub mod Opening
+pub mod Places
+pub mod Refilled
+pub mod Retained
+pub mod Rounds
+pub mod Routes
+pub mod Sending
+pub mod Standing
+pub mod Walks
+pub mod Wholes

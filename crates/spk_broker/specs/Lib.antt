@@ -6,6 +6,8 @@ pub mod Entering
 pub mod Fault
 pub mod Parts
 pub mod Rounds
+pub mod Seats
 pub mod Sent
+pub mod Settling
 pub mod Sitting
 pub mod View

@@ -1,11 +1,13 @@
 -- What contracts see of the broker: its data before the call, and by now.
-use Rattle.std.specs.Prelude.{◌≡◌, ◌+◌, ◌≤◌, ℕ, List, [], ◌∷◌, map, length, string_bytes, String, if◌then◌else◌}
+use Rattle.std.specs.Prelude.{◌≡◌, ◌+◌, ◌≤◌, ℕ, Bool, ◌||◌, nat_lt, List, [], ◌∷◌, map, length, string_bytes, String, if◌then◌else◌}
 use Rattle.std.specs.List.{flat_map, fold}
 use Rattle.indexmap.specs.IndexMap.{spare}
 use Rattle.spk_broker_rules.specs.Data as plain
 use Rattle.spk_broker_rules.specs.Lawful.{IsLawful}
-use Rattle.spk_broker_rules.specs.Step.{Turn, retained_with}
-use Rattle.spk_broker_rules.specs.Words.{option_list}
+use Rattle.spk_broker_rules.specs.Plan.{Event, before, plan}
+use Rattle.spk_broker_rules.specs.Step.{Turn, acts, retained_with, seen}
+use Rattle.spk_broker_rules.specs.Table.{Table, has}
+use Rattle.spk_broker_rules.specs.Words.{most_topics, option_list}
 use Rattle.spk_broker.specs.Both.{Both}
 use Rattle.spk_broker.specs.Drafts.{draft_view}
 use Rattle.spk_broker.specs.Sent.{outgoing}
@@ -32,6 +34,10 @@ stored_view s = record { payload = s.payload.items; qos = s.qos }
 
 abbrev pub retained_view : {A : Type 0} → String A × Stored → List ℕ × plain.Stored
 retained_view e = (string_bytes e.0, stored_view e.1)
+
+-- there is a message on this topic, or there are fewer topics than there may be
+abbrev pub may_retain : List ℕ → Table plain.Stored → Bool
+may_retain topic table = has topic table || nat_lt (length table) most_topics
 
 -- the data before the call
 abbrev pub desk_was : Desk → plain.Broker
@@ -84,3 +90,7 @@ pub record IsKept (b : Inside) : Type 0 where
 -- how many messages wait and how many sessions there are
 abbrev pub how_many : Desk → Draft → ℕ
 how_many desk draft = length (draft_view draft).waiting + length (flat_map seat_now desk.seats.items)
+
+-- a whole event, from any turn: what is noted first, then what the rules plan
+abbrev pub stepped : Event → Turn → Turn
+stepped e t = acts (plan (seen (acts (before e) t).broker e) e) (acts (before e) t)

@@ -9,11 +9,15 @@ mod fault;
 mod grants;
 mod guest;
 mod joining;
+mod moving;
 mod out;
 mod post;
+mod retaining;
 mod routing;
 mod seat;
 mod serving;
+mod settling;
+mod turning;
 #[cfg(test)]
 mod tests;
 

@@ -40,7 +40,7 @@ pub(crate) struct Draft {
     pub(crate) sends: Vec<Outgoing>,
     pub(crate) closes: Vec<Conn>,
     pub(crate) waiting: VecDeque<Post>,
-    pub(crate) keeps: Vec<Post>,
+    pub(crate) keeps: VecDeque<Post>,
 }
 
 /// Whether a packet may be dropped.
@@ -79,7 +79,7 @@ impl Draft {
             sends: Vec::new(alloc),
             closes: Vec::new(alloc),
             waiting: VecDeque::new(alloc),
-            keeps: Vec::new(alloc),
+            keeps: VecDeque::new(alloc),
         }
     }
 

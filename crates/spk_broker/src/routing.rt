@@ -45,7 +45,7 @@ fn keep(
 {
     if post.retain {
         retained.reserve(draft.keeps.len() + 1)?;
-        draft.keeps.push(post)?;
+        draft.keeps.push_back(post)?;
     }
     Ok(())
 }
