@@ -251,6 +251,7 @@ impl Desk {
         ensures sends { OnOk result (draft_view draft.new ≡
             with_sends (take_up None client.now kept (line_now line) (begun (desk_now self.old))).sends (draft_view draft.old)) }
         ensures now { desk_now self.new ≡ desk_now self.old }
+        ensures retained { self.new.retained ≡ self.old.retained }
         ensures same { desk_was self.new ≡ desk_was self.old }
     {
         let key = self.made.checked_add(1).ok_or(AllocError)?;
@@ -318,6 +319,7 @@ impl Desk {
         ensures sends { OnOk result (draft_view draft.new ≡
             with_sends (taken client.now kept (line_now line) (desk_now self.old)).sends (draft_view draft.old)) }
         ensures now { desk_now self.new ≡ desk_now self.old }
+        ensures retained { self.new.retained ≡ self.old.retained }
         ensures same { desk_was self.new ≡ desk_was self.old }
     {
         if !kept {

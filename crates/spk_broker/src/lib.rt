@@ -4,6 +4,7 @@
 
 mod asking;
 mod broker;
+mod connecting;
 mod desk;
 mod fault;
 mod grants;
@@ -17,9 +18,9 @@ mod routing;
 mod seat;
 mod serving;
 mod settling;
-mod turning;
 #[cfg(test)]
 mod tests;
+mod turning;
 
 pub use broker::Broker;
 pub use fault::BrokerFault;
