@@ -3,7 +3,9 @@ pub mod Alive
 pub mod Asked
 pub mod Changes
 pub mod Desks
+pub mod Ending
 pub mod Entered
+pub mod Finishing
 pub mod Flats
 pub mod Opening
 pub mod Places

@@ -1,10 +1,10 @@
 -- What contracts see of the broker: its data before the call, and by now.
-use Rattle.std.specs.Prelude.{◌≡◌, ◌+◌, ◌≤◌, ℕ, Bool, ◌||◌, nat_lt, List, [], ◌∷◌, map, length, string_bytes, String, if◌then◌else◌}
+use Rattle.std.specs.Prelude.{◌≡◌, ◌+◌, ◌≤◌, ℕ, Bool, true, ◌||◌, nat_lt, List, [], ◌∷◌, map, length, string_bytes, String, if◌then◌else◌}
 use Rattle.std.specs.List.{flat_map, fold}
 use Rattle.indexmap.specs.IndexMap.{spare}
 use Rattle.spk_broker_rules.specs.Data as plain
 use Rattle.spk_broker_rules.specs.Lawful.{IsLawful}
-use Rattle.spk_broker_rules.specs.Plan.{Event, before, plan}
+use Rattle.spk_broker_rules.specs.Plan.{Act, Event, Leave, Tell, before, plan}
 use Rattle.spk_broker_rules.specs.Step.{Turn, acts, retained_with, seen}
 use Rattle.spk_broker_rules.specs.Table.{Table, has}
 use Rattle.spk_broker_rules.specs.Words.{most_topics, option_list}
@@ -94,3 +94,7 @@ how_many desk draft = length (draft_view draft).waiting + length (flat_map seat_
 -- a whole event, from any turn: what is noted first, then what the rules plan
 abbrev pub stepped : Event → Turn → Turn
 stepped e t = acts (plan (seen (acts (before e) t).broker e) e) (acts (before e) t)
+
+-- a connection that ends, with its will, and that the caller closes
+abbrev pub ends : ℕ → List Act
+ends conn = Leave conn true ∷ Tell conn ∷ []

@@ -3,7 +3,7 @@ ghost use Rattle.std.specs.Prelude.{ℕ, ◌≡◌, ◌∷◌, ◌++◌, [], IfO
 ghost use Rattle.std.specs.List.{find};
 ghost use Rattle.std.specs.Option.{option_map};
 ghost use Rattle.spk_packets.specs.View.{will_view};
-ghost use Rattle.spk_broker_rules.specs.Plan.{Accept, Forget, Seen, connect, has_bad_topic, join, take_over, tell_older, turn_away};
+ghost use Rattle.spk_broker_rules.specs.Plan.{Accept, Forget, Seen, connect, has_bad_topic, join, take_over, tell_older};
 ghost use Rattle.spk_broker_rules.specs.Step.{Turn, act, acts, is_guest, line_of, older_in, welcome_in};
 ghost use Rattle.spk_broker_rules.specs.Words.{option_list, will_post};
 ghost use Rattle.spk_broker.specs.Asking.{guests_now, seats_now};
@@ -199,28 +199,6 @@ impl Desk {
                 Ok(self.join(draft, conn, client, clean, alive, will)?)
             }
         }
-    }
-
-    /// CONNACK with this code, and closed (section 3.2.2.3).
-    pub(crate) fn turn_away(
-        &mut self,
-        draft: &mut Draft,
-        conn: Conn,
-        code: u8,
-    ) -> Result<(), AllocError>
-        ensures done { OnOk result ((t : Turn) → Stands self.old draft.old t
-            → Stands self.new draft.new (acts (turn_away conn code) t)) }
-        ensures same { desk_was self.new ≡ desk_was self.old }
-    {
-        draft.say(
-            conn,
-            &Packet::ConnAck {
-                present: false,
-                code,
-            },
-        )?;
-        self.shut(draft, conn)?;
-        Ok(())
     }
 }
 

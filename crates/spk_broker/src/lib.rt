@@ -4,8 +4,10 @@
 
 mod asking;
 mod broker;
+mod calls;
 mod connecting;
 mod desk;
+mod events;
 mod fault;
 mod grants;
 mod guest;
