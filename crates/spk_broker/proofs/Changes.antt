@@ -1,5 +1,5 @@
 -- One settled session is changed.
-use Rattle.std.proofs.Common.{◌≡◌, ℕ, zero, suc, ◌<◌, ◌≤◌, Bool, List, [], ◌∷◌, ◌++◌, length, map, set, get_or, refl, sym, ap, ◌∙◌, subst, arith, Option, Some, None}
+use Rattle.std.proofs.Common.{◌≡◌, ℕ, zero, suc, ◌<◌, ◌≤◌, true, false, Bool, List, [], ◌∷◌, ◌++◌, length, map, set, get_or, refl, sym, ap, ◌∙◌, subst, arith, Option, Some, None}
 use Rattle.std.specs.List.{find, position}
 use Rattle.spk_broker_rules.specs.Data.{Seat}
 use Rattle.spk_broker_rules.specs.Lawful.{Rises}
@@ -7,11 +7,12 @@ use Rattle.spk_broker_rules.specs.Step.{swap}
 use Rattle.spk_broker_rules.specs.Words.{option_list}
 use Rattle.spk_broker.specs.Asking.{passes, seat_here, seats_now}
 use Rattle.spk_broker.specs.Both.{Both}
-use Rattle.spk_broker.specs.Changes.{IsChanged, changed_at}
+use Rattle.spk_broker.specs.Changes.{IsChanged, changed_at, forgot}
 use Rattle.spk_broker.specs.Entering.{whole}
 use Rattle.spk_broker.specs.View.{seat_was}
 use Rattle.spk_broker.proofs.Alive.{found-alive, lost-alive}
 use Rattle.spk_broker.proofs.Places.{swap-at}
+use Rattle.std.specs.Option.{option_map_or}
 
 -- no more are there by now than were
 few : (bs : List Both) → length (seats_now bs) ≤ length bs
@@ -75,3 +76,20 @@ change-lost test change bs e f = record {
   done = λ top r. ap (λ o. changed_at o change (map seat_was bs)) (sym (ap (find test) (sym e) ∙ lost-alive seat_here test bs f));
   settled = e;
 }
+
+-- where one was found, it is there
+pub is-there : (test : Seat → Bool) (o : Option Seat) → option_map_or test o false ≡ true → (s : Seat) × (o ≡ Some s)
+is-there test None e = cc
+is-there test (Some s) e = (s, refl)
+
+-- the one that was found ends
+pub end-found : (test : Seat → Bool) (bs : List Both) (i : ℕ) (d : Both) (low top : ℕ) → position (passes test) bs ≡ Some i → passes test (get_or bs i d) ≡ true
+    → Rises low top (seats_now bs) → seats_now (set bs i (record (get_or bs i d) { now = None })) ≡ forgot (find test (seats_now bs)) (seats_now bs)
+end-found test bs i d low top e passed r =
+    let at = found-alive seat_here test bs i d e in
+    let there = is-there test (get_or bs i d).now passed in
+    sym (swap-at bs i d (record (get_or bs i d) { now = None }) there.0 low top r at.0 there.1)
+    ∙ ap (λ o. forgot o (seats_now bs)) (sym (at.1 ∙ there.1))
+
+pub end-lost : (test : Seat → Bool) (bs : List Both) → position (passes test) bs ≡ None → seats_now bs ≡ forgot (find test (seats_now bs)) (seats_now bs)
+end-lost test bs e = ap (λ o. forgot o (seats_now bs)) (sym (lost-alive seat_here test bs e))

@@ -1,3 +1,4 @@
+pub mod Accepting
 pub mod Alive
 pub mod Asked
 pub mod Changes

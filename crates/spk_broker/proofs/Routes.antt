@@ -1,21 +1,20 @@
 -- What stands for a turn goes on standing for it while messages are routed.
-use Rattle.std.proofs.Common.{◌≡◌, ℕ, zero, suc, ◌+◌, ◌<◌, ◌≤◌, Bool, true, false, cond, List, [], ◌∷◌, ◌++◌, length, map, refl, sym, ap, subst, ◌∙◌, arith}
+use Rattle.std.proofs.Common.{◌≡◌, ◌+◌, ◌≤◌, Bool, true, false, cond, List, [], ◌∷◌, ◌++◌, length, map, refl, sym, ap, subst, ◌∙◌, arith}
 use Rattle.std.specs.List.{flat_map, fold}
-use Rattle.std.proofs.lemmas.List.{map-append, length-append, length-map}
+use Rattle.std.proofs.lemmas.List.{map-append}
 use Rattle.indexmap.specs.IndexMap.{spare}
 use Rattle.spk_broker_rules.specs.Data as plain
-use Rattle.spk_broker_rules.specs.Lawful.{IsLawful}
 use Rattle.spk_broker_rules.specs.Plan.{Route}
 use Rattle.spk_broker_rules.specs.Step.{Turn, act, retained_with, route, route_one, serve}
 use Rattle.spk_broker_rules.specs.Table.{Table}
-use Rattle.spk_broker_rules.proofs.Lawfuls.{lawful-act, lawful-one}
+use Rattle.spk_broker_rules.proofs.Lawfuls.{lawful-one}
 use Rattle.spk_broker_rules.proofs.Routing.{fewer, route-done, route-next}
 use Rattle.spk_broker.specs.declared.desk.Desk.{Desk}
 use Rattle.spk_broker.specs.declared.out.Draft.{Draft}
 use Rattle.spk_broker.specs.Drafts.{Drafted, draft_view}
 use Rattle.spk_broker.specs.Rounds.{kept_with, left_of_round, with_round}
 use Rattle.spk_broker.specs.Sent.{outgoing}
-use Rattle.spk_broker.specs.View.{Stands, desk_now, desk_was, retained_view, seat_now, with_keeps}
+use Rattle.spk_broker.specs.View.{Stands, desk_now, retained_view, seat_now, with_keeps}
 
 -- ---- what is to be retained
 

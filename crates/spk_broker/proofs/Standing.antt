@@ -1,19 +1,18 @@
 -- What stands for a turn stands for the next one after an act.
-use Rattle.std.proofs.Common.{◌≡◌, ℕ, ◌<◌, ◌≤◌, max, Bool, true, false, List, [], ◌∷◌, ◌++◌, length, map, get_or, set, refl, sym, ap, subst, ◌∙◌, Option, Some, None, arith}
+use Rattle.std.proofs.Common.{◌≡◌, ℕ, ◌≤◌, max, Bool, true, List, [], ◌∷◌, ◌++◌, length, map, get_or, set, refl, sym, ap, subst, ◌∙◌, Option, Some, None, arith}
 use Rattle.std.specs.List.{flat_map, position}
 use Rattle.std.proofs.lemmas.List.{map-append}
 use Rattle.indexmap.specs.IndexMap.{spare}
 use Rattle.spk_broker_rules.specs.Data as plain
 use Rattle.spk_broker_rules.specs.Lawful.{IsLawful, Rises}
-use Rattle.spk_broker_rules.specs.Plan.{Act, At, Hear, Drop, Say, Leave, Tell, Queue}
-use Rattle.spk_broker_rules.specs.Step.{Turn, act, begun, guest_dropped, guest_heard, leave_at, left_behind, line_dropped, line_heard, other_guests, seat_at, sits, swap, will_at}
+use Rattle.spk_broker_rules.specs.Plan.{At, Hear, Drop, Leave}
+use Rattle.spk_broker_rules.specs.Step.{Turn, act, begun, guest_dropped, guest_heard, leave_at, left_behind, other_guests, seat_at, sits, swap, will_at}
 use Rattle.spk_broker_rules.specs.Words.{option_list}
 use Rattle.spk_broker_rules.proofs.Lawfuls.{lawful-act}
 use Rattle.spk_broker_rules.proofs.Lists.{found-passes}
 use Rattle.spk_broker.specs.Asking.{passes, seat_here, seats_now}
 use Rattle.spk_broker.specs.Both.{Both}
 use Rattle.spk_broker.specs.declared.desk.Desk.{Desk}
-use Rattle.spk_broker.specs.declared.guest.Guest.{Guest}
 use Rattle.spk_broker.specs.declared.out.Draft.{Draft}
 use Rattle.spk_broker.specs.Drafts.{Drafted, draft_view, empty_draft}
 use Rattle.spk_broker.specs.Seats.{seat_dropped, seat_heard}

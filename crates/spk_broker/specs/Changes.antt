@@ -16,3 +16,8 @@ changed_at (Some s) change seats = swap s.key (change s ∷ []) seats
 pub record IsChanged (old new : List Both) (test : plain.Seat → Bool) (change : plain.Seat → plain.Seat) : Type 0 where
   pub done : (top : ℕ) → Rises 0 top (map seat_was old) → map seat_was new ≡ changed_at (find test (map seat_was old)) change (map seat_was old)
   pub settled : seats_now new ≡ map seat_was new
+
+-- the sessions without this one
+abbrev pub forgot : Option plain.Seat → List plain.Seat → List plain.Seat
+forgot None seats = seats
+forgot (Some s) seats = swap s.key [] seats

@@ -1,10 +1,10 @@
 -- What an accepted CONNECT comes to, once all memory was asked for.
-use Rattle.std.specs.Prelude.{◌≡◌, ◌<◌, ℕ, List, [], ◌∷◌, ◌++◌, map, string_bytes, Vec, vec_capacity, vec_len, Some}
+use Rattle.std.specs.Prelude.{◌≡◌, ◌<◌, ℕ, Bool, List, [], ◌∷◌, ◌++◌, map, string_bytes, Vec, vec_capacity, vec_len, Some}
 use Rattle.std.specs.declared.alloc.Global.{Global}
 use Rattle.std.specs.List.{find}
 use Rattle.spk_session.specs.Step.{without}
 use Rattle.spk_broker_rules.specs.Data as plain
-use Rattle.spk_broker_rules.specs.Step.{is_away, other_guests}
+use Rattle.spk_broker_rules.specs.Step.{Turn, away_for, begun, is_away, other_guests, take_up}
 use Rattle.spk_broker_rules.specs.Words.{handed_out, numbered_packet, without_id}
 use Rattle.spk_broker.specs.Both.{Both}
 use Rattle.spk_broker.specs.Drafts.{Drafted}
@@ -50,3 +50,7 @@ again conn c = record { conn = conn; packet = numbered_packet c.handed c.id c.po
 
 abbrev pub with_sends : List plain.Send → Drafted → Drafted
 with_sends sends d = record d { sends = d.sends ++ map outgoing sends }
+
+-- what the line of an accepted CONNECT comes to
+abbrev pub taken : List ℕ → Bool → plain.Line → plain.Broker → Turn
+taken client kept line b = take_up (away_for kept client b.seats) client kept line (begun b)

@@ -1,6 +1,7 @@
 pub mod Asking
 pub mod Both
 pub mod Changes
+pub mod Connecting
 pub mod Drafts
 pub mod Entering
 pub mod Fault

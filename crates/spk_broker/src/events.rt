@@ -119,12 +119,7 @@ impl Desk {
     }
 
     /// A PUBLISH of QoS 0 is dropped, and as many drops as close the connection close it (own rule).
-    fn draft_dropped(
-        &mut self,
-        draft: &mut Draft,
-        conn: Conn,
-        now: u64,
-    ) -> Result<(), AllocError>
+    fn draft_dropped(&mut self, draft: &mut Draft, conn: Conn, now: u64) -> Result<(), AllocError>
         ensures done { OnOk result ((t : Turn) → Stands self.old draft.old t
             → Stands self.new draft.new (stepped (Refused conn Sort.QosZero now) t)) }
         ensures same { desk_was self.new ≡ desk_was self.old }

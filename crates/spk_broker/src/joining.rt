@@ -1,17 +1,18 @@
 //! A CONNECT is accepted (sections 3.1.2.4 and 3.1.4): all memory is asked for first, and what enters then needs none.
-ghost use Rattle.std.specs.Prelude.{◌≡◌, ◌==◌, not, ◌++◌, ◌<◌, ◌∷◌, [], IfOk, IfSome, OnOk, None, Some, false, map, string_bytes, vec_capacity, vec_len};
-ghost use Rattle.std.specs.List.{filter};
-ghost use Rattle.spk_broker_rules.specs.Lawful.{IsLawful};
+ghost use Rattle.std.specs.Prelude.{ℕ, ◌≡◌, ◌==◌, not, ◌++◌, ◌<◌, ◌∷◌, [], IfOk, IfSome, OnOk, None, Some, false, true, map, string_bytes, vec_capacity, vec_len};
+ghost use Rattle.std.specs.List.{filter, find, position};
+ghost use Rattle.spk_broker_rules.specs.Lawful.{IsLawful, Rises};
 ghost use Rattle.spk_broker_rules.specs.Plan.{Ack, Forget};
-ghost use Rattle.spk_broker_rules.specs.Step.{act, away_for, begun, is_away, new_seat, other_guests, sits, take_up};
+ghost use Rattle.spk_broker_rules.specs.Step.{Turn, act, away_for, begun, is_away, new_seat, other_guests, sits, take_up};
 ghost use Rattle.spk_broker_rules.specs.Words.{handed_out, resent};
-ghost use Rattle.spk_broker.specs.Asking.{guests_now, seats_now};
-ghost use Rattle.spk_broker.specs.Changes.{IsChanged};
+ghost use Rattle.spk_broker.specs.Asking.{guests_now, passes, seats_now};
+ghost use Rattle.spk_broker.specs.Changes.{IsChanged, forgot};
 ghost use Rattle.spk_broker.specs.Drafts.{draft_view};
-ghost use Rattle.spk_broker.specs.Entering.{HasRoom, IsWhole, acked, again, entered, taken_up, whole, with_sends};
+ghost use Rattle.spk_broker.specs.declared.out.Draft.{Draft};
+ghost use Rattle.spk_broker.specs.Entering.{HasRoom, IsWhole, acked, again, entered, taken, taken_up, whole, with_sends};
 ghost use Rattle.spk_broker.specs.Parts.{copy_view, line_now, line_was};
 ghost use Rattle.spk_broker.specs.Sent.{outgoing};
-ghost use Rattle.spk_broker.specs.View.{IsSettled, desk_now, desk_was, guest_was, seat_was};
+ghost use Rattle.spk_broker.specs.View.{IsSettled, Stands, desk_now, desk_was, guest_was, seat_was};
 
 use crate::asking::{away_place, place_of};
 use crate::desk::Desk;
@@ -181,6 +182,18 @@ impl Seat {
     }
 }
 
+/// The kept session of a client without a connection ends.
+fn end_away(seats: &mut [Seat], client: &str)
+    ensures now { (low top : ℕ) → Rises low top (seats_now seats.old) →
+        seats_now seats.new ≡ forgot (find (is_away client.now) (seats_now seats.old)) (seats_now seats.old) }
+    ensures was { map seat_was seats.new ≡ map seat_was seats.old }
+{
+    match away_place(seats, client) {
+        Some(place) => seats[place].end(),
+        None => {}
+    }
+}
+
 impl Desk {
     /// The session of a connection has no message of this identifier any more (section 4.3.2).
     pub(crate) fn ack(&mut self, conn: Conn, id: u16)
@@ -211,6 +224,110 @@ impl Desk {
                 take_guest(&mut self.guests, line.conn);
                 take_up_in(&mut self.seats, client.as_str(), line);
             }
+        }
+    }
+
+    /// A kept session of this client ends.
+    pub(crate) fn forget(&mut self, client: &str)
+        ensures done { (draft : Draft) (t : Turn) → Stands self.old draft t → Stands self.new draft (act (Forget client.now) t) }
+        ensures same { desk_was self.new ≡ desk_was self.old }
+    {
+        end_away(&mut self.seats, client);
+    }
+
+    /// A new session is prepared: CONNACK, and room for it.
+    fn make(
+        &mut self,
+        draft: &mut Draft,
+        client: &str,
+        kept: bool,
+        line: Line,
+    ) -> Result<Entry, AllocError>
+        requires { line_was line ≡ line_now line }
+        ensures entry { IfOk result (λ e. entered e (desk_now self.old) ≡
+            (take_up None client.now kept (line_now line) (begun (desk_now self.old))).broker) }
+        ensures whole { IfOk result IsWhole }
+        ensures room { IfOk result (λ e. HasRoom e self.new.seats) }
+        ensures sends { OnOk result (draft_view draft.new ≡
+            with_sends (take_up None client.now kept (line_now line) (begun (desk_now self.old))).sends (draft_view draft.old)) }
+        ensures now { desk_now self.new ≡ desk_now self.old }
+        ensures retained { self.new.retained ≡ self.old.retained }
+        ensures same { desk_was self.new ≡ desk_was self.old }
+    {
+        let key = self.made.checked_add(1).ok_or(AllocError)?;
+        let conn = line.conn;
+        draft.say(
+            conn,
+            &Packet::ConnAck {
+                present: false,
+                code: 0,
+            },
+        )?;
+        self.seats.reserve(1)?;
+        let client = String::from_str(self.alloc, client)?;
+        Ok(Entry::Made {
+            conn,
+            seat: Seat::new(self.alloc, key, client, kept, line),
+        })
+    }
+
+    /// A kept session is about to be taken up: CONNACK, and what it keeps is sent again.
+    fn come_back(
+        &self,
+        draft: &mut Draft,
+        place: usize,
+        client: &str,
+        line: Line,
+    ) -> Result<Entry, AllocError>
+        requires line { line_was line ≡ line_now line }
+        requires place { position (passes (is_away client.now)) self.now.seats.items ≡ Some place }
+        ensures entry { IfOk result (λ e. entered e (desk_now self.now) ≡
+            (take_up (find (is_away client.now) (desk_now self.now).seats) client.now true (line_now line) (begun (desk_now self.now))).broker) }
+        ensures whole { IfOk result IsWhole }
+        ensures room { IfOk result (λ e. HasRoom e self.now.seats) }
+        ensures sends { OnOk result (draft_view draft.new ≡
+            with_sends (take_up (find (is_away client.now) (desk_now self.now).seats) client.now true (line_now line) (begun (desk_now self.now))).sends
+            (draft_view draft.old)) }
+    {
+        let conn = line.conn;
+        draft.say(
+            conn,
+            &Packet::ConnAck {
+                present: true,
+                code: 0,
+            },
+        )?;
+        self.seats[place].resend(draft, conn)?;
+        Ok(Entry::Back {
+            client: String::from_str(self.alloc, client)?,
+            line,
+        })
+    }
+
+    /// What an accepted CONNECT comes to is prepared.
+    pub(crate) fn prepare(
+        &mut self,
+        draft: &mut Draft,
+        client: &str,
+        kept: bool,
+        line: Line,
+    ) -> Result<Entry, AllocError>
+        requires { line_was line ≡ line_now line }
+        ensures entry { IfOk result (λ e. entered e (desk_now self.old) ≡ (taken client.now kept (line_now line) (desk_now self.old)).broker) }
+        ensures whole { IfOk result IsWhole }
+        ensures room { IfOk result (λ e. HasRoom e self.new.seats) }
+        ensures sends { OnOk result (draft_view draft.new ≡
+            with_sends (taken client.now kept (line_now line) (desk_now self.old)).sends (draft_view draft.old)) }
+        ensures now { desk_now self.new ≡ desk_now self.old }
+        ensures retained { self.new.retained ≡ self.old.retained }
+        ensures same { desk_was self.new ≡ desk_was self.old }
+    {
+        if !kept {
+            return self.make(draft, client, false, line);
+        }
+        match away_place(&self.seats, client) {
+            Some(place) => self.come_back(draft, place, client, line),
+            None => self.make(draft, client, true, line),
         }
     }
 }

@@ -7,9 +7,8 @@ ghost use Rattle.spk_broker.specs.declared.out.Draft.{Draft};
 
 use crate::asking::place_of;
 use crate::desk::Desk;
-use crate::guest;
 use crate::out::{Conn, Draft};
-use crate::turning;
+use crate::{guest, turning};
 use std::alloc::AllocError;
 
 impl Desk {

@@ -9,10 +9,9 @@ ghost use Rattle.spk_broker.specs.View.{IsSettled, Stands, desk_was};
 
 use crate::desk::Desk;
 use crate::fault::BrokerFault;
-use crate::guest;
 use crate::out::{Draft, Out};
 use crate::retaining::retain_all;
-use crate::turning;
+use crate::{guest, turning};
 use std::alloc::AllocError;
 
 impl Desk {

@@ -1,4 +1,4 @@
-use Rattle.std.proofs.Common.{◌≡◌, ◌≤◌, ℕ, map, drop, length}
+use Rattle.std.proofs.Common.{◌≡◌, ◌≤◌, map, drop, length}
 use Rattle.spk_broker_rules.specs.Words.{best}
 use Rattle.spk_broker.specs.Parts.{grant_view}
 use Rattle.spk_broker.proofs.grants.best.Given as goal

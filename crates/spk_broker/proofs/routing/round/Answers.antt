@@ -1,4 +1,4 @@
-use Rattle.std.proofs.Common.{◌≡◌, ◌<◌, ◌≤◌, ◌∙◌, sym, refl, length, arith}
+use Rattle.std.proofs.Common.{◌<◌, ◌∙◌, sym, refl, length, arith}
 use Rattle.spk_broker_rules.specs.Step.{serve}
 use Rattle.spk_broker.specs.Drafts.{draft_view}
 use Rattle.spk_broker.specs.Parts.{post_view}

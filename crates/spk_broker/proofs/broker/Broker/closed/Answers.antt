@@ -31,4 +31,3 @@ returns-clause-done c =
     done-is (Closed c.args.conn c.args.now) c.args.self.now c.self.inside.desk c.draft_closed-drafted.new.self c.finish.new.self c.new-draft.result c.draft_closed-drafted.new.draft c.draft_closed-drafted.result c.finish.result
     (record { is = c.self.view_is; kept = c.self.invariant; empty = c.new-draft.ensures; done = c.draft_closed-drafted.ensures.done; same = c.draft_closed-drafted.ensures.same })
     (record { done = c.finish.ensures.done; sends = c.finish.ensures.sends; closes = c.finish.ensures.closes; variant = c.finish.ensures.variant; same = c.finish.ensures.same; settled = c.finish.ensures.settled })
-

@@ -1,4 +1,4 @@
-use Rattle.std.proofs.Common.{◌≡◌, ◌∙◌, ◌++◌, refl, sym, ap, map, set, arith, vec_len}
+use Rattle.std.proofs.Common.{◌∙◌, ◌++◌, refl, sym, ap, arith, vec_len}
 use Rattle.std.specs.List.{flat_map, position}
 use Rattle.std.specs.Vec.{with_items, with_item}
 use Rattle.spk_broker_rules.specs.Step.{other_guests, left_behind, sits, will_at}
@@ -6,9 +6,8 @@ use Rattle.spk_broker_rules.specs.Words.{option_list}
 use Rattle.spk_broker.specs.Asking.{passes}
 use Rattle.spk_broker.specs.Both.{Both}
 use Rattle.spk_broker.specs.declared.desk.Desk.{Desk}
-use Rattle.spk_broker.specs.declared.guest.Guest.{Guest}
 use Rattle.spk_broker.specs.Drafts.{draft_view}
-use Rattle.spk_broker.specs.View.{guest_now, seat_now, seat_was, desk_was}
+use Rattle.spk_broker.specs.View.{guest_now, seat_was, desk_was}
 use Rattle.spk_broker.proofs.Refilled.{refilled}
 use Rattle.spk_broker.proofs.Standing.{guest-leaves, seat-leaves}
 use Rattle.spk_broker.proofs.Walks.{same-step}

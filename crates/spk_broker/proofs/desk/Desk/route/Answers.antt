@@ -1,8 +1,6 @@
-use Rattle.std.proofs.Common.{◌≡◌, ◌∙◌, sym, ap, refl, List, [], map, arith}
-use Rattle.spk_broker_rules.specs.Data as plain
-use Rattle.spk_broker.specs.declared.out.Draft.{Draft}
+use Rattle.std.proofs.Common.{◌≡◌, ◌∙◌, sym, ap, refl, List, map, arith}
 use Rattle.spk_broker.specs.declared.post.Post.{Post}
-use Rattle.spk_broker.specs.Drafts.{Drafted, draft_view}
+use Rattle.spk_broker.specs.Drafts.{draft_view}
 use Rattle.spk_broker.specs.Parts.{post_view}
 use Rattle.spk_broker.proofs.Refilled.{without-length}
 use Rattle.spk_broker.proofs.Routes.{leads-on, leads-end}

@@ -1,4 +1,4 @@
-use Rattle.std.proofs.Common.{◌∙◌, ◌+◌, ◌≤◌, ap, subst, sym, refl, length, vec_len, List, ◌≡◌, arith}
+use Rattle.std.proofs.Common.{◌∙◌, ◌≤◌, ap, subst, sym, refl, length, vec_len, List, ◌≡◌, arith}
 use Rattle.std.specs.List.{flat_map}
 use Rattle.std.specs.Vec.{with_items}
 use Rattle.indexmap.specs.IndexMap.{spare}
