@@ -21,9 +21,9 @@ mod routing;
 mod seat;
 mod serving;
 mod settling;
+mod turning;
 #[cfg(test)]
 mod tests;
-mod turning;
 
 pub use broker::Broker;
 pub use fault::BrokerFault;
