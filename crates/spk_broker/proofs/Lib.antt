@@ -3,7 +3,6 @@ pub mod Alive
 pub mod Asked
 pub mod Changes
 pub mod Desks
-pub mod Ending
 pub mod Entered
 pub mod Finishing
 pub mod Flats
@@ -13,6 +12,7 @@ pub mod Refilled
 pub mod Retained
 pub mod Rounds
 pub mod Routes
+pub mod Ruled
 pub mod Sending
 pub mod Standing
 pub mod Walks

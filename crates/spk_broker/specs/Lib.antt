@@ -3,6 +3,7 @@ pub mod Both
 pub mod Changes
 pub mod Connecting
 pub mod Drafts
+pub mod Endings
 pub mod Entering
 pub mod Fault
 pub mod Parts

@@ -7,6 +7,7 @@ mod broker;
 mod calls;
 mod connecting;
 mod desk;
+mod ending;
 mod events;
 mod fault;
 mod grants;

@@ -1,5 +1,5 @@
 use Rattle.std.proofs.Common.{◌≡◌, ◌∙◌, sym, true, false, rules}
-use Rattle.spk_broker.proofs.Ending.{dropped-stands}
+use Rattle.spk_broker.proofs.Ruled.{dropped-stands}
 use Rattle.spk_broker.proofs.desk.Desk.draft_dropped.Goals as goal
 
 pub returns-then-not-is_spent-clause-done : goal.returns-then-not-is_spent-clause-done

@@ -1,5 +1,5 @@
 use Rattle.std.proofs.Common.{◌≡◌, ◌∙◌, sym, true, false}
-use Rattle.spk_broker.proofs.Ending.{fault-stands}
+use Rattle.spk_broker.proofs.Ruled.{fault-stands}
 use Rattle.spk_broker.proofs.desk.Desk.draft_fault.Goals as goal
 
 pub returns-then-is_of_other_level-clause-done : goal.returns-then-is_of_other_level-clause-done

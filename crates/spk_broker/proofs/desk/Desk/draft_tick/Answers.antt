@@ -4,7 +4,7 @@ use Rattle.spk_broker_rules.specs.Plan.{At}
 use Rattle.spk_broker_rules.specs.Step.{act, silent_at}
 use Rattle.spk_broker.specs.Asking.{seats_now}
 use Rattle.spk_broker.specs.Both.{Both}
-use Rattle.spk_broker.proofs.Ending.{tick-stands}
+use Rattle.spk_broker.proofs.Ruled.{tick-stands}
 use Rattle.spk_broker.proofs.desk.Desk.draft_tick.Goals as goal
 
 pub returns-clause-done : goal.returns-clause-done

@@ -1,6 +1,6 @@
 use Rattle.std.proofs.Common.{◌≡◌, ◌∙◌, ◌<◌, sym, subst, length, arith}
 use Rattle.spk_broker.specs.View.{Stands}
-use Rattle.spk_broker.proofs.Ending.{ends-more}
+use Rattle.spk_broker.proofs.Ruled.{ends-more}
 use Rattle.spk_broker.proofs.Standing.{tell-stands}
 use Rattle.spk_broker.proofs.desk.Desk.end_all.Goals as goal
 

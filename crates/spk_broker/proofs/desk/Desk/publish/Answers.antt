@@ -5,7 +5,7 @@ use Rattle.spk_broker_rules.specs.Plan.{Queue, Route, puback}
 use Rattle.spk_broker_rules.specs.Step.{act, acts}
 use Rattle.spk_broker.specs.Parts.{post_view}
 use Rattle.spk_broker.specs.View.{Stands}
-use Rattle.spk_broker.proofs.Ending.{acts-append, publish-stands}
+use Rattle.spk_broker.proofs.Ruled.{acts-append, publish-stands}
 use Rattle.spk_broker.proofs.Standing.{queue-stands}
 use Rattle.spk_broker.proofs.desk.Desk.publish.Goals as goal
 
