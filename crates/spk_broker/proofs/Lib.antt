@@ -7,6 +7,7 @@ pub mod Entered
 pub mod Finishing
 pub mod Flats
 pub mod Opening
+pub mod Packeted
 pub mod Places
 pub mod Refilled
 pub mod Retained
