@@ -17,3 +17,5 @@ pub mod Sending
 pub mod Standing
 pub mod Walks
 pub mod Wholes
+pub mod Folded
+pub mod Filtering

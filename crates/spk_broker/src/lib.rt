@@ -10,6 +10,7 @@ mod desk;
 mod ending;
 mod events;
 mod fault;
+mod granting;
 mod grants;
 mod guest;
 mod joining;
@@ -22,9 +23,9 @@ mod routing;
 mod seat;
 mod serving;
 mod settling;
-mod turning;
 #[cfg(test)]
 mod tests;
+mod turning;
 
 pub use broker::Broker;
 pub use fault::BrokerFault;
