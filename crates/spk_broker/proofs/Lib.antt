@@ -4,8 +4,10 @@ pub mod Asked
 pub mod Changes
 pub mod Desks
 pub mod Entered
+pub mod Filtering
 pub mod Finishing
 pub mod Flats
+pub mod Folded
 pub mod Opening
 pub mod Packeted
 pub mod Places

@@ -6,6 +6,7 @@ pub mod Drafts
 pub mod Endings
 pub mod Entering
 pub mod Fault
+pub mod Granting
 pub mod Parts
 pub mod Plain
 pub mod Rounds

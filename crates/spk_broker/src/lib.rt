@@ -11,6 +11,7 @@ mod ending;
 mod events;
 mod fault;
 mod firsts;
+mod granting;
 mod grants;
 mod guest;
 mod joining;

@@ -40,12 +40,7 @@ pub(crate) fn is_no_topic(text: &str) -> bool
 
 impl Desk {
     /// PUBACK, where the publish has an identifier (section 3.4).
-    fn puback(
-        &mut self,
-        draft: &mut Draft,
-        conn: Conn,
-        id: Option<u16>,
-    ) -> Result<(), AllocError>
+    fn puback(&mut self, draft: &mut Draft, conn: Conn, id: Option<u16>) -> Result<(), AllocError>
         ensures done { OnOk result ((t : Turn) → Stands self.old draft.old t
             → Stands self.new draft.new (acts (puback conn id) t)) }
         ensures same { desk_was self.new ≡ desk_was self.old }
