@@ -16,6 +16,7 @@ mod grants;
 mod guest;
 mod joining;
 mod moving;
+mod offering;
 mod out;
 mod packet_call;
 mod packets;
@@ -26,6 +27,7 @@ mod seat;
 mod serving;
 mod settling;
 mod turning;
+mod unsubscribing;
 #[cfg(test)]
 mod tests;
 
