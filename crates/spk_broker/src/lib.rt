@@ -27,7 +27,6 @@ mod seat;
 mod serving;
 mod settling;
 mod turning;
-mod unsubscribing;
 #[cfg(test)]
 mod tests;
 
