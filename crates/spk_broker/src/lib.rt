@@ -23,6 +23,7 @@ mod routing;
 mod seat;
 mod serving;
 mod settling;
+mod subscribing;
 #[cfg(test)]
 mod tests;
 mod turning;
