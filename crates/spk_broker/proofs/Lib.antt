@@ -19,3 +19,4 @@ pub mod Walks
 pub mod Wholes
 pub mod Folded
 pub mod Filtering
+pub mod Offers

@@ -18,6 +18,7 @@ mod moving;
 mod out;
 mod packets;
 mod post;
+mod presenting;
 mod retaining;
 mod routing;
 mod seat;
