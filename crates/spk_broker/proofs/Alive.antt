@@ -105,3 +105,7 @@ found-alive o p xs i d e =
 
 pub lost-alive : {X Y : Type 0} (o : X → Option Y) (p : Y → Bool) (xs : List X) → position (test_at o p) xs ≡ None → find p (alive o xs) ≡ None
 lost-alive o p xs e = find-alive o p xs ∙ ap (option_and_then o) (place-none (test_at o p) xs e)
+
+-- what stands there, whatever is given for what isn't
+pub same-there : {X Y : Type 0} (o : X → Option Y) (p : Y → Bool) (xs : List X) (i : ℕ) (d e : X) → position (test_at o p) xs ≡ Some i → o (get_or xs i d) ≡ o (get_or xs i e)
+same-there o p xs i d e f = sym (found-alive o p xs i d f).1 ∙ (found-alive o p xs i e f).1

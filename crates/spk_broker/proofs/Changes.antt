@@ -1,5 +1,6 @@
 -- One settled session is changed.
 use Rattle.std.proofs.Common.{◌≡◌, ℕ, zero, suc, ◌<◌, ◌≤◌, true, false, Bool, List, [], ◌∷◌, ◌++◌, length, map, set, get_or, refl, sym, ap, ◌∙◌, subst, arith, Option, Some, None}
+use Rattle.std.proofs.lemmas.List.Quantifiers.{position-Some}
 use Rattle.std.specs.List.{find, position}
 use Rattle.spk_broker_rules.specs.Data.{Seat}
 use Rattle.spk_broker_rules.specs.Lawful.{Rises}
@@ -12,7 +13,7 @@ use Rattle.spk_broker.specs.Entering.{whole}
 use Rattle.spk_broker.specs.View.{seat_was}
 use Rattle.spk_broker.proofs.Alive.{found-alive, lost-alive}
 use Rattle.spk_broker.proofs.Places.{swap-at}
-use Rattle.std.specs.Option.{option_map_or}
+use Rattle.std.specs.Option.{option_map, option_map_or}
 
 -- no more are there by now than were
 few : (bs : List Both) → length (seats_now bs) ≤ length bs
@@ -93,3 +94,18 @@ end-found test bs i d low top e passed r =
 
 pub end-lost : (test : Seat → Bool) (bs : List Both) → position (passes test) bs ≡ None → seats_now bs ≡ forgot (find test (seats_now bs)) (seats_now bs)
 end-lost test bs e = ap (λ o. forgot o (seats_now bs)) (sym (lost-alive seat_here test bs e))
+
+-- the one that was found is changed, in the midst of a call
+pub change-now : (test : Seat → Bool) (change : Seat → Seat) (bs : List Both) (i : ℕ) (d b : Both) (low top : ℕ) → position (passes test) bs ≡ Some i
+    → b.now ≡ option_map change (get_or bs i d).now → Rises low top (seats_now bs)
+    → seats_now (set bs i b) ≡ changed_at (find test (seats_now bs)) change (seats_now bs)
+change-now test change bs i d b low top e new r =
+    let at = found-alive seat_here test bs i d e in
+    let there = is-there test (get_or bs i d).now (position-Some (passes test) bs i d e).1 in
+    let now : b.now ≡ Some (change there.0) = new ∙ ap (option_map change) there.1 in
+    sym (swap-at bs i d b there.0 low top r at.0 there.1)
+    ∙ ap (λ o. swap there.0.key (option_list o) (seats_now bs)) now
+    ∙ ap (λ o. changed_at o change (seats_now bs)) (sym (at.1 ∙ there.1))
+
+pub change-none : (test : Seat → Bool) (change : Seat → Seat) (bs : List Both) → position (passes test) bs ≡ None → seats_now bs ≡ changed_at (find test (seats_now bs)) change (seats_now bs)
+change-none test change bs e = ap (λ o. changed_at o change (seats_now bs)) (sym (lost-alive seat_here test bs e))

@@ -5,8 +5,8 @@ use Rattle.std.specs.Option.{IfSome}
 use Rattle.std.specs.declared.alloc.Global.{Global}
 use Rattle.spk_packets.specs.Message.{ConnAck}
 use Rattle.spk_broker_rules.specs.Data as plain
-use Rattle.spk_broker_rules.specs.Plan.{Forget}
-use Rattle.spk_broker_rules.specs.Step.{Turn, act, away_for, begun, forget_at, is_away, other_guests, take_up, with_seats}
+use Rattle.spk_broker_rules.specs.Plan.{Forget, Take}
+use Rattle.spk_broker_rules.specs.Step.{Turn, act, away_for, begun, forget_at, is_away, other_guests, seat_at, take_at, take_up, with_seats}
 use Rattle.spk_broker_rules.specs.Words.{resent}
 use Rattle.spk_broker_rules.proofs.Lawfuls.{lawful-act}
 use Rattle.spk_broker.specs.Asking.{passes, seat_here, seats_now}
@@ -14,6 +14,7 @@ use Rattle.spk_broker.specs.Both.{Both}
 use Rattle.spk_broker.specs.Changes.{changed_at, forgot}
 use Rattle.spk_broker.specs.Drafts.{Drafted, draft_view}
 use Rattle.spk_broker.specs.Entering.{taken, taken_up, with_sends}
+use Rattle.spk_broker.specs.Granting.{without_grants}
 use Rattle.spk_broker.specs.Sent.{outgoing}
 use Rattle.spk_broker.specs.View.{Stands, desk_now, with_keeps}
 use Rattle.spk_broker.specs.declared.desk.Desk.{Desk}
@@ -74,3 +75,30 @@ taken-none false client line b e f = cc
 pub nobody-away : (kept : Bool) (client : List ℕ) (bs : List Both) → position (passes (is_away client)) bs ≡ None → away_for kept client (seats_now bs) ≡ None
 nobody-away true client bs e = lost-alive seat_here (is_away client) bs e
 nobody-away false client bs e = refl
+
+-- ---- grants taken back
+
+take-is : (conn : ℕ) (names : List (List ℕ)) (t : Turn)
+    → with_seats (changed_at (seat_at conn t.broker.seats) (without_grants names) t.broker.seats) t ≡ act (Take conn names) t
+take-is conn names t = by (seat_at conn t.broker.seats)
+  where
+    by : (o : Option plain.Seat) → with_seats (changed_at o (without_grants names) t.broker.seats) t ≡ take_at o names t
+    by None = refl
+    by (Some s) = refl
+
+pub takes : (d : Desk) (draft : Draft) (t : Turn) (conn : ℕ) (names : List (List ℕ)) (seats : Vec Seat Global) → Stands d draft t
+    → seats_now seats.items ≡ changed_at (seat_at conn (seats_now d.seats.items)) (without_grants names) (seats_now d.seats.items)
+    → Stands (record d { seats = seats }) draft (act (Take conn names) t)
+takes d draft t conn names seats s e =
+    let same : seats_now d.seats.items ≡ t.broker.seats = ap (λ (b : plain.Broker). b.seats) s.broker in
+    let now : seats_now seats.items ≡ changed_at (seat_at conn t.broker.seats) (without_grants names) t.broker.seats =
+    e ∙ ap (λ ss. changed_at (seat_at conn ss) (without_grants names) ss) same in
+    let is = take-is conn names t in
+    record {
+      broker = broker-with d (draft_view draft).keeps t.broker seats _ s.broker now ∙ ap (λ (u : Turn). u.broker) is;
+      sends = s.sends ∙ ap (λ (u : Turn). map outgoing u.sends) is;
+      closes = s.closes ∙ ap (λ (u : Turn). u.closes) is;
+      waiting = s.waiting ∙ ap (λ (u : Turn). u.waiting) is;
+      room = s.room;
+      lawful = lawful-act (Take conn names) t s.lawful;
+    }

@@ -1,10 +1,12 @@
 -- Grants by filter.
-use Rattle.std.proofs.Common.{◌≡◌, ℕ, Bool, true, false, not, cond, List, [], ◌∷◌, ◌++◌, length, map, refl, sym, ap, ◌∙◌, string_bytes}
-use Rattle.std.specs.List.{filter, list_any}
+use Rattle.std.proofs.Common.{◌≡◌, ℕ, Bool, true, false, not, cond, List, [], ◌∷◌, ◌++◌, length, map, refl, sym, ap, ◌∙◌, string_bytes, Option, Some, None}
+use Rattle.std.specs.List.{filter, fold, list_any}
+use Rattle.std.specs.Option.{IfSome, option_map}
+use Rattle.spk_broker_rules.specs.Data as plain
 use Rattle.std.specs.Str.{bytes_eq}
-use Rattle.spk_broker_rules.specs.Table.{has, remove, replaced}
+use Rattle.spk_broker_rules.specs.Table.{Table, has, remove, replaced}
 use Rattle.spk_broker_rules.proofs.Lists.{any-map, filter-map}
-use Rattle.spk_broker.specs.Granting.{renewed}
+use Rattle.spk_broker.specs.Granting.{regranted, renewed, taken_from, without_grants}
 use Rattle.spk_broker.specs.Parts.{grant_view}
 use Rattle.spk_broker.specs.declared.seat.Grant.{Grant}
 
@@ -22,3 +24,9 @@ renewed-all name qos (g ∷ gs) = ap (λ e. e ∷ map grant_view (map (renewed n
     one : (b : Bool) → grant_view (cond b (record g { qos = qos }) g) ≡ cond b (string_bytes g.filter, qos) (grant_view g)
     one true = refl
     one false = refl
+
+-- the grants of a session are replaced by what they become
+pub regranted-is : (o : Option plain.Seat) (new old : Table ℕ) (names : List (List ℕ)) → new ≡ fold taken_from old names → IfSome o (λ s. old ≡ s.grants)
+    → option_map (regranted new) o ≡ option_map (without_grants names) o
+regranted-is None new old names e f = refl
+regranted-is (Some s) new old names e f = ap (λ g. Some (record s { grants = g })) (e ∙ ap (λ g. fold taken_from g names) f)

@@ -8,6 +8,7 @@ pub mod Filtering
 pub mod Finishing
 pub mod Flats
 pub mod Folded
+pub mod Offers
 pub mod Opening
 pub mod Packeted
 pub mod Places

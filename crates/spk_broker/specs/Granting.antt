@@ -1,5 +1,6 @@
 -- Grants in the midst of a SUBSCRIBE.
 use Rattle.std.specs.Prelude.{ℕ, ◌+◌, nat_lt, Bool, ◌||◌, List, [], ◌∷◌, ◌++◌, length, map, if◌then◌else◌, min}
+use Rattle.std.specs.List.{fold}
 use Rattle.std.specs.String.{string_bytes}
 use Rattle.std.specs.Str.{bytes_eq}
 use Rattle.spk_broker_rules.specs.Data as plain
@@ -40,3 +41,7 @@ regranted grants s = record s { grants = grants }
 -- a grant with another QoS, where it is of this filter
 abbrev pub renewed : List ℕ → ℕ → Grant → Grant
 renewed name qos g = if bytes_eq (string_bytes g.filter) name then record g { qos = qos } else g
+
+-- a session without the grants of these filters
+abbrev pub without_grants : List (List ℕ) → plain.Seat → plain.Seat
+without_grants names s = regranted (fold taken_from s.grants names) s

@@ -7,6 +7,7 @@ pub mod Endings
 pub mod Entering
 pub mod Fault
 pub mod Granting
+pub mod Offering
 pub mod Parts
 pub mod Plain
 pub mod Rounds

@@ -21,11 +21,13 @@ mod out;
 mod packet_call;
 mod packets;
 mod post;
+mod presenting;
 mod retaining;
 mod routing;
 mod seat;
 mod serving;
 mod settling;
+mod subscribing;
 mod turning;
 #[cfg(test)]
 mod tests;
