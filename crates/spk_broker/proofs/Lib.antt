@@ -2,6 +2,7 @@ pub mod Accepting
 pub mod Alive
 pub mod Asked
 pub mod Changes
+pub mod Counts
 pub mod Desks
 pub mod Entered
 pub mod Filtering

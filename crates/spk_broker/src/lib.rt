@@ -6,6 +6,7 @@ mod asking;
 mod broker;
 mod calls;
 mod connecting;
+mod counting;
 mod desk;
 mod ending;
 mod events;
