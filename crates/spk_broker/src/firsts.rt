@@ -1,9 +1,10 @@
 //! Which packet it is: the first one of a connection, or a further one.
-ghost use Rattle.std.specs.Prelude.{◌≡◌, true, is_some, IfOk};
+ghost use Rattle.std.specs.Prelude.{◌≡◌, [], true, is_some, IfOk};
 ghost use Rattle.spk_packets.specs.View.{view};
 ghost use Rattle.spk_broker_rules.specs.Plan.{Seen, client_in, first_packet, next_packet, packet as packet_acts};
 ghost use Rattle.spk_broker_rules.specs.Plan.{Packet as PacketEvent};
 ghost use Rattle.spk_broker_rules.specs.Step.{Turn, acts, older_in, seat_at, welcome_in};
+ghost use Rattle.spk_broker.specs.Drafts.{draft_view};
 ghost use Rattle.spk_broker.specs.Endings.{IsReady, Leads};
 ghost use Rattle.spk_broker.specs.View.{Stands, desk_was, stepped};
 
@@ -52,6 +53,7 @@ impl Desk {
         conn: Conn,
         packet: &Packet,
     ) -> Result<Ending, AllocError>
+        requires { (draft_view draft.old).keeps ≡ [] }
         ensures done { IfOk result (λ e. (t : Turn) → Stands self.old draft.old t
             → Leads self.new draft.new e (acts (next_packet conn (view packet.now)) t)) }
         ensures ready { IfOk result (λ e. IsReady e self.new.seats) }
@@ -59,7 +61,6 @@ impl Desk {
     {
         match packet {
             Packet::PubAck { id } => Ok(Ending::Acked { conn, id: *id }),
-            Packet::Subscribe { .. } => Err(AllocError),
             _ => {
                 self.next_packet(draft, conn, packet)?;
                 Ok(Ending::Nothing)
@@ -74,6 +75,7 @@ impl Desk {
         conn: Conn,
         packet: &Packet,
     ) -> Result<Ending, AllocError>
+        requires { (draft_view draft.old).keeps ≡ [] }
         ensures done { IfOk result (λ e. (seen : Seen) (t : Turn)
             → seen.joined ≡ is_some (seat_at conn t.broker.seats)
             → seen.older ≡ older_in (client_in (view packet.now)) t.broker.seats
@@ -103,6 +105,7 @@ impl Desk {
         packet: &Packet,
         now: u64,
     ) -> Result<Ending, AllocError>
+        requires { (draft_view draft.old).keeps ≡ [] }
         ensures done { IfOk result (λ e. (t : Turn) → Stands self.old draft.old t
             → Leads self.new draft.new e (stepped (PacketEvent conn (view packet.now) now) t)) }
         ensures ready { IfOk result (λ e. IsReady e self.new.seats) }

@@ -1,11 +1,12 @@
 //! Packets of a connection whose CONNECT was accepted.
-ghost use Rattle.std.specs.Prelude.{◌≡◌, IfErr, IfOk, OnErr, OnOk, Some, None, true, false, is_none, is_some};
+ghost use Rattle.std.specs.Prelude.{◌≡◌, IfErr, IfOk, OnErr, OnOk, Some, None, true, false, is_none, is_some, []};
 ghost use Rattle.spk_packets.specs.Fault.{first_of};
 ghost use Rattle.spk_packets.specs.Spelling.{unwritable};
 ghost use Rattle.spk_packets.specs.View.{view};
 ghost use Rattle.spk_topics.specs.Text.{topic_refusal};
 ghost use Rattle.spk_broker_rules.specs.Plan.{next_packet, publish, puback};
 ghost use Rattle.spk_broker_rules.specs.Step.{Turn, acts};
+ghost use Rattle.spk_broker.specs.Drafts.{draft_view};
 ghost use Rattle.spk_broker.specs.Parts.{post_view};
 ghost use Rattle.spk_broker.specs.Plain.{is_plain};
 ghost use Rattle.spk_broker.specs.View.{Stands, desk_was};
@@ -81,7 +82,8 @@ impl Desk {
         conn: Conn,
         packet: &Packet,
     ) -> Result<(), AllocError>
-        requires { is_plain (view packet.now) ≡ true }
+        requires plain { is_plain (view packet.now) ≡ true }
+        requires empty { (draft_view draft.old).keeps ≡ [] }
         ensures done { OnOk result ((t : Turn) → Stands self.old draft.old t
             → Stands self.new draft.new (acts (next_packet conn (view packet.now)) t)) }
         ensures same { desk_was self.new ≡ desk_was self.old }
@@ -102,6 +104,10 @@ impl Desk {
                     retain: *retain,
                 };
                 self.publish(draft, conn, *id, post)
+            }
+            Packet::Subscribe { id, filters } => {
+                self.subscribe(draft, conn, *id, filters)?;
+                Ok(())
             }
             Packet::Unsubscribe { id, filters } => {
                 self.unsubscribe(draft, conn, *id, filters)?;
