@@ -15,6 +15,9 @@ use Rattle.spk_broker.specs.declared.out.Out.{Out}
 use Rattle.spk_broker.specs.Drafts.{draft_view, empty_draft}
 use Rattle.spk_broker.specs.Sent.{outgoing, sent_view}
 use Rattle.spk_broker.specs.View.{IsKept, IsSettled, Stands, desk_now, desk_was, stepped}
+use Rattle.spk_broker_rules.proofs.AnyList.{step-lawful}
+use Rattle.spk_broker.specs.Endings.{Leads, ended}
+use Rattle.spk_broker.specs.declared.ending.Ending.{Ending}
 use Rattle.spk_broker.proofs.Standing.{begun-stands}
 
 -- what the parts of a call say of it
@@ -76,3 +79,60 @@ kept-is e b d0 d1 d2 x0 x1 drafted (Ok out) k f =
     let s = stands-ok e b d0 d1 d2 x0 x1 drafted out k f in
     record { settled = f.settled; lawful = subst IsLawful (sym (f.done (step b e) s)) s.lawful }
 kept-is e b d0 d1 d2 x0 x1 drafted (Err x) k f = record { settled = f.settled; lawful = subst IsLawful (sym (f.same ∙ k.same)) k.kept.lawful }
+
+-- ---- a call after which something follows
+
+pub record CallTo (e : Event) (b : plain.Broker) (d0 d1 : Desk) (x0 x1 : Draft) (drafted : Result Ending AllocError) : Type 0 where
+  pub is : desk_was d0 ≡ b
+  pub kept : IsKept (record { desk = d0 })
+  pub empty : draft_view x0 ≡ empty_draft
+  pub done : IfOk drafted (λ n. (t : Turn) → Stands d0 x0 t → Leads d1 x1 n (stepped e t))
+  pub same : desk_was d1 ≡ desk_was d0
+
+pub record Concluded (d1 d2 : Desk) (x1 : Draft) (drafted : Result Ending AllocError) (r : Result Out BrokerFault) : Type 0 where
+  pub done : IfOk drafted (λ n. OnOk r ((t : Turn) → Stands d1 x1 t → desk_was d2 ≡ ended n t.broker))
+  pub sends : IfOk r (λ out. map sent_view out.sends.items ≡ (draft_view x1).sends)
+  pub closes : IfOk r (λ out. out.closes.items ≡ (draft_view x1).closes)
+  pub variant : is_ok r ≡ is_ok drafted
+  pub same : OnErr r (desk_was d2 ≡ desk_was d1)
+  pub settled : IsSettled d2
+
+leads-for : (e : Event) (b : plain.Broker) (d0 d1 : Desk) (x0 x1 : Draft) (n : Ending) → CallTo e b d0 d1 x0 x1 (Ok n) → Leads d1 x1 n (step b e)
+leads-for e b d0 d1 x0 x1 n k =
+    subst (λ t. Leads d1 x1 n t) (stepped-is e b)
+    (k.done (begun b) (begun-stands d0 x0 b (k.kept.settled ∙ k.is) k.empty (subst IsLawful k.is k.kept.lawful)))
+
+pub stands-to : (e : Event) (b : plain.Broker) (d0 d1 : Desk) (x0 x1 : Draft) (drafted : Result Ending AllocError) → CallTo e b d0 d1 x0 x1 drafted
+    → OnOk drafted ((t : Turn) × Stands d1 x1 t)
+stands-to e b d0 d1 x0 x1 (Ok n) k = let l = leads-for e b d0 d1 x0 x1 n k in (l.before, l.stands)
+stands-to e b d0 d1 x0 x1 (Err x) k = tt
+
+pub sends-to : (e : Event) (b : plain.Broker) (d0 d1 d2 : Desk) (x0 x1 : Draft) (drafted : Result Ending AllocError) (r : Result Out BrokerFault)
+    → CallTo e b d0 d1 x0 x1 drafted → Concluded d1 d2 x1 drafted r → IfOk r (λ out. map sent_view out.sends.items ≡ map outgoing (step b e).sends)
+sends-to e b d0 d1 d2 x0 x1 (Ok n) (Ok out) k f =
+    let l = leads-for e b d0 d1 x0 x1 n k in f.sends ∙ l.stands.sends ∙ ap (λ (t : Turn). map outgoing t.sends) l.is
+sends-to e b d0 d1 d2 x0 x1 (Err x) (Ok out) k f = absurd (let v = f.variant in let z : ⊥ = cc in z)
+sends-to e b d0 d1 d2 x0 x1 (Ok n) (Err x) k f = tt
+sends-to e b d0 d1 d2 x0 x1 (Err y) (Err x) k f = tt
+
+pub closes-to : (e : Event) (b : plain.Broker) (d0 d1 d2 : Desk) (x0 x1 : Draft) (drafted : Result Ending AllocError) (r : Result Out BrokerFault)
+    → CallTo e b d0 d1 x0 x1 drafted → Concluded d1 d2 x1 drafted r → IfOk r (λ out. out.closes.items ≡ (step b e).closes)
+closes-to e b d0 d1 d2 x0 x1 (Ok n) (Ok out) k f =
+    let l = leads-for e b d0 d1 x0 x1 n k in f.closes ∙ l.stands.closes ∙ ap (λ (t : Turn). t.closes) l.is
+closes-to e b d0 d1 d2 x0 x1 (Err x) (Ok out) k f = absurd (let v = f.variant in let z : ⊥ = cc in z)
+closes-to e b d0 d1 d2 x0 x1 (Ok n) (Err x) k f = tt
+closes-to e b d0 d1 d2 x0 x1 (Err y) (Err x) k f = tt
+
+pub done-to : (e : Event) (b : plain.Broker) (d0 d1 d2 : Desk) (x0 x1 : Draft) (drafted : Result Ending AllocError) (r : Result Out BrokerFault)
+    → CallTo e b d0 d1 x0 x1 drafted → Concluded d1 d2 x1 drafted r → OnOk r (desk_was d2 ≡ (step b e).broker)
+done-to e b d0 d1 d2 x0 x1 (Ok n) (Ok out) k f =
+    let l = leads-for e b d0 d1 x0 x1 n k in f.done l.before l.stands ∙ ap (λ (t : Turn). t.broker) l.is
+done-to e b d0 d1 d2 x0 x1 (Err x) (Ok out) k f = absurd (let v = f.variant in let z : ⊥ = cc in z)
+done-to e b d0 d1 d2 x0 x1 (Ok n) (Err x) k f = tt
+done-to e b d0 d1 d2 x0 x1 (Err y) (Err x) k f = tt
+
+pub kept-to : (e : Event) (b : plain.Broker) (d0 d1 d2 : Desk) (x0 x1 : Draft) (drafted : Result Ending AllocError) (r : Result Out BrokerFault)
+    → CallTo e b d0 d1 x0 x1 drafted → Concluded d1 d2 x1 drafted r → IsKept (record { desk = d2 })
+kept-to e b d0 d1 d2 x0 x1 drafted (Ok out) k f =
+    record { settled = f.settled; lawful = subst IsLawful (sym (done-to e b d0 d1 d2 x0 x1 drafted (Ok out) k f)) (step-lawful b e (subst IsLawful k.is k.kept.lawful)) }
+kept-to e b d0 d1 d2 x0 x1 drafted (Err x) k f = record { settled = f.settled; lawful = subst IsLawful (sym (f.same ∙ k.same)) k.kept.lawful }

@@ -4,9 +4,13 @@ pub mod Asked
 pub mod Changes
 pub mod Desks
 pub mod Entered
+pub mod Filtering
 pub mod Finishing
 pub mod Flats
+pub mod Folded
+pub mod Offers
 pub mod Opening
+pub mod Packeted
 pub mod Places
 pub mod Refilled
 pub mod Retained
@@ -17,6 +21,3 @@ pub mod Sending
 pub mod Standing
 pub mod Walks
 pub mod Wholes
-pub mod Folded
-pub mod Filtering
-pub mod Offers

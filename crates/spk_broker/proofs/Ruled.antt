@@ -7,7 +7,8 @@ use Rattle.spk_topics.specs.Text.{topic_refusal}
 use Rattle.spk_session.specs.Step.{is_spent}
 use Rattle.spk_session.specs.declared.answer.Sort.TheVariants as sort
 use Rattle.spk_broker_rules.specs.Data as plain
-use Rattle.spk_broker_rules.specs.Plan.{Act, At, Drop, Fault, Queue, Refused, Route, Tick, is_bad_level, puback, publish, shut, turn_away}
+use Rattle.spk_packets.specs.Message.{UnsubAck}
+use Rattle.spk_broker_rules.specs.Plan.{Act, At, Drop, Fault, Queue, Refused, Route, Say, Take, Tick, has_bad_filter, is_bad_level, puback, publish, shut, turn_away, unsubscribe}
 use Rattle.spk_broker_rules.specs.Step.{Turn, act, acts, drops_in, seat_at, silent_at}
 use Rattle.spk_broker.specs.Asking.{seats_now}
 use Rattle.spk_broker.specs.declared.desk.Desk.{Desk}
@@ -65,3 +66,10 @@ pub publish-stands : (d2 : Desk) (x2 : Draft) (conn : ℕ) (id : Option ℕ) (po
     → Stands d2 x2 (acts (cond b (shut conn) (puback conn id ++ Queue post ∷ Route ∷ [])) t) → Stands d2 x2 (acts (publish conn id post) t)
 publish-stands d2 x2 conn id post t b e done =
     subst (λ u. Stands d2 x2 u) (ap (λ c. acts (cond c (shut conn) (puback conn id ++ Queue post ∷ Route ∷ [])) t) (sym e)) done
+
+-- ---- filters taken back
+
+pub unsubscribe-stands : (d2 : Desk) (x2 : Draft) (conn id : ℕ) (names : List (List ℕ)) (t : Turn) (b : Bool) → has_bad_filter names ≡ b
+    → Stands d2 x2 (acts (cond b (shut conn) (Take conn names ∷ Say conn (UnsubAck id) ∷ [])) t) → Stands d2 x2 (acts (unsubscribe conn id names) t)
+unsubscribe-stands d2 x2 conn id names t b e done =
+    subst (λ u. Stands d2 x2 u) (ap (λ c. acts (cond c (shut conn) (Take conn names ∷ Say conn (UnsubAck id) ∷ [])) t) (sym e)) done

@@ -10,12 +10,15 @@ mod desk;
 mod ending;
 mod events;
 mod fault;
+mod firsts;
 mod granting;
 mod grants;
 mod guest;
 mod joining;
 mod moving;
+mod offering;
 mod out;
+mod packet_call;
 mod packets;
 mod post;
 mod presenting;
@@ -24,10 +27,10 @@ mod routing;
 mod seat;
 mod serving;
 mod settling;
-mod subscribing;
+mod turning;
+mod unsubscribing;
 #[cfg(test)]
 mod tests;
-mod turning;
 
 pub use broker::Broker;
 pub use fault::BrokerFault;

@@ -33,7 +33,7 @@ impl Seat {
     }
 
     /// A message of QoS 0 goes to its connection, where it has one.
-    fn hand_plain(&mut self, draft: &mut Draft, post: &Post, retain: bool) -> Result<(), AllocError>
+    pub(crate) fn hand_plain(&mut self, draft: &mut Draft, post: &Post, retain: bool) -> Result<(), AllocError>
         ensures was { self.new.was ≡ self.old.was }
         ensures left { OnOk result (option_list self.new.now ≡
             left_by (hand (sent_as (post_view post.now) 0 retain)) self.old.now) }
@@ -51,7 +51,7 @@ impl Seat {
 
     /// A message of QoS 1 gets the next identifier, and a kept session keeps a copy; one that may have no further
     /// message ends.
-    fn hand_numbered(
+    pub(crate) fn hand_numbered(
         &mut self,
         draft: &mut Draft,
         post: &Post,
