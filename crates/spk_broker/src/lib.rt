@@ -27,10 +27,10 @@ mod routing;
 mod seat;
 mod serving;
 mod settling;
-mod turning;
-mod unsubscribing;
 #[cfg(test)]
 mod tests;
+mod turning;
+mod unsubscribing;
 
 pub use broker::Broker;
 pub use fault::BrokerFault;
