@@ -21,4 +21,4 @@ pub mod Sending
 pub mod Standing
 pub mod Walks
 pub mod Wholes
-pub mod Giving
+pub mod Gives

@@ -11,6 +11,7 @@ mod ending;
 mod events;
 mod fault;
 mod firsts;
+mod giving;
 mod granting;
 mod grants;
 mod guest;
