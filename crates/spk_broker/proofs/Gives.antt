@@ -2,6 +2,7 @@
 use Rattle.std.proofs.Common.{◌≡◌, ℕ, ◌<◌, ◌≤◌, List, [], ◌∷◌, ◌++◌, length, length-set, map, get_or, get_or-set_same, set, refl, sym, ap, subst, ◌∙◌, Option, Some, None}
 use Rattle.std.proofs.lemmas.List.{map-append}
 use Rattle.std.specs.List.{flat_map, fold, position}
+use Rattle.std.specs.Option.{IfSome}
 use Rattle.indexmap.specs.IndexMap.{spare}
 use Rattle.spk_packets.specs.Message.{SubAck}
 use Rattle.spk_broker_rules.specs.Data as plain
@@ -70,3 +71,7 @@ gives conn id entries t seat e = ap (λ o. give_at o conn id entries t) (sym e)
 
 pub gives-none : (conn id : ℕ) (entries : List (List ℕ × ℕ)) (t : Turn) → seat_at conn t.broker.seats ≡ None → t ≡ act (Give conn id entries) t
 gives-none conn id entries t e = ap (λ o. give_at o conn id entries t) (sym e)
+
+-- what was counted at the place is what is counted of the session there
+pub grown-there : (P : plain.Seat → Type 0) (o : Option plain.Seat) (s : plain.Seat) → o ≡ Some s → IfSome o P → P s
+grown-there P o s e h = subst (λ (k : Option plain.Seat). IfSome k P) e h

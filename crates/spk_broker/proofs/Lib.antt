@@ -2,12 +2,14 @@ pub mod Accepting
 pub mod Alive
 pub mod Asked
 pub mod Changes
+pub mod Counts
 pub mod Desks
 pub mod Entered
 pub mod Filtering
 pub mod Finishing
 pub mod Flats
 pub mod Folded
+pub mod Gives
 pub mod Offers
 pub mod Opening
 pub mod Packeted
@@ -21,4 +23,3 @@ pub mod Sending
 pub mod Standing
 pub mod Walks
 pub mod Wholes
-pub mod Gives

@@ -5,9 +5,8 @@ use Rattle.std.proofs.lemmas.List.{map-append}
 use Rattle.indexmap.specs.IndexMap.{spare}
 use Rattle.spk_broker_rules.specs.Data as plain
 use Rattle.spk_broker_rules.specs.Lawful.{IsLawful, Rises}
-use Rattle.std.specs.Option.{option_map}
-use Rattle.spk_broker_rules.specs.Plan.{At, Hear, Drop, Leave, Take}
-use Rattle.spk_broker_rules.specs.Step.{Turn, act, begun, guest_dropped, guest_heard, leave_at, left_behind, other_guests, seat_at, sits, swap, take_at, will_at}
+use Rattle.spk_broker_rules.specs.Plan.{At, Hear, Drop, Leave}
+use Rattle.spk_broker_rules.specs.Step.{Turn, act, begun, guest_dropped, guest_heard, leave_at, left_behind, other_guests, seat_at, sits, swap, will_at}
 use Rattle.spk_broker_rules.specs.Words.{option_list}
 use Rattle.spk_broker_rules.proofs.Lawfuls.{lawful-act}
 use Rattle.spk_broker_rules.proofs.Lists.{found-passes}
@@ -16,7 +15,7 @@ use Rattle.spk_broker.specs.Both.{Both}
 use Rattle.spk_broker.specs.declared.desk.Desk.{Desk}
 use Rattle.spk_broker.specs.declared.out.Draft.{Draft}
 use Rattle.spk_broker.specs.Drafts.{Drafted, draft_view, empty_draft}
-use Rattle.spk_broker.specs.Seats.{seat_dropped, seat_heard, seat_without}
+use Rattle.spk_broker.specs.Seats.{seat_dropped, seat_heard}
 use Rattle.spk_broker.specs.Sent.{outgoing}
 use Rattle.spk_broker.specs.View.{Stands, desk_now, guest_now, seat_now, with_keeps}
 use Rattle.spk_broker.proofs.Alive.{found-alive, lost-alive, place-find}
@@ -171,33 +170,3 @@ seat-leaves d0 d1 x0 x1 conn i wills d new found shape same left drafted t s =
     (queue-stands d1 x0 x1 (record t { broker = vacated seat t.broker }) (will_at wills seat)
     (drafted ∙ ap (λ o. record (draft_view x0) { waiting = (draft_view x0).waiting ++ flat_map (will_at wills) (option_list o) }) who.1
     ∙ ap (λ l. record (draft_view x0) { waiting = (draft_view x0).waiting ++ l }) (last-one (will_at wills seat))) moved)
-
--- ---- grants taken back
-
-abbrev without_grants : plain.Seat → List (List ℕ) → plain.Broker → plain.Broker
-without_grants s names b = record b { seats = swap s.key (seat_without names s ∷ []) b.seats }
-
-pub nothing-taken : (d : Desk) (conn : ℕ) (names : List (List ℕ)) → position (passes (sits conn)) d.seats.items ≡ None
-    → (x : Draft) (t : Turn) → Stands d x t → Stands d x (act (Take conn names) t)
-nothing-taken d conn names none x t s =
-    let at : seat_at conn t.broker.seats ≡ None = ap (λ (b : plain.Broker). seat_at conn b.seats) (sym s.broker) ∙ lost-alive seat_here (sits conn) d.seats.items none in
-    subst (λ u. Stands d x u) (sym (ap (λ o. take_at o names t) at)) s
-
-pub grants-taken : (d0 d1 : Desk) (conn i : ℕ) (names : List (List ℕ)) (d new : Both) → position (passes (sits conn)) d0.seats.items ≡ Some i
-    → desk_now d1 ≡ record (desk_now d0) { seats = seats_now (set d0.seats.items i new) } → d1.retained ≡ d0.retained
-    → new.now ≡ option_map (seat_without names) (get_or d0.seats.items i d).now
-    → (x : Draft) (t : Turn) → Stands d0 x t → Stands d1 x (act (Take conn names) t)
-grants-taken d0 d1 conn i names d new found shape same left x t s =
-    let bs = d0.seats.items in
-    let place = place-find (passes (sits conn)) bs i d found in
-    let who = there conn (get_or bs i d) (found-passes (passes (sits conn)) bs (get_or bs i d) place.1) in
-    let seat = who.0 in
-    let at : seat_at conn t.broker.seats ≡ Some seat = ap (λ (b : plain.Broker). seat_at conn b.seats) (sym s.broker) ∙ (found-alive seat_here (sits conn) bs i d found).1 ∙ who.1 in
-    let is : act (Take conn names) t ≡ take_at (Some seat) names t = ap (λ o. take_at o names t) at in
-    let keys : Rises 0 t.broker.made (seats_now bs) = subst (λ (l : List plain.Seat). Rises 0 t.broker.made l) (sym (ap (λ (b : plain.Broker). b.seats) s.broker)) s.lawful.keys in
-    let swapped = swap-at bs i d new seat 0 t.broker.made keys place.0 who.1 in
-    let fits : option_list new.now ≡ seat_without names seat ∷ [] = ap option_list (left ∙ ap (option_map (seat_without names)) who.1) in
-    subst (λ u. Stands d1 x u) (sym is)
-    (stands-move d0 d1 x t (without_grants seat names) (λ ks b. refl)
-    (shape ∙ ap (λ l. record (desk_now d0) { seats = l }) (sym swapped ∙ ap (λ l. swap seat.key l (seats_now bs)) fits)) same
-    (subst (λ (u : Turn). IsLawful u.broker) is (lawful-act (Take conn names) t s.lawful)) s)

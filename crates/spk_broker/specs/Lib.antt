@@ -2,6 +2,7 @@ pub mod Asking
 pub mod Both
 pub mod Changes
 pub mod Connecting
+pub mod Counting
 pub mod Drafts
 pub mod Endings
 pub mod Entering

@@ -60,7 +60,7 @@ impl Desk {
     {
         match packet {
             Packet::PubAck { id } => Ok(Ending::Acked { conn, id: *id }),
-            Packet::Subscribe { .. } | Packet::Unsubscribe { .. } => Err(AllocError),
+            Packet::Subscribe { .. } => Err(AllocError),
             _ => {
                 self.next_packet(draft, conn, packet)?;
                 Ok(Ending::Nothing)

@@ -6,6 +6,7 @@ mod asking;
 mod broker;
 mod calls;
 mod connecting;
+mod counting;
 mod desk;
 mod ending;
 mod events;
@@ -28,10 +29,11 @@ mod routing;
 mod seat;
 mod serving;
 mod settling;
+mod subscribing;
+mod turning;
 #[cfg(test)]
 mod tests;
 mod turning;
-mod unsubscribing;
 
 pub use broker::Broker;
 pub use fault::BrokerFault;

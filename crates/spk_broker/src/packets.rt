@@ -103,6 +103,10 @@ impl Desk {
                 };
                 self.publish(draft, conn, *id, post)
             }
+            Packet::Unsubscribe { id, filters } => {
+                self.unsubscribe(draft, conn, *id, filters)?;
+                Ok(())
+            }
             Packet::PingReq => draft.say(conn, &Packet::PingResp),
             Packet::Disconnect => self.leave(draft, conn, false),
             _ => self.shut(draft, conn),

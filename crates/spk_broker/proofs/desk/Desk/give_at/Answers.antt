@@ -32,8 +32,27 @@ returns-clause-done c t seat entries s sitting grown =
     let table : map (retained_view {A = Global}) d.retained.entries ≡ t.broker.retained =
     ap (fold retained_with (map (retained_view {A = Global}) d.retained.entries)) (sym c.requires.keeps) ∙ ap (λ (b : plain.Broker). b.retained) s.broker in
     subst (λ (u : Turn). Stands c.offer_all.new.self c.offer_all.new.draft u)
-    (ap (λ r. fold (offer seat.key) (given_turn seat (map grant_view c.args.granting.grants.items) c.args.granting.codes.items c.args.conn c.args.id t)
+    (ap (λ gs. fold (offer seat.key) (given_turn seat (map grant_view c.args.granting.grants.items) c.args.granting.codes.items c.args.conn c.args.id t)
+        (flat_map (offers_to (map (retained_view {A = Global}) d.retained.entries)) (map grant_view gs))) c.deref.ensures.value
+      ∙ ap (λ r. fold (offer seat.key) (given_turn seat (map grant_view c.args.granting.grants.items) c.args.granting.codes.items c.args.conn c.args.id t)
     (flat_map (offers_to r) (map grant_view c.args.granting.given.items))) table
     ∙ ap (λ (g : Grown). fold (offer seat.key) (given_turn seat g.grants g.codes c.args.conn c.args.id t) (flat_map (offers_to t.broker.retained) g.given)) grown
     ∙ gives c.args.conn c.args.id entries t seat sitting)
     done.stands
+
+pub returns-in_err-say-clause-same : goal.returns-in_err-say-clause-same
+returns-in_err-say-clause-same c =
+    let d = c.args.self.now in
+    ap (λ l. record (desk_was d) { seats = l }) (same-step seat_was d.seats.items c.args.place c.index_mut.result.now _ c.set_grants.new.self refl (c.set_grants.ensures.was ∙ ap (λ (b : Both). b.was) c.index_mut.ensures.value))
+
+pub returns-in_err-offer_all-clause-same : goal.returns-in_err-offer_all-clause-same
+returns-in_err-offer_all-clause-same c =
+    let d = c.args.self.now in
+    c.offer_all.ensures.same
+    ∙ ap (λ l. record (desk_was d) { seats = l }) (same-step seat_was d.seats.items c.args.place c.index_mut.result.now _ c.set_grants.new.self refl (c.set_grants.ensures.was ∙ ap (λ (b : Both). b.was) c.index_mut.ensures.value))
+
+pub returns-clause-same : goal.returns-clause-same
+returns-clause-same c =
+    let d = c.args.self.now in
+    c.offer_all.ensures.same
+    ∙ ap (λ l. record (desk_was d) { seats = l }) (same-step seat_was d.seats.items c.args.place c.index_mut.result.now _ c.set_grants.new.self refl (c.set_grants.ensures.was ∙ ap (λ (b : Both). b.was) c.index_mut.ensures.value))
