@@ -30,7 +30,6 @@ mod seat;
 mod serving;
 mod settling;
 mod subscribing;
-mod turning;
 #[cfg(test)]
 mod tests;
 mod turning;

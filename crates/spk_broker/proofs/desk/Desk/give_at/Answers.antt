@@ -33,8 +33,8 @@ returns-clause-done c t seat entries s sitting grown =
     ap (fold retained_with (map (retained_view {A = Global}) d.retained.entries)) (sym c.requires.keeps) ∙ ap (λ (b : plain.Broker). b.retained) s.broker in
     subst (λ (u : Turn). Stands c.offer_all.new.self c.offer_all.new.draft u)
     (ap (λ gs. fold (offer seat.key) (given_turn seat (map grant_view c.args.granting.grants.items) c.args.granting.codes.items c.args.conn c.args.id t)
-        (flat_map (offers_to (map (retained_view {A = Global}) d.retained.entries)) (map grant_view gs))) c.deref.ensures.value
-      ∙ ap (λ r. fold (offer seat.key) (given_turn seat (map grant_view c.args.granting.grants.items) c.args.granting.codes.items c.args.conn c.args.id t)
+    (flat_map (offers_to (map (retained_view {A = Global}) d.retained.entries)) (map grant_view gs))) c.deref.ensures.value
+    ∙ ap (λ r. fold (offer seat.key) (given_turn seat (map grant_view c.args.granting.grants.items) c.args.granting.codes.items c.args.conn c.args.id t)
     (flat_map (offers_to r) (map grant_view c.args.granting.given.items))) table
     ∙ ap (λ (g : Grown). fold (offer seat.key) (given_turn seat g.grants g.codes c.args.conn c.args.id t) (flat_map (offers_to t.broker.retained) g.given)) grown
     ∙ gives c.args.conn c.args.id entries t seat sitting)
