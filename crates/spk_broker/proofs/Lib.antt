@@ -9,6 +9,7 @@ pub mod Filtering
 pub mod Finishing
 pub mod Flats
 pub mod Folded
+pub mod Gives
 pub mod Offers
 pub mod Opening
 pub mod Packeted

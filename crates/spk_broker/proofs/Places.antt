@@ -10,7 +10,7 @@ use Rattle.spk_broker.specs.Asking.{seats_now}
 use Rattle.spk_broker.specs.Both.{Both}
 use Rattle.spk_broker.specs.View.{seat_now}
 
-unequal : (a b : ℕ) → (a ≡ b → ⊥) → eqb a b ≡ false
+pub unequal : (a b : ℕ) → (a ≡ b → ⊥) → eqb a b ≡ false
 unequal a b n = by (eqb a b) refl
   where
     by : (t : Bool) → eqb a b ≡ t → t ≡ false

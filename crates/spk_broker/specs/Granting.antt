@@ -5,7 +5,7 @@ use Rattle.std.specs.String.{string_bytes}
 use Rattle.std.specs.Str.{bytes_eq}
 use Rattle.spk_broker_rules.specs.Data as plain
 use Rattle.spk_broker_rules.specs.Table.{Table, has, remove}
-use Rattle.spk_broker_rules.specs.Words.{granted, is_granted, most_grants, with_entry}
+use Rattle.spk_broker_rules.specs.Words.{codes_of, granted, granted_of, is_granted, most_grants, with_entry}
 use Rattle.spk_broker.specs.Parts.{grant_view}
 use Rattle.spk_broker.specs.declared.seat.Grant.{Grant}
 use Rattle.spk_broker.specs.declared.granting.Granting.{Granting}
@@ -45,3 +45,11 @@ renewed name qos g = if bytes_eq (string_bytes g.filter) name then record g { qo
 -- a session without the grants of these filters
 abbrev pub without_grants : List (List ℕ) → plain.Seat → plain.Seat
 without_grants names s = regranted (fold taken_from s.grants names) s
+
+-- after all entries
+abbrev pub grown_by : ℕ → Table ℕ → List (List ℕ × ℕ) → Grown
+grown_by others grants entries = record {
+  grants = fold (with_entry others) grants entries;
+  codes = codes_of others grants entries;
+  given = granted_of others grants entries;
+}

@@ -1,5 +1,5 @@
 -- Retained messages are offered to the session at a place.
-use Rattle.std.specs.Prelude.{◌≡◌, ◌<◌, ℕ, List, [], ◌∷◌, length, Option, Some, None, slice_index_or}
+use Rattle.std.specs.Prelude.{◌≡◌, ◌<◌, ℕ, List, true, [], ◌∷◌, length, Option, Some, None, slice_index_or}
 use Rattle.spk_broker_rules.specs.Data as plain
 use Rattle.spk_broker_rules.specs.Step.{Turn, with_key}
 use Rattle.spk_broker_rules.specs.Words.{offers_to}
@@ -23,3 +23,7 @@ pub record Offering (desk : Desk) (draft : Draft) (place key : ℕ) (turn : Turn
 abbrev pub offers_at : Option (List ℕ × plain.Stored) → List ℕ × ℕ → List plain.Post
 offers_at None grant = []
 offers_at (Some e) grant = offers_to (e ∷ []) grant
+
+-- a retained message at a QoS
+abbrev pub retained_at : ℕ → List ℕ → plain.Stored → plain.Post
+retained_at qos topic stored = record { topic = topic; payload = stored.payload; qos = qos; retain = true }

@@ -63,9 +63,9 @@ pub(crate) fn granted(
 ) -> Result<Granting, AllocError>
     requires { place < length seats.now }
     ensures { IfOk result (λ g. (d : Both) → IfSome (get_or seats.now place d).now (λ s. granting_view g ≡ record {
-        grants = fold (with_entry (other_grants s (seats_now seats.now))) s.grants (map request_view entries.now);
-        codes = codes_of (other_grants s (seats_now seats.now)) s.grants (map request_view entries.now);
-        given = granted_of (other_grants s (seats_now seats.now)) s.grants (map request_view entries.now);
+      grants = fold (with_entry (other_grants s (seats_now seats.now))) s.grants (map request_view entries.now);
+      codes = codes_of (other_grants s (seats_now seats.now)) s.grants (map request_view entries.now);
+      given = granted_of (other_grants s (seats_now seats.now)) s.grants (map request_view entries.now);
     })) }
 {
     let others = count_others(seats, place);

@@ -36,7 +36,8 @@ impl Desk {
             clean,
             keep,
             will,
-        } = packet else {
+        } = packet
+        else {
             self.shut(draft, conn)?;
             return Ok(Ending::Nothing);
         };

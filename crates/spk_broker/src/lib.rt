@@ -12,6 +12,7 @@ mod ending;
 mod events;
 mod fault;
 mod firsts;
+mod giving;
 mod granting;
 mod grants;
 mod guest;
@@ -29,9 +30,9 @@ mod seat;
 mod serving;
 mod settling;
 mod subscribing;
-mod turning;
 #[cfg(test)]
 mod tests;
+mod turning;
 
 pub use broker::Broker;
 pub use fault::BrokerFault;

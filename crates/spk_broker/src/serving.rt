@@ -33,7 +33,12 @@ impl Seat {
     }
 
     /// A message of QoS 0 goes to its connection, where it has one.
-    pub(crate) fn hand_plain(&mut self, draft: &mut Draft, post: &Post, retain: bool) -> Result<(), AllocError>
+    pub(crate) fn hand_plain(
+        &mut self,
+        draft: &mut Draft,
+        post: &Post,
+        retain: bool,
+    ) -> Result<(), AllocError>
         ensures was { self.new.was ≡ self.old.was }
         ensures left { OnOk result (option_list self.new.now ≡
             left_by (hand (sent_as (post_view post.now) 0 retain)) self.old.now) }

@@ -22,7 +22,7 @@ use spk_topics::Filter;
 use std::alloc::{AllocError, Global};
 
 /// Whether a text is no topic filter (section 4.7).
-fn is_bad_filter(name: &str) -> bool
+pub(crate) fn is_bad_filter(name: &str) -> bool
     ensures { result ≡ is_some (filter_refusal name.now) }
 {
     Filter::read(name).is_err()
