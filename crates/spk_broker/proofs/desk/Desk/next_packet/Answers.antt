@@ -14,5 +14,5 @@ returns-in_ok-unsubscribe-in-Unsubscribe-clause-done c t s =
 pub returns-in_ok-subscribe-in-Subscribe-clause-done : goal.returns-in_ok-subscribe-in-Subscribe-clause-done
 returns-in_ok-subscribe-in-Subscribe-clause-done c t s =
     subst (λ p. Stands c.subscribe.new.self c.subscribe.new.draft (acts (next_packet c.args.conn (view p)) t)) (sym c.in-Subscribe.is)
-    (subst (λ l. Stands c.subscribe.new.self c.subscribe.new.draft (acts (subscribe c.args.conn c.in-Subscribe.id (map request_view l)) t)) c.deref-in-Subscribe.ensures.value
+    (subst (λ l. Stands c.subscribe.new.self c.subscribe.new.draft (acts (subscribe c.args.conn c.in-Subscribe.id (map request_view l)) t)) c.deref.ensures.value
     (c.in_ok-subscribe-in-Subscribe.ensures.done t s))
