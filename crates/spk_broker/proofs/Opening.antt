@@ -1,24 +1,22 @@
 -- One more connection, and how many there are.
-use Rattle.std.proofs.Common.{◌≡◌, ℕ, ◌+◌, ◌<◌, max, cond, List, [], ◌∷◌, ◌++◌, map, length, take, get_or, refl, ◌∙◌, ap, Option, Some, None}
-use Rattle.std.specs.List.{filter}
+use Rattle.std.proofs.Common.{◌≡◌, ℕ, Bool, true, false, ◌+◌, ◌<◌, max, cond, List, [], ◌∷◌, ◌++◌, map, length, take, get_or, refl, sym, ◌∙◌, ap, Option, Some, None}
+use Rattle.std.specs.List.{filter, flat_map}
 use Rattle.std.specs.Option.{option_map, is_some}
-use Rattle.std.proofs.lemmas.List.{length-append, map_more}
+use Rattle.std.proofs.lemmas.List.{length-append, map_more, map_push}
 use Rattle.std.proofs.lemmas.List.Elements.{filter-append}
-use Rattle.spk_session.specs.Data.{Drops}
 use Rattle.spk_broker_rules.specs.Data as plain
 use Rattle.spk_broker_rules.specs.Plan.{Open}
 use Rattle.spk_broker_rules.specs.Step.{step}
-use Rattle.spk_broker.specs.declared.seat.Line.{Line}
-use Rattle.spk_broker.specs.declared.seat.Seat.{Seat}
-use Rattle.spk_broker.specs.View.{line_view, seat_view}
+use Rattle.spk_broker_rules.proofs.Lists.{flat_map-append}
+use Rattle.spk_broker.specs.Both.{Both}
+use Rattle.spk_broker.specs.declared.desk.Desk.{Desk}
+use Rattle.spk_broker.specs.declared.guest.Guest.{Guest}
+use Rattle.spk_broker.specs.View.{seat_was, guest_was, guest_now, desk_was, desk_now, IsSettled}
 
-abbrev guest : ℕ → ℕ → plain.Guest
+abbrev pub guest : ℕ → ℕ → plain.Guest
 guest conn clock = record { conn = conn; heard = clock; drops = 0 }
 
-abbrev pub guest_by : ℕ → ℕ → Drops → plain.Guest
-guest_by conn clock budget = record { conn = conn; heard = clock; drops = budget.drops }
-
-abbrev with_guests : plain.Broker → ℕ → List plain.Guest → plain.Broker
+abbrev pub with_guests : plain.Broker → ℕ → List plain.Guest → plain.Broker
 with_guests b clock gs = record b { given = b.given + 1; clock = clock; guests = gs }
 
 -- what opening adds is what the rules say
@@ -27,20 +25,34 @@ pub opened : (b : plain.Broker) (now clock : ℕ) (gs : List plain.Guest) → cl
 unfolding step
 opened b now clock gs e f = ap (with_guests b clock) f ∙ ap (λ k. with_guests b k (b.guests ++ guest (b.given + 1) k ∷ [])) e
 
-abbrev pub lines_in : List Seat → ℕ
-lines_in ss = length (filter (λ (s : plain.Seat). is_some s.here) (map seat_view ss))
+abbrev pub had : Both → Bool
+had b = is_some b.was.here
+
+abbrev pub lines_in : List Both → ℕ
+lines_in bs = length (filter (λ (s : plain.Seat). is_some s.here) (map seat_was bs))
 
 -- one seat more
-pub lines-more : (ss : List Seat) (i : ℕ) (d : Seat) → i < length ss → lines_in (take (i + 1) ss) ≡ lines_in (take i ss) + cond (is_some (get_or ss i d).here) 1 0
-lines-more ss i d low =
-    ap (λ xs. length (filter (λ (s : plain.Seat). is_some s.here) xs)) (map_more seat_view ss i d low)
-    ∙ ap length (filter-append (λ (s : plain.Seat). is_some s.here) (map seat_view (take i ss)) (seat_view (get_or ss i d) ∷ []))
-    ∙ length-append (filter (λ (s : plain.Seat). is_some s.here) (map seat_view (take i ss))) (filter (λ (s : plain.Seat). is_some s.here) (seat_view (get_or ss i d) ∷ []))
-    ∙ ap (λ n. lines_in (take i ss) + n) (by (get_or ss i d))
+pub lines-more : (bs : List Both) (i : ℕ) (d : Both) → i < length bs → lines_in (take (i + 1) bs) ≡ lines_in (take i bs) + cond (is_some (get_or bs i d).was.here) 1 0
+lines-more bs i d low =
+    ap (λ xs. length (filter (λ (s : plain.Seat). is_some s.here) xs)) (map_more seat_was bs i d low)
+    ∙ ap length (filter-append (λ (s : plain.Seat). is_some s.here) (map seat_was (take i bs)) ((get_or bs i d).was ∷ []))
+    ∙ length-append (filter (λ (s : plain.Seat). is_some s.here) (map seat_was (take i bs))) (filter (λ (s : plain.Seat). is_some s.here) ((get_or bs i d).was ∷ []))
+    ∙ ap (λ n. lines_in (take i bs) + n) (by (get_or bs i d).was (is_some (get_or bs i d).was.here))
   where
-    line : (o : Option Line) (s : Seat) → length (cond (is_some (option_map line_view o)) (seat_view s ∷ []) []) ≡ cond (is_some o) 1 0
-    line None s = refl
-    line (Some l) s = refl
+    by : (s : plain.Seat) (b : Bool) → length (cond b (s ∷ []) []) ≡ cond b 1 0
+    by s true = refl
+    by s false = refl
 
-    by : (s : Seat) → length (filter (λ (x : plain.Seat). is_some x.here) (seat_view s ∷ [])) ≡ cond (is_some s.here) 1 0
-    by s = line s.here s
+-- the guests by now and of before are alike with one more
+pub guests-more : (gs more : List Guest) (g : Guest) → more ≡ gs ++ g ∷ [] → flat_map guest_now gs ≡ map guest_was gs → guest_now g ≡ guest_was g ∷ [] → flat_map guest_now more ≡ map guest_was more
+guests-more gs more g is e f =
+    ap (flat_map guest_now) is ∙ flat_map-append guest_now gs (g ∷ [])
+    ∙ ap (λ xs. flat_map guest_now gs ++ (xs ++ [])) f
+    ∙ ap (λ xs. xs ++ guest_was g ∷ []) e
+    ∙ sym (map_push guest_was gs g) ∙ ap (map guest_was) (sym is)
+
+-- a desk that was settled is so with one more guest
+pub opened-settled : (d : Desk) (clock : ℕ) (more : List Guest) → IsSettled d → flat_map guest_now more ≡ map guest_was more
+    → with_guests (desk_now d) clock (flat_map guest_now more) ≡ with_guests (desk_was d) clock (map guest_was more)
+opened-settled d clock more e f =
+    ap (λ b. with_guests b clock (flat_map guest_now more)) e ∙ ap (with_guests (desk_was d) clock) f

@@ -1,63 +1,100 @@
--- What contracts see of the crate's types: the plain data of the rules.
-use Rattle.std.specs.Prelude.{◌≡◌, ℕ, List, map, string_bytes, Option, Some, None}
-use Rattle.std.specs.List.{AllByRecursion}
-use Rattle.std.specs.Option.{option_map}
+-- What contracts see of the broker: its data before the call, and by now.
+use Rattle.std.specs.Prelude.{◌≡◌, ◌+◌, ◌≤◌, ℕ, Bool, true, ◌||◌, nat_lt, List, [], ◌∷◌, map, length, string_bytes, String, if◌then◌else◌}
+use Rattle.std.specs.List.{flat_map, fold}
+use Rattle.indexmap.specs.IndexMap.{spare}
 use Rattle.spk_broker_rules.specs.Data as plain
+use Rattle.spk_broker_rules.specs.Lawful.{IsLawful}
+use Rattle.spk_broker_rules.specs.Plan.{Act, Event, Leave, Tell, before, plan}
+use Rattle.spk_broker_rules.specs.Step.{Turn, acts, retained_with, seen}
+use Rattle.spk_broker_rules.specs.Table.{Table, has}
+use Rattle.spk_broker_rules.specs.Words.{most_topics, option_list}
+use Rattle.spk_broker.specs.Both.{Both}
+use Rattle.spk_broker.specs.Drafts.{draft_view}
+use Rattle.spk_broker.specs.Sent.{outgoing}
 use Rattle.spk_broker.specs.declared.broker.Broker.TheInside.{Inside}
+use Rattle.spk_broker.specs.declared.desk.Desk.{Desk}
+use Rattle.spk_broker.specs.declared.desk.Stored.{Stored}
 use Rattle.spk_broker.specs.declared.guest.Guest.{Guest}
-use Rattle.spk_broker.specs.declared.post.Post.{Post}
-use Rattle.spk_broker.specs.declared.retained.Stored.{Stored}
-use Rattle.spk_broker.specs.declared.seat.Copy.{Copy}
-use Rattle.spk_broker.specs.declared.seat.Grant.{Grant}
-use Rattle.spk_broker.specs.declared.seat.Line.{Line}
-use Rattle.spk_broker.specs.declared.seat.Seat.{Seat}
+use Rattle.spk_broker.specs.declared.out.Draft.{Draft}
 
-abbrev pub post_view : Post → plain.Post
-post_view p = record { topic = string_bytes p.topic; payload = p.payload.items; qos = p.qos; retain = p.retain }
+abbrev pub guest_was : Guest → plain.Guest
+guest_was g = record { conn = g.conn; heard = g.heard_before; drops = g.drops_before }
 
-abbrev pub guest_view : Guest → plain.Guest
-guest_view g = record { conn = g.conn; heard = g.heard; drops = g.budget.drops }
+abbrev pub guest_now : Guest → List plain.Guest
+guest_now g = if g.gone then [] else (record { conn = g.conn; heard = g.heard; drops = g.drops }) ∷ []
 
-abbrev pub line_view : Line → plain.Line
-line_view l = record { conn = l.conn; alive = l.alive; heard = l.heard; will = option_map post_view l.will; drops = l.budget.drops }
+abbrev pub seat_was : Both → plain.Seat
+seat_was b = b.was
 
-abbrev pub grant_view : Grant → List ℕ × ℕ
-grant_view g = (string_bytes g.filter, g.qos)
-
-abbrev pub copy_view : Copy → plain.Copy
-copy_view c = record { id = c.id; post = post_view c.post; handed = c.handed }
-
-abbrev pub seat_view : Seat → plain.Seat
-seat_view s = record {
-  key = s.key;
-  client = string_bytes s.client;
-  kept = s.kept;
-  here = option_map line_view s.here;
-  grants = map grant_view s.grants.items;
-  used = s.ids.used;
-  last = s.ids.last;
-  copies = map copy_view s.copies.items;
-}
+abbrev pub seat_now : Both → List plain.Seat
+seat_now b = option_list b.now
 
 abbrev pub stored_view : Stored → plain.Stored
 stored_view s = record { payload = s.payload.items; qos = s.qos }
 
-abbrev pub broker_view : Inside → plain.Broker
-broker_view b = record {
-  limit = b.limit;
-  given = b.given;
-  made = b.made;
-  clock = b.clock;
-  guests = map guest_view b.guests.items;
-  seats = map seat_view b.seats.items;
-  retained = map (λ e. (string_bytes e.0, stored_view e.1)) b.retained.entries;
+abbrev pub retained_view : {A : Type 0} → String A × Stored → List ℕ × plain.Stored
+retained_view e = (string_bytes e.0, stored_view e.1)
+
+-- there is a message on this topic, or there are fewer topics than there may be
+abbrev pub may_retain : List ℕ → Table plain.Stored → Bool
+may_retain topic table = has topic table || nat_lt (length table) most_topics
+
+-- the data before the call
+abbrev pub desk_was : Desk → plain.Broker
+desk_was d = record {
+  limit = d.limit;
+  given = d.given;
+  made = d.made;
+  clock = d.clock_before;
+  guests = map guest_was d.guests.items;
+  seats = map seat_was d.seats.items;
+  retained = map retained_view d.retained.entries;
 }
 
--- each connection's limit of drops is the broker's
-abbrev pub HasLimit : ℕ → Option Line → Type 0
-HasLimit limit None = Unit {0}
-HasLimit limit (Some l) = l.budget.limit ≡ limit
+-- the data by now, but for what is to be retained
+abbrev pub desk_now : Desk → plain.Broker
+desk_now d = record {
+  limit = d.limit;
+  given = d.given;
+  made = d.made;
+  clock = d.clock;
+  guests = flat_map guest_now d.guests.items;
+  seats = flat_map seat_now d.seats.items;
+  retained = map retained_view d.retained.entries;
+}
+
+-- with these messages retained, one after the other
+abbrev pub with_keeps : List plain.Post → plain.Broker → plain.Broker
+with_keeps keeps b = record b { retained = fold retained_with b.retained keeps }
+
+-- the desk and the draft are this turn, and there is room for what is to be retained
+pub record Stands (desk : Desk) (draft : Draft) (turn : Turn) : Type 0 where
+  pub broker : with_keeps (draft_view draft).keeps (desk_now desk) ≡ turn.broker
+  pub sends : (draft_view draft).sends ≡ map outgoing turn.sends
+  pub closes : (draft_view draft).closes ≡ turn.closes
+  pub waiting : (draft_view draft).waiting ≡ turn.waiting
+  pub room : length (draft_view draft).keeps ≤ spare desk.retained
+  pub lawful : IsLawful turn.broker
+
+-- no call is under way
+abbrev pub IsSettled : Desk → Type 0
+IsSettled d = desk_now d ≡ desk_was d
+
+abbrev pub broker_view : Inside → plain.Broker
+broker_view b = desk_was b.desk
 
 pub record IsKept (b : Inside) : Type 0 where
-  pub guests : AllByRecursion (λ (g : Guest). g.budget.limit ≡ b.limit) b.guests.items
-  pub lines : AllByRecursion (λ (s : Seat). HasLimit b.limit s.here) b.seats.items
+  pub settled : IsSettled b.desk
+  pub lawful : IsLawful (desk_was b.desk)
+
+-- how many messages wait and how many sessions there are
+abbrev pub how_many : Desk → Draft → ℕ
+how_many desk draft = length (draft_view draft).waiting + length (flat_map seat_now desk.seats.items)
+
+-- a whole event, from any turn: what is noted first, then what the rules plan
+abbrev pub stepped : Event → Turn → Turn
+stepped e t = acts (plan (seen (acts (before e) t).broker e) e) (acts (before e) t)
+
+-- a connection that ends, with its will, and that the caller closes
+abbrev pub ends : ℕ → List Act
+ends conn = Leave conn true ∷ Tell conn ∷ []

@@ -6,18 +6,13 @@ ghost use Rattle.spk_broker_rules.specs.Data.{fresh_broker};
 ghost use Rattle.spk_broker_rules.specs.Plan.{Open};
 ghost use Rattle.spk_broker_rules.specs.Step.{is_full, open_count, step};
 
+use crate::desk::Desk;
 use crate::fault::BrokerFault;
 use crate::guest::Guest;
-use crate::retained::Stored;
-use crate::seat::Seat;
+use crate::out::Conn;
 use indexmap::IndexMap;
-use spk_session::Budget;
-use spk_topics::Tree;
 use std::alloc::Global;
 use std::marker::Model;
-
-/// The number of a connection. Numbers are 1, 2, .. in the order of opening, and none is given twice.
-pub type Conn = u64;
 
 /// The most connections at once (own rule).
 const MOST_OPEN: usize = 1_000;
@@ -25,16 +20,7 @@ const MOST_OPEN: usize = 1_000;
 /// Connections, sessions, grants and retained messages. Contracts see the `Broker` of the rules.
 #[derive(Drop)]
 pub struct Broker {
-    pub(crate) alloc: Global,
-    pub(crate) limit: u16,
-    pub(crate) given: u64,
-    pub(crate) made: u64,
-    pub(crate) clock: u64,
-    pub(crate) guests: Vec<Guest>,
-    pub(crate) seats: Vec<Seat>,
-    pub(crate) retained: IndexMap<String, Stored>,
-    /// The grants of all sessions, by filter and key.
-    pub(crate) tree: Tree,
+    pub(crate) desk: Desk,
 }
 
 impl Model for Broker {
@@ -56,15 +42,17 @@ impl Broker {
         ensures { result ≡ fresh_broker limit }
     {
         Broker {
-            alloc,
-            limit,
-            given: 0,
-            made: 0,
-            clock: 0,
-            guests: Vec::new(alloc),
-            seats: Vec::new(alloc),
-            retained: IndexMap::new(alloc),
-            tree: Tree::new(alloc),
+            desk: Desk {
+                alloc,
+                limit,
+                given: 0,
+                made: 0,
+                clock: 0,
+                clock_before: 0,
+                guests: Vec::new(alloc),
+                seats: Vec::new(alloc),
+                retained: IndexMap::new(alloc),
+            },
         }
     }
 
@@ -77,7 +65,7 @@ impl Broker {
         ensures fault { IfErr result (IsLimit (is_full self.old)) }
         ensures err { OnErr result (self.new ≡ self.old) }
     {
-        if self.open_count() >= MOST_OPEN || self.given == u64::MAX {
+        if self.open_count() >= MOST_OPEN || self.desk.given == u64::MAX {
             return Err(BrokerFault::Limit);
         }
         self.greet(now)
@@ -88,12 +76,12 @@ impl Broker {
         ensures { result ≡ open_count self.now }
     {
         let mut lines = 0;
-        for seat in &self.seats {
-            if seat.here.is_some() {
+        for seat in &self.desk.seats {
+            if seat.had_line() {
                 lines += 1;
             }
         }
-        self.guests.len() + lines
+        self.desk.guests.len() + lines
     }
 
     /// One more connection without CONNECT.
@@ -104,15 +92,19 @@ impl Broker {
         ensures fault { IfErr result (λ e. e ≡ BrokerFault.NoMemory) }
         ensures err { OnErr result (self.new ≡ self.old) }
     {
-        let conn = self.given + 1;
-        let clock = self.clock.max(now);
-        self.guests.push(Guest {
+        let conn = self.desk.given + 1;
+        let clock = self.desk.clock_before.max(now);
+        self.desk.guests.push(Guest {
             conn,
             heard: clock,
-            budget: Budget::new(self.limit),
+            drops: 0,
+            heard_before: clock,
+            drops_before: 0,
+            gone: false,
         })?;
-        self.given = conn;
-        self.clock = clock;
+        self.desk.given = conn;
+        self.desk.clock = clock;
+        self.desk.clock_before = clock;
         Ok(conn)
     }
 }

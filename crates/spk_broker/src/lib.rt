@@ -2,14 +2,38 @@
 //! it is made and opens connections; its rules stand in `spk_broker_rules`.
 #![tactic(auto)]
 
+mod asking;
 mod broker;
+mod calls;
+mod connecting;
+mod counting;
+mod desk;
+mod ending;
+mod events;
 mod fault;
+mod firsts;
+mod giving;
+mod granting;
+mod grants;
 mod guest;
+mod joining;
+mod moving;
+mod offering;
+mod out;
+mod packet_call;
+mod packets;
 mod post;
-mod retained;
+mod presenting;
+mod retaining;
+mod routing;
 mod seat;
+mod serving;
+mod settling;
+mod subscribing;
 #[cfg(test)]
 mod tests;
+mod turning;
 
-pub use broker::{Broker, Conn};
+pub use broker::Broker;
 pub use fault::BrokerFault;
+pub use out::{Conn, Out, Outgoing};

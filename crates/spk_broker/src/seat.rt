@@ -1,7 +1,10 @@
 //! Sessions (section 3.1.2.4) and their connections.
 
+ghost use Rattle.std.specs.Prelude.{◌≡◌, is_some};
+
 use crate::post::Post;
-use spk_session::{Budget, Identifiers};
+use spk_session::Identifiers;
+use std::marker::Model;
 
 /// A connection with an accepted CONNECT.
 #[derive(Debug, Drop)]
@@ -13,8 +16,11 @@ pub(crate) struct Line {
     /// The clock at its last packet.
     pub(crate) heard: u64,
     pub(crate) will: Option<Post>,
-    /// How many sends were dropped on it.
-    pub(crate) budget: Budget,
+    /// How many sends were dropped on it, up to 65,535.
+    pub(crate) drops: u16,
+    /// Both as they were before the call.
+    pub(crate) heard_before: u64,
+    pub(crate) drops_before: u16,
 }
 
 /// The QoS of a topic filter.
@@ -34,7 +40,8 @@ pub(crate) struct Copy {
     pub(crate) handed: bool,
 }
 
-/// A session and all that hangs on it.
+/// A session and all that hangs on it. In the midst of a call it is seen as before the call and as by now: what a
+/// call drafts stands beside or behind what was there, until it is settled or undone.
 #[derive(Debug, Drop)]
 pub(crate) struct Seat {
     /// Its number, from 1 in the order of making.
@@ -43,8 +50,39 @@ pub(crate) struct Seat {
     /// Made with clean session 0.
     pub(crate) kept: bool,
     pub(crate) here: Option<Line>,
+    /// The connection that left it in this call.
+    pub(crate) left: Option<Line>,
+    /// It ended in this call.
+    pub(crate) ended: bool,
     pub(crate) grants: Vec<Grant>,
+    /// The grants after this call, where it changes them.
+    pub(crate) regrant: Option<Vec<Grant>>,
     pub(crate) ids: Identifiers,
     /// Of a kept session: what stands behind the identifiers in use.
     pub(crate) copies: Vec<Copy>,
+    /// How many identifiers were in use before the call, the one given last, and how many copies there were.
+    pub(crate) used_before: usize,
+    pub(crate) last_before: u16,
+    pub(crate) copies_before: usize,
+}
+
+impl Model for Seat {
+    ghost use Rattle.spk_broker.specs.Both.{Both};
+
+    ghost Value = { Both };
+
+    ghost use Rattle.spk_broker.specs.Sitting.{seat_both, IsDrafted};
+
+    ghost view = { seat_both };
+
+    ghost invariant = { IsDrafted };
+}
+
+impl Seat {
+    /// Whether it had a connection before the call.
+    pub(crate) fn had_line(&self) -> bool
+        ensures { result ≡ is_some self.now.was.here }
+    {
+        self.left.is_some() || self.here.is_some()
+    }
 }

@@ -25,7 +25,7 @@ mod walk;
 
 pub use fault::TopicFault;
 pub use filter::Filter;
-pub use matching::matches;
+pub use matching::{matches, matches_text};
 pub use spark::{Spark, Verb, device_type, node_type};
 pub use topic::Topic;
 pub use tree::Tree;

@@ -17,8 +17,8 @@ pub fn matches(filter: &Filter, topic: &Topic) -> bool
     matches_text(filter.text(), topic.text())
 }
 
-/// Whether the text of a filter matches that of a topic name.
-pub(crate) fn matches_text(filter: &str, topic: &str) -> bool
+/// Whether the text of a filter matches that of a topic name, as `matches` says of texts that were read. It takes no memory.
+pub fn matches_text(filter: &str, topic: &str) -> bool
     ensures relation { IsTrue result ↔ Matches filter.now topic.now }
     ensures test { result ≡ is_match filter.now topic.now }
 {

@@ -1,14 +1,31 @@
-use Rattle.std.proofs.Common.{◌∙◌, ◌+◌, [], ◌∷◌, ◌++◌, ap, map}
+use Rattle.std.proofs.Common.{◌≡◌, ◌∙◌, ◌+◌, [], ◌∷◌, ◌++◌, ap, sym, subst, map, refl}
+use Rattle.std.specs.List.{flat_map}
 use Rattle.std.proofs.lemmas.List.{map_push}
-use Rattle.spk_session.specs.Data.{Drops}
+use Rattle.spk_broker_rules.specs.Data as plain
+use Rattle.spk_broker_rules.specs.Lawful.{IsLawful}
 use Rattle.spk_broker_rules.specs.Plan.{Open}
 use Rattle.spk_broker_rules.specs.Step.{step}
-use Rattle.spk_broker.specs.View.{broker_view, guest_view}
-use Rattle.spk_broker.proofs.Opening.{guest_by, opened}
+use Rattle.spk_broker_rules.proofs.AnyList.{step-lawful}
+use Rattle.spk_broker.specs.View.{desk_was, guest_was, guest_now}
+use Rattle.spk_broker.proofs.Opening.{guests-more, opened, opened-settled, with_guests}
 use Rattle.spk_broker.proofs.broker.Broker.greet.Goals as goal
 
+pub invariant_of-self-2 : goal.invariant_of-self-2
+invariant_of-self-2 c =
+    let d = c.self.inside.desk in
+    let more = c.push.new.self.items in
+    let all : with_guests (desk_was d) c.max-clock.result (map guest_was more) ≡ (step (desk_was d) (Open c.args.now)).broker =
+    opened (desk_was d) c.args.now c.max-clock.result (map guest_was more) c.max-clock.ensures
+    (ap (map guest_was) c.in_ok-push.ensures.items ∙ map_push guest_was d.guests.items _) in
+    record {
+      settled = opened-settled d c.max-clock.result more c.self.invariant.settled
+          (guests-more d.guests.items more _ c.in_ok-push.ensures.items (ap (λ (b : plain.Broker). b.guests) c.self.invariant.settled) refl);
+      lawful = subst IsLawful (sym all) (step-lawful (desk_was d) (Open c.args.now) c.self.invariant.lawful);
+    }
+
 pub returns-clause-done : goal.returns-clause-done
-returns-clause-done c = opened (broker_view c.self.inside) c.args.now c.max-clock.result (map guest_view c.push.new.self.items) c.max-clock.ensures
-    (ap (map guest_view) c.in_ok-push.ensures.items ∙ map_push guest_view c.self.inside.guests.items _
-    ∙ ap (λ (d : Drops). map guest_view c.self.inside.guests.items ++ guest_by (c.self.inside.given + 1) c.max-clock.result d ∷ []) c.new.ensures.fresh)
+returns-clause-done c =
+    let d = c.self.inside.desk in
+    opened (desk_was d) c.args.now c.max-clock.result (map guest_was c.push.new.self.items) c.max-clock.ensures
+    (ap (map guest_was) c.in_ok-push.ensures.items ∙ map_push guest_was d.guests.items _)
     ∙ ap (λ b. (step b (Open c.args.now)).broker) c.self.view_is

@@ -1,0 +1,138 @@
+-- A call as a whole: what it drafted stands for the rules' step, and is settled or taken back.
+use Rattle.std.proofs.Common.{◌≡◌, ℕ, ◌≤◌, Bool, true, false, List, length, map, refl, sym, ap, subst, ◌∙◌, Result, Ok, Err}
+use Rattle.std.specs.Result.{IfOk, OnErr, OnOk, is_ok}
+use Rattle.std.specs.declared.alloc.AllocError.{AllocError}
+use Rattle.indexmap.specs.IndexMap.{spare}
+use Rattle.spk_broker_rules.specs.Data as plain
+use Rattle.spk_broker_rules.specs.Lawful.{IsLawful}
+use Rattle.spk_broker_rules.specs.Plan.{Event}
+use Rattle.spk_broker_rules.specs.Step.{Turn, begun, step}
+use Rattle.spk_broker.specs.declared.broker.Broker.TheInside.{Inside}
+use Rattle.spk_broker.specs.declared.desk.Desk.{Desk}
+use Rattle.spk_broker.specs.declared.fault.BrokerFault.{BrokerFault}
+use Rattle.spk_broker.specs.declared.out.Draft.{Draft}
+use Rattle.spk_broker.specs.declared.out.Out.{Out}
+use Rattle.spk_broker.specs.Drafts.{draft_view, empty_draft}
+use Rattle.spk_broker.specs.Sent.{outgoing, sent_view}
+use Rattle.spk_broker.specs.View.{IsKept, IsSettled, Stands, desk_now, desk_was, stepped}
+use Rattle.spk_broker_rules.proofs.AnyList.{step-lawful}
+use Rattle.spk_broker.specs.Endings.{Leads, ended}
+use Rattle.spk_broker.specs.declared.ending.Ending.{Ending}
+use Rattle.spk_broker.proofs.Standing.{begun-stands}
+
+-- what the parts of a call say of it
+pub record Call (e : Event) (b : plain.Broker) (d0 d1 : Desk) (x0 x1 : Draft) (drafted : Result (Unit {0}) AllocError) : Type 0 where
+  pub is : desk_was d0 ≡ b
+  pub kept : IsKept (record { desk = d0 })
+  pub empty : draft_view x0 ≡ empty_draft
+  pub done : OnOk drafted ((t : Turn) → Stands d0 x0 t → Stands d1 x1 (stepped e t))
+  pub same : desk_was d1 ≡ desk_was d0
+
+pub record Finished (d1 d2 : Desk) (x1 : Draft) (drafted : Result (Unit {0}) AllocError) (r : Result Out BrokerFault) : Type 0 where
+  pub done : OnOk r ((t : Turn) → Stands d1 x1 t → desk_was d2 ≡ t.broker)
+  pub sends : IfOk r (λ out. map sent_view out.sends.items ≡ (draft_view x1).sends)
+  pub closes : IfOk r (λ out. out.closes.items ≡ (draft_view x1).closes)
+  pub variant : is_ok r ≡ is_ok drafted
+  pub same : OnErr r (desk_was d2 ≡ desk_was d1)
+  pub settled : IsSettled d2
+
+pub stepped-is : (e : Event) (b : plain.Broker) → stepped e (begun b) ≡ step b e
+unfolding step
+stepped-is e b = refl
+
+-- what was drafted stands for the step
+pub stands-for : (e : Event) (b : plain.Broker) (d0 d1 : Desk) (x0 x1 : Draft) (drafted : Result (Unit {0}) AllocError) → Call e b d0 d1 x0 x1 drafted → OnOk drafted (Stands d1 x1 (step b e))
+stands-for e b d0 d1 x0 x1 (Ok u) k =
+    subst (λ t. Stands d1 x1 t) (stepped-is e b)
+    (k.done (begun b) (begun-stands d0 x0 b (k.kept.settled ∙ k.is) k.empty (subst IsLawful k.is k.kept.lawful)))
+stands-for e b d0 d1 x0 x1 (Err x) k = tt
+
+pub room-for : (e : Event) (b : plain.Broker) (d0 d1 : Desk) (x0 x1 : Draft) (drafted : Result (Unit {0}) AllocError) → Call e b d0 d1 x0 x1 drafted
+    → OnOk drafted (length (draft_view x1).keeps ≤ spare d1.retained)
+room-for e b d0 d1 x0 x1 (Ok u) k = (stands-for e b d0 d1 x0 x1 (Ok u) k).room
+room-for e b d0 d1 x0 x1 (Err x) k = tt
+
+-- where it went well, what was drafted stands for the step
+stands-ok : (e : Event) (b : plain.Broker) (d0 d1 d2 : Desk) (x0 x1 : Draft) (drafted : Result (Unit {0}) AllocError) (out : Out)
+    → Call e b d0 d1 x0 x1 drafted → Finished d1 d2 x1 drafted (Ok out) → Stands d1 x1 (step b e)
+stands-ok e b d0 d1 d2 x0 x1 (Ok u) out k f = stands-for e b d0 d1 x0 x1 (Ok u) k
+stands-ok e b d0 d1 d2 x0 x1 (Err x) out k f = absurd (let v = f.variant in let z : ⊥ = cc in z)
+
+pub sends-are : (e : Event) (b : plain.Broker) (d0 d1 d2 : Desk) (x0 x1 : Draft) (drafted : Result (Unit {0}) AllocError) (r : Result Out BrokerFault)
+    → Call e b d0 d1 x0 x1 drafted → Finished d1 d2 x1 drafted r → IfOk r (λ out. map sent_view out.sends.items ≡ map outgoing (step b e).sends)
+sends-are e b d0 d1 d2 x0 x1 drafted (Ok out) k f = f.sends ∙ (stands-ok e b d0 d1 d2 x0 x1 drafted out k f).sends
+sends-are e b d0 d1 d2 x0 x1 drafted (Err x) k f = tt
+
+pub closes-are : (e : Event) (b : plain.Broker) (d0 d1 d2 : Desk) (x0 x1 : Draft) (drafted : Result (Unit {0}) AllocError) (r : Result Out BrokerFault)
+    → Call e b d0 d1 x0 x1 drafted → Finished d1 d2 x1 drafted r → IfOk r (λ out. out.closes.items ≡ (step b e).closes)
+closes-are e b d0 d1 d2 x0 x1 drafted (Ok out) k f = f.closes ∙ (stands-ok e b d0 d1 d2 x0 x1 drafted out k f).closes
+closes-are e b d0 d1 d2 x0 x1 drafted (Err x) k f = tt
+
+pub done-is : (e : Event) (b : plain.Broker) (d0 d1 d2 : Desk) (x0 x1 : Draft) (drafted : Result (Unit {0}) AllocError) (r : Result Out BrokerFault)
+    → Call e b d0 d1 x0 x1 drafted → Finished d1 d2 x1 drafted r → OnOk r (desk_was d2 ≡ (step b e).broker)
+done-is e b d0 d1 d2 x0 x1 drafted (Ok out) k f = f.done (step b e) (stands-ok e b d0 d1 d2 x0 x1 drafted out k f)
+done-is e b d0 d1 d2 x0 x1 drafted (Err x) k f = tt
+
+pub kept-is : (e : Event) (b : plain.Broker) (d0 d1 d2 : Desk) (x0 x1 : Draft) (drafted : Result (Unit {0}) AllocError) (r : Result Out BrokerFault)
+    → Call e b d0 d1 x0 x1 drafted → Finished d1 d2 x1 drafted r → IsKept (record { desk = d2 })
+kept-is e b d0 d1 d2 x0 x1 drafted (Ok out) k f =
+    let s = stands-ok e b d0 d1 d2 x0 x1 drafted out k f in
+    record { settled = f.settled; lawful = subst IsLawful (sym (f.done (step b e) s)) s.lawful }
+kept-is e b d0 d1 d2 x0 x1 drafted (Err x) k f = record { settled = f.settled; lawful = subst IsLawful (sym (f.same ∙ k.same)) k.kept.lawful }
+
+-- ---- a call after which something follows
+
+pub record CallTo (e : Event) (b : plain.Broker) (d0 d1 : Desk) (x0 x1 : Draft) (drafted : Result Ending AllocError) : Type 0 where
+  pub is : desk_was d0 ≡ b
+  pub kept : IsKept (record { desk = d0 })
+  pub empty : draft_view x0 ≡ empty_draft
+  pub done : IfOk drafted (λ n. (t : Turn) → Stands d0 x0 t → Leads d1 x1 n (stepped e t))
+  pub same : desk_was d1 ≡ desk_was d0
+
+pub record Concluded (d1 d2 : Desk) (x1 : Draft) (drafted : Result Ending AllocError) (r : Result Out BrokerFault) : Type 0 where
+  pub done : IfOk drafted (λ n. OnOk r ((t : Turn) → Stands d1 x1 t → desk_was d2 ≡ ended n t.broker))
+  pub sends : IfOk r (λ out. map sent_view out.sends.items ≡ (draft_view x1).sends)
+  pub closes : IfOk r (λ out. out.closes.items ≡ (draft_view x1).closes)
+  pub variant : is_ok r ≡ is_ok drafted
+  pub same : OnErr r (desk_was d2 ≡ desk_was d1)
+  pub settled : IsSettled d2
+
+leads-for : (e : Event) (b : plain.Broker) (d0 d1 : Desk) (x0 x1 : Draft) (n : Ending) → CallTo e b d0 d1 x0 x1 (Ok n) → Leads d1 x1 n (step b e)
+leads-for e b d0 d1 x0 x1 n k =
+    subst (λ t. Leads d1 x1 n t) (stepped-is e b)
+    (k.done (begun b) (begun-stands d0 x0 b (k.kept.settled ∙ k.is) k.empty (subst IsLawful k.is k.kept.lawful)))
+
+pub stands-to : (e : Event) (b : plain.Broker) (d0 d1 : Desk) (x0 x1 : Draft) (drafted : Result Ending AllocError) → CallTo e b d0 d1 x0 x1 drafted
+    → OnOk drafted ((t : Turn) × Stands d1 x1 t)
+stands-to e b d0 d1 x0 x1 (Ok n) k = let l = leads-for e b d0 d1 x0 x1 n k in (l.before, l.stands)
+stands-to e b d0 d1 x0 x1 (Err x) k = tt
+
+pub sends-to : (e : Event) (b : plain.Broker) (d0 d1 d2 : Desk) (x0 x1 : Draft) (drafted : Result Ending AllocError) (r : Result Out BrokerFault)
+    → CallTo e b d0 d1 x0 x1 drafted → Concluded d1 d2 x1 drafted r → IfOk r (λ out. map sent_view out.sends.items ≡ map outgoing (step b e).sends)
+sends-to e b d0 d1 d2 x0 x1 (Ok n) (Ok out) k f =
+    let l = leads-for e b d0 d1 x0 x1 n k in f.sends ∙ l.stands.sends ∙ ap (λ (t : Turn). map outgoing t.sends) l.is
+sends-to e b d0 d1 d2 x0 x1 (Err x) (Ok out) k f = absurd (let v = f.variant in let z : ⊥ = cc in z)
+sends-to e b d0 d1 d2 x0 x1 (Ok n) (Err x) k f = tt
+sends-to e b d0 d1 d2 x0 x1 (Err y) (Err x) k f = tt
+
+pub closes-to : (e : Event) (b : plain.Broker) (d0 d1 d2 : Desk) (x0 x1 : Draft) (drafted : Result Ending AllocError) (r : Result Out BrokerFault)
+    → CallTo e b d0 d1 x0 x1 drafted → Concluded d1 d2 x1 drafted r → IfOk r (λ out. out.closes.items ≡ (step b e).closes)
+closes-to e b d0 d1 d2 x0 x1 (Ok n) (Ok out) k f =
+    let l = leads-for e b d0 d1 x0 x1 n k in f.closes ∙ l.stands.closes ∙ ap (λ (t : Turn). t.closes) l.is
+closes-to e b d0 d1 d2 x0 x1 (Err x) (Ok out) k f = absurd (let v = f.variant in let z : ⊥ = cc in z)
+closes-to e b d0 d1 d2 x0 x1 (Ok n) (Err x) k f = tt
+closes-to e b d0 d1 d2 x0 x1 (Err y) (Err x) k f = tt
+
+pub done-to : (e : Event) (b : plain.Broker) (d0 d1 d2 : Desk) (x0 x1 : Draft) (drafted : Result Ending AllocError) (r : Result Out BrokerFault)
+    → CallTo e b d0 d1 x0 x1 drafted → Concluded d1 d2 x1 drafted r → OnOk r (desk_was d2 ≡ (step b e).broker)
+done-to e b d0 d1 d2 x0 x1 (Ok n) (Ok out) k f =
+    let l = leads-for e b d0 d1 x0 x1 n k in f.done l.before l.stands ∙ ap (λ (t : Turn). t.broker) l.is
+done-to e b d0 d1 d2 x0 x1 (Err x) (Ok out) k f = absurd (let v = f.variant in let z : ⊥ = cc in z)
+done-to e b d0 d1 d2 x0 x1 (Ok n) (Err x) k f = tt
+done-to e b d0 d1 d2 x0 x1 (Err y) (Err x) k f = tt
+
+pub kept-to : (e : Event) (b : plain.Broker) (d0 d1 d2 : Desk) (x0 x1 : Draft) (drafted : Result Ending AllocError) (r : Result Out BrokerFault)
+    → CallTo e b d0 d1 x0 x1 drafted → Concluded d1 d2 x1 drafted r → IsKept (record { desk = d2 })
+kept-to e b d0 d1 d2 x0 x1 drafted (Ok out) k f =
+    record { settled = f.settled; lawful = subst IsLawful (sym (done-to e b d0 d1 d2 x0 x1 drafted (Ok out) k f)) (step-lawful b e (subst IsLawful k.is k.kept.lawful)) }
+kept-to e b d0 d1 d2 x0 x1 drafted (Err x) k f = record { settled = f.settled; lawful = subst IsLawful (sym (f.same ∙ k.same)) k.kept.lawful }

@@ -1,0 +1,75 @@
+-- Acts one after the other, and what the rules ask of what stands for a turn.
+use Rattle.std.proofs.Common.{◌≡◌, ℕ, zero, suc, ◌+◌, ◌<◌, ◌&&◌, Bool, true, false, not, cond, List, [], ◌∷◌, ◌++◌, length, take, get_or, refl, sym, ap, subst, ◌∙◌, arith, Option}
+use Rattle.std.specs.List.{flat_map}
+use Rattle.std.specs.Option.{is_some}
+use Rattle.spk_packets.specs.declared.fault.PacketFault.{PacketFault}
+use Rattle.spk_topics.specs.Text.{topic_refusal}
+use Rattle.spk_session.specs.Step.{is_spent}
+use Rattle.spk_session.specs.declared.answer.Sort.TheVariants as sort
+use Rattle.spk_broker_rules.specs.Data as plain
+use Rattle.spk_packets.specs.Message.{UnsubAck}
+use Rattle.spk_broker_rules.specs.Plan.{Act, At, Drop, Fault, Queue, Refused, Route, Say, Take, Tick, has_bad_filter, is_bad_level, puback, publish, shut, turn_away, unsubscribe}
+use Rattle.spk_broker_rules.specs.Step.{Turn, act, acts, drops_in, seat_at, silent_at}
+use Rattle.spk_broker.specs.Asking.{seats_now}
+use Rattle.spk_broker.specs.declared.desk.Desk.{Desk}
+use Rattle.spk_broker.specs.declared.out.Draft.{Draft}
+use Rattle.spk_broker.specs.View.{Stands, desk_now, ends, stepped}
+
+pub acts-append : (xs ys : List Act) (t : Turn) → acts (xs ++ ys) t ≡ acts ys (acts xs t)
+acts-append [] ys t = refl
+acts-append (x ∷ xs) ys t = acts-append xs ys (act x t)
+
+-- one connection more
+pub ends-more : (xs : List ℕ) (i d : ℕ) (t : Turn) → i < length xs → acts (flat_map ends (take (i + 1) xs)) t ≡ acts (ends (get_or xs i d)) (acts (flat_map ends (take i xs)) t)
+ends-more [] i d t lt = absurd (omega (arith, lt))
+ends-more (x ∷ xs) zero d t lt = refl
+ends-more (x ∷ xs) (suc i) d t lt =
+    let z : suc i + 1 ≡ suc (i + 1) = omega arith in
+    ap (λ k. acts (flat_map ends (take k (x ∷ xs))) t) z ∙ ends-more xs i d (acts (ends x) t) (omega (arith, lt))
+
+-- ---- ticks
+
+pub tick-stands : (d1 d2 : Desk) (x1 x2 : Draft) (now : ℕ) (conns : List ℕ) (t : Turn) → Stands d1 x1 (act (At now) t)
+    → conns ≡ flat_map (silent_at d1.clock) (seats_now d1.seats.items) → Stands d2 x2 (act Route (acts (flat_map ends conns) (act (At now) t)))
+    → Stands d2 x2 (stepped (Tick now) t)
+tick-stands d1 d2 x1 x2 now conns t s e done =
+    let same : conns ≡ flat_map (silent_at (act (At now) t).broker.clock) (act (At now) t).broker.seats =
+    e ∙ ap (λ (b : plain.Broker). flat_map (silent_at b.clock) b.seats) s.broker in
+    subst (λ u. Stands d2 x2 u)
+    (ap (λ l. act Route (acts (flat_map ends l) (act (At now) t))) same
+    ∙ sym (acts-append (flat_map ends (flat_map (silent_at (act (At now) t).broker.clock) (act (At now) t).broker.seats)) (Route ∷ []) (act (At now) t))) done
+
+-- ---- drops
+
+pub spent-at : (d : Desk) (x : Draft) (t : Turn) (conn : ℕ) → Stands d x t → is_spent d.limit (drops_in conn (desk_now d)) ≡ is_spent t.broker.limit (drops_in conn t.broker)
+spent-at d x t conn s = ap (λ (b : plain.Broker). is_spent b.limit (drops_in conn b)) s.broker
+
+pub dropped-stands : (d1 d2 : Desk) (x1 x2 : Draft) (conn now : ℕ) (t : Turn) (b : Bool) → Stands d1 x1 (act (Drop conn) (act (At now) t))
+    → is_spent d1.limit (drops_in conn (desk_now d1)) ≡ b → Stands d2 x2 (acts (cond b (shut conn) []) (act (Drop conn) (act (At now) t)))
+    → Stands d2 x2 (stepped (Refused conn sort.QosZero now) t)
+dropped-stands d1 d2 x1 x2 conn now t b s e done =
+    subst (λ u. Stands d2 x2 u) (ap (λ c. acts (cond c (shut conn) []) (act (Drop conn) (act (At now) t))) (sym e ∙ spent-at d1 x1 (act (Drop conn) (act (At now) t)) conn s)) done
+
+-- ---- bytes that are no packet
+
+pub fault-stands : (d1 d2 : Desk) (x1 x2 : Draft) (conn now : ℕ) (f : PacketFault) (t : Turn) (b : Bool) → Stands d1 x1 (act (At now) t)
+    → is_bad_level f && not (is_some (seat_at conn (seats_now d1.seats.items))) ≡ b → Stands d2 x2 (acts (cond b (turn_away conn 1) (shut conn)) (act (At now) t))
+    → Stands d2 x2 (stepped (Fault conn f now) t)
+fault-stands d1 d2 x1 x2 conn now f t b s e done =
+    subst (λ u. Stands d2 x2 u)
+    (ap (λ c. acts (cond c (turn_away conn 1) (shut conn)) (act (At now) t))
+    (sym e ∙ ap (λ (k : plain.Broker). is_bad_level f && not (is_some (seat_at conn k.seats))) s.broker)) done
+
+-- ---- publishes
+
+pub publish-stands : (d2 : Desk) (x2 : Draft) (conn : ℕ) (id : Option ℕ) (post : plain.Post) (t : Turn) (b : Bool) → is_some (topic_refusal post.topic) ≡ b
+    → Stands d2 x2 (acts (cond b (shut conn) (puback conn id ++ Queue post ∷ Route ∷ [])) t) → Stands d2 x2 (acts (publish conn id post) t)
+publish-stands d2 x2 conn id post t b e done =
+    subst (λ u. Stands d2 x2 u) (ap (λ c. acts (cond c (shut conn) (puback conn id ++ Queue post ∷ Route ∷ [])) t) (sym e)) done
+
+-- ---- filters taken back
+
+pub unsubscribe-stands : (d2 : Desk) (x2 : Draft) (conn id : ℕ) (names : List (List ℕ)) (t : Turn) (b : Bool) → has_bad_filter names ≡ b
+    → Stands d2 x2 (acts (cond b (shut conn) (Take conn names ∷ Say conn (UnsubAck id) ∷ [])) t) → Stands d2 x2 (acts (unsubscribe conn id names) t)
+unsubscribe-stands d2 x2 conn id names t b e done =
+    subst (λ u. Stands d2 x2 u) (ap (λ c. acts (cond c (shut conn) (Take conn names ∷ Say conn (UnsubAck id) ∷ [])) t) (sym e)) done

@@ -1,0 +1,30 @@
+use Rattle.std.proofs.Common.{◌≡◌, ◌∙◌, ap, map, get_or, subst, sym, Option, Some, None, List, [], ℕ}
+use Rattle.std.specs.List.{fold}
+use Rattle.std.specs.Option.{IfSome}
+use Rattle.spk_packets.specs.View.{request_view}
+use Rattle.spk_broker_rules.specs.Data as plain
+use Rattle.spk_broker.specs.Asking.{seats_now}
+use Rattle.spk_broker.specs.Both.{Both}
+use Rattle.spk_broker.specs.Granting.{Grown, granting_view, with_request}
+use Rattle.spk_broker.specs.Parts.{grant_view}
+use Rattle.spk_broker.specs.declared.seat.Grant.{Grant}
+use Rattle.spk_broker.proofs.Counts.{any-default, grown-is}
+use Rattle.spk_broker.proofs.counting.granted.Goals as goal
+
+copied-of : (o : Option plain.Seat) (a b : List (List ℕ × ℕ)) → b ≡ a → IfSome o (λ s. a ≡ s.grants) → IfSome o (λ s. b ≡ s.grants)
+copied-of None a b e h = h
+copied-of (Some s) a b e h = e ∙ h
+
+pub returns : goal.returns
+returns c d =
+    let others = c.count_others-others.result in
+    let es = map request_view c.args.entries.now in
+    let copy = map grant_view c.in_ok-copied.field-0.items in
+    let here = c.index-seats-place.is ∙ any-default c.args.seats.now c.args.place c.index-seats-place.result d c.requires in
+    grown-is (get_or c.args.seats.now c.args.place d).now (seats_now c.args.seats.now) others copy (granting_view c.request_all.new.self)
+    es (c.count_others-others.ensures d)
+    (subst (λ (b : Both). IfSome b.now (λ s. copy ≡ s.grants)) here
+    (copied-of c.index-seats-place.result.now (map grant_view c.grants.result.now) copy c.in_ok-copied.ensures c.grants.ensures))
+    (c.in_ok-request_all.ensures
+    ∙ ap (λ l. fold (with_request others) (record { grants = copy; codes = l; given = map grant_view c.new-2.result.items }) es) c.new.ensures.items
+    ∙ ap (λ (l : List Grant). fold (with_request others) (record { grants = copy; codes = []; given = map grant_view l }) es) c.new-2.ensures.items)

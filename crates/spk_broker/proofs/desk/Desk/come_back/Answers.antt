@@ -1,0 +1,40 @@
+use Rattle.std.proofs.Common.{◌≡◌, ◌∙◌, ap, sym, subst}
+use Rattle.std.proofs.lemmas.List.Quantifiers.{position-Some}
+use Rattle.std.specs.List.{find}
+use Rattle.std.specs.Option.{IfSome}
+use Rattle.spk_broker_rules.specs.Step.{is_away, other_guests}
+use Rattle.spk_broker_rules.specs.Words.{resent}
+use Rattle.spk_broker.specs.Asking.{passes, seat_here}
+use Rattle.spk_broker.specs.Both.{Both}
+use Rattle.spk_broker.specs.Changes.{changed_at}
+use Rattle.spk_broker.specs.Drafts.{draft_view}
+use Rattle.spk_broker.specs.Entering.{taken_up, with_sends}
+use Rattle.spk_broker.specs.Parts.{line_now}
+use Rattle.spk_broker.specs.View.{desk_now}
+use Rattle.spk_broker.proofs.Alive.{found-alive}
+use Rattle.spk_broker.proofs.Changes.{is-there}
+use Rattle.spk_broker.proofs.Desks.{come-entry, come-sends}
+use Rattle.spk_broker.proofs.desk.Desk.come_back.Goals as goal
+
+pub returns-clause-entry : goal.returns-clause-entry
+returns-clause-entry c =
+    let b = desk_now c.args.self.now in
+    let at = found-alive seat_here (is_away c.args.client.now) c.args.self.now.seats.items c.args.place c.index.result.now c.requires.place in
+    let passed = (position-Some (passes (is_away c.args.client.now)) c.args.self.now.seats.items c.args.place c.index.result.now c.requires.place).1 in
+    let there = is-there (is_away c.args.client.now) _ passed in
+    ap (λ client. record b {
+      guests = other_guests c.args.line.conn b.guests;
+      seats = changed_at (find (is_away client) b.seats) (taken_up (line_now c.args.line)) b.seats;
+    }) c.in_ok-from_str.ensures.ok
+    ∙ come-entry c.args.client.now (line_now c.args.line) b (find (is_away c.args.client.now) b.seats) there.0 (at.1 ∙ there.1)
+
+pub returns-clause-sends : goal.returns-clause-sends
+returns-clause-sends c =
+    let b = desk_now c.args.self.now in
+    let at = found-alive seat_here (is_away c.args.client.now) c.args.self.now.seats.items c.args.place c.index.result.now c.requires.place in
+    let passed = (position-Some (passes (is_away c.args.client.now)) c.args.self.now.seats.items c.args.place c.index.result.now c.requires.place).1 in
+    let there = is-there (is_away c.args.client.now) _ passed in
+    come-sends c.args.client.now (line_now c.args.line) b (find (is_away c.args.client.now) b.seats) there.0
+    (draft_view c.args.draft.now) (draft_view c.say.new.self) (draft_view c.resend.new.draft) (at.1 ∙ there.1) c.in_ok-say.ensures
+    (subst (λ o. IfSome o (λ x. draft_view c.resend.new.draft ≡ with_sends (resent c.args.line.conn x.copies) (draft_view c.say.new.self)))
+    (ap (λ (x : Both). x.now) c.index.ensures ∙ sym at.1) c.in_ok-resend.ensures)

@@ -1,0 +1,15 @@
+use Rattle.std.proofs.Common.{◌≡◌, ◌∙◌, ap}
+use Rattle.std.specs.List.{flat_map}
+use Rattle.spk_broker_rules.specs.Plan.{At}
+use Rattle.spk_broker_rules.specs.Step.{act, silent_at}
+use Rattle.spk_broker.specs.Asking.{seats_now}
+use Rattle.spk_broker.specs.Both.{Both}
+use Rattle.spk_broker.proofs.Ruled.{tick-stands}
+use Rattle.spk_broker.proofs.desk.Desk.draft_tick.Goals as goal
+
+pub returns-clause-done : goal.returns-clause-done
+returns-clause-done c t s =
+    let s1 = c.at.ensures.done c.args.draft.now t s in
+    tick-stands c.at.new.self c.route.new.self c.args.draft.now c.route.new.draft c.args.now c.deref-2.result.now t s1
+    (c.deref-2.ensures.value ∙ c.in_ok-conns.ensures ∙ ap (λ l. flat_map (silent_at c.at.new.self.clock) (seats_now l)) c.deref.ensures.value)
+    (c.in_ok-route.ensures.done _ (c.in_ok-end_all.ensures.done (act (At c.args.now) t) s1))

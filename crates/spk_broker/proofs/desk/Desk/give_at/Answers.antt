@@ -1,0 +1,58 @@
+use Rattle.std.proofs.Common.{◌≡◌, ◌∙◌, [], ap, map, refl, sym, set, get_or, subst, Some, Global}
+use Rattle.std.specs.List.{flat_map, fold}
+use Rattle.std.specs.Option.{option_map}
+use Rattle.std.specs.Vec.{with_item}
+use Rattle.spk_broker_rules.specs.Data as plain
+use Rattle.spk_broker_rules.specs.Step.{Turn, offer, retained_with, seat_at, sits}
+use Rattle.spk_broker_rules.specs.Words.{offers_to}
+use Rattle.spk_broker.specs.Asking.{seat_here}
+use Rattle.spk_broker.specs.Both.{Both}
+use Rattle.spk_broker.specs.declared.desk.Desk.{Desk}
+use Rattle.spk_broker.specs.Granting.{Grown, regranted}
+use Rattle.spk_broker.specs.Parts.{grant_view}
+use Rattle.spk_broker.specs.View.{Stands, desk_was, retained_view, seat_was}
+use Rattle.spk_broker.proofs.Alive.{found-alive}
+use Rattle.spk_broker.proofs.Gives.{begins, given_turn, gives}
+use Rattle.spk_broker.proofs.Walks.{same-step}
+use Rattle.spk_broker.proofs.desk.Desk.give_at.Goals as goal
+
+pub returns-clause-done : goal.returns-clause-done
+returns-clause-done c t seat entries s sitting grown =
+    let d = c.args.self.now in
+    let end : Desk = record d { seats = with_item d.seats c.args.place c.set_grants.new.self } in
+    let e = c.index_mut.result.now in
+    let at = found-alive seat_here (sits c.args.conn) d.seats.items c.args.place e c.requires.place in
+    let here : (get_or d.seats.items c.args.place e).now ≡ Some seat =
+    sym at.1 ∙ ap (λ (b : plain.Broker). seat_at c.args.conn b.seats) s.broker ∙ sitting in
+    let now = c.set_grants.ensures.now ∙ ap (λ (b : Both). option_map (regranted (map grant_view c.args.granting.grants.items)) b.now) c.index_mut.ensures.value
+    ∙ ap (option_map (regranted (map grant_view c.args.granting.grants.items))) here in
+    let off = begins d end c.args.draft.now c.say.new.self c.args.place e c.set_grants.new.self c.args.conn c.args.id seat
+    (map grant_view c.args.granting.grants.items) c.args.granting.codes.items t c.requires.place here refl now refl refl c.in_ok-say.ensures s in
+    let done = c.in_ok-offer_all.ensures.done seat.key _ off in
+    let table : map (retained_view {A = Global}) d.retained.entries ≡ t.broker.retained =
+    ap (fold retained_with (map (retained_view {A = Global}) d.retained.entries)) (sym c.requires.keeps) ∙ ap (λ (b : plain.Broker). b.retained) s.broker in
+    subst (λ (u : Turn). Stands c.offer_all.new.self c.offer_all.new.draft u)
+    (ap (λ gs. fold (offer seat.key) (given_turn seat (map grant_view c.args.granting.grants.items) c.args.granting.codes.items c.args.conn c.args.id t)
+    (flat_map (offers_to (map (retained_view {A = Global}) d.retained.entries)) (map grant_view gs))) c.deref.ensures.value
+    ∙ ap (λ r. fold (offer seat.key) (given_turn seat (map grant_view c.args.granting.grants.items) c.args.granting.codes.items c.args.conn c.args.id t)
+    (flat_map (offers_to r) (map grant_view c.args.granting.given.items))) table
+    ∙ ap (λ (g : Grown). fold (offer seat.key) (given_turn seat g.grants g.codes c.args.conn c.args.id t) (flat_map (offers_to t.broker.retained) g.given)) grown
+    ∙ gives c.args.conn c.args.id entries t seat sitting)
+    done.stands
+
+pub returns-in_err-say-clause-same : goal.returns-in_err-say-clause-same
+returns-in_err-say-clause-same c =
+    let d = c.args.self.now in
+    ap (λ l. record (desk_was d) { seats = l }) (same-step seat_was d.seats.items c.args.place c.index_mut.result.now _ c.set_grants.new.self refl (c.set_grants.ensures.was ∙ ap (λ (b : Both). b.was) c.index_mut.ensures.value))
+
+pub returns-in_err-offer_all-clause-same : goal.returns-in_err-offer_all-clause-same
+returns-in_err-offer_all-clause-same c =
+    let d = c.args.self.now in
+    c.offer_all.ensures.same
+    ∙ ap (λ l. record (desk_was d) { seats = l }) (same-step seat_was d.seats.items c.args.place c.index_mut.result.now _ c.set_grants.new.self refl (c.set_grants.ensures.was ∙ ap (λ (b : Both). b.was) c.index_mut.ensures.value))
+
+pub returns-clause-same : goal.returns-clause-same
+returns-clause-same c =
+    let d = c.args.self.now in
+    c.offer_all.ensures.same
+    ∙ ap (λ l. record (desk_was d) { seats = l }) (same-step seat_was d.seats.items c.args.place c.index_mut.result.now _ c.set_grants.new.self refl (c.set_grants.ensures.was ∙ ap (λ (b : Both). b.was) c.index_mut.ensures.value))

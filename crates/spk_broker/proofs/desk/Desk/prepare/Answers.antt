@@ -1,0 +1,29 @@
+use Rattle.std.proofs.Common.{◌≡◌, ◌∙◌, ap, sym, subst, None}
+use Rattle.std.specs.List.{position}
+use Rattle.std.specs.Result.{IfOk, OnOk}
+use Rattle.spk_broker_rules.specs.Step.{Turn, away_for, is_away}
+use Rattle.spk_broker.specs.Asking.{passes, seats_now}
+use Rattle.spk_broker.specs.Drafts.{draft_view}
+use Rattle.spk_broker.specs.Entering.{entered, with_sends}
+use Rattle.spk_broker.specs.Parts.{line_now}
+use Rattle.spk_broker.specs.View.{desk_now}
+use Rattle.spk_broker.proofs.Desks.{nobody-away, taken-none}
+use Rattle.spk_broker.proofs.desk.Desk.prepare.Goals as goal
+
+pub returns-in-None-clause-entry : goal.returns-in-None-clause-entry
+returns-in-None-clause-entry c =
+    let nobody : away_for c.args.kept c.args.client.now (seats_now c.args.self.now.seats.items) ≡ None =
+    nobody-away c.args.kept c.args.client.now c.args.self.now.seats.items
+    (ap (position (passes (is_away c.args.client.now))) (sym c.deref.ensures.value) ∙ sym c.away_place.ensures ∙ c.in-None.is) in
+    subst (λ (u : Turn). IfOk c.make-in-None.result (λ e. entered e (desk_now c.args.self.now) ≡ u.broker))
+    (taken-none c.args.kept c.args.client.now (line_now c.args.line) (desk_now c.args.self.now) c.if-not-kept.false nobody)
+    c.make-in-None.ensures.entry
+
+pub returns-in-None-clause-sends : goal.returns-in-None-clause-sends
+returns-in-None-clause-sends c =
+    let nobody : away_for c.args.kept c.args.client.now (seats_now c.args.self.now.seats.items) ≡ None =
+    nobody-away c.args.kept c.args.client.now c.args.self.now.seats.items
+    (ap (position (passes (is_away c.args.client.now))) (sym c.deref.ensures.value) ∙ sym c.away_place.ensures ∙ c.in-None.is) in
+    subst (λ (u : Turn). OnOk c.make-in-None.result (draft_view c.make-in-None.new.draft ≡ with_sends u.sends (draft_view c.args.draft.now)))
+    (taken-none c.args.kept c.args.client.now (line_now c.args.line) (desk_now c.args.self.now) c.if-not-kept.false nobody)
+    c.make-in-None.ensures.sends

@@ -1,0 +1,13 @@
+use Rattle.std.proofs.Common.{◌≡◌}
+use Rattle.spk_broker.specs.View.{desk_was, how_many}
+use Rattle.spk_broker.proofs.Routes.{Leads}
+use Rattle.spk_broker.proofs.desk.Desk.route.Given as goal
+
+abbrev pub invariant-loop-post : goal.invariant-loop-post
+invariant-loop-post l = record {
+  same : desk_was l.self ≡ desk_was l.initial.self;
+  leads : Leads l.initial.self l.self l.initial.draft l.draft;
+}
+
+abbrev pub decreases-loop-post : goal.decreases-loop-post
+decreases-loop-post l = how_many l.self l.draft

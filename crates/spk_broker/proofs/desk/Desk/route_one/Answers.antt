@@ -1,0 +1,39 @@
+use Rattle.std.proofs.Common.{◌∙◌, ◌≤◌, ap, subst, sym, refl, length, vec_len, List, ◌≡◌, arith}
+use Rattle.std.specs.List.{flat_map}
+use Rattle.std.specs.Vec.{with_items}
+use Rattle.indexmap.specs.IndexMap.{spare}
+use Rattle.spk_broker_rules.specs.Data as plain
+use Rattle.spk_broker.specs.declared.desk.Desk.{Desk}
+use Rattle.spk_broker.specs.Drafts.{Drafted, draft_view}
+use Rattle.spk_broker.specs.Parts.{post_view}
+use Rattle.spk_broker.specs.Rounds.{kept_with, left_of_round, with_round}
+use Rattle.spk_broker_rules.specs.Step.{serve}
+use Rattle.spk_broker.specs.View.{seat_now}
+use Rattle.spk_broker.proofs.Refilled.{refilled}
+use Rattle.spk_broker.proofs.Routes.{RoutedOne, one-fewer, one-stands}
+use Rattle.spk_broker.proofs.desk.Desk.route_one.Goals as goal
+
+abbrev end : goal.In_ok-keep → Desk
+end c = record c.args.self.now { seats = with_items c.args.self.now.seats c.round.new.seats; retained = c.keep.new.retained }
+
+facts : (c : goal.In_ok-keep) → RoutedOne (post_view c.args.post) c.args.self.now (end c) c.args.draft.now c.keep.new.draft
+facts c =
+    let m = post_view c.args.post in
+    let lent = c.deref_mut.ensures.value in
+    let round = c.in_ok-round.ensures in
+    let back : (end c).seats.items ≡ c.round.new.seats = refilled (vec_len c.args.self.now.seats) c.round.new.seats c.args.self.now.seats.items (omega arith) (omega arith) in
+    let drafted = round.drafted ∙ ap (λ l. with_round (serve m) (flat_map seat_now l) (draft_view c.args.draft.now)) lent in
+    let keeps : (draft_view c.round.new.draft).keeps ≡ (draft_view c.args.draft.now).keeps = ap (λ (x : Drafted). x.keeps) c.in_ok-round.ensures.drafted in
+    record {
+      shape = refl;
+      seats = ap (flat_map seat_now) back ∙ round.left ∙ ap (λ l. left_of_round (serve m) (flat_map seat_now l)) lent;
+      retained = c.in_ok-keep.ensures.same;
+      drafted = c.in_ok-keep.ensures.drafted ∙ ap (λ (x : Drafted). record x { keeps = kept_with m x.keeps }) drafted;
+      room = λ h. c.in_ok-keep.ensures.room (subst (λ (l : List plain.Post). length l ≤ spare c.args.self.now.retained) (sym keeps) h);
+    }
+
+pub returns-clause-done : goal.returns-clause-done
+returns-clause-done c = one-stands (post_view c.args.post) c.args.self.now (end c) c.args.draft.now c.keep.new.draft (facts c)
+
+pub returns-clause-fewer : goal.returns-clause-fewer
+returns-clause-fewer c = one-fewer (post_view c.args.post) c.args.self.now (end c) c.args.draft.now c.keep.new.draft (facts c)

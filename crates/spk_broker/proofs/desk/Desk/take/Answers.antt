@@ -1,0 +1,21 @@
+use Rattle.std.proofs.Common.{◌≡◌, ◌∙◌, ap, map, sym, subst, length, rules, string_bytes}
+use Rattle.std.proofs.lemmas.List.{with_items_is}
+use Rattle.std.specs.Vec.{with_items}
+use Rattle.spk_broker_rules.specs.Data as plain
+use Rattle.spk_broker_rules.specs.Lawful.{Rises}
+use Rattle.spk_broker_rules.specs.Step.{seat_at}
+use Rattle.spk_broker.specs.Asking.{seats_now}
+use Rattle.spk_broker.specs.Changes.{changed_at}
+use Rattle.spk_broker.specs.Granting.{without_grants}
+use Rattle.spk_broker.proofs.Desks.{takes}
+use Rattle.spk_broker.proofs.desk.Desk.take.Goals as goal
+
+pub returns-clause-done : goal.returns-clause-done
+returns-clause-done c = λ draft t s.
+    let len : length c.take_in.new.seats ≡ c.args.self.now.seats.len = search rules in
+    let same = with_items_is c.args.self.now.seats c.take_in.new.seats len in
+    let names = map (λ name. string_bytes name) c.args.names.now in
+    let rises = subst (Rises 0 t.broker.made) (sym (ap seats_now c.deref_mut.ensures.value ∙ ap (λ (b : plain.Broker). b.seats) s.broker)) s.lawful.keys in
+    takes c.args.self.now draft t c.args.conn names (with_items c.args.self.now.seats c.take_in.new.seats) s
+    (ap seats_now same ∙ c.in_ok-take_in.ensures.now 0 t.broker.made rises
+    ∙ ap (λ xs. changed_at (seat_at c.args.conn (seats_now xs)) (without_grants names) (seats_now xs)) c.deref_mut.ensures.value)

@@ -1,0 +1,19 @@
+use Rattle.std.proofs.Common.{◌<◌, ◌∙◌, sym, refl, length, arith}
+use Rattle.spk_broker_rules.specs.Step.{other_guests}
+use Rattle.spk_broker.specs.View.{guest_now, guest_was}
+use Rattle.spk_broker.specs.declared.guest.Guest.{Guest}
+use Rattle.spk_broker.proofs.Flats.{other-flat}
+use Rattle.spk_broker.proofs.Walks.{walk-step, walk-end, same-step}
+use Rattle.spk_broker.proofs.guest.leave.Goals as goal
+
+pub loop-guest-preserved : goal.loop-guest-preserved
+loop-guest-preserved c =
+    let below : c.loop-guest.guest-index < length c.loop-guest.guests = omega arith in
+    record {
+      was = same-step guest_was c.loop-guest.guests c.loop-guest.guest-index _ _ c.leave.new.self refl c.leave.ensures.was ∙ c.loop-guest.invariant.was;
+      now = walk-step guest_now (λ (g : Guest). other_guests c.args.conn (guest_now g)) c.loop-guest.guests c.loop-guest.guest-index _ _ c.leave.new.self below refl c.leave.ensures.now ∙ c.loop-guest.invariant.now;
+    }
+
+pub returns-clause-now : goal.returns-clause-now
+returns-clause-now c =
+    sym (walk-end guest_now (λ (g : Guest). other_guests c.args.conn (guest_now g)) c.loop-guest.guests c.loop-guest.guest-index (omega arith)) ∙ c.loop-guest.invariant.now ∙ other-flat c.args.conn guest_now c.args.guests.now

@@ -1,0 +1,22 @@
+use Rattle.std.proofs.Common.{◌≡◌, ◌∙◌, ap, sym, string_bytes, true, rules}
+use Rattle.spk_topics.specs.Fitting.{is_match}
+use Rattle.spk_broker_rules.specs.Data as plain
+use Rattle.spk_broker_rules.specs.Words.{offered}
+use Rattle.spk_broker.specs.Offering.{retained_at}
+use Rattle.spk_broker.specs.Parts.{grant_view, post_view}
+use Rattle.spk_broker.specs.View.{stored_view}
+use Rattle.spk_broker.proofs.Offers.{offers-none, offers-one}
+use Rattle.spk_broker.proofs.presenting.offered_one.Goals as goal
+
+pub returns-then-not-matches_text : goal.returns-then-not-matches_text
+returns-then-not-matches_text c =
+    offers-none (grant_view c.args.grant.now) (string_bytes c.args.topic.now, stored_view c.args.stored.now)
+    (ap (is_match (string_bytes c.args.grant.now.filter)) (sym c.as_str-2.ensures.value) ∙ ap (λ f. is_match f c.as_str-2.result.now) (sym c.as_str.ensures.value)
+    ∙ sym c.matches_text.ensures.test ∙ c.if-not-matches_text.true)
+
+pub returns : goal.returns
+returns c =
+    offers-one (grant_view c.args.grant.now) (string_bytes c.args.topic.now, stored_view c.args.stored.now) _
+    (ap (is_match (string_bytes c.args.grant.now.filter)) (sym c.as_str-2.ensures.value) ∙ ap (λ f. is_match f c.as_str-2.result.now) (sym c.as_str.ensures.value)
+    ∙ sym c.matches_text.ensures.test ∙ c.if-not-matches_text.false)
+    (c.in_ok-post_at.ensures ∙ ap (λ q. retained_at q (string_bytes c.args.topic.now) (stored_view c.args.stored.now)) c.min.ensures)

@@ -1,0 +1,33 @@
+use Rattle.std.proofs.Common.{◌<◌, ◌∙◌, sym, refl, length, arith}
+use Rattle.spk_broker_rules.specs.Step.{serve}
+use Rattle.spk_broker.specs.Drafts.{draft_view}
+use Rattle.spk_broker.specs.Parts.{post_view}
+use Rattle.spk_broker.proofs.Rounds.{was-step, round-step, left-end, left-whole, drafted-end, drafted-whole}
+use Rattle.spk_broker.proofs.routing.round.Goals as goal
+
+pub returns-in_err-serve-clause-was : goal.returns-in_err-serve-clause-was
+returns-in_err-serve-clause-was c =
+    was-step c.loop-seat.seats c.loop-seat.seat-index c.seat-item.result _ c.serve.new.self refl c.serve.ensures.was
+    ∙ c.loop-seat.invariant.was
+
+pub loop-seat-preserved : goal.loop-seat-preserved
+loop-seat-preserved c =
+    let f = serve (post_view c.args.post.now) in
+    let below : c.loop-seat.seat-index < length c.loop-seat.seats = omega arith in
+    let step = round-step f c.loop-seat.seats c.loop-seat.seat-index c.seat-item.result _ c.serve.new.self below refl c.serve.ensures.was c.in_ok-serve.ensures.left in
+    record {
+      was = step.was ∙ c.loop-seat.invariant.was;
+      left = step.left ∙ c.loop-seat.invariant.left;
+      drafted = rw c.in_ok-serve.ensures.drafted (step.drafted (draft_view c.loop-seat.draft) ∙ c.loop-seat.invariant.drafted);
+    }
+
+pub returns-clause-left : goal.returns-clause-left
+returns-clause-left c =
+    let f = serve (post_view c.args.post.now) in
+    sym (left-end f c.loop-seat.seats c.loop-seat.seat-index (omega arith)) ∙ c.loop-seat.invariant.left ∙ left-whole f c.args.seats.now
+
+pub returns-clause-drafted : goal.returns-clause-drafted
+returns-clause-drafted c =
+    let f = serve (post_view c.args.post.now) in
+    sym (drafted-end f c.loop-seat.seats c.loop-seat.seat-index (draft_view c.loop-seat.draft) (omega arith))
+    ∙ c.loop-seat.invariant.drafted ∙ drafted-whole f c.args.seats.now (draft_view c.args.draft.now)

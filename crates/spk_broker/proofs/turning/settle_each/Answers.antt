@@ -1,0 +1,29 @@
+use Rattle.std.proofs.Common.{ap, ◌≡◌, ◌<◌, ◌≤◌, ◌∙◌, [], ◌∷◌, sym, refl, length, map, arith}
+use Rattle.std.specs.List.{flat_map}
+use Rattle.std.specs.Option.{option_map}
+use Rattle.spk_broker_rules.specs.Data as plain
+use Rattle.spk_broker_rules.specs.Step.{line_dropped, line_heard}
+use Rattle.spk_broker_rules.specs.Words.{option_list}
+use Rattle.spk_broker.specs.Both.{Both}
+use Rattle.spk_broker.specs.Seats.{seat_heard, seat_dropped}
+use Rattle.spk_broker.specs.Settling.{seat_left}
+use Rattle.spk_broker.specs.View.{seat_now, seat_was}
+use Rattle.spk_broker.proofs.Flats.{map-flat, other-flat, single-flat, option-flat}
+use Rattle.spk_broker.proofs.Walks.{walk-step, walk-end, same-step}
+use Rattle.spk_broker.proofs.turning.settle_each.Goals as goal
+
+pub loop-seat-preserved : goal.loop-seat-preserved
+loop-seat-preserved c =
+    let below : c.loop-seat.seat-index < length c.loop-seat.seats = omega arith in
+    record {
+      now = walk-step seat_now seat_now c.loop-seat.seats c.loop-seat.seat-index _ _ c.settle.new.self below refl (ap option_list c.settle.ensures.now) ∙ c.loop-seat.invariant.now;
+      left = walk-step seat_left seat_now c.loop-seat.seats c.loop-seat.seat-index _ _ c.settle.new.self below refl c.settle.ensures.left ∙ c.loop-seat.invariant.left;
+    }
+
+pub returns-clause-now : goal.returns-clause-now
+returns-clause-now c =
+    sym (walk-end seat_now seat_now c.loop-seat.seats c.loop-seat.seat-index (omega arith)) ∙ c.loop-seat.invariant.now
+
+pub returns-clause-left : goal.returns-clause-left
+returns-clause-left c =
+    sym (walk-end seat_left seat_now c.loop-seat.seats c.loop-seat.seat-index (omega arith)) ∙ c.loop-seat.invariant.left

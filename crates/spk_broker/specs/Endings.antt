@@ -1,0 +1,30 @@
+-- What follows once a call is settled.
+use Rattle.std.specs.Prelude.{◌≡◌, ℕ, Vec}
+use Rattle.std.specs.declared.alloc.Global.{Global}
+use Rattle.spk_broker_rules.specs.Data as plain
+use Rattle.spk_broker_rules.specs.Plan.{Ack}
+use Rattle.spk_broker_rules.specs.Step.{Turn, act, begun}
+use Rattle.spk_broker.specs.Entering.{HasRoom, IsWhole, entered}
+use Rattle.spk_broker.specs.View.{Stands}
+use Rattle.spk_broker.specs.declared.desk.Desk.{Desk}
+use Rattle.spk_broker.specs.declared.ending.Ending.{Ending}
+use Rattle.spk_broker.specs.declared.ending.Ending.TheVariants.{Nothing, Enters, Acked}
+use Rattle.spk_broker.specs.declared.out.Draft.{Draft}
+use Rattle.spk_broker.specs.declared.seat.Seat.{Seat}
+
+abbrev pub ended : Ending → plain.Broker → plain.Broker
+ended Nothing b = b
+ended (Enters entry) b = entered entry b
+ended (Acked conn id) b = (act (Ack conn id) (begun b)).broker
+
+-- an entry is whole and finds room
+abbrev pub IsReady : Ending → Vec Seat Global → Type 0
+IsReady Nothing seats = Unit {0}
+IsReady (Enters entry) seats = IsWhole entry × HasRoom entry seats
+IsReady (Acked conn id) seats = Unit {0}
+
+-- the desk and the draft stand for a turn that is this one once the rest is done
+pub record Leads (desk : Desk) (draft : Draft) (ending : Ending) (turn : Turn) : Type 0 where
+  pub before : Turn
+  pub stands : Stands desk draft before
+  pub is : record before { broker = ended ending before.broker } ≡ turn

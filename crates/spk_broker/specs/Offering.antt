@@ -1,0 +1,29 @@
+-- Retained messages are offered to the session at a place.
+use Rattle.std.specs.Prelude.{◌≡◌, ◌<◌, ℕ, List, true, [], ◌∷◌, length, Option, Some, None, slice_index_or}
+use Rattle.spk_broker_rules.specs.Data as plain
+use Rattle.spk_broker_rules.specs.Step.{Turn, with_key}
+use Rattle.spk_broker_rules.specs.Words.{offers_to}
+use Rattle.spk_broker.specs.Both.{Both}
+use Rattle.spk_broker.specs.View.{Stands}
+use Rattle.spk_broker.specs.declared.desk.Desk.{Desk}
+use Rattle.spk_broker.specs.declared.out.Draft.{Draft}
+
+-- the session has this key; where it ended, none has it
+abbrev pub IsOf : ℕ → Option plain.Seat → List plain.Seat → Type 0
+IsOf key None seats = with_key key seats ≡ None
+IsOf key (Some s) seats = s.key ≡ key
+
+-- the desk and the draft stand for the turn, and at the place is the session of this key
+pub record Offering (desk : Desk) (draft : Draft) (place key : ℕ) (turn : Turn) : Type 0 where
+  pub stands : Stands desk draft turn
+  pub low : place < length desk.seats.items
+  pub here : (d : Both) → IsOf key (slice_index_or desk.seats.items place d).now turn.broker.seats
+
+-- what the retained message at a place, where there is one, offers to a grant
+abbrev pub offers_at : Option (List ℕ × plain.Stored) → List ℕ × ℕ → List plain.Post
+offers_at None grant = []
+offers_at (Some e) grant = offers_to (e ∷ []) grant
+
+-- a retained message at a QoS
+abbrev pub retained_at : ℕ → List ℕ → plain.Stored → plain.Post
+retained_at qos topic stored = record { topic = topic; payload = stored.payload; qos = qos; retain = true }

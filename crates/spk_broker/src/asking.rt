@@ -1,0 +1,238 @@
+//! What the rules ask of connections and sessions by now.
+ghost use Rattle.std.specs.Prelude.{◌≡◌, Some, None, is_some, count_by, IfOk};
+ghost use Rattle.std.specs.List.{flat_map, list_any, position};
+ghost use Rattle.std.specs.Option.{option_and_then, option_map_or};
+ghost use Rattle.spk_session.specs.Step.{is_spent};
+ghost use Rattle.spk_broker_rules.specs.Step.{conn_at, drops_in, is_away, is_guest, is_kept_of, knows, older_in, seat_at, silent_at, sits, welcome_in};
+ghost use Rattle.spk_broker_rules.specs.Words.{option_list};
+ghost use Rattle.spk_broker.specs.Asking.{drops_at, guest_here, guests_now, is_joined_by, passes, seats_now, test_at};
+ghost use Rattle.spk_broker.specs.View.{desk_now, seat_now};
+
+use crate::desk::Desk;
+use crate::guest::Guest;
+use crate::out::Conn;
+use crate::seat::Seat;
+use spk_broker_rules::is_silent;
+use std::alloc::{AllocError, Global};
+
+/// The most kept sessions (own rule).
+const MOST_KEPT: usize = 1_000;
+
+impl Seat {
+    /// Whether this connection sits here.
+    pub(crate) fn sits(&self, conn: Conn) -> bool
+        ensures { result ≡ passes (sits conn) self.now }
+    {
+        match &self.here {
+            Some(line) => !self.ended && line.conn == conn,
+            None => false,
+        }
+    }
+
+    /// Whether it is a kept session of this client, with or without a connection.
+    pub(crate) fn is_kept_of(&self, client: &str) -> bool
+        ensures { result ≡ passes (is_kept_of client.now) self.now }
+    {
+        !self.ended && self.kept && self.client.as_str() == client
+    }
+
+    /// Whether it is a kept session of this client without a connection.
+    pub(crate) fn is_away(&self, client: &str) -> bool
+        ensures { result ≡ passes (is_away client.now) self.now }
+    {
+        !self.ended && self.kept && self.here.is_none() && self.client.as_str() == client
+    }
+
+    /// Whether it is a kept session.
+    pub(crate) fn is_kept(&self) -> bool
+        ensures { result ≡ passes (λ s. s.kept) self.now }
+    {
+        !self.ended && self.kept
+    }
+
+    /// Whether a connection of this client sits here.
+    fn is_joined_by(&self, client: &str) -> bool
+        ensures { result ≡ passes (is_joined_by client.now) self.now }
+    {
+        !self.ended && self.here.is_some() && self.client.as_str() == client
+    }
+
+    /// Its connection, where that is silent for too long (section 3.1.2.10).
+    fn silent(&self, clock: u64) -> Option<Conn>
+        ensures { option_list result ≡ flat_map (silent_at clock) (seat_now self.now) }
+    {
+        match &self.here {
+            Some(line) if !self.ended && is_silent(clock, line.alive, line.heard) => {
+                Some(line.conn)
+            }
+            _ => None,
+        }
+    }
+
+    /// How many sends were dropped on its connection.
+    fn drops(&self) -> u16
+        ensures { result ≡ option_map_or drops_at self.now.now 0 }
+    {
+        match &self.here {
+            Some(line) if !self.ended => line.drops,
+            _ => 0,
+        }
+    }
+
+    /// Its connection.
+    fn conn(&self) -> Option<Conn>
+        ensures { result ≡ option_and_then conn_at self.now.now }
+    {
+        match &self.here {
+            Some(line) if !self.ended => Some(line.conn),
+            _ => None,
+        }
+    }
+}
+
+/// Where this connection sits.
+pub(crate) fn place_of(seats: &[Seat], conn: Conn) -> Option<usize>
+    ensures { result ≡ position (passes (sits conn)) seats.now }
+{
+    seats.iter().position(|seat| seat.sits(conn))
+}
+
+/// Where a kept session of this client without a connection stands.
+pub(crate) fn away_place(seats: &[Seat], client: &str) -> Option<usize>
+    ensures { result ≡ position (passes (is_away client.now)) seats.now }
+{
+    seats.iter().position(|seat| seat.is_away(client))
+}
+
+/// Whether a seat is this connection's.
+fn has_seat(seats: &[Seat], conn: Conn) -> bool
+    ensures { result ≡ list_any (passes (sits conn)) seats.now }
+{
+    seats.iter().any(|seat| seat.sits(conn))
+}
+
+/// Whether the CONNECT of this connection was accepted.
+pub(crate) fn is_joined(seats: &[Seat], conn: Conn) -> bool
+    ensures { result ≡ is_some (seat_at conn (seats_now seats.now)) }
+{
+    has_seat(seats, conn)
+}
+
+/// Whether the client has a kept session.
+fn has_kept(seats: &[Seat], client: &str) -> bool
+    ensures { result ≡ list_any (passes (is_kept_of client.now)) seats.now }
+{
+    seats.iter().any(|seat| seat.is_kept_of(client))
+}
+
+/// How many kept sessions there are.
+fn kept_count(seats: &[Seat]) -> usize
+    ensures { result ≡ count_by (passes (λ s. s.kept)) seats.now }
+{
+    let mut count = 0;
+    for seat in seats {
+        if seat.is_kept() {
+            count += 1;
+        }
+    }
+    count
+}
+
+/// Whether the client has a kept session, or there may be one more.
+pub(crate) fn is_welcome(seats: &[Seat], client: &str) -> bool
+    ensures { result ≡ welcome_in client.now (seats_now seats.now) }
+{
+    has_kept(seats, client) || kept_count(seats) < MOST_KEPT
+}
+
+/// Where a connection of this client sits.
+fn place_of_client(seats: &[Seat], client: &str) -> Option<usize>
+    ensures { result ≡ position (passes (is_joined_by client.now)) seats.now }
+{
+    seats.iter().position(|seat| seat.is_joined_by(client))
+}
+
+/// The connection that sits for a client; none for the empty client id (section 3.1.3.1).
+pub(crate) fn older(seats: &[Seat], client: &str) -> Option<Conn>
+    ensures { result ≡ older_in client.now (seats_now seats.now) }
+{
+    if client.is_empty() {
+        return None;
+    }
+    match place_of_client(seats, client) {
+        Some(place) => seats[place].conn(),
+        None => None,
+    }
+}
+
+/// The connections that are silent for too long, in the order of connecting.
+pub(crate) fn silent(alloc: Global, seats: &[Seat], clock: u64) -> Result<Vec<Conn>, AllocError>
+    ensures { IfOk result (λ v. v.items ≡ flat_map (silent_at clock) (seats_now seats.now)) }
+{
+    let mut silent = Vec::new(alloc);
+    for seat in seats {
+        if let Some(conn) = seat.silent(clock) {
+            silent.push(conn)?;
+        }
+    }
+    Ok(silent)
+}
+
+/// Whether a guest is this connection.
+fn has_guest(guests: &[Guest], conn: Conn) -> bool
+    ensures { result ≡ list_any (test_at guest_here (is_guest conn)) guests.now }
+{
+    guests.iter().any(|guest| !guest.gone && guest.conn == conn)
+}
+
+/// Where an open connection without an accepted CONNECT stands.
+pub(crate) fn guest_place(guests: &[Guest], conn: Conn) -> Option<usize>
+    ensures { result ≡ position (test_at guest_here (is_guest conn)) guests.now }
+{
+    guests
+        .iter()
+        .position(|guest| !guest.gone && guest.conn == conn)
+}
+
+/// Whether this connection is open without an accepted CONNECT.
+pub(crate) fn is_guest(guests: &[Guest], conn: Conn) -> bool
+    ensures { result ≡ list_any (is_guest conn) (guests_now guests.now) }
+{
+    has_guest(guests, conn)
+}
+
+/// How many sends were dropped on a connection that sits.
+fn seat_drops(seats: &[Seat], conn: Conn) -> u16
+    ensures { result ≡ option_map_or drops_at (seat_at conn (seats_now seats.now)) 0 }
+{
+    match place_of(seats, conn) {
+        Some(place) => seats[place].drops(),
+        None => 0,
+    }
+}
+
+impl Desk {
+    /// How many sends were dropped on this connection.
+    fn drops(&self, conn: Conn) -> u16
+        ensures { result ≡ drops_in conn (desk_now self.now) }
+    {
+        match guest_place(&self.guests, conn) {
+            Some(place) => self.guests[place].drops,
+            None => seat_drops(&self.seats, conn),
+        }
+    }
+
+    /// Whether as many sends were dropped on this connection as close it; limit 0 acts as 1 (own rule).
+    pub(crate) fn is_spent(&self, conn: Conn) -> bool
+        ensures { result ≡ is_spent self.now.limit (drops_in conn (desk_now self.now)) }
+    {
+        self.drops(conn) >= self.limit.max(1)
+    }
+
+    /// Whether this connection is open.
+    pub(crate) fn knows(&self, conn: Conn) -> bool
+        ensures { result ≡ knows (desk_now self.now) conn }
+    {
+        is_guest(&self.guests, conn) || is_joined(&self.seats, conn)
+    }
+}

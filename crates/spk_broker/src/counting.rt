@@ -1,0 +1,79 @@
+//! How many grants there are, and which entries of a SUBSCRIBE are granted (section 3.8.4).
+ghost use Rattle.std.specs.Prelude.{◌≡◌, ◌+◌, ◌<◌, ◌≤◌, ◌^◌, IfOk, IfSome, get_or, length, map, min};
+ghost use Rattle.std.specs.List.{fold};
+ghost use Rattle.spk_packets.specs.View.{request_view};
+ghost use Rattle.spk_broker_rules.specs.Step.{all_grants, other_grants};
+ghost use Rattle.spk_broker_rules.specs.Words.{codes_of, granted_of, with_entry};
+ghost use Rattle.spk_broker.specs.Asking.{seats_now};
+ghost use Rattle.spk_broker.specs.Both.{Both};
+ghost use Rattle.spk_broker.specs.Counting.{grants_in};
+ghost use Rattle.spk_broker.specs.Granting.{granting_view};
+
+use crate::granting::{Granting, copied};
+use crate::seat::Seat;
+use spk_packets::Request;
+use std::alloc::{AllocError, Global};
+
+/// The most pairs of session and filter (own rule).
+const MOST_GRANTS: usize = 10_000;
+
+impl Seat {
+    /// How many grants it has.
+    fn grant_count(&self) -> usize
+        ensures count { result ≡ grants_in self.now.now }
+        ensures small { result < 2 ^ 63 }
+    {
+        if self.ended {
+            return 0;
+        }
+        match &self.regrant {
+            Some(grants) => grants.len(),
+            None => self.grants.len(),
+        }
+    }
+}
+
+/// How many grants these sessions have, but at most as many as there may be.
+fn count_grants(seats: &[Seat]) -> usize
+    ensures count { result ≡ min (all_grants (seats_now seats.now)) 10000 }
+    ensures small { result ≤ 10000 }
+{
+    let mut count = 0;
+    for seat in seats {
+        count = (count + seat.grant_count()).min(MOST_GRANTS);
+    }
+    count
+}
+
+/// How many grants the other sessions have, at least as far as there may be so many.
+fn count_others(seats: &[Seat], place: usize) -> usize
+    requires { place < length seats.now }
+    ensures { (d : Both) → IfSome (get_or seats.now place d).now (λ s.
+        min result 10000 ≡ min (other_grants s (seats_now seats.now)) 10000) }
+{
+    count_grants(&seats[..place]) + count_grants(&seats[place + 1..])
+}
+
+/// The grants of the session at a place after a SUBSCRIBE, the codes of SUBACK, and the entries that were granted.
+pub(crate) fn granted(
+    alloc: Global,
+    seats: &[Seat],
+    place: usize,
+    entries: &[Request],
+) -> Result<Granting, AllocError>
+    requires { place < length seats.now }
+    ensures { IfOk result (λ g. (d : Both) → IfSome (get_or seats.now place d).now (λ s. granting_view g ≡ record {
+      grants = fold (with_entry (other_grants s (seats_now seats.now))) s.grants (map request_view entries.now);
+      codes = codes_of (other_grants s (seats_now seats.now)) s.grants (map request_view entries.now);
+      given = granted_of (other_grants s (seats_now seats.now)) s.grants (map request_view entries.now);
+    })) }
+{
+    let others = count_others(seats, place);
+    let mut granting = Granting {
+        grants: copied(alloc, seats[place].grants())?,
+        codes: Vec::new(alloc),
+        given: Vec::new(alloc),
+    };
+    granting.request_all(others, entries)?;
+    Ok(granting)
+}

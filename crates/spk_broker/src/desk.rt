@@ -1,0 +1,29 @@
+//! What a broker keeps, in the midst of a call.
+
+use crate::guest::Guest;
+use crate::seat::Seat;
+use indexmap::IndexMap;
+use std::alloc::Global;
+
+/// What is kept of a retained message beside its topic (section 3.3.1.3).
+#[derive(Debug, Drop)]
+pub(crate) struct Stored {
+    pub(crate) payload: Vec<u8>,
+    /// 0 or 1.
+    pub(crate) qos: u8,
+}
+
+/// Connections, sessions, grants and retained messages, as before the call and as by now.
+#[derive(Debug, Drop)]
+pub(crate) struct Desk {
+    pub(crate) alloc: Global,
+    pub(crate) limit: u16,
+    pub(crate) given: u64,
+    pub(crate) made: u64,
+    pub(crate) clock: u64,
+    pub(crate) clock_before: u64,
+    pub(crate) guests: Vec<Guest>,
+    pub(crate) seats: Vec<Seat>,
+    /// Changed where a call is settled alone.
+    pub(crate) retained: IndexMap<String, Stored>,
+}

@@ -1,0 +1,157 @@
+//! What each event drafts, but for packets.
+ghost use Rattle.std.specs.Prelude.{◌≡◌, ◌∷◌, [], OnOk, true, false, ◌&&◌, not, is_some};
+ghost use Rattle.std.specs.List.{flat_map};
+ghost use Rattle.spk_packets.specs.Message.{ConnAck};
+ghost use Rattle.spk_broker_rules.specs.Plan.{Closed, Fault, Leave, Refused, Route, Say, Tell, Tick, is_bad_level, shut, turn_away};
+ghost use Rattle.spk_broker_rules.specs.Step.{Turn, acts, seat_at};
+ghost use Rattle.spk_session.specs.declared.answer.Sort.TheVariants as Sort;
+ghost use Rattle.spk_broker.specs.Asking.{seats_now};
+ghost use Rattle.spk_broker.specs.View.{Stands, desk_was, ends, stepped};
+
+use crate::asking::{is_joined, silent};
+use crate::desk::Desk;
+use crate::out::{Conn, Draft};
+use spk_packets::{Packet, PacketFault};
+use spk_session::Sort;
+use std::alloc::AllocError;
+
+/// Whether bytes name another protocol level (section 3.1.2.2).
+fn is_bad_level(fault: PacketFault) -> bool
+    ensures { result ≡ is_bad_level fault }
+{
+    match fault {
+        PacketFault::BadLevel => true,
+        _ => false,
+    }
+}
+
+impl Desk {
+    /// CONNACK with this code, and closed (section 3.2.2.3).
+    pub(crate) fn turn_away(
+        &mut self,
+        draft: &mut Draft,
+        conn: Conn,
+        code: u8,
+    ) -> Result<(), AllocError>
+        ensures done { OnOk result ((t : Turn) → Stands self.old draft.old t
+            → Stands self.new draft.new (acts (turn_away conn code) t)) }
+        ensures same { desk_was self.new ≡ desk_was self.old }
+    {
+        let packet = Packet::ConnAck {
+            present: false,
+            code,
+        };
+        draft.say(conn, &packet)?;
+        self.shut(draft, conn)?;
+        Ok(())
+    }
+
+    /// The connection ended without the broker.
+    pub(crate) fn draft_closed(
+        &mut self,
+        draft: &mut Draft,
+        conn: Conn,
+        now: u64,
+    ) -> Result<(), AllocError>
+        ensures done { OnOk result ((t : Turn) → Stands self.old draft.old t
+            → Stands self.new draft.new (stepped (Closed conn now) t)) }
+        ensures same { desk_was self.new ≡ desk_was self.old }
+    {
+        self.at(now);
+        self.leave(draft, conn, true)?;
+        self.route(draft)?;
+        Ok(())
+    }
+
+    /// Whether bytes that are no packet get CONNACK code 1.
+    fn is_of_other_level(&self, conn: Conn, fault: PacketFault) -> bool
+        ensures { result ≡ (is_bad_level fault && not (is_some (seat_at conn (seats_now self.now.seats.items)))) }
+    {
+        is_bad_level(fault) && !is_joined(&self.seats, conn)
+    }
+
+    /// Bytes that are no packet: of another protocol level they get CONNACK code 1, where the connection has no
+    /// accepted CONNECT; else the connection is closed.
+    pub(crate) fn draft_fault(
+        &mut self,
+        draft: &mut Draft,
+        conn: Conn,
+        fault: PacketFault,
+        now: u64,
+    ) -> Result<(), AllocError>
+        ensures done { OnOk result ((t : Turn) → Stands self.old draft.old t
+            → Stands self.new draft.new (stepped (Fault conn fault now) t)) }
+        ensures same { desk_was self.new ≡ desk_was self.old }
+    {
+        self.at(now);
+        if self.is_of_other_level(conn, fault) {
+            self.turn_away(draft, conn, 1)?;
+            return Ok(());
+        }
+        self.shut(draft, conn)?;
+        Ok(())
+    }
+
+    /// These connections end, and the caller is told to close them.
+    fn end_all(&mut self, draft: &mut Draft, conns: &[Conn]) -> Result<(), AllocError>
+        ensures done { OnOk result ((t : Turn) → Stands self.old draft.old t
+            → Stands self.new draft.new (acts (flat_map ends conns.now) t)) }
+        ensures same { desk_was self.new ≡ desk_was self.old }
+    {
+        for conn in conns {
+            self.leave(draft, *conn, true)?;
+            draft.tell(*conn)?;
+        }
+        Ok(())
+    }
+
+    /// All that are silent for too long are ended, then their wills are routed in that order (section 3.1.2.10).
+    pub(crate) fn draft_tick(&mut self, draft: &mut Draft, now: u64) -> Result<(), AllocError>
+        ensures done { OnOk result ((t : Turn) → Stands self.old draft.old t
+            → Stands self.new draft.new (stepped (Tick now) t)) }
+        ensures same { desk_was self.new ≡ desk_was self.old }
+    {
+        self.at(now);
+        let conns = silent(self.alloc, &self.seats, self.clock)?;
+        self.end_all(draft, &conns)?;
+        self.route(draft)?;
+        Ok(())
+    }
+
+    /// A PUBLISH of QoS 0 is dropped, and as many drops as close the connection close it (own rule).
+    fn draft_dropped(&mut self, draft: &mut Draft, conn: Conn, now: u64) -> Result<(), AllocError>
+        ensures done { OnOk result ((t : Turn) → Stands self.old draft.old t
+            → Stands self.new draft.new (stepped (Refused conn Sort.QosZero now) t)) }
+        ensures same { desk_was self.new ≡ desk_was self.old }
+    {
+        self.at(now);
+        self.count_drop(conn);
+        if !self.is_spent(conn) {
+            return Ok(());
+        }
+        self.shut(draft, conn)?;
+        Ok(())
+    }
+
+    /// A send to this connection couldn't be taken; any but a PUBLISH of QoS 0 closes it (own rule).
+    pub(crate) fn draft_refused(
+        &mut self,
+        draft: &mut Draft,
+        conn: Conn,
+        sort: Sort,
+        now: u64,
+    ) -> Result<(), AllocError>
+        ensures done { OnOk result ((t : Turn) → Stands self.old draft.old t
+            → Stands self.new draft.new (stepped (Refused conn sort now) t)) }
+        ensures same { desk_was self.new ≡ desk_was self.old }
+    {
+        match sort {
+            Sort::QosZero => self.draft_dropped(draft, conn, now),
+            Sort::Other => {
+                self.at(now);
+                self.shut(draft, conn)?;
+                Ok(())
+            }
+        }
+    }
+}

@@ -1,0 +1,120 @@
+//! Which packet it is: the first one of a connection, or a further one.
+ghost use Rattle.std.specs.Prelude.{◌≡◌, [], true, is_some, IfOk};
+ghost use Rattle.spk_packets.specs.View.{view};
+ghost use Rattle.spk_broker_rules.specs.Plan.{Seen, client_in, first_packet, next_packet, packet as packet_acts};
+ghost use Rattle.spk_broker_rules.specs.Plan.{Packet as PacketEvent};
+ghost use Rattle.spk_broker_rules.specs.Step.{Turn, acts, older_in, seat_at, welcome_in};
+ghost use Rattle.spk_broker.specs.Drafts.{draft_view};
+ghost use Rattle.spk_broker.specs.Endings.{IsReady, Leads};
+ghost use Rattle.spk_broker.specs.View.{Stands, desk_was, stepped};
+
+use crate::asking::is_joined;
+use crate::desk::Desk;
+use crate::ending::Ending;
+use crate::out::{Conn, Draft};
+use crate::packets::is_writable;
+use spk_packets::Packet;
+use std::alloc::AllocError;
+
+impl Desk {
+    /// The first packet of a connection: a CONNECT is judged, any other one closes it (section 3.1.0).
+    fn first_packet(
+        &mut self,
+        draft: &mut Draft,
+        conn: Conn,
+        packet: &Packet,
+    ) -> Result<Ending, AllocError>
+        ensures done { IfOk result (λ e. (seen : Seen) (t : Turn)
+            → seen.older ≡ older_in (client_in (view packet.now)) t.broker.seats
+            → seen.welcome ≡ welcome_in (client_in (view packet.now)) t.broker.seats → Stands self.old draft.old t
+            → Leads self.new draft.new e (acts (first_packet seen conn (view packet.now)) t)) }
+        ensures ready { IfOk result (λ e. IsReady e self.new.seats) }
+        ensures same { desk_was self.new ≡ desk_was self.old }
+    {
+        let Packet::Connect {
+            client,
+            clean,
+            keep,
+            will,
+        } = packet
+        else {
+            self.shut(draft, conn)?;
+            return Ok(Ending::Nothing);
+        };
+        let Some(entry) = self.connect(draft, conn, client.as_str(), *clean, *keep, will)? else {
+            return Ok(Ending::Nothing);
+        };
+        Ok(Ending::Enters(entry))
+    }
+
+    /// A further packet.
+    fn further_packet(
+        &mut self,
+        draft: &mut Draft,
+        conn: Conn,
+        packet: &Packet,
+    ) -> Result<Ending, AllocError>
+        requires { (draft_view draft.old).keeps ≡ [] }
+        ensures done { IfOk result (λ e. (t : Turn) → Stands self.old draft.old t
+            → Leads self.new draft.new e (acts (next_packet conn (view packet.now)) t)) }
+        ensures ready { IfOk result (λ e. IsReady e self.new.seats) }
+        ensures same { desk_was self.new ≡ desk_was self.old }
+    {
+        match packet {
+            Packet::PubAck { id } => Ok(Ending::Acked { conn, id: *id }),
+            _ => {
+                self.next_packet(draft, conn, packet)?;
+                Ok(Ending::Nothing)
+            }
+        }
+    }
+
+    /// What is done with a packet: one that can't be written closes the connection as its bytes would.
+    fn judge_packet(
+        &mut self,
+        draft: &mut Draft,
+        conn: Conn,
+        packet: &Packet,
+    ) -> Result<Ending, AllocError>
+        requires { (draft_view draft.old).keeps ≡ [] }
+        ensures done { IfOk result (λ e. (seen : Seen) (t : Turn)
+            → seen.joined ≡ is_some (seat_at conn t.broker.seats)
+            → seen.older ≡ older_in (client_in (view packet.now)) t.broker.seats
+            → seen.welcome ≡ welcome_in (client_in (view packet.now)) t.broker.seats → Stands self.old draft.old t
+            → Leads self.new draft.new e (acts (packet_acts seen conn (view packet.now)) t)) }
+        ensures ready { IfOk result (λ e. IsReady e self.new.seats) }
+        ensures same { desk_was self.new ≡ desk_was self.old }
+    {
+        let fits = is_writable(self.alloc, packet)?;
+        if !fits {
+            self.shut(draft, conn)?;
+            return Ok(Ending::Nothing);
+        }
+        if is_joined(&self.seats, conn) {
+            let ending = self.further_packet(draft, conn, packet)?;
+            return Ok(ending);
+        }
+        let ending = self.first_packet(draft, conn, packet)?;
+        Ok(ending)
+    }
+
+    /// A packet of this connection came.
+    pub(crate) fn draft_packet(
+        &mut self,
+        draft: &mut Draft,
+        conn: Conn,
+        packet: &Packet,
+        now: u64,
+    ) -> Result<Ending, AllocError>
+        requires { (draft_view draft.old).keeps ≡ [] }
+        ensures done { IfOk result (λ e. (t : Turn) → Stands self.old draft.old t
+            → Leads self.new draft.new e (stepped (PacketEvent conn (view packet.now) now) t)) }
+        ensures ready { IfOk result (λ e. IsReady e self.new.seats) }
+        ensures same { desk_was self.new ≡ desk_was self.old }
+    {
+        self.at(now);
+        self.hear(conn);
+        let ending = self.judge_packet(draft, conn, packet)?;
+        Ok(ending)
+    }
+}

@@ -1,0 +1,148 @@
+//! What a call answers, and the draft of it.
+ghost use Rattle.std.specs.Prelude.{◌≡◌, ◌++◌, ◌∷◌, [], IfOk, OnOk, map, false};
+ghost use Rattle.spk_packets.specs.Message.{Publish};
+ghost use Rattle.spk_packets.specs.View.{view};
+ghost use Rattle.spk_packets.specs.Spelling.{spelling};
+ghost use Rattle.spk_broker.specs.Sent.{outgoing, sort_of};
+ghost use Rattle.spk_broker.specs.Drafts.{draft_view, empty_draft};
+ghost use Rattle.spk_broker.specs.Parts.{post_view};
+
+use crate::post::Post;
+use spk_packets::{Packet, encode};
+use spk_session::Sort;
+use std::alloc::{AllocError, Global};
+use std::collections::VecDeque;
+
+/// The number of a connection. Numbers are 1, 2, .. in the order of opening, and none is given twice.
+pub type Conn = u64;
+
+/// Bytes for a connection.
+#[derive(Debug, PartialEq, Drop)]
+pub struct Outgoing {
+    pub conn: Conn,
+    /// Whether it may be dropped.
+    pub sort: Sort,
+    /// One packet, in its canonical spelling.
+    pub bytes: Vec<u8>,
+}
+
+/// What a call answers: what is to be sent, in order, and whom to close once that is sent.
+#[derive(Debug, PartialEq, Drop)]
+pub struct Out {
+    pub sends: Vec<Outgoing>,
+    pub closes: Vec<Conn>,
+}
+
+/// What a call answers so far, the messages that wait to be routed, and those that are to be retained.
+#[derive(Debug, Drop)]
+pub(crate) struct Draft {
+    pub(crate) alloc: Global,
+    pub(crate) sends: Vec<Outgoing>,
+    pub(crate) closes: Vec<Conn>,
+    pub(crate) waiting: VecDeque<Post>,
+    pub(crate) keeps: VecDeque<Post>,
+}
+
+/// Whether a packet may be dropped.
+fn sort_of(packet: &Packet) -> Sort
+    ensures { result ≡ sort_of (view packet.now) }
+{
+    match packet {
+        Packet::Publish { qos, .. } => {
+            if *qos == 0 {
+                Sort::QosZero
+            } else {
+                Sort::Other
+            }
+        }
+        _ => Sort::Other,
+    }
+}
+
+/// The canonical spelling. What can't be written is refused like want of memory.
+fn spelled(alloc: Global, packet: &Packet) -> Result<Vec<u8>, AllocError>
+    ensures { IfOk result (λ v. v.items ≡ spelling (view packet.now)) }
+{
+    match encode(alloc, packet) {
+        Ok(bytes) => Ok(bytes),
+        Err(_) => Err(AllocError),
+    }
+}
+
+impl Draft {
+    /// Nothing yet.
+    pub(crate) fn new(alloc: Global) -> Draft
+        ensures { draft_view result ≡ empty_draft }
+    {
+        Draft {
+            alloc,
+            sends: Vec::new(alloc),
+            closes: Vec::new(alloc),
+            waiting: VecDeque::new(alloc),
+            keeps: VecDeque::new(alloc),
+        }
+    }
+
+    /// One more packet for a connection.
+    pub(crate) fn say(&mut self, conn: Conn, packet: &Packet) -> Result<(), AllocError>
+        ensures { OnOk result (draft_view self.new ≡ record (draft_view self.old) {
+          sends = (draft_view self.old).sends
+              ++ outgoing (record { conn = conn; packet = view packet.now }) ∷ [];
+        }) }
+    {
+        let bytes = spelled(self.alloc, packet)?;
+        self.sends.push(Outgoing {
+            conn,
+            sort: sort_of(packet),
+            bytes,
+        })?;
+        Ok(())
+    }
+
+    /// One more connection to close.
+    pub(crate) fn tell(&mut self, conn: Conn) -> Result<(), AllocError>
+        ensures { OnOk result (draft_view self.new ≡ record (draft_view self.old) {
+          closes = (draft_view self.old).closes ++ conn ∷ [];
+        }) }
+    {
+        self.closes.push(conn)?;
+        Ok(())
+    }
+
+    /// One more message that waits.
+    pub(crate) fn queue(&mut self, post: Post) -> Result<(), AllocError>
+        ensures { OnOk result (draft_view self.new ≡ record (draft_view self.old) {
+          waiting = (draft_view self.old).waiting ++ post_view post ∷ [];
+        }) }
+    {
+        self.waiting.push_back(post)?;
+        Ok(())
+    }
+
+    /// One more PUBLISH for a connection.
+    pub(crate) fn publish(
+        &mut self,
+        conn: Conn,
+        post: &Post,
+        qos: u8,
+        retain: bool,
+        id: Option<u16>,
+    ) -> Result<(), AllocError>
+        ensures { OnOk result (draft_view self.new ≡ record (draft_view self.old) {
+          sends = (draft_view self.old).sends ++ outgoing (record {
+            conn = conn;
+            packet = Publish false qos retain (post_view post.now).topic id (post_view post.now).payload;
+          }) ∷ [];
+        }) }
+    {
+        let packet = Packet::Publish {
+            dup: false,
+            qos,
+            retain,
+            topic: post.topic.clone()?,
+            id,
+            payload: post.payload.clone()?,
+        };
+        self.say(conn, &packet)
+    }
+}

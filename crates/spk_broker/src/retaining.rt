@@ -1,0 +1,79 @@
+//! Retained messages (section 3.3.1.3).
+ghost use Rattle.std.specs.Prelude.{◌≡◌, ◌+◌, ◌<◌, ◌≤◌, map, string_bytes};
+ghost use Rattle.std.specs.List.{fold};
+ghost use Rattle.std.specs.VecDeque.{deque_len};
+ghost use Rattle.indexmap.specs.IndexMap.{spare};
+ghost use Rattle.spk_broker_rules.specs.Step.{retained_with};
+ghost use Rattle.spk_broker_rules.specs.Table.{put, remove};
+ghost use Rattle.spk_broker.specs.Parts.{post_view};
+ghost use Rattle.spk_broker.specs.View.{may_retain, retained_view, stored_view};
+
+use crate::desk::Stored;
+use crate::post::Post;
+use indexmap::IndexMap;
+use std::collections::VecDeque;
+
+/// The most topics with a retained message (own rule).
+const MOST_TOPICS: usize = 10_000;
+
+/// No message is retained on this topic.
+fn clear(retained: &mut IndexMap<String, Stored>, topic: &str)
+    ensures table { map retained_view retained.new.entries ≡ remove topic.now (map retained_view retained.old.entries) }
+    ensures room { spare retained.old ≤ spare retained.new }
+{
+    retained.retain(|name, _| name.as_str() != topic);
+}
+
+/// A message replaces the one on its topic, or stands behind the others.
+fn replace(retained: &mut IndexMap<String, Stored>, topic: String, stored: Stored)
+    requires { 0 < spare retained.old }
+    ensures table { map retained_view retained.new.entries ≡
+        put (string_bytes topic) (stored_view stored) (map retained_view retained.old.entries) }
+    ensures room { spare retained.old ≤ spare retained.new + 1 }
+{
+    let _ = retained.len();
+    let _ = retained.insert(topic, stored);
+}
+
+/// Whether there may be a message on this topic.
+fn has_room(retained: &IndexMap<String, Stored>, topic: &str) -> bool
+    ensures { result ≡ may_retain topic.now (map retained_view retained.now.entries) }
+{
+    retained.contains_key(topic) || retained.len() < MOST_TOPICS
+}
+
+/// What is retained after a message with RETAIN: an empty one is none, and there are at most 10,000 topics (own rule).
+pub(crate) fn retain(retained: &mut IndexMap<String, Stored>, post: Post)
+    requires { 0 < spare retained.old }
+    ensures table { map retained_view retained.new.entries ≡
+        retained_with (map retained_view retained.old.entries) (post_view post) }
+    ensures room { spare retained.old ≤ spare retained.new + 1 }
+{
+    if !post.retain {
+        return;
+    }
+    if post.payload.is_empty() {
+        clear(retained, post.topic.as_str());
+        return;
+    }
+    if !has_room(retained, post.topic.as_str()) {
+        return;
+    }
+    let stored = Stored {
+        payload: post.payload,
+        qos: post.qos,
+    };
+    replace(retained, post.topic, stored);
+}
+
+/// What is retained after these messages, one after the other.
+pub(crate) fn retain_all(retained: &mut IndexMap<String, Stored>, keeps: VecDeque<Post>)
+    requires { deque_len keeps ≤ spare retained.old }
+    ensures { map retained_view retained.new.entries ≡
+        fold retained_with (map retained_view retained.old.entries) (map post_view keeps.items) }
+{
+    let mut left = keeps;
+    while let Some(post) = left.pop_front() {
+        retain(retained, post);
+    }
+}

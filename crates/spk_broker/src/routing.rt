@@ -1,0 +1,77 @@
+//! Routing: each message that waits goes to all sessions before the next.
+ghost use Rattle.std.specs.Prelude.{◌≡◌, ◌+◌, ◌≤◌, length, OnOk, map};
+ghost use Rattle.std.specs.List.{flat_map};
+ghost use Rattle.indexmap.specs.IndexMap.{spare};
+ghost use Rattle.spk_broker_rules.specs.Plan.{Route};
+ghost use Rattle.spk_broker_rules.specs.Step.{Turn, act, route_one, serve};
+ghost use Rattle.spk_broker.specs.Drafts.{draft_view};
+ghost use Rattle.spk_broker.specs.Parts.{post_view};
+ghost use Rattle.spk_broker.specs.Rounds.{kept_with, left_of_round, with_round};
+ghost use Rattle.spk_broker.specs.View.{Stands, desk_was, how_many, seat_now, seat_was};
+
+use crate::desk::{Desk, Stored};
+use crate::out::Draft;
+use crate::post::Post;
+use crate::seat::Seat;
+use indexmap::IndexMap;
+use std::alloc::AllocError;
+
+/// What a routed message does to all sessions.
+fn round(seats: &mut [Seat], draft: &mut Draft, post: &Post) -> Result<(), AllocError>
+    ensures was { map seat_was seats.new ≡ map seat_was seats.old }
+    ensures left { OnOk result (flat_map seat_now seats.new ≡
+        left_of_round (serve (post_view post.now)) (flat_map seat_now seats.old)) }
+    ensures drafted { OnOk result (draft_view draft.new ≡
+        with_round (serve (post_view post.now)) (flat_map seat_now seats.old) (draft_view draft.old)) }
+{
+    for seat in seats.iter_mut() {
+        seat.serve(draft, post)?;
+    }
+    Ok(())
+}
+
+/// Room for what is to be retained, where the message is.
+fn keep(
+    retained: &mut IndexMap<String, Stored>,
+    draft: &mut Draft,
+    post: Post,
+) -> Result<(), AllocError>
+    ensures same { retained.new.entries ≡ retained.old.entries }
+    ensures room { OnOk result (length (draft_view draft.old).keeps ≤ spare retained.old
+        → length (draft_view draft.new).keeps ≤ spare retained.new) }
+    ensures drafted { OnOk result (draft_view draft.new ≡ record (draft_view draft.old) {
+      keeps = kept_with (post_view post) (draft_view draft.old).keeps;
+    }) }
+{
+    if post.retain {
+        retained.reserve(draft.keeps.len() + 1)?;
+        draft.keeps.push_back(post)?;
+    }
+    Ok(())
+}
+
+impl Desk {
+    /// One message, routed whole.
+    fn route_one(&mut self, draft: &mut Draft, post: Post) -> Result<(), AllocError>
+        ensures done { OnOk result ((t : Turn) → Stands self.old draft.old t
+            → Stands self.new draft.new (route_one (post_view post) t)) }
+        ensures same { desk_was self.new ≡ desk_was self.old }
+        ensures fewer { OnOk result (how_many self.new draft.new ≤ how_many self.old draft.old) }
+    {
+        round(&mut self.seats, draft, &post)?;
+        keep(&mut self.retained, draft, post)?;
+        Ok(())
+    }
+
+    /// Those that wait are routed, each whole before the next.
+    pub(crate) fn route(&mut self, draft: &mut Draft) -> Result<(), AllocError>
+        ensures done { OnOk result ((t : Turn) → Stands self.old draft.old t
+            → Stands self.new draft.new (act Route t)) }
+        ensures same { desk_was self.new ≡ desk_was self.old }
+    {
+        while let Some(post) = draft.waiting.pop_front() {
+            self.route_one(draft, post)?;
+        }
+        Ok(())
+    }
+}

@@ -1,0 +1,116 @@
+//! What one message does to one session.
+ghost use Rattle.std.specs.Prelude.{◌≡◌, OnOk, IfSome, Some, None, false};
+ghost use Rattle.spk_broker_rules.specs.Step.{bursts, hand, hand_at, serve};
+ghost use Rattle.spk_broker_rules.specs.Words.{best as rules_best, option_list, sent_as};
+ghost use Rattle.spk_broker.specs.Drafts.{draft_view, hand_some, left_by, served_by};
+ghost use Rattle.spk_broker.specs.Parts.{post_view};
+
+use crate::grants::{best, level};
+use crate::out::Draft;
+use crate::post::Post;
+use crate::seat::{Copy, Seat};
+use std::alloc::AllocError;
+
+impl Seat {
+    /// The session ends, and its connection with it; its will waits (own rule).
+    fn burst(&mut self, draft: &mut Draft) -> Result<(), AllocError>
+        ensures was { self.new.was ≡ self.old.was }
+        ensures left { OnOk result (option_list self.new.now ≡ left_by bursts self.old.now) }
+        ensures drafted { OnOk result (draft_view draft.new ≡
+            served_by bursts self.old.now (draft_view draft.old)) }
+    {
+        if self.ended {
+            return Ok(());
+        }
+        if let Some(line) = &self.here {
+            draft.tell(line.conn)?;
+            if let Some(will) = &line.will {
+                draft.queue(will.copied(will.qos, will.retain)?)?;
+            }
+        }
+        self.ended = true;
+        Ok(())
+    }
+
+    /// A message of QoS 0 goes to its connection, where it has one.
+    pub(crate) fn hand_plain(
+        &mut self,
+        draft: &mut Draft,
+        post: &Post,
+        retain: bool,
+    ) -> Result<(), AllocError>
+        ensures was { self.new.was ≡ self.old.was }
+        ensures left { OnOk result (option_list self.new.now ≡
+            left_by (hand (sent_as (post_view post.now) 0 retain)) self.old.now) }
+        ensures drafted { OnOk result (draft_view draft.new ≡
+            served_by (hand (sent_as (post_view post.now) 0 retain)) self.old.now (draft_view draft.old)) }
+    {
+        if self.ended {
+            return Ok(());
+        }
+        if let Some(line) = &self.here {
+            draft.publish(line.conn, post, 0, retain, None)?;
+        }
+        Ok(())
+    }
+
+    /// A message of QoS 1 gets the next identifier, and a kept session keeps a copy; one that may have no further
+    /// message ends.
+    pub(crate) fn hand_numbered(
+        &mut self,
+        draft: &mut Draft,
+        post: &Post,
+        qos: u8,
+        retain: bool,
+    ) -> Result<(), AllocError>
+        ensures was { self.new.was ≡ self.old.was }
+        ensures left { OnOk result (option_list self.new.now ≡
+            left_by (hand_some (sent_as (post_view post.now) qos retain)) self.old.now) }
+        ensures drafted { OnOk result (draft_view draft.new ≡
+            served_by (hand_some (sent_as (post_view post.now) qos retain)) self.old.now (draft_view draft.old)) }
+    {
+        if self.ended {
+            return Ok(());
+        }
+        let Ok(id) = self.ids.sent() else {
+            return self.burst(draft);
+        };
+        if self.kept {
+            self.copies.push(Copy {
+                id,
+                post: post.copied(qos, retain)?,
+                handed: self.here.is_some(),
+            })?;
+        }
+        if let Some(line) = &self.here {
+            draft.publish(line.conn, post, 1, retain, Some(id))?;
+        }
+        Ok(())
+    }
+
+    /// What a routed message does to the session: it goes to it with the lesser of its QoS and the greatest one
+    /// granted for its topic, without RETAIN (sections 3.3.1.3 and 3.8.4).
+    pub(crate) fn serve(&mut self, draft: &mut Draft, post: &Post) -> Result<(), AllocError>
+        ensures was { self.new.was ≡ self.old.was }
+        ensures left { OnOk result (option_list self.new.now ≡
+            left_by (serve (post_view post.now)) self.old.now) }
+        ensures drafted { OnOk result (draft_view draft.new ≡
+            served_by (serve (post_view post.now)) self.old.now (draft_view draft.old)) }
+    {
+        match level(post.qos, self.best(post.topic.as_str())) {
+            None => Ok(()),
+            Some(0) => self.hand_plain(draft, post, false),
+            Some(qos) => self.hand_numbered(draft, post, qos, false),
+        }
+    }
+
+    /// The greatest QoS granted for a topic.
+    fn best(&self, topic: &str) -> Option<u8>
+        ensures { IfSome self.now.now (λ s. result ≡ rules_best topic.now s.grants) }
+    {
+        match &self.regrant {
+            Some(grants) => best(grants, topic),
+            None => best(&self.grants, topic),
+        }
+    }
+}
