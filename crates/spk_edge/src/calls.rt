@@ -148,7 +148,7 @@ impl EdgeNode {
 
     /// A packet of the server: `input_of` says which of the others it is, of which each has its own refusals. A PUBLISH of
     /// QoS 1 is acknowledged by the first packet, and not where it is refused. A CONNACK that doesn't accept closes a
-    /// Connecting node. Taken, and nothing, is any other packet. PINGREQ is the caller's to send.
+    /// Connecting node. Any other packet is taken and gives nothing. PINGREQ is the caller's to send.
     pub fn packet(&mut self, now: u64, packet: &Packet) -> Result<Out, EdgeFault>
         ensures done { IfOk result (patch.IsDone self.old (input_of self.old.config now
             (view packet.now)) self.new) }
