@@ -1,5 +1,5 @@
 -- A loop that folds: what is left to fold.
-use Rattle.std.proofs.Common.{◌≡◌, ℕ, zero, suc, ◌+◌, ◌<◌, ◌≤◌, List, [], ◌∷◌, ◌++◌, length, map, take, drop, get_or, refl, sym, ap, ◌∙◌, arith}
+use Rattle.std.proofs.Common.{◌≡◌, ℕ, zero, suc, ◌+◌, ◌<◌, ◌≤◌, List, [], ◌∷◌, length, map, drop, get_or, refl, ap, ◌∙◌, arith}
 use Rattle.std.specs.List.{fold}
 
 pub fold-rest : {A B X : Type 0} (f : B → A → B) (g : X → A) (xs : List X) (i : ℕ) (x d : X) (b : B) → i < length xs → x ≡ get_or xs i d
