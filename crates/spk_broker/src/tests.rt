@@ -64,7 +64,10 @@ fn a_publish_goes_to_who_subscribed(rt: HostRuntime) -> Result<(), Fail> {
     let out = broker.packet(writer, &publish(alloc, "a/b")?, 0)?;
     assert_eq!(rt; out.sends.len(), 2);
     assert_eq!(rt; out.sends[0].bytes.as_slice(), [0x40, 2, 0, 9].as_slice());
-    assert_eq!(rt; out.sends[1].bytes.as_slice(), [0x30, 6, 0, 3, 97, 47, 98, 7].as_slice());
+    assert_eq!(rt;
+        out.sends[1].bytes.as_slice(),
+        [0x30, 6, 0, 3, 97, 47, 98, 7].as_slice()
+    );
     assert_eq!(rt; out.sends[1].conn, reader);
     let out = broker.packet(reader, &Packet::PingReq, 0)?;
     assert!(rt; sends_only(&out, reader, &[0xd0, 0]));
