@@ -1,5 +1,5 @@
 -- Grants counted session by session, and entries granted one after the other.
-use Rattle.std.proofs.Common.{◌≡◌, ℕ, zero, suc, ◌+◌, ◌-◌, ◌<◌, ◌≤◌, min, Bool, true, false, ◌||◌, cond, ltb, List, [], ◌∷◌, ◌++◌, length, map, take, drop, get_or, refl, sym, ap, ◌∙◌, arith, append_assoc, Option, Some, None}
+use Rattle.std.proofs.Common.{◌≡◌, ℕ, zero, suc, ◌+◌, ◌-◌, ◌<◌, ◌≤◌, min, Bool, true, false, ◌||◌, cond, ltb, List, [], ◌∷◌, ◌++◌, length, take, drop, get_or, refl, sym, ap, ◌∙◌, arith, append_assoc, Option, Some, None}
 use Rattle.std.specs.List.{flat_map, fold}
 use Rattle.std.specs.Option.{IfSome}
 use Rattle.std.proofs.lemmas.List.{length-append, length-drop}
@@ -12,7 +12,6 @@ use Rattle.spk_broker.specs.Asking.{seats_now}
 use Rattle.spk_broker.specs.Both.{Both}
 use Rattle.spk_broker.specs.Counting.{grants_in}
 use Rattle.spk_broker.specs.Granting.{Grown, with_request}
-use Rattle.spk_broker.specs.View.{seat_now}
 
 -- one session's are its own, and those behind it
 pub first-grants : (b : Both) (bs : List Both) → all_grants (seats_now (b ∷ bs)) ≡ grants_in b.now + all_grants (seats_now bs)

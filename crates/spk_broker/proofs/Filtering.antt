@@ -1,5 +1,5 @@
 -- Grants by filter.
-use Rattle.std.proofs.Common.{◌≡◌, ℕ, Bool, true, false, not, cond, List, [], ◌∷◌, ◌++◌, length, map, refl, sym, ap, ◌∙◌, string_bytes, Option, Some, None}
+use Rattle.std.proofs.Common.{◌≡◌, ℕ, Bool, true, false, not, cond, List, [], ◌∷◌, map, refl, sym, ap, ◌∙◌, string_bytes, Option, Some, None}
 use Rattle.std.specs.List.{filter, fold, list_any}
 use Rattle.std.specs.Option.{IfSome, option_map}
 use Rattle.spk_broker_rules.specs.Data as plain

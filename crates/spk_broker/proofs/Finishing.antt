@@ -1,5 +1,5 @@
 -- A call as a whole: what it drafted stands for the rules' step, and is settled or taken back.
-use Rattle.std.proofs.Common.{◌≡◌, ℕ, ◌≤◌, Bool, true, false, List, length, map, refl, sym, ap, subst, ◌∙◌, Result, Ok, Err}
+use Rattle.std.proofs.Common.{◌≡◌, ◌≤◌, length, map, refl, sym, ap, subst, ◌∙◌, Result, Ok, Err}
 use Rattle.std.specs.Result.{IfOk, OnErr, OnOk, is_ok}
 use Rattle.std.specs.declared.alloc.AllocError.{AllocError}
 use Rattle.indexmap.specs.IndexMap.{spare}
@@ -7,14 +7,13 @@ use Rattle.spk_broker_rules.specs.Data as plain
 use Rattle.spk_broker_rules.specs.Lawful.{IsLawful}
 use Rattle.spk_broker_rules.specs.Plan.{Event}
 use Rattle.spk_broker_rules.specs.Step.{Turn, begun, step}
-use Rattle.spk_broker.specs.declared.broker.Broker.TheInside.{Inside}
 use Rattle.spk_broker.specs.declared.desk.Desk.{Desk}
 use Rattle.spk_broker.specs.declared.fault.BrokerFault.{BrokerFault}
 use Rattle.spk_broker.specs.declared.out.Draft.{Draft}
 use Rattle.spk_broker.specs.declared.out.Out.{Out}
 use Rattle.spk_broker.specs.Drafts.{draft_view, empty_draft}
 use Rattle.spk_broker.specs.Sent.{outgoing, sent_view}
-use Rattle.spk_broker.specs.View.{IsKept, IsSettled, Stands, desk_now, desk_was, stepped}
+use Rattle.spk_broker.specs.View.{IsKept, IsSettled, Stands, desk_was, stepped}
 use Rattle.spk_broker_rules.proofs.AnyList.{step-lawful}
 use Rattle.spk_broker.specs.Endings.{Leads, ended}
 use Rattle.spk_broker.specs.declared.ending.Ending.{Ending}

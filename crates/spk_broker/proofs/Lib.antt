@@ -8,7 +8,6 @@ pub mod Entered
 pub mod Filtering
 pub mod Finishing
 pub mod Flats
-pub mod Folded
 pub mod Gives
 pub mod Offers
 pub mod Opening

@@ -1,14 +1,13 @@
 -- What retained messages offer, and what an offer does.
-use Rattle.std.proofs.Common.{◌≡◌, ℕ, zero, suc, ◌+◌, ◌<◌, ◌≤◌, Bool, true, false, cond, eqb, List, [], ◌∷◌, ◌++◌, length, length-set, map, take, drop, get_or, get_or-set_same, set, refl, sym, ap, subst, ◌∙◌, min, arith, Option, Some, None, append_assoc, append-nil}
+use Rattle.std.proofs.Common.{◌≡◌, ℕ, zero, suc, ◌+◌, ◌<◌, ◌≤◌, Bool, true, false, cond, eqb, List, [], ◌∷◌, ◌++◌, length, length-set, map, take, get_or, get_or-set_same, set, refl, sym, ap, subst, ◌∙◌, arith, Option, Some, None, append_assoc, append-nil}
 use Rattle.std.proofs.lemmas.List.{map-append, take_more}
-use Rattle.std.specs.List.{filter, find, flat_map, fold, slice_get}
-use Rattle.std.specs.Option.{is_some}
+use Rattle.std.specs.List.{filter, flat_map, fold, slice_get}
 use Rattle.indexmap.specs.IndexMap.{spare}
 use Rattle.spk_topics.specs.Fitting.{is_match}
 use Rattle.spk_session.specs.PacketIds.{next_id}
 use Rattle.spk_session.specs.Step.{has_room}
 use Rattle.spk_broker_rules.specs.Data as plain
-use Rattle.spk_broker_rules.specs.Lawful.{IsLawful, Rises}
+use Rattle.spk_broker_rules.specs.Lawful.{Rises}
 use Rattle.spk_broker_rules.specs.Step.{Turn, bursts, hand, hand_at, numbered, offer, offer_at, swap, with_key}
 use Rattle.spk_broker_rules.specs.Words.{offered, offers_to, option_list}
 use Rattle.spk_broker_rules.proofs.Lawfuls.{lawful-offer_at}
@@ -20,7 +19,7 @@ use Rattle.spk_broker.specs.Offering.{IsOf, Offering, offers_at}
 use Rattle.spk_broker.specs.Parts.{grant_view}
 use Rattle.spk_broker.specs.declared.seat.Grant.{Grant}
 use Rattle.spk_broker.specs.Sent.{outgoing}
-use Rattle.spk_broker.specs.View.{Stands, desk_now, seat_now, with_keeps}
+use Rattle.spk_broker.specs.View.{desk_now, seat_now, with_keeps}
 use Rattle.spk_broker.specs.declared.desk.Desk.{Desk}
 use Rattle.spk_broker.specs.declared.out.Draft.{Draft}
 use Rattle.spk_broker.proofs.Places.{key-above, swap-at, unequal}

@@ -1,5 +1,5 @@
 -- What follows once a call is settled.
-use Rattle.std.specs.Prelude.{◌≡◌, ℕ, Vec}
+use Rattle.std.specs.Prelude.{◌≡◌, Vec}
 use Rattle.std.specs.declared.alloc.Global.{Global}
 use Rattle.spk_broker_rules.specs.Data as plain
 use Rattle.spk_broker_rules.specs.Plan.{Ack}

@@ -18,7 +18,8 @@ impl Broker {
     pub fn closed(&mut self, conn: Conn, now: u64) -> Result<Out, BrokerFault>
         ensures sends { IfOk result (λ out. map sent_view out.sends.items ≡
             map outgoing (step self.old (Closed conn now)).sends) }
-        ensures closes { IfOk result (λ out. out.closes.items ≡ (step self.old (Closed conn now)).closes) }
+        ensures closes { IfOk result (λ out. out.closes.items ≡
+            (step self.old (Closed conn now)).closes) }
         ensures done { OnOk result (self.new ≡ (step self.old (Closed conn now)).broker) }
         ensures accepted { OnOk result (knows self.old conn ≡ true) }
         ensures fault { IfErr result (IsUnknown (knows self.old conn)) }
@@ -38,7 +39,8 @@ impl Broker {
     pub fn fault(&mut self, conn: Conn, fault: PacketFault, now: u64) -> Result<Out, BrokerFault>
         ensures sends { IfOk result (λ out. map sent_view out.sends.items ≡
             map outgoing (step self.old (Fault conn fault now)).sends) }
-        ensures closes { IfOk result (λ out. out.closes.items ≡ (step self.old (Fault conn fault now)).closes) }
+        ensures closes { IfOk result (λ out. out.closes.items ≡
+            (step self.old (Fault conn fault now)).closes) }
         ensures done { OnOk result (self.new ≡ (step self.old (Fault conn fault now)).broker) }
         ensures accepted { OnOk result (knows self.old conn ≡ true) }
         ensures fault { IfErr result (IsUnknown (knows self.old conn)) }
@@ -73,7 +75,8 @@ impl Broker {
     pub fn refused(&mut self, conn: Conn, sort: Sort, now: u64) -> Result<Out, BrokerFault>
         ensures sends { IfOk result (λ out. map sent_view out.sends.items ≡
             map outgoing (step self.old (Refused conn sort now)).sends) }
-        ensures closes { IfOk result (λ out. out.closes.items ≡ (step self.old (Refused conn sort now)).closes) }
+        ensures closes { IfOk result (λ out. out.closes.items ≡
+            (step self.old (Refused conn sort now)).closes) }
         ensures done { OnOk result (self.new ≡ (step self.old (Refused conn sort now)).broker) }
         ensures accepted { OnOk result (knows self.old conn ≡ true) }
         ensures fault { IfErr result (IsUnknown (knows self.old conn)) }

@@ -1,5 +1,5 @@
-//! An MQTT 3.1.1 broker without IO (chapters 3 and 4, QoS 0 and 1): connections, sessions, grants and retained messages. So far
-//! it is made and opens connections; its rules stand in `spk_broker_rules`.
+//! An MQTT 3.1.1 broker without IO (chapters 3 and 4, QoS 0 and 1): connections, sessions, grants and retained
+//! messages. What each call does is said by `spk_broker_rules`: here it is drafted, and then settled or taken back.
 #![tactic(auto)]
 
 mod asking;

@@ -19,7 +19,8 @@ impl Broker {
             map outgoing (step self.old (PacketEvent conn (view packet.now) now)).sends) }
         ensures closes { IfOk result (λ out. out.closes.items ≡
             (step self.old (PacketEvent conn (view packet.now) now)).closes) }
-        ensures done { OnOk result (self.new ≡ (step self.old (PacketEvent conn (view packet.now) now)).broker) }
+        ensures done { OnOk result (self.new ≡
+            (step self.old (PacketEvent conn (view packet.now) now)).broker) }
         ensures accepted { OnOk result (knows self.old conn ≡ true) }
         ensures fault { IfErr result (IsUnknown (knows self.old conn)) }
         ensures err { OnErr result (self.new ≡ self.old) }

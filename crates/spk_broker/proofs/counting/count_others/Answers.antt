@@ -1,4 +1,4 @@
-use Rattle.std.proofs.Common.{◌≡◌, ◌+◌, refl}
+use Rattle.std.proofs.Common.{◌+◌, refl}
 use Rattle.spk_broker.proofs.Counts.{counted, rest-is}
 use Rattle.spk_broker.proofs.counting.count_others.Goals as goal
 

@@ -1,11 +1,11 @@
-use Rattle.std.proofs.Common.{◌≡◌, ◌∙◌, ap, map, get_or, subst, sym, Option, Some, None, List, [], ℕ}
+use Rattle.std.proofs.Common.{◌≡◌, ◌∙◌, ap, map, get_or, subst, Option, Some, None, List, [], ℕ}
 use Rattle.std.specs.List.{fold}
 use Rattle.std.specs.Option.{IfSome}
 use Rattle.spk_packets.specs.View.{request_view}
 use Rattle.spk_broker_rules.specs.Data as plain
 use Rattle.spk_broker.specs.Asking.{seats_now}
 use Rattle.spk_broker.specs.Both.{Both}
-use Rattle.spk_broker.specs.Granting.{Grown, granting_view, with_request}
+use Rattle.spk_broker.specs.Granting.{granting_view, with_request}
 use Rattle.spk_broker.specs.Parts.{grant_view}
 use Rattle.spk_broker.specs.declared.seat.Grant.{Grant}
 use Rattle.spk_broker.proofs.Counts.{any-default, grown-is}

@@ -1,4 +1,4 @@
-use Rattle.std.proofs.Common.{◌∙◌, ap, map, set, get_or, sym}
+use Rattle.std.proofs.Common.{◌∙◌, ap, map, set, sym}
 use Rattle.std.proofs.lemmas.List.Edits.{map_over_more}
 use Rattle.spk_broker.specs.Granting.{renewed}
 use Rattle.spk_broker.specs.Parts.{grant_view}

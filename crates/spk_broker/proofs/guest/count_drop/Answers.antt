@@ -1,11 +1,8 @@
-use Rattle.std.proofs.Common.{◌≡◌, ◌<◌, ◌≤◌, ◌∙◌, [], ◌∷◌, sym, refl, length, map, arith}
-use Rattle.std.specs.List.{flat_map}
-use Rattle.std.specs.Option.{option_map}
-use Rattle.spk_broker_rules.specs.Step.{guest_dropped, guest_heard, other_guests}
-use Rattle.spk_broker.specs.Settling.{guest_left}
+use Rattle.std.proofs.Common.{◌<◌, ◌∙◌, sym, refl, length, map, arith}
+use Rattle.spk_broker_rules.specs.Step.{guest_dropped}
 use Rattle.spk_broker.specs.View.{guest_now, guest_was}
 use Rattle.spk_broker.specs.declared.guest.Guest.{Guest}
-use Rattle.spk_broker.proofs.Flats.{map-flat, other-flat, single-flat, option-flat}
+use Rattle.spk_broker.proofs.Flats.{map-flat}
 use Rattle.spk_broker.proofs.Walks.{walk-step, walk-end, same-step}
 use Rattle.spk_broker.proofs.guest.count_drop.Goals as goal
 

@@ -1,6 +1,5 @@
-use Rattle.std.proofs.Common.{◌≡◌, ◌∙◌, Bool, true, false, not, cond, [], ◌∷◌, sym, refl, ap, map, List, arith, rules, vec_len}
+use Rattle.std.proofs.Common.{◌≡◌, ◌∙◌, Bool, true, false, not, [], ◌∷◌, refl, ap, map, arith, rules, vec_len}
 use Rattle.std.specs.List.{filter, flat_map}
-use Rattle.std.specs.Vec.{with_items}
 use Rattle.std.proofs.lemmas.Fn.{filter_same}
 use Rattle.spk_broker.specs.Settling.{guest_left}
 use Rattle.spk_broker.specs.View.{guest_now, guest_was}

@@ -1,10 +1,7 @@
-use Rattle.std.proofs.Common.{◌≡◌, [], ◌∷◌, map}
+use Rattle.std.proofs.Common.{◌≡◌}
 use Rattle.std.specs.List.{flat_map}
-use Rattle.std.specs.Option.{option_map}
-use Rattle.spk_broker_rules.specs.Step.{guest_dropped, guest_heard, other_guests}
 use Rattle.spk_broker.specs.Settling.{guest_left}
-use Rattle.spk_broker.specs.View.{guest_now, guest_was}
-use Rattle.spk_broker.specs.declared.guest.Guest.{Guest}
+use Rattle.spk_broker.specs.View.{guest_now}
 use Rattle.spk_broker.proofs.Walks.{so_far}
 use Rattle.spk_broker.proofs.guest.settle_each.Given as goal
 

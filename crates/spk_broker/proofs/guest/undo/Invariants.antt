@@ -1,8 +1,5 @@
 use Rattle.std.proofs.Common.{◌≡◌, [], ◌∷◌, map}
 use Rattle.std.specs.List.{flat_map}
-use Rattle.std.specs.Option.{option_map}
-use Rattle.spk_broker_rules.specs.Step.{guest_dropped, guest_heard, other_guests}
-use Rattle.spk_broker.specs.Settling.{guest_left}
 use Rattle.spk_broker.specs.View.{guest_now, guest_was}
 use Rattle.spk_broker.specs.declared.guest.Guest.{Guest}
 use Rattle.spk_broker.proofs.Walks.{so_far}

@@ -1,9 +1,7 @@
-use Rattle.std.proofs.Common.{◌≡◌, ◌∙◌, ap, sym, string_bytes, true, rules}
+use Rattle.std.proofs.Common.{◌∙◌, ap, sym, string_bytes}
 use Rattle.spk_topics.specs.Fitting.{is_match}
-use Rattle.spk_broker_rules.specs.Data as plain
-use Rattle.spk_broker_rules.specs.Words.{offered}
 use Rattle.spk_broker.specs.Offering.{retained_at}
-use Rattle.spk_broker.specs.Parts.{grant_view, post_view}
+use Rattle.spk_broker.specs.Parts.{grant_view}
 use Rattle.spk_broker.specs.View.{stored_view}
 use Rattle.spk_broker.proofs.Offers.{offers-none, offers-one}
 use Rattle.spk_broker.proofs.presenting.offered_one.Goals as goal

@@ -1,4 +1,4 @@
-use Rattle.std.proofs.Common.{◌≡◌, ◌∙◌, ap, map, rules, refl}
+use Rattle.std.proofs.Common.{◌∙◌, ap, map, rules}
 use Rattle.spk_broker.specs.View.{retained_view}
 use Rattle.indexmap.proofs.CallerLemmas.{filter-RetainsPairs}
 use Rattle.spk_broker.proofs.Retained.{is_other, taken-out}

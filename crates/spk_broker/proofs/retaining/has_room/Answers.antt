@@ -1,4 +1,4 @@
-use Rattle.std.proofs.Common.{◌≡◌, ◌∙◌, sym}
+use Rattle.std.proofs.Common.{◌∙◌, sym}
 use Rattle.spk_broker.proofs.Retained.{looked-up, room-else, room-there}
 use Rattle.spk_broker.proofs.retaining.has_room.Goals as goal
 

@@ -1,10 +1,9 @@
 use Rattle.std.proofs.Common.{◌≡◌, ◌∙◌, ap, map, sym, subst, refl, get_or, string_bytes, Some}
 use Rattle.std.specs.List.{fold, position}
-use Rattle.std.specs.Option.{IfSome, option_map}
+use Rattle.std.specs.Option.{IfSome}
 use Rattle.spk_broker_rules.specs.Data as plain
 use Rattle.spk_broker_rules.specs.Step.{sits}
 use Rattle.spk_broker.specs.Asking.{passes, seat_here}
-use Rattle.spk_broker.specs.Both.{Both}
 use Rattle.spk_broker.specs.Granting.{taken_from, without_grants}
 use Rattle.spk_broker.specs.Parts.{grant_view}
 use Rattle.spk_broker.proofs.Alive.{same-there}

@@ -1,14 +1,8 @@
-use Rattle.std.proofs.Common.{ap, ◌≡◌, ◌<◌, ◌≤◌, ◌∙◌, [], ◌∷◌, sym, refl, length, map, arith}
-use Rattle.std.specs.List.{flat_map}
-use Rattle.std.specs.Option.{option_map}
-use Rattle.spk_broker_rules.specs.Data as plain
-use Rattle.spk_broker_rules.specs.Step.{line_dropped, line_heard}
-use Rattle.spk_broker_rules.specs.Words.{option_list}
+use Rattle.std.proofs.Common.{◌<◌, ◌∙◌, sym, refl, length, map, arith}
 use Rattle.spk_broker.specs.Both.{Both}
-use Rattle.spk_broker.specs.Seats.{seat_heard, seat_dropped}
-use Rattle.spk_broker.specs.Settling.{seat_left}
+use Rattle.spk_broker.specs.Seats.{seat_dropped}
 use Rattle.spk_broker.specs.View.{seat_now, seat_was}
-use Rattle.spk_broker.proofs.Flats.{map-flat, other-flat, single-flat, option-flat}
+use Rattle.spk_broker.proofs.Flats.{map-flat, option-flat}
 use Rattle.spk_broker.proofs.Walks.{walk-step, walk-end, same-step}
 use Rattle.spk_broker.proofs.turning.count_drop.Goals as goal
 

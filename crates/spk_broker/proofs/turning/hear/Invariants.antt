@@ -1,11 +1,7 @@
-use Rattle.std.proofs.Common.{◌≡◌, [], ◌∷◌, map}
+use Rattle.std.proofs.Common.{◌≡◌, map}
 use Rattle.std.specs.List.{flat_map}
-use Rattle.std.specs.Option.{option_map}
-use Rattle.spk_broker_rules.specs.Data as plain
-use Rattle.spk_broker_rules.specs.Step.{line_dropped, line_heard}
 use Rattle.spk_broker.specs.Both.{Both}
-use Rattle.spk_broker.specs.Seats.{seat_heard, seat_dropped}
-use Rattle.spk_broker.specs.Settling.{seat_left}
+use Rattle.spk_broker.specs.Seats.{seat_heard}
 use Rattle.spk_broker.specs.View.{seat_now, seat_was}
 use Rattle.spk_broker.proofs.Walks.{so_far}
 use Rattle.spk_broker.proofs.turning.hear.Given as goal

@@ -1,4 +1,4 @@
-use Rattle.std.proofs.Common.{◌≡◌, ◌∙◌, Bool, true, false, cond, [], ◌∷◌, sym, refl, ap, map, List, Option, Some, None, arith, rules, vec_len}
+use Rattle.std.proofs.Common.{◌≡◌, ◌∙◌, Bool, true, false, cond, [], ◌∷◌, refl, ap, map, Option, Some, None, arith, rules, vec_len}
 use Rattle.std.specs.List.{filter, flat_map}
 use Rattle.std.specs.Option.{is_some}
 use Rattle.std.proofs.lemmas.Fn.{filter_same}

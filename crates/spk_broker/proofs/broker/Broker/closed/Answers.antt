@@ -1,6 +1,5 @@
-use Rattle.std.proofs.Common.{◌≡◌, ◌∙◌}
-use Rattle.spk_broker_rules.specs.Plan.{Event, Closed}
-use Rattle.spk_broker.proofs.Finishing.{Call, Finished, closes-are, done-is, kept-is, room-for, sends-are}
+use Rattle.spk_broker_rules.specs.Plan.{Closed}
+use Rattle.spk_broker.proofs.Finishing.{closes-are, done-is, kept-is, room-for, sends-are}
 use Rattle.spk_broker.proofs.broker.Broker.closed.Goals as goal
 
 pub finish-requires : goal.finish-requires

@@ -1,12 +1,11 @@
-use Rattle.std.proofs.Common.{◌≡◌, ◌∙◌, ◌+◌, [], ◌∷◌, ◌++◌, ap, sym, subst, map, refl}
-use Rattle.std.specs.List.{flat_map}
+use Rattle.std.proofs.Common.{◌≡◌, ◌∙◌, ap, sym, subst, map, refl}
 use Rattle.std.proofs.lemmas.List.{map_push}
 use Rattle.spk_broker_rules.specs.Data as plain
 use Rattle.spk_broker_rules.specs.Lawful.{IsLawful}
 use Rattle.spk_broker_rules.specs.Plan.{Open}
 use Rattle.spk_broker_rules.specs.Step.{step}
 use Rattle.spk_broker_rules.proofs.AnyList.{step-lawful}
-use Rattle.spk_broker.specs.View.{desk_was, guest_was, guest_now}
+use Rattle.spk_broker.specs.View.{desk_was, guest_was}
 use Rattle.spk_broker.proofs.Opening.{guests-more, opened, opened-settled, with_guests}
 use Rattle.spk_broker.proofs.broker.Broker.greet.Goals as goal
 

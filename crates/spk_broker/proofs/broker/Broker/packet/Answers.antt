@@ -1,7 +1,6 @@
-use Rattle.std.proofs.Common.{◌≡◌, ◌∙◌}
 use Rattle.spk_packets.specs.View.{view}
-use Rattle.spk_broker_rules.specs.Plan.{Event, Packet}
-use Rattle.spk_broker.proofs.Finishing.{CallTo, Concluded, closes-to, done-to, kept-to, sends-to, stands-to}
+use Rattle.spk_broker_rules.specs.Plan.{Packet}
+use Rattle.spk_broker.proofs.Finishing.{closes-to, done-to, kept-to, sends-to, stands-to}
 use Rattle.spk_broker.proofs.broker.Broker.packet.Goals as goal
 
 pub conclude-requires-clause-stands : goal.conclude-requires-clause-stands

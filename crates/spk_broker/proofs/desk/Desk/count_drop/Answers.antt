@@ -1,4 +1,4 @@
-use Rattle.std.proofs.Common.{◌≡◌, ◌∙◌, refl, ap, map, arith, vec_len}
+use Rattle.std.proofs.Common.{◌∙◌, refl, ap, map, arith, vec_len}
 use Rattle.std.specs.List.{flat_map}
 use Rattle.std.specs.Vec.{with_items}
 use Rattle.spk_broker_rules.specs.Step.{guest_dropped}

@@ -1,4 +1,4 @@
-use Rattle.std.proofs.Common.{◌≡◌, ◌∙◌, sym, true, false}
+use Rattle.std.proofs.Common.{◌∙◌, sym, true, false}
 use Rattle.spk_broker.proofs.Ruled.{fault-stands}
 use Rattle.spk_broker.proofs.desk.Desk.draft_fault.Goals as goal
 

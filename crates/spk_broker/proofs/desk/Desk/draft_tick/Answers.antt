@@ -1,9 +1,8 @@
-use Rattle.std.proofs.Common.{◌≡◌, ◌∙◌, ap}
+use Rattle.std.proofs.Common.{◌∙◌, ap}
 use Rattle.std.specs.List.{flat_map}
 use Rattle.spk_broker_rules.specs.Plan.{At}
 use Rattle.spk_broker_rules.specs.Step.{act, silent_at}
 use Rattle.spk_broker.specs.Asking.{seats_now}
-use Rattle.spk_broker.specs.Both.{Both}
 use Rattle.spk_broker.proofs.Ruled.{tick-stands}
 use Rattle.spk_broker.proofs.desk.Desk.draft_tick.Goals as goal
 

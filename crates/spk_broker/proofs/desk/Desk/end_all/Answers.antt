@@ -1,4 +1,4 @@
-use Rattle.std.proofs.Common.{◌≡◌, ◌∙◌, ◌<◌, sym, subst, length, arith}
+use Rattle.std.proofs.Common.{◌∙◌, ◌<◌, sym, subst, length, arith}
 use Rattle.spk_broker.specs.View.{Stands}
 use Rattle.spk_broker.proofs.Ruled.{ends-more}
 use Rattle.spk_broker.proofs.Standing.{tell-stands}

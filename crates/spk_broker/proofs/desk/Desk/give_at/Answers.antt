@@ -1,4 +1,4 @@
-use Rattle.std.proofs.Common.{◌≡◌, ◌∙◌, [], ap, map, refl, sym, set, get_or, subst, Some, Global}
+use Rattle.std.proofs.Common.{◌≡◌, ◌∙◌, ap, map, refl, sym, get_or, subst, Some, Global}
 use Rattle.std.specs.List.{flat_map, fold}
 use Rattle.std.specs.Option.{option_map}
 use Rattle.std.specs.Vec.{with_item}

@@ -1,4 +1,4 @@
-use Rattle.std.proofs.Common.{◌≡◌, sym, subst, map, string_bytes}
+use Rattle.std.proofs.Common.{sym, subst, map, string_bytes}
 use Rattle.spk_packets.specs.View.{request_view, view}
 use Rattle.spk_broker_rules.specs.Plan.{next_packet, subscribe, unsubscribe}
 use Rattle.spk_broker_rules.specs.Step.{acts}

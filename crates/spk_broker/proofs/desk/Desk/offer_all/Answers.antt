@@ -1,7 +1,7 @@
-use Rattle.std.proofs.Common.{◌≡◌, ◌≤◌, ◌∙◌, ap, map, take, length, Global}
+use Rattle.std.proofs.Common.{◌∙◌, ap, map, take, Global}
 use Rattle.std.proofs.lemmas.List.{take_all}
 use Rattle.std.specs.List.{flat_map, fold}
-use Rattle.spk_broker_rules.specs.Step.{Turn, offer}
+use Rattle.spk_broker_rules.specs.Step.{offer}
 use Rattle.spk_broker_rules.specs.Words.{offers_to}
 use Rattle.spk_broker.specs.Parts.{grant_view}
 use Rattle.spk_broker.specs.View.{retained_view}

@@ -1,9 +1,9 @@
-use Rattle.std.proofs.Common.{◌≡◌, ◌≤◌, ◌∙◌, ap, map, take, length, arith, Global}
+use Rattle.std.proofs.Common.{◌≤◌, ◌∙◌, ap, map, take, length, arith, Global}
 use Rattle.std.proofs.lemmas.List.{length-map, take_all}
 use Rattle.std.specs.List.{fold, slice_get}
-use Rattle.spk_broker_rules.specs.Step.{Turn, offer}
+use Rattle.spk_broker_rules.specs.Step.{offer}
 use Rattle.spk_broker_rules.specs.Words.{offers_to}
-use Rattle.spk_broker.specs.Offering.{Offering, offers_at}
+use Rattle.spk_broker.specs.Offering.{offers_at}
 use Rattle.spk_broker.specs.Parts.{grant_view}
 use Rattle.spk_broker.specs.View.{retained_view}
 use Rattle.spk_broker.proofs.Offers.{offering-along, offers-step}

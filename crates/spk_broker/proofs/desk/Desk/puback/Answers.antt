@@ -1,5 +1,5 @@
 use Rattle.spk_packets.specs.Message.{PubAck}
-use Rattle.std.proofs.Common.{sym, subst, Option}
+use Rattle.std.proofs.Common.{sym, subst}
 use Rattle.spk_broker_rules.specs.Plan.{puback}
 use Rattle.spk_broker_rules.specs.Step.{acts}
 use Rattle.spk_broker.specs.View.{Stands}

@@ -1,8 +1,8 @@
-use Rattle.std.proofs.Common.{◌≡◌, ◌∙◌, ◌++◌, ◌∷◌, [], sym, ap, subst, true, false}
+use Rattle.std.proofs.Common.{◌∙◌, ◌∷◌, [], sym, ap, subst, true, false}
 use Rattle.std.specs.Option.{is_some}
 use Rattle.spk_topics.specs.Text.{topic_refusal}
 use Rattle.spk_broker_rules.specs.Plan.{Queue, Route, puback}
-use Rattle.spk_broker_rules.specs.Step.{act, acts}
+use Rattle.spk_broker_rules.specs.Step.{acts}
 use Rattle.spk_broker.specs.Parts.{post_view}
 use Rattle.spk_broker.specs.View.{Stands}
 use Rattle.spk_broker.proofs.Ruled.{acts-append, publish-stands}

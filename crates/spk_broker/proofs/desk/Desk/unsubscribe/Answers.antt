@@ -1,7 +1,7 @@
-use Rattle.std.proofs.Common.{◌≡◌, ◌∙◌, ◌∷◌, [], ap, map, sym, subst, false, cond, string_bytes}
+use Rattle.std.proofs.Common.{◌∙◌, ◌∷◌, [], map, sym, subst, cond, string_bytes}
 use Rattle.spk_packets.specs.Message.{UnsubAck}
 use Rattle.spk_broker_rules.specs.Plan.{Take, Say, shut}
-use Rattle.spk_broker_rules.specs.Step.{Turn, act, acts}
+use Rattle.spk_broker_rules.specs.Step.{act, acts}
 use Rattle.spk_broker.specs.View.{Stands}
 use Rattle.spk_broker.proofs.Standing.{say-stands}
 use Rattle.spk_broker.proofs.desk.Desk.unsubscribe.Goals as goal
