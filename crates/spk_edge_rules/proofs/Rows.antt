@@ -1,5 +1,6 @@
 -- What the definitions give in runs that are worked out by hand, byte by byte.
-use Rattle.std.proofs.Common.{◌≡◌, ℕ, Bool, true, false, List, [], ◌∷◌, ◌^◌, map, Some, None, Result, Ok, Err, refl, pos, codes}
+use Rattle.std.proofs.Common.{◌≡◌, ℕ, Bool, true, false, List, [], ◌∷◌, ◌^◌, map, replicate, Some, None, Result, Ok, Err, refl, pos, codes}
+use Rattle.spk_packets.specs.Message.{PubAck}
 use Rattle.spk_packets.specs.Spelling as packet
 use Rattle.spk_payload.specs.Spelling as payload
 use Rattle.std.specs.Str.{is_utf8, chars}
@@ -11,13 +12,16 @@ use Rattle.spk_payload.specs.Reading as reading
 use Rattle.spk_payload.specs.Typing.{Signed, Truth}
 use Rattle.spk_device.specs.Book.{Book}
 use Rattle.spk_device.specs.declared.fault.Refusal.TheVariants.{WrongKind, NoSuch}
+use Rattle.spk_store.specs.Calls.{DropFront}
+use Rattle.spk_device.specs.declared.owner.Owner.{Owner}
 use Rattle.spk_device.specs.declared.owner.Owner.TheVariants.{Node, Device}
 use Rattle.spk_sequence.specs.NodeRecord.{RunsOn, Restarts}
 use Rattle.spk_edge_rules.specs.declared.fault.EdgeFault.{EdgeFault}
 use Rattle.spk_edge_rules.specs.declared.fault.EdgeFault.TheVariants as fault
 use Rattle.spk_edge_rules.specs.Answers.{Answer}
-use Rattle.spk_edge_rules.specs.Config.{Setup}
-use Rattle.spk_edge_rules.specs.Inputs.{Input, Act, Open, Accepted, Change, Turn, Command, State, Drain, Stop, Cut}
+use Rattle.spk_edge_rules.specs.Config.{Config, Setup}
+use Rattle.spk_edge_rules.specs.Inputs.{Input, Act, ChangeData, Open, Accepted, Change, Turn, Command, State, Drain, Stop, Cut}
+use Rattle.spk_edge_rules.specs.Rules.{Asked, acked, draining, front_run, leaving}
 use Rattle.spk_edge_rules.specs.Step.{answer_at, record_at, standing_of}
 use Rattle.spk_edge_rules.specs.Run.{kept_of, record_of, right_at, run_of}
 
@@ -85,6 +89,11 @@ rebirth_command = Command (codes "spBv1.0/G/NCMD/N") (8 ∷ 9 ∷ 18 ∷ 28 ∷ 
 pub bears_again : Gives alone changed (at_moment 7 rebirth_command) (Ok ((48 ∷ 82 ∷ 0 ∷ 18 ∷ 115 ∷ 112 ∷ 66 ∷ 118 ∷ 49 ∷ 46 ∷ 48 ∷ 47 ∷ 71 ∷ 47 ∷ 78 ∷ 66 ∷ 73 ∷ 82 ∷ 84 ∷ 72 ∷ 47 ∷ 78 ∷ 8 ∷ 8 ∷ 18 ∷ 13 ∷ 10 ∷ 5 ∷ 98 ∷ 100 ∷ 83 ∷ 101 ∷ 113 ∷ 24 ∷ 8 ∷ 32 ∷ 4 ∷ 88 ∷ 0 ∷ 18 ∷ 28 ∷ 10 ∷ 20 ∷ 78 ∷ 111 ∷ 100 ∷ 101 ∷ 32 ∷ 67 ∷ 111 ∷ 110 ∷ 116 ∷ 114 ∷ 111 ∷ 108 ∷ 47 ∷ 82 ∷ 101 ∷ 98 ∷ 105 ∷ 114 ∷ 116 ∷ 104 ∷ 24 ∷ 8 ∷ 32 ∷ 11 ∷ 112 ∷ 0 ∷ 18 ∷ 11 ∷ 10 ∷ 1 ∷ 116 ∷ 16 ∷ 1 ∷ 24 ∷ 8 ∷ 32 ∷ 3 ∷ 80 ∷ 8 ∷ 24 ∷ 2 ∷ []) ∷ []))
 unfolding packet.spelling packet.body packet.shortest packet.has_bad_text packet.has_bad_body packet.is_qos_two payload.spelling payload.metric_spelling wire.varint wire.groups_of wire.bytes_field spelled_answer reading.payload_at reading.metric_at reading.each_item reading.text_at fields.items_of fields.items_within fields.field_at fields.varint_at fields.groups_at fields.value_at fields.some_at is_utf8 chars encode
 bears_again = (refl, refl)
+
+-- the acknowledgement stands before all else
+pub acknowledges_first : Gives alone changed (record { now = 7; ack = Some 7; act = rebirth_command }) (Ok ((64 ∷ 2 ∷ 0 ∷ 7 ∷ []) ∷ (48 ∷ 82 ∷ 0 ∷ 18 ∷ 115 ∷ 112 ∷ 66 ∷ 118 ∷ 49 ∷ 46 ∷ 48 ∷ 47 ∷ 71 ∷ 47 ∷ 78 ∷ 66 ∷ 73 ∷ 82 ∷ 84 ∷ 72 ∷ 47 ∷ 78 ∷ 8 ∷ 8 ∷ 18 ∷ 13 ∷ 10 ∷ 5 ∷ 98 ∷ 100 ∷ 83 ∷ 101 ∷ 113 ∷ 24 ∷ 8 ∷ 32 ∷ 4 ∷ 88 ∷ 0 ∷ 18 ∷ 28 ∷ 10 ∷ 20 ∷ 78 ∷ 111 ∷ 100 ∷ 101 ∷ 32 ∷ 67 ∷ 111 ∷ 110 ∷ 116 ∷ 114 ∷ 111 ∷ 108 ∷ 47 ∷ 82 ∷ 101 ∷ 98 ∷ 105 ∷ 114 ∷ 116 ∷ 104 ∷ 24 ∷ 8 ∷ 32 ∷ 11 ∷ 112 ∷ 0 ∷ 18 ∷ 11 ∷ 10 ∷ 1 ∷ 116 ∷ 16 ∷ 1 ∷ 24 ∷ 8 ∷ 32 ∷ 3 ∷ 80 ∷ 8 ∷ 24 ∷ 2 ∷ []) ∷ []))
+unfolding packet.spelling packet.body packet.shortest packet.has_bad_text packet.has_bad_body packet.is_qos_two payload.spelling payload.metric_spelling wire.varint wire.groups_of wire.bytes_field spelled_answer reading.payload_at reading.metric_at reading.each_item reading.text_at fields.items_of fields.items_within fields.field_at fields.varint_at fields.groups_at fields.value_at fields.some_at is_utf8 chars encode
+acknowledges_first = (refl, refl)
 
 abbrev borne_again : List Input
 borne_again = at_moment 7 rebirth_command ∷ changed
@@ -215,3 +224,27 @@ pub stops_in_order : Gives alone changed (at_moment 9 Stop) (Ok farewell_bytes)
     × Gives alone accepted (at_moment (2 ^ 63) Stop) (Err fault.ClockEnd)
 unfolding packet.spelling packet.body packet.shortest packet.has_bad_text packet.has_bad_body packet.is_qos_two payload.spelling payload.metric_spelling wire.varint wire.groups_of wire.bytes_field spelled_answer
 stops_in_order = ((refl, refl), (refl, refl), (refl, refl))
+
+-- ---- drains, by the rules alone
+
+abbrev a_change : Owner → ChangeData
+a_change owner = record { owner = owner; alias = 1; value = None; time = 5 }
+
+pub at_most_32_go_at_once : front_run (replicate 33 (a_change Node)) ≡ 32
+at_most_32_go_at_once = refl
+
+pub another_owner_waits : front_run (a_change Node ∷ a_change Node ∷ a_change (Device 0) ∷ a_change Node ∷ []) ≡ 2
+another_owner_waits = refl
+
+-- of a device that isn't up, what is dropped counts as lost, and nothing is sent
+pub dropped_is_lost : (a : Asked) → ((draining (record a { book = t_book 0 }) 5 (a_change (Device 0) ∷ a_change (Device 0) ∷ a_change Node ∷ [])).store ≡ Some (DropFront 2 true))
+    × ((draining (record a { book = t_book 0 }) 5 (a_change (Device 0) ∷ a_change (Device 0) ∷ a_change Node ∷ [])).drafts ≡ [])
+dropped_is_lost a = (refl, refl)
+
+-- what is sent doesn't
+pub sent_is_not_lost : (a : Asked) → (draining (record a { book = t_book 0 }) 5 (a_change Node ∷ [])).store ≡ Some (DropFront 1 false)
+sent_is_not_lost a = refl
+
+-- the acknowledgement of a STATE stands before the death that it brings
+pub acknowledges_before_the_death : (c : Config) (a : Asked) → (acked (Some 7) (leaving c a)).plain ≡ PubAck 7 ∷ (leaving c a).plain
+acknowledges_before_the_death c a = refl
