@@ -1,0 +1,5 @@
+//! What a host application of Sparkplug 3.0.0 shows of a node, and when it asks the node for a rebirth: definitions, and laws
+//! above them. No host is here.
+#![tactic(auto)]
+
+pub mod laws;
