@@ -1,5 +1,6 @@
 pub mod Asking
 pub mod Devices
+pub mod Foreign
 pub mod Lists
 pub mod Rows
 pub mod Showing

@@ -15,7 +15,7 @@ named-still : (r : Row) (o : Option MetricData) → (as_changed r o).name ≡ r.
 named-still r None = refl
 named-still r (Some m) = refl
 
-aliased-still : (a : ℕ) (r : Row) (o : Option MetricData) → is_alias (as_changed r o).alias a ≡ is_alias r.alias a
+pub aliased-still : (a : ℕ) (r : Row) (o : Option MetricData) → is_alias (as_changed r o).alias a ≡ is_alias r.alias a
 aliased-still a r None = refl
 aliased-still a r (Some m) = refl
 

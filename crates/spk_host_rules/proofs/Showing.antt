@@ -15,7 +15,7 @@ use Rattle.spk_host_rules.proofs.Devices.{in-mapped, in-put, name-found, shown-u
 
 -- ---- a birth shows its values, whatever stood before
 
-born : (events : List Event) (now : ℕ) (ms : List MetricData) (devices : List Device) → Shows (Consumed (NodeBirth ms) now ∷ events) (node_born ms devices)
+pub born : (events : List Event) (now : ℕ) (ms : List MetricData) (devices : List Device) → Shows (Consumed (NodeBirth ms) now ∷ events) (node_born ms devices)
 born events now ms devices = record {
   part = record { birth = ms; since = [] };
   is_last = refl;

@@ -1,5 +1,6 @@
 pub mod Asking
 pub mod Data
+pub mod Foreign
 pub mod Showing
 pub mod Step
 pub mod Table

@@ -1,5 +1,11 @@
-use Rattle.spk_host_rules.proofs.Showing.{always-shown}
+use Rattle.spk_host_rules.proofs.Showing.{always-shown, born, shown-after}
 use Rattle.spk_host_rules.proofs.laws.shows.Goals as goal
 
-pub returns : goal.returns
-returns c = always-shown
+pub returns-clause-any_list : goal.returns-clause-any_list
+returns-clause-any_list c = always-shown
+
+pub returns-clause-birth : goal.returns-clause-birth
+returns-clause-birth c = born
+
+pub returns-clause-keeps : goal.returns-clause-keeps
+returns-clause-keeps c = shown-after
