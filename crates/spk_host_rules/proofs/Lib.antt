@@ -4,3 +4,4 @@ pub mod Foreign
 pub mod Lists
 pub mod Rows
 pub mod Showing
+pub mod Worked
