@@ -11,7 +11,7 @@ use Rattle.spk_host_rules.specs.Foreign.{is_foreign, is_foreign_to}
 use Rattle.spk_host_rules.proofs.Rows.{aliased-still}
 use Rattle.spk_host_rules.proofs.Devices.{lives}
 
-any-map : {X Y : Type 0} (f : X → Y) (p : Y → Bool) (q : X → Bool) → ((x : X) → p (f x) ≡ q x) → (xs : List X) → list_any p (map f xs) ≡ list_any q xs
+pub any-map : {X Y : Type 0} (f : X → Y) (p : Y → Bool) (q : X → Bool) → ((x : X) → p (f x) ≡ q x) → (xs : List X) → list_any p (map f xs) ≡ list_any q xs
 any-map f p q h [] = refl
 any-map f p q h (x ∷ xs) = ap (λ b. b || list_any p (map f xs)) (h x) ∙ ap (λ b. q x || b) (any-map f p q h xs)
 

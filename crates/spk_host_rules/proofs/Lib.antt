@@ -4,4 +4,5 @@ pub mod Foreign
 pub mod Lists
 pub mod Rows
 pub mod Showing
+pub mod Tables
 pub mod Worked

@@ -1,4 +1,5 @@
 pub mod Asking
+pub mod Births
 pub mod Data
 pub mod Foreign
 pub mod Showing

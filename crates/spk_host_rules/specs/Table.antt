@@ -42,10 +42,12 @@ abbrev pub released : Option ℕ → Row → Row
 released None r = r
 released (Some alias) r = record r { alias = if is_alias r.alias alias then None else r.alias }
 
+abbrev pub replaced : Row → Row → Row
+replaced row r = if bytes_eq row.name r.name then row else r
+
 -- at the place of the row of its name, or else last
 abbrev pub placed : Row → List Row → List Row
-placed row [] = row ∷ []
-placed row (r ∷ rows) = if bytes_eq row.name r.name then row ∷ rows else r ∷ placed row rows
+placed row rows = if list_any (λ r. bytes_eq row.name r.name) rows then map (replaced row) rows else rows ++ row ∷ []
 
 abbrev pub row_of : List ℕ → MetricData → Row
 row_of name m = record { name = name; alias = m.alias; datatype = m.datatype; shown = shown_of m.datatype m }

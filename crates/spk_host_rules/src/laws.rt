@@ -1,12 +1,20 @@
 //! Laws of the definitions alone: functions that do nothing, whose contracts speak of definitions.
-ghost use Rattle.std.specs.Prelude.{◌≡◌, ◌↔◌, ℕ, true, List, ◌∷◌, Option};
+ghost use Rattle.std.specs.Prelude.{◌≡◌, ◌↔◌, ℕ, true, List, ◌∷◌, reverse, Option};
 ghost use Rattle.spk_payload.specs.Meaning.{MetricData};
 ghost use Rattle.spk_host_rules.specs.Asking.{IsAsked};
+ghost use Rattle.spk_host_rules.specs.Births.{table_by};
 ghost use Rattle.spk_host_rules.specs.Data.{Consumed, Device, Event, Message, NodeBirth, View};
 ghost use Rattle.spk_host_rules.specs.Foreign.{is_foreign};
 ghost use Rattle.spk_host_rules.specs.Showing.{IsShown, Shows};
 ghost use Rattle.spk_host_rules.specs.Step.{after, asked_at, is_unknown, node_born, view_after};
+ghost use Rattle.spk_host_rules.specs.Table.{table_of};
 ghost use Rattle.spk_host_rules.specs.Values.{consumed_of, last_part};
+
+/// A birth's table, made metric by metric, is what queries on its metrics say: each name once, where it first came, as its last
+/// metric has it, with that metric's alias unless a later one took it for another name.
+pub fn tables()
+    ensures { (metrics : List MetricData) → table_of metrics ≡ table_by (reverse metrics) }
+{}
 
 /// What a view shows, after any list of what was heard of a node, newest first.
 pub fn shows()
