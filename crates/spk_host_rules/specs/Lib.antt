@@ -2,6 +2,7 @@ pub mod Asking
 pub mod Births
 pub mod Data
 pub mod Foreign
+pub mod Order
 pub mod Showing
 pub mod Step
 pub mod Table

@@ -1,12 +1,13 @@
 //! Laws of the definitions alone: functions that do nothing, whose contracts speak of definitions.
-ghost use Rattle.std.specs.Prelude.{◌≡◌, ◌↔◌, ℕ, true, List, ◌∷◌, reverse, Option};
+ghost use Rattle.std.specs.Prelude.{◌≡◌, ◌↔◌, ℕ, true, List, ◌∷◌, map, reverse, Option};
 ghost use Rattle.spk_payload.specs.Meaning.{MetricData};
 ghost use Rattle.spk_host_rules.specs.Asking.{IsAsked};
 ghost use Rattle.spk_host_rules.specs.Births.{table_by};
 ghost use Rattle.spk_host_rules.specs.Data.{Consumed, Device, Event, Message, NodeBirth, View};
 ghost use Rattle.spk_host_rules.specs.Foreign.{is_foreign};
+ghost use Rattle.spk_host_rules.specs.Order.{device_names};
 ghost use Rattle.spk_host_rules.specs.Showing.{IsShown, Shows};
-ghost use Rattle.spk_host_rules.specs.Step.{after, asked_at, is_unknown, node_born, view_after};
+ghost use Rattle.spk_host_rules.specs.Step.{after, asked_at, devices_of, is_unknown, node_born, view_after};
 ghost use Rattle.spk_host_rules.specs.Table.{table_of};
 ghost use Rattle.spk_host_rules.specs.Values.{consumed_of, last_part};
 
@@ -21,6 +22,10 @@ pub fn shows()
     // there is a view exactly where a birth was taken; it shows the values at the last message consumed, of the node and of
     // each device, and who is online and whose metrics are stale
     ensures any_list { (wait : ℕ) (events : List Event) → IsShown events (after wait events).view }
+
+    // the devices stand in the order of their first births
+    ensures order { (wait : ℕ) (events : List Event) →
+        map (λ (d : Device). d.name) (devices_of (after wait events).view) ≡ device_names (consumed_of events) }
 
     // a birth shows its values, whatever devices were named before
     ensures birth { (events : List Event) (now : ℕ) (metrics : List MetricData) (devices : List Device) →

@@ -1,3 +1,4 @@
+use Rattle.spk_host_rules.proofs.Order.{in-order}
 use Rattle.spk_host_rules.proofs.Showing.{always-shown, born, shown-after}
 use Rattle.spk_host_rules.proofs.laws.shows.Goals as goal
 
@@ -9,3 +10,6 @@ returns-clause-birth c = born
 
 pub returns-clause-keeps : goal.returns-clause-keeps
 returns-clause-keeps c = shown-after
+
+pub returns-clause-order : goal.returns-clause-order
+returns-clause-order c = in-order
