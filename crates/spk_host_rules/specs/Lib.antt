@@ -7,3 +7,4 @@ pub mod Showing
 pub mod Step
 pub mod Table
 pub mod Values
+pub mod View

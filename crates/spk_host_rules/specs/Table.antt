@@ -26,9 +26,13 @@ abbrev pub shown_content : Option ℕ → Option Content → Shown
 shown_content datatype None = Nothing
 shown_content datatype (Some content) = shown_as datatype content
 
+-- a null shows nothing, and its value isn't looked at
+abbrev pub shown_with : Option ℕ → Option Bool → Option Content → Shown
+shown_with datatype null content = if is_set null then Nothing else shown_content datatype content
+
 -- what a metric shows by the datatype of its birth
 abbrev pub shown_of : Option ℕ → MetricData → Shown
-shown_of datatype m = if is_set m.null then Nothing else shown_content datatype m.value
+shown_of datatype m = shown_with datatype m.null m.value
 
 -- ---- the table of a birth
 
