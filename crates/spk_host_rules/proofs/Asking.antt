@@ -5,7 +5,7 @@ use Rattle.std.specs.List.{list_any}
 use Rattle.std.specs.Option.{option_map}
 use Rattle.std.proofs.lemmas.Bool.{leb-true, le-leb}
 use Rattle.spk_host_rules.specs.Data.{Event, Watch}
-use Rattle.spk_host_rules.specs.Step.{after, asked_at, asks, is_cause, is_birth, moment_of, may_ask, step}
+use Rattle.spk_host_rules.specs.Step.{after, asked_at, is_cause, is_birth, moment_of, may_ask}
 use Rattle.spk_host_rules.specs.Asking.{NoneAsked, IsDue, IsAsked}
 
 -- ---- the last event at which a rebirth was asked for, and the events since
@@ -132,9 +132,11 @@ asked-exactly wait before e = (there, back)
   where
     w : Watch
     w = after wait before
+
     there : asked_at wait before e ≡ true → IsAsked wait before e
     there h = let (cause, may) = both (is_cause w.view e) (may_ask wait (moment_of e) w.asked w.born_since) h in
         (cause, due-each wait (moment_of e) before (due-of wait (moment_of e) w.asked w.born_since (last_request wait before) (kept wait before) may))
+
     back : IsAsked wait before e → asked_at wait before e ≡ true
     back h = joined (is_cause w.view e) (may_ask wait (moment_of e) w.asked w.born_since) h.0
         (may-of wait (moment_of e) w.asked w.born_since (last_request wait before) (kept wait before) (due-last wait (moment_of e) before h.1))

@@ -1,15 +1,14 @@
 -- What becomes of each device of a view at a message, and at a loss or an end.
 use Rattle.std.proofs.Common.{◌≡◌, ℕ, Bool, true, false, not, ◌&&◌, ◌||◌, cond, List, [], ◌∷◌, ◌++◌, map, reverse, refl, sym, ◌∙◌, ap, Option, Some, None, true≢false}
-use Rattle.std.specs.List.{find}
 use Rattle.std.specs.Option.{option_map}
 use Rattle.std.specs.Str.{bytes_eq}
 use Rattle.spk_payload.specs.Meaning.{MetricData}
 use Rattle.spk_host_rules.specs.Data.{Row, Device}
 use Rattle.spk_host_rules.specs.Table.{table_of}
-use Rattle.spk_host_rules.specs.Values.{DeviceValues, values_at, values_in}
+use Rattle.spk_host_rules.specs.Values.{DeviceValues, values_at}
 use Rattle.spk_host_rules.specs.Step.{put_device, unborn, stale_device, ended_device, changed_device, dead_device, show_all}
 use Rattle.spk_host_rules.specs.Showing.{ShowsDevice, device_in}
-use Rattle.spk_host_rules.proofs.Lists.{found-passes, find-map, map-id, same-text, text-itself}
+use Rattle.spk_host_rules.proofs.Lists.{found-passes, find-map, map-id, same-text}
 use Rattle.spk_host_rules.proofs.Rows.{show_all-values}
 
 -- ---- by name
@@ -88,6 +87,7 @@ module _ (o f : Bool) where
       by : (b : Bool) → cond b (show_all ms (values_at birth since)) (values_at birth since) ≡ values_at birth (cond b (reverse ms) [] ++ since)
       by true = show_all-values ms (table_of birth) since
       by false = refl
+
       rows : cond (d.born && bytes_eq name d.name) (show_all ms d.rows) d.rows ≡ values_at birth (cond b (reverse ms) [] ++ since)
       rows = ap (λ c. cond (c && bytes_eq name d.name) (show_all ms d.rows) d.rows) h.0
           ∙ ap (λ c. cond c (show_all ms d.rows) d.rows) (is d refl)
@@ -101,9 +101,12 @@ module _ (o f : Bool) where
   shown-dead name b None since died (Some d) is h =
       (h.0, ap (λ x. x && not (bytes_eq name d.name)) h.1, ap (λ x. x || bytes_eq name d.name) h.2)
   shown-dead name b (Some birth) since died None is h = h
-  shown-dead name b (Some birth) since died (Some d) is h =
-      (h.0, h.1, ap (λ x. x && not (bytes_eq name d.name)) h.2 ∙ ap (λ c. (o && not died) && not c) (is d refl) ∙ off o died b,
-      ap (λ x. x || bytes_eq name d.name) h.3 ∙ ap (λ c. not (f && not died) || c) (is d refl) ∙ old f died b)
+  shown-dead name b (Some birth) since died (Some d) is h = (
+    h.0,
+    h.1,
+    ap (λ x. x && not (bytes_eq name d.name)) h.2 ∙ ap (λ c. (o && not died) && not c) (is d refl) ∙ off o died b,
+    ap (λ x. x || bytes_eq name d.name) h.3 ∙ ap (λ c. not (f && not died) || c) (is d refl) ∙ old f died b,
+  )
     where
       off : (x y z : Bool) → ((x && not y) && not z) ≡ (x && not (z || y))
       off true true true = refl
@@ -111,6 +114,7 @@ module _ (o f : Bool) where
       off true false true = refl
       off true false false = refl
       off false y z = refl
+
       old : (x y z : Bool) → (not (x && not y) || z) ≡ not (x && not (z || y))
       old true true true = refl
       old true true false = refl

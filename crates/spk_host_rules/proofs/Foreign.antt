@@ -1,10 +1,10 @@
 -- What a view doesn't know is what the births didn't give.
-use Rattle.std.proofs.Common.{◌≡◌, ℕ, Bool, true, false, not, ◌||◌, cond, List, [], ◌∷◌, map, refl, sym, ◌∙◌, ap, Option, Some, None}
+use Rattle.std.proofs.Common.{◌≡◌, ℕ, Bool, not, ◌||◌, cond, List, [], ◌∷◌, map, refl, sym, ◌∙◌, ap, Option, Some, None}
 use Rattle.std.specs.List.{find, list_any}
 use Rattle.spk_payload.specs.Meaning.{MetricData}
 use Rattle.spk_host_rules.specs.Data.{Row, Device, View, Message, NodeBirth, NodeData, DeviceBirth, DeviceData, DeviceDeath, Event}
 use Rattle.spk_host_rules.specs.Table.{table_of, is_alias, lacks, is_lacking, changes}
-use Rattle.spk_host_rules.specs.Values.{Part, last_part, consumed_of, as_changed, values_in, values_at, node_data, device_birth, device_data, has_died, is_online, is_followed}
+use Rattle.spk_host_rules.specs.Values.{last_part, consumed_of, as_changed, values_in, node_data, device_birth, device_data, has_died, is_online, is_followed}
 use Rattle.spk_host_rules.specs.Step.{is_unknown, is_device_lacking, rows_if_born}
 use Rattle.spk_host_rules.specs.Showing.{Shows, ShowsDevice, IsShown, device_in}
 use Rattle.spk_host_rules.specs.Foreign.{is_foreign, is_foreign_to}

@@ -1,16 +1,16 @@
 -- The devices of a view stand in the order of their first births.
 use Rattle.std.proofs.Common.{◌≡◌, ℕ, Bool, true, false, ◌||◌, cond, List, [], ◌∷◌, ◌++◌, map, refl, sym, ◌∙◌, ap, Option, Some, None}
 use Rattle.std.specs.List.{list_any}
-use Rattle.std.specs.Option.{is_some, option_map}
+use Rattle.std.specs.Option.{is_some}
 use Rattle.std.specs.Str.{bytes_eq}
 use Rattle.spk_payload.specs.Meaning.{MetricData}
 use Rattle.spk_host_rules.specs.Births.{and_name}
-use Rattle.spk_host_rules.specs.Data.{Row, Device, View, Message, NodeBirth, NodeData, DeviceBirth, DeviceData, DeviceDeath, Event, Consumed, Gap, NotLive, Over}
+use Rattle.spk_host_rules.specs.Data.{Device, View, NodeBirth, NodeData, DeviceBirth, DeviceData, DeviceDeath, Event, Consumed, Gap, NotLive, Over}
 use Rattle.spk_host_rules.specs.Order.{device_names}
 use Rattle.spk_host_rules.specs.Showing.{IsShown}
 use Rattle.spk_host_rules.specs.Step.{after, view_after, devices_of, put_device, unborn, stale_device, ended_device, changed_device, dead_device}
 use Rattle.spk_host_rules.specs.Table.{table_of}
-use Rattle.spk_host_rules.specs.Values.{Part, consumed_of, last_part}
+use Rattle.spk_host_rules.specs.Values.{consumed_of, last_part}
 use Rattle.spk_host_rules.proofs.Lists.{cond-ap, map-map, same-text}
 use Rattle.spk_host_rules.proofs.Showing.{always-shown}
 
@@ -23,6 +23,7 @@ names_put d (e ∷ ds) = by (bytes_eq d.name e.name) refl (names_put d ds)
   where
     names : List (List ℕ)
     names = map device_name ds
+
     by : (b : Bool) → bytes_eq d.name e.name ≡ b → map device_name (put_device d ds) ≡ and_name (Some d.name) names
         → map device_name (cond b (d ∷ ds) (e ∷ put_device d ds)) ≡ cond (b || list_any (λ n. bytes_eq d.name n) names) (e.name ∷ names) ((e.name ∷ names) ++ d.name ∷ [])
     by true is rest = ap (λ (n : List ℕ). n ∷ names) (same-text d.name e.name is)

@@ -5,7 +5,7 @@ use Rattle.std.specs.Option.{option_map}
 use Rattle.std.proofs.lemmas.List.{reverse-append}
 use Rattle.spk_payload.specs.Meaning.{MetricData}
 use Rattle.spk_host_rules.specs.Data.{Row}
-use Rattle.spk_host_rules.specs.Table.{table_of, name_of, name_by, is_alias, is_name, is_set, changes, changed}
+use Rattle.spk_host_rules.specs.Table.{name_of, name_by, is_alias, is_name, is_set, changes, changed}
 use Rattle.spk_host_rules.specs.Values.{as_changed, values_in}
 use Rattle.spk_host_rules.specs.Step.{show, show_all}
 use Rattle.spk_host_rules.proofs.Lists.{find-map, map-map}
@@ -37,16 +37,21 @@ show-values m table since = map-map before now both each table
   where
     last : Row → Option MetricData
     last r = find (λ n. changes table r.name n) since
+
     before : Row → Row
     before r = as_changed r (last r)
+
     now : Row → Row
     now r = cond (changes (values_in table since) r.name m) (changed m r) r
+
     both : Row → Row
     both r = as_changed r (cond (changes table r.name m) (Some m) (last r))
+
     by : (b : Bool) (r : Row) (o : Option MetricData) → cond b (changed m (as_changed r o)) (as_changed r o) ≡ as_changed r (cond b (Some m) o)
     by true r None = refl
     by true r (Some n) = refl
     by false r o = refl
+
     each : (r : Row) → now (before r) ≡ both r
     each r =
         ap (λ (n : List ℕ). cond (changes (values_in table since) n m) (changed m (before r)) (before r)) (named-still r (last r))

@@ -1,12 +1,11 @@
 -- After any list of events the view shows the values of what was heard.
-use Rattle.std.proofs.Common.{◌≡◌, ℕ, Bool, true, false, not, List, [], ◌∷◌, map, refl, sym, ◌∙◌, ap, Option, Some, None}
-use Rattle.std.specs.List.{find}
+use Rattle.std.proofs.Common.{◌≡◌, ℕ, true, List, [], ◌∷◌, map, refl, sym, ◌∙◌, ap, Option, Some, None}
 use Rattle.std.specs.Option.{option_map}
 use Rattle.std.specs.Str.{bytes_eq}
 use Rattle.spk_payload.specs.Meaning.{MetricData}
-use Rattle.spk_host_rules.specs.Data.{Row, Device, View, Message, NodeBirth, NodeData, DeviceBirth, DeviceData, DeviceDeath, Event, Consumed, Gap, NotLive, Over}
+use Rattle.spk_host_rules.specs.Data.{Device, View, NodeBirth, NodeData, DeviceBirth, DeviceData, DeviceDeath, Event, Consumed, Gap, NotLive, Over}
 use Rattle.spk_host_rules.specs.Table.{table_of}
-use Rattle.spk_host_rules.specs.Values.{Part, later, last_part, values_at, node_data, device_at, device_birth, device_data, has_died, consumed_of, is_online, is_followed}
+use Rattle.spk_host_rules.specs.Values.{later, node_data, device_at, device_birth, device_data, has_died, is_online, is_followed}
 use Rattle.spk_host_rules.specs.Step.{view_after, devices_of, node_born, unborn, stale_device, ended_device, changed_device, dead_device, show_all, after}
 use Rattle.spk_host_rules.specs.Showing.{Shows, ShowsDevice, IsShown, device_in}
 use Rattle.spk_host_rules.proofs.Lists.{map-id}

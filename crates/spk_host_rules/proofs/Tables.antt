@@ -1,13 +1,13 @@
 -- Putting the metrics of a birth into a table, one by one, gives the table that the queries ask for.
-use Rattle.std.proofs.Common.{◌≡◌, ℕ, Bool, true, false, not, ◌&&◌, ◌||◌, cond, eqb, List, [], ◌∷◌, ◌++◌, map, reverse, refl, sym, ◌∙◌, ap, inl, inr, append_assoc, append-nil, Option, Some, None, eq-eqb, ne_eqb, true≢false}
+use Rattle.std.proofs.Common.{◌≡◌, ℕ, Bool, true, false, ◌&&◌, ◌||◌, cond, eqb, List, [], ◌∷◌, ◌++◌, map, reverse, refl, sym, ◌∙◌, ap, inl, inr, append_assoc, append-nil, Option, Some, None, eq-eqb, ne_eqb, true≢false}
 use Rattle.std.specs.List.{find, list_any}
 use Rattle.std.specs.Option.{is_some}
 use Rattle.std.proofs.lemmas.Bool.{cases_eq}
-use Rattle.std.proofs.lemmas.List.{map-append, reverse-append, reverse-reverse}
+use Rattle.std.proofs.lemmas.List.{map-append, reverse-append}
 use Rattle.std.specs.Str.{bytes_eq}
 use Rattle.spk_payload.specs.Meaning.{MetricData}
 use Rattle.spk_host_rules.specs.Data.{Row}
-use Rattle.spk_host_rules.specs.Table.{is_alias, is_name, released, replaced, placed, row_of, with_named, with_metric, table_from, table_of}
+use Rattle.spk_host_rules.specs.Table.{is_alias, is_name, released, replaced, row_of, with_named, with_metric, table_from, table_of}
 use Rattle.spk_host_rules.specs.Births.{and_name, names_of, newer_than, left_by, row_from, row_at, table_by}
 use Rattle.spk_host_rules.proofs.Lists.{map-map, same-text, text-itself}
 use Rattle.spk_host_rules.proofs.Foreign.{any-map}
@@ -37,6 +37,7 @@ nameless n m before h =
     left : (alias : Option ℕ) → left_by (m ∷ newer_than n before) alias ≡ left_by (newer_than n before) alias
     left None = refl
     left (Some a) = ap (λ (name : Option (List ℕ)). cond ((is_some name && is_alias m.alias a) || list_any (λ x. is_some x.name && is_alias x.alias a) (newer_than n before)) None (Some a)) h
+
     by : (o : Option MetricData) → row_from n o (m ∷ newer_than n before) ≡ row_from n o (newer_than n before)
     by None = refl
     by (Some x) = ap (λ (alias : Option ℕ). record (row_of n x) { alias = alias }) (left x.alias)
@@ -50,6 +51,7 @@ other-name k n m before h other =
   where
     newer : List MetricData
     newer = newer_than n before
+
     taken : (t : Bool) (q : Bool) (a b : ℕ) → t ≡ eqb b a → cond (t || q) None (Some b) ≡ cond (is_alias (cond q None (Some b)) a) None (cond q None (Some b))
     taken t true a b is = by-t t
       where
@@ -58,6 +60,7 @@ other-name k n m before h other =
         by-t false = refl
     taken true false a b is = ap (λ c. cond c None (Some b)) is
     taken false false a b is = ap (λ c. cond c None (Some b)) is
+
     left : (alias mine : Option ℕ) → m.alias ≡ mine → (x : MetricData) → record (row_of n x) { alias = left_by (m ∷ newer) alias } ≡ released mine (record (row_of n x) { alias = left_by newer alias })
     left None None is x = refl
     left None (Some a) is x = refl
@@ -66,9 +69,11 @@ other-name k n m before h other =
     left (Some b) (Some a) is x = ap (λ (alias : Option ℕ). record (row_of n x) { alias = alias })
         (taken (is_some m.name && is_alias m.alias b) (list_any (λ y. is_some y.name && is_alias y.alias b) newer) a b
         (ap (λ (name : Option (List ℕ)). is_some name && is_alias m.alias b) h ∙ ap (λ (o : Option ℕ). is_alias o b) is ∙ eqb-flip a b))
+
     blank : (mine : Option ℕ) → row_from n None newer ≡ released mine (row_from n None newer)
     blank None = refl
     blank (Some a) = refl
+
     by : (o : Option MetricData) → row_from n o (m ∷ newer) ≡ released m.alias (row_from n o newer)
     by None = blank m.alias
     by (Some x) = left x.alias m.alias refl x
@@ -107,6 +112,7 @@ put k m before h n = ap (λ (x : List ℕ). cond (bytes_eq k x) (row_of k m) (re
     still : (alias : Option ℕ) → (released alias (row_at before n)).name ≡ (row_at before n).name
     still None = refl
     still (Some a) = refl
+
     by : (b : Bool) → bytes_eq k n ≡ b → cond b (row_of k m) (released m.alias (row_at before n)) ≡ row_at (m ∷ before) n
     by true is = sym (own-name k n m before h is)
     by false is = sym (other-name k n m before h is)
@@ -116,18 +122,22 @@ more m before = by m.name refl
   where
     ns : List (List ℕ)
     ns = names_of before
+
     by : (o : Option (List ℕ)) → m.name ≡ o → with_named o m (map (row_at before) ns) ≡ map (row_at (m ∷ before)) (and_name o ns)
     by None h = map-same (row_at before) (row_at (m ∷ before)) (λ n. sym (nameless n m before h)) ns
     by (Some k) h = ap (λ b. cond b (map (replaced (row_of k m)) freed) (freed ++ row_of k m ∷ [])) there ∙ each (list_any (λ n. bytes_eq k n) ns) refl
       where
         freed : List Row
         freed = map (released m.alias) (map (row_at before) ns)
+
         still : (alias : Option ℕ) (r : Row) → bytes_eq k (released alias r).name ≡ bytes_eq k r.name
         still None r = refl
         still (Some a) r = refl
+
         there : list_any (λ r. bytes_eq k r.name) freed ≡ list_any (λ n. bytes_eq k n) ns
         there = any-map (released m.alias) (λ r. bytes_eq k r.name) (λ r. bytes_eq k r.name) (still m.alias) (map (row_at before) ns)
             ∙ any-map (row_at before) (λ r. bytes_eq k r.name) (λ n. bytes_eq k n) (λ n. ap (bytes_eq k) (named-row n (find (λ x. is_name x.name n) before) (newer_than n before))) ns
+
         each : (b : Bool) → list_any (λ n. bytes_eq k n) ns ≡ b → cond b (map (replaced (row_of k m)) freed) (freed ++ row_of k m ∷ []) ≡ map (row_at (m ∷ before)) (cond b ns (ns ++ k ∷ []))
         each true is =
             ap (map (replaced (row_of k m))) (map-map (row_at before) (released m.alias) (λ n. released m.alias (row_at before n)) (λ n. refl) ns)

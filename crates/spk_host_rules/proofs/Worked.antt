@@ -1,11 +1,11 @@
 -- The rules at lists of events that were worked out by hand, named by what they show.
-use Rattle.std.proofs.Common.{◌≡◌, ℕ, Bool, true, false, List, [], ◌∷◌, ◌++◌, reverse, pos, codes, refl, Option, Some, None}
+use Rattle.std.proofs.Common.{◌≡◌, ℕ, Bool, true, false, List, [], ◌∷◌, reverse, pos, codes, refl, Option, Some, None}
 use Rattle.spk_payload.specs.Meaning.{Content, Int, Flag, Words, MetricData}
 use Rattle.spk_payload.specs.Meaning as meaning
 use Rattle.spk_payload.specs.Typing.{Signed, Truth, Text}
 use Rattle.spk_host_rules.specs.Data.{Shown, Nothing, Value, Other, Row, Device, View, Message, NodeBirth, NodeData, DeviceBirth, DeviceData, DeviceDeath, Event, Consumed, Gap, NotLive, Over}
 use Rattle.spk_host_rules.specs.Table.{table_of}
-use Rattle.spk_host_rules.specs.Values.{values_at, device_at}
+use Rattle.spk_host_rules.specs.Values.{values_at}
 use Rattle.spk_host_rules.specs.Step.{after, asked_at}
 
 -- ---- words

@@ -1,7 +1,7 @@
 -- When a rebirth is asked for, by the list of all that was heard, newest first.
 use Rattle.std.specs.Prelude.{◌≡◌, ℕ, ◌-◌, ◌≤◌, ◌⊎◌, true, false, List, [], ◌∷◌, ◌++◌}
 use Rattle.std.specs.List.{list_any}
-use Rattle.spk_host_rules.specs.Data.{Event, Watch}
+use Rattle.spk_host_rules.specs.Data.{Event}
 use Rattle.spk_host_rules.specs.Step.{after, asked_at, is_cause, is_birth, moment_of}
 
 -- at none of these, each after the ones before it, a rebirth was asked for

@@ -1,5 +1,5 @@
 -- What a message names that the births didn't give, by the messages alone.
-use Rattle.std.specs.Prelude.{ℕ, Bool, true, false, List, [], Option, Some, None}
+use Rattle.std.specs.Prelude.{Bool, true, false, List, [], Option, Some, None}
 use Rattle.spk_payload.specs.Meaning.{MetricData}
 use Rattle.spk_host_rules.specs.Data.{Message, NodeBirth, NodeData, DeviceBirth, DeviceData, DeviceDeath}
 use Rattle.spk_host_rules.specs.Table.{table_of, is_lacking}

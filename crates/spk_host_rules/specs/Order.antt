@@ -1,5 +1,5 @@
 -- The devices that a host names, by the messages alone, newest first.
-use Rattle.std.specs.Prelude.{ℕ, Bool, List, [], ◌∷◌, Option, Some, None, is_some, if◌then◌else◌}
+use Rattle.std.specs.Prelude.{ℕ, List, [], ◌∷◌, Some, is_some, if◌then◌else◌}
 use Rattle.spk_host_rules.specs.Births.{and_name}
 use Rattle.spk_host_rules.specs.Data.{Message, NodeBirth, NodeData, DeviceBirth, DeviceData, DeviceDeath}
 use Rattle.spk_host_rules.specs.Values.{last_part}

@@ -27,7 +27,7 @@ pub record Shows (events : List Event) (v : View) : Type 0 where
   pub stale : v.stale ≡ not (is_followed events)
   -- and each device has its own
   pub devices : (device : List ℕ) →
-    ShowsDevice (is_online events) (is_followed events) (device_at device part.since) (device_in device v.devices)
+      ShowsDevice (is_online events) (is_followed events) (device_at device part.since) (device_in device v.devices)
 
 -- there is a view from the first birth on
 abbrev pub IsShown : List Event → Option View → Type 0

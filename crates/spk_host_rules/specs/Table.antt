@@ -1,6 +1,6 @@
 -- The metrics of a birth as a table (Sparkplug 3.0.0, 6.4.5 "Metric" and 5.4 on births), and what a metric does to a row of it.
 -- That a later metric takes an alias or a name away from an earlier one is the project's own rule.
-use Rattle.std.specs.Prelude.{ℕ, Bool, true, false, not, ◌&&◌, ◌==◌, List, [], ◌∷◌, ◌++◌, map, Option, Some, None, if◌then◌else◌}
+use Rattle.std.specs.Prelude.{ℕ, Bool, false, not, ◌&&◌, ◌==◌, List, [], ◌∷◌, ◌++◌, map, Option, Some, None, if◌then◌else◌}
 use Rattle.std.specs.List.{find, list_any}
 use Rattle.std.specs.Option.{option_map}
 use Rattle.std.specs.Str.{bytes_eq}
