@@ -11,8 +11,8 @@ ghost use Rattle.spk_host_rules.specs.Step.{after, asked_at, devices_of, is_unkn
 ghost use Rattle.spk_host_rules.specs.Table.{table_of};
 ghost use Rattle.spk_host_rules.specs.Values.{consumed_of, last_part};
 
-/// A birth's table, made metric by metric, is what queries on its metrics say: each name once, where it first came, as its last
-/// metric has it, with that metric's alias unless a later one took it for another name.
+/// A birth's table, made metric by metric, is what queries on its metrics say: each name once, where it first came, as
+/// its last metric has it, with that metric's alias unless a later one took it for another name.
 pub fn tables()
     ensures { (metrics : List MetricData) → table_of metrics ≡ table_by (reverse metrics) }
 {}
@@ -28,8 +28,8 @@ pub fn shows()
         map (λ (d : Device). d.name) (devices_of (after wait events).view) ≡ device_names (consumed_of events) }
 
     // a birth shows its values, whatever devices were named before
-    ensures birth { (events : List Event) (now : ℕ) (metrics : List MetricData) (devices : List Device) →
-        Shows (Consumed (NodeBirth metrics) now ∷ events) (node_born metrics devices) }
+    ensures birth { (events : List Event) (now : ℕ) (metrics : List MetricData) →
+        (devices : List Device) → Shows (Consumed (NodeBirth metrics) now ∷ events) (node_born metrics devices) }
 
     // and each event keeps it
     ensures keeps { (events : List Event) (e : Event) (view : Option View) →
@@ -39,9 +39,10 @@ pub fn shows()
 /// When a rebirth is asked for, along any list of what was heard of a node, newest first.
 pub fn asked()
     // exactly at a cause where none had been asked for less than `wait` before, or where a birth was taken between
-    ensures exactly { (wait : ℕ) (before : List Event) (e : Event) → (asked_at wait before e ≡ true) ↔ IsAsked wait before e }
+    ensures exactly { (wait : ℕ) (before : List Event) (e : Event) →
+        (asked_at wait before e ≡ true) ↔ IsAsked wait before e }
 
     // what the view doesn't know is what the births of this part didn't give
-    ensures unknown { (events : List Event) (view : Option View) (m : Message) → IsShown events view →
-        is_unknown view m ≡ is_foreign (last_part (consumed_of events)) m }
+    ensures unknown { (events : List Event) (view : Option View) (m : Message) →
+        IsShown events view → is_unknown view m ≡ is_foreign (last_part (consumed_of events)) m }
 {}
