@@ -163,6 +163,10 @@ two_are_apart = refl
 a_birth_lets_ask_again : asked_along 2000 (Gap 14 ∷ Consumed (NodeBirth []) 13 ∷ NotLive 12 ∷ Over ∷ Gap 10 ∷ []) ≡ true ∷ false ∷ false ∷ false ∷ true ∷ []
 a_birth_lets_ask_again = refl
 
+-- but once
+a_birth_lets_ask_once : asked_along 2000 (NotLive 15 ∷ Gap 14 ∷ Consumed (NodeBirth []) 13 ∷ Gap 10 ∷ []) ≡ false ∷ true ∷ false ∷ true ∷ []
+a_birth_lets_ask_once = refl
+
 an_earlier_moment_is_no_time : asked_along 2000 (NotLive 5 ∷ Gap 3000 ∷ []) ≡ false ∷ true ∷ []
 an_earlier_moment_is_no_time = refl
 
