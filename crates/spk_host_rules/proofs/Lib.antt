@@ -1,0 +1,9 @@
+pub mod Asking
+pub mod Devices
+pub mod Foreign
+pub mod Lists
+pub mod Order
+pub mod Rows
+pub mod Showing
+pub mod Tables
+pub mod Worked

@@ -1,0 +1,10 @@
+pub mod Asking
+pub mod Births
+pub mod Data
+pub mod Foreign
+pub mod Order
+pub mod Showing
+pub mod Step
+pub mod Table
+pub mod Values
+pub mod View
