@@ -4,5 +4,7 @@
 
 mod order;
 mod slots;
+#[cfg(test)]
+mod tests;
 
 pub use order::{Handed, NoMemory, Order};
