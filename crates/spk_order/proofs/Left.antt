@@ -5,7 +5,9 @@ use Rattle.std.proofs.lemmas.List.FromFn.{get_or-map-range_with_len, length-map-
 use Rattle.std.proofs.lemmas.Bool.{cases_lt}
 use Rattle.spk_sequence.specs.Data.{Standing, IsWhole, held_at}
 use Rattle.spk_sequence.specs.Numbers.{held_as, Remains}
-use Rattle.spk_sequence.specs.Step.{ahead, fresh_standing}
+use Rattle.spk_sequence.specs.Step.{ahead, fresh_standing, after_stop, is_over, tick, is_match, match_of, death}
+use Rattle.spk_sequence.specs.declared.phase.Phase.TheVariants as phase
+use Rattle.spk_sequence.specs.declared.answer.Match.TheVariants as Match
 use Rattle.spk_order.specs.Ordered.{Ordered, kept_at, IsKept}
 use Rattle.spk_order.specs.Step.{left_at, left_by, fresh_order}
 
@@ -112,3 +114,29 @@ stands s kept = record { standing = s; kept = kept }
 pub fresh_data : {T : Type 0} (s : Standing) (kept : List (Option T)) (wait width : ℕ) → s ≡ fresh_standing wait width →
     kept ≡ replicate 256 None → stands s kept ≡ fresh_order wait width
 fresh_data s kept wait width e f = ap (λ t. stands t kept) e ∙ ap (stands (fresh_standing wait width)) f
+
+-- where nothing is kept that is not held, all of it stays
+same_kept : {T : Type 0} (b : Bool) (x : Option T) → (is_some x ≡ true → b ≡ true) → x ≡ cond b x None
+same_kept true x full = refl
+same_kept false None full = refl
+same_kept false (Some own) full = absurd (let e : false ≡ true = full refl in cc)
+
+pub left_still : {T : Type 0} (s : Standing) (kept : List (Option T)) → length kept ≡ 256 →
+    ((x : ℕ) → x < 256 → is_some (kept_at kept x) ≡ true → is_some (held_as s x) ≡ true) → left_by s kept ≡ kept
+left_still s kept sized full =
+    sym (left_ends s kept kept sized (λ x byte. same_kept (is_some (held_as s x)) (kept_at kept x) (full x byte)))
+
+pub left_kept_still : {T : Type 0} (s new : Standing) (kept : List (Option T)) → IsKept s kept → new ≡ s → left_by new kept ≡ kept
+left_kept_still s new kept are e = rw e (left_still s kept are.sized (λ x byte there. sym (are.exact x byte) ∙ there))
+
+-- a moment at which no wait ends, and a death of another session, change nothing
+pub still_tick : (s new : Standing) (now : ℕ) → is_over s now ≡ false → new ≡ tick s now → new ≡ s
+still_tick s new now over e = e ∙ ap (λ b. cond b (after_stop s phase.Gap) s) over
+
+match_false : (b : Bool) → cond b Match.Matched Match.Ignored ≡ Match.Ignored → b ≡ false
+match_false true e = absurd (cc)
+match_false false e = refl
+
+pub still_death : (s new : Standing) (bd : ℕ) → match_of s bd ≡ Match.Ignored → new ≡ death s bd → new ≡ s
+still_death s new bd ignored e =
+    e ∙ ap (λ b. cond b (after_stop s phase.Dead) s) (match_false (is_match s bd) ignored)

@@ -1,5 +1,5 @@
 -- The payloads at a step of the order, by what the step does to what is held (`spk_sequence`'s law on numbers).
-use Rattle.std.proofs.Common.{◌≡◌, ℕ, zero, suc, ◌+◌, ◌-◌, ◌%◌, ◌<◌, ◌≤◌, true, false, List, [], ◌∷◌, length, map, set, Option, Some, None, is_some, inl, inr, refl, sym, ◌∙◌, ap, arith, get_or-set_other}
+use Rattle.std.proofs.Common.{◌⊎◌, ◌≡◌, ℕ, zero, suc, ◌+◌, ◌-◌, ◌%◌, ◌<◌, ◌≤◌, true, false, List, [], ◌∷◌, length, map, set, Option, Some, None, is_some, inl, inr, refl, sym, ◌∙◌, ap, arith, get_or-set_other}
 use Rattle.std.specs.List.{range_with_len}
 use Rattle.std.proofs.lemmas.Bool.{cases_eq, cases_lt}
 use Rattle.std.proofs.lemmas.List.{get_or-set_same, get_or_past, length-map}
@@ -12,7 +12,7 @@ use Rattle.spk_sequence.specs.Numbers.{held_as, held_count, KeepsNumbers}
 use Rattle.spk_sequence.specs.Step.{ahead, hand}
 use Rattle.spk_order.specs.Ordered.{Ordered, kept_at, IsKept}
 use Rattle.spk_order.specs.Step.{left_by, placed, consumed_with, handed, HasRun, IsBeyond}
-use Rattle.spk_order.proofs.Left.{stands, left_same, left_kept, remains_full}
+use Rattle.spk_order.proofs.Left.{stands, left_still, left_same, left_kept, remains_full}
 
 -- what a step consumes after the message handed has its payload
 pub run_full : {T : Type 0} (old new : Standing) (kept : List (Option T)) (number : ℕ) (answer : Step) → IsKept old kept →
@@ -130,3 +130,41 @@ pub same_handed : {T : Type 0} (o : Ordered T) (new : Standing) (after : List (O
     new ≡ (hand o.standing number kind now).1 → answer ≡ (hand o.standing number kind now).0 →
     after ≡ left_by new (placed o.kept number payload answer) → stands new after ≡ handed o number kind payload now
 same_handed o new after number kind payload now answer e f is = rw (is, e, f) refl
+
+-- a message that is held drops nothing
+held_still : {T : Type 0} (old new : Standing) (kept slots : List (Option T)) (number : ℕ) (payload : T) → IsKept old kept →
+    KeepsNumbers old new number step.Held → length slots ≡ 256 →
+    ((x : ℕ) → x < 256 → IsBeyond x number step.Held → kept_at slots x ≡ kept_at (set kept number (Some payload)) x) → left_by new slots ≡ slots
+held_still old new kept slots number payload are keeps sized same =
+    left_still new slots sized
+    (λ x fits there. elim (cases_eq x number) [
+      | inl e ↦ ap (λ y. is_some (held_as new y)) e ∙ (keeps.added refl).is_held
+      | inr other ↦ ap is_some ((keeps.added refl).others x fits other) ∙ sym (are.exact x fits)
+          ∙ ap is_some (sym (get_or-set_other kept number x (Some payload) None other)) ∙ ap is_some (sym (same x fits (λ n e. absurd (cc)))) ∙ there
+    ])
+
+-- where nothing was held, nothing is dropped
+idle_still : {T : Type 0} (old new : Standing) (kept slots : List (Option T)) (number : ℕ) (answer : Step) → IsKept old kept →
+    KeepsNumbers old new number answer → length slots ≡ 256 → held_count old.held ≡ 0 →
+    ((x : ℕ) → x < 256 → IsBeyond x number answer → kept_at slots x ≡ kept_at kept x) → left_by new slots ≡ slots
+idle_still old new kept slots number answer are keeps sized idle same =
+    left_still new slots sized
+    (λ x fits there. absurd (let past : kept_at slots x ≡ kept_at kept x = same x fits (λ n is some. let one : n ≤ 1 = one_eaten old new number n answer idle keeps is in omega arith) in
+    let gone : is_some (held_as old x) ≡ false = ap is_some (none_counted old.held (ahead x old.next) idle) in
+    let none : is_some (kept_at kept x) ≡ false = are.exact x fits ∙ gone in
+    let e : is_some (kept_at slots x) ≡ false = ap is_some past ∙ none in cc))
+
+idle_of : (answer : Step) (held : ℕ) → (answer ≡ step.Held → ⊥) → (answer ≡ step.Held) ⊎ (held ≡ 0) → held ≡ 0
+idle_of answer held other (inl e) = absurd (other e)
+idle_of answer held other (inr idle) = idle
+
+pub placed_still : {T : Type 0} (old new : Standing) (kept slots : List (Option T)) (number : ℕ) (payload : T) (answer : Step) → IsKept old kept →
+    KeepsNumbers old new number answer → length slots ≡ 256 → (answer ≡ step.Held) ⊎ (held_count old.held ≡ 0) →
+    ((x : ℕ) → x < 256 → IsBeyond x number answer → kept_at slots x ≡ kept_at (placed kept number payload answer) x) → left_by new slots ≡ slots
+placed_still old new kept slots number payload step.Held are keeps sized d = held_still old new kept slots number payload are keeps sized
+placed_still old new kept slots number payload (step.Consumed n) are keeps sized d = idle_still old new kept slots number (step.Consumed n) are keeps sized (idle_of (step.Consumed n) (held_count old.held) (λ e. cc) d)
+placed_still old new kept slots number payload step.Old are keeps sized d = idle_still old new kept slots number step.Old are keeps sized (idle_of step.Old (held_count old.held) (λ e. cc) d)
+placed_still old new kept slots number payload step.Gap are keeps sized d = idle_still old new kept slots number step.Gap are keeps sized (idle_of step.Gap (held_count old.held) (λ e. cc) d)
+placed_still old new kept slots number payload step.OldBirth are keeps sized d = idle_still old new kept slots number step.OldBirth are keeps sized (idle_of step.OldBirth (held_count old.held) (λ e. cc) d)
+placed_still old new kept slots number payload step.DeadSession are keeps sized d = idle_still old new kept slots number step.DeadSession are keeps sized (idle_of step.DeadSession (held_count old.held) (λ e. cc) d)
+placed_still old new kept slots number payload step.NotLive are keeps sized d = idle_still old new kept slots number step.NotLive are keeps sized (idle_of step.NotLive (held_count old.held) (λ e. cc) d)

@@ -1,12 +1,14 @@
-ghost use Rattle.std.specs.Prelude.{◌≡◌, ℕ, ◌+◌, ◌<◌, ◌≤◌, map, length, Some, is_some, replicate, IfOk, IfErr, OnOk, OnErr};
+ghost use Rattle.std.specs.Prelude.{◌⊎◌, false, ◌≡◌, ℕ, ◌+◌, ◌<◌, ◌≤◌, map, length, Some, is_some, replicate, IfOk, IfErr, OnOk, OnErr};
 ghost use Rattle.spk_sequence.specs.declared.message.Kind.{Kind};
 ghost use Rattle.spk_sequence.specs.declared.answer.Step.{Step};
+ghost use Rattle.spk_sequence.specs.declared.answer.Match.{Match};
+ghost use Rattle.spk_sequence.specs.Data.{IsWhole};
 ghost use Rattle.spk_sequence.specs.Numbers.{held_count};
 ghost use Rattle.spk_sequence.specs.Step.{hand, is_over, tick, match_of, death, fresh_standing};
 ghost use Rattle.spk_order.specs.Ordered.{IsKept};
 ghost use Rattle.spk_order.specs.Step.{consumed_with, handed, stands_so, fresh_order};
 
-use crate::slots::{empty_slots, free_dropped, place};
+use crate::slots::{empty_slots, place, settle};
 use spk_sequence::laws::numbers;
 use spk_sequence::{Gap, Kind, Match, Sequence, Step, Width};
 use std::alloc::{AllocError, Global};
@@ -46,7 +48,7 @@ impl<T: Drop> Model for Order<T> {
 
 impl<T: Drop> Order<T> {
     /// A node of which nothing is known. A held message waits `wait` milliseconds for the ones
-    /// before it, and `width` numbers are taken at a time.
+    /// before it, and `width` numbers are taken at a time. Refused only where memory is.
     pub fn new(alloc: Global, wait: u64, width: Width) -> Result<Order<T>, AllocError>
         ensures fresh { IfOk result (λ o. o ≡ fresh_order wait width) }
         ensures whole { IfOk result (λ o. IsKept o.standing o.kept) }
@@ -63,7 +65,8 @@ impl<T: Drop> Order<T> {
     /// A message of the node, with its sequence number and its payload, at a moment in milliseconds. What
     /// becomes of it is the step of `Sequence::hand`. Where it is held, its payload is kept; where it is
     /// consumed, its payload comes out, and behind it those that were kept under the numbers after its
-    /// own, as many as the step says. The payloads of what the order drops are freed.
+    /// own, as many as the step says. The payloads of what the order drops are freed. Refused only where
+    /// memory is, before anything changes.
     pub fn hand(
         &mut self,
         number: u8,
@@ -72,7 +75,8 @@ impl<T: Drop> Order<T> {
         now: u64,
     ) -> Result<Handed<T>, NoMemory<T>>
         ensures step { IfOk result (λ h. h.step ≡ (hand self.old.standing number kind now).0) }
-        ensures consumed { IfOk result (λ h. map Some h.consumed.items ≡ consumed_with self.old.kept number payload h.step) }
+        ensures consumed { IfOk result (λ h.
+            map Some h.consumed.items ≡ consumed_with self.old.kept number payload h.step) }
         ensures few { IfOk result (λ h. length h.consumed.items ≤ self.old.standing.width) }
         ensures data { OnOk result (self.new ≡ handed self.old number kind payload now) }
         ensures returned { IfErr result (λ e. e.payload ≡ payload) }
@@ -80,12 +84,14 @@ impl<T: Drop> Order<T> {
         ensures whole { IsKept self.new.standing self.new.kept }
     {
         numbers();
-        let Ok(consumed) = Vec::with_capacity(self.alloc, room_for(&self.sequence)) else {
+        let held = self.sequence.held();
+        let room = room_for(&self.sequence, held);
+        let Ok(consumed) = Vec::with_capacity(self.alloc, room) else {
             return Err(NoMemory { payload });
         };
         let step = self.sequence.hand(number, kind, now);
         let consumed = place(&mut self.slots, consumed, number, payload, step);
-        free_dropped(&mut self.slots, &self.sequence);
+        settle(&mut self.slots, &self.sequence, may_drop(step, held));
         Ok(Handed { step, consumed })
     }
 
@@ -98,7 +104,7 @@ impl<T: Drop> Order<T> {
     {
         numbers();
         let gap = self.sequence.tick(now);
-        free_dropped(&mut self.slots, &self.sequence);
+        settle(&mut self.slots, &self.sequence, gap.is_some());
         gap
     }
 
@@ -110,7 +116,7 @@ impl<T: Drop> Order<T> {
     {
         numbers();
         let answer = self.sequence.death(bd);
-        free_dropped(&mut self.slots, &self.sequence);
+        settle(&mut self.slots, &self.sequence, is_matched(answer));
         answer
     }
 
@@ -120,7 +126,7 @@ impl<T: Drop> Order<T> {
         ensures whole { IsKept self.new.standing self.new.kept }
     {
         self.sequence.reset();
-        free_dropped(&mut self.slots, &self.sequence);
+        settle(&mut self.slots, &self.sequence, true);
     }
 
     /// How many messages are held, with their payloads.
@@ -128,7 +134,7 @@ impl<T: Drop> Order<T> {
         ensures count { result ≡ held_count self.now.standing.held }
         ensures bounded { result ≤ self.now.standing.width }
     {
-        self.sequence.held()
+        Sequence::held(&self.sequence)
     }
 
     /// How the order stands.
@@ -141,10 +147,33 @@ impl<T: Drop> Order<T> {
 }
 
 /// So many payloads at most come out at the next message: one, while nothing is held.
-fn room_for(sequence: &Sequence) -> usize
+fn room_for(sequence: &Sequence, held: u8) -> usize
+    requires counted { held ≡ held_count sequence.now.held }
+    requires whole { IsWhole sequence.now }
     ensures some { 0 < result }
-    ensures enough { (number now n : ℕ) (kind : Kind) → number < 256 → (hand sequence.now number kind now).0 ≡ Step.Consumed n → n ≤ result }
+    ensures enough { (number now n : ℕ) (kind : Kind) → number < 256 →
+        (hand sequence.now number kind now).0 ≡ Step.Consumed n → n ≤ result }
 {
     numbers();
-    if sequence.held() == 0 { 1 } else { 96 }
+    if held == 0 { 1 } else { 96 }
+}
+
+/// Whether a death ended the session that is followed.
+fn is_matched(answer: Match) -> bool
+    ensures { result ≡ false → answer ≡ Match.Ignored }
+{
+    match answer {
+        Match::Matched => true,
+        Match::Ignored => false,
+    }
+}
+
+/// Whether a step may have dropped or consumed any of so many held messages.
+fn may_drop(step: Step, held: u8) -> bool
+    ensures { result ≡ false → (step ≡ Step.Held) ⊎ (held ≡ 0) }
+{
+    match step {
+        Step::Held => false,
+        _ => held != 0,
+    }
 }

@@ -1,5 +1,5 @@
 //! One slot for each sequence number, for the payload of a held message.
-ghost use Rattle.std.specs.Prelude.{◌≡◌, ℕ, ◌+◌, ◌-◌, ◌%◌, ◌<◌, ◌≤◌, ◌++◌, length, map, set, replicate, [], Some, None, is_some, IfOk, vec_len, vec_capacity, true};
+ghost use Rattle.std.specs.Prelude.{◌≡◌, ℕ, ◌+◌, ◌-◌, ◌%◌, ◌<◌, ◌≤◌, ◌++◌, length, map, set, replicate, [], Some, None, is_some, IfOk, vec_len, vec_capacity, true, false};
 ghost use Rattle.std.specs.List.{range_with_len};
 ghost use Rattle.spk_sequence.specs.Step.{ahead};
 ghost use Rattle.spk_order.specs.Ordered.{kept_at};
@@ -32,26 +32,24 @@ fn take_one<T: Drop>(slots: &mut Vec<Option<T>>, number: u8) -> T
 
 /// Takes the payloads of the numbers after this one, so that with it there are `count` of them, and puts
 /// them behind what is there.
-pub(crate) fn take_run<T: Drop>(
-    slots: &mut Vec<Option<T>>,
-    number: u8,
-    count: u8,
-    consumed: &mut Vec<T>,
-)
+fn take_run<T: Drop>(slots: &mut Vec<Option<T>>, number: u8, count: u8, consumed: &mut Vec<T>)
     requires sized { length slots.old.items ≡ 256 }
-    requires full { (i : ℕ) → 0 < i → i < count → is_some (kept_at slots.old.items ((number + i) % 256)) ≡ true }
+    requires full { (i : ℕ) → 0 < i → i < count →
+        is_some (kept_at slots.old.items ((number + i) % 256)) ≡ true }
     requires room { vec_len consumed.old + count ≤ vec_capacity consumed.old + 1 }
-    ensures taken { map Some consumed.new.items ≡ map Some consumed.old.items ++ map (λ i. kept_at slots.old.items ((number + i) % 256)) (range_with_len 1 (count - 1)) }
+    ensures taken { map Some consumed.new.items ≡ map Some consumed.old.items ++
+        map (λ i. kept_at slots.old.items ((number + i) % 256)) (range_with_len 1 (count - 1)) }
     ensures sized { length slots.new.items ≡ 256 }
-    ensures others { (x : ℕ) → x < 256 → (0 < ahead x number → count ≤ ahead x number) → kept_at slots.new.items x ≡ kept_at slots.old.items x }
+    ensures others { (x : ℕ) → x < 256 → (0 < ahead x number → count ≤ ahead x number) →
+        kept_at slots.new.items x ≡ kept_at slots.old.items x }
 {
     for distance in 1..count {
         consumed.push_reserved(take_one(slots, number.wrapping_add(distance)));
     }
 }
 
-/// Puts the payload of a message where its step says: behind nothing, with those that are consumed after
-/// it, or in its slot; where the message is neither consumed nor held, the payload is freed.
+/// Puts the payload of a message where its step says: out, with those that are consumed after it, or in
+/// its slot. Where the message is neither consumed nor held, the payload is freed.
 pub(crate) fn place<T: Drop>(
     slots: &mut Vec<Option<T>>,
     mut consumed: Vec<T>,
@@ -66,7 +64,8 @@ pub(crate) fn place<T: Drop>(
     requires room { (n : ℕ) → step ≡ Step.Consumed n → n ≤ vec_capacity consumed }
     ensures consumed { map Some result.items ≡ consumed_with slots.old.items number payload step }
     ensures sized { length slots.new.items ≡ 256 }
-    ensures others { (x : ℕ) → x < 256 → IsBeyond x number step → kept_at slots.new.items x ≡ kept_at (placed slots.old.items number payload step) x }
+    ensures others { (x : ℕ) → x < 256 → IsBeyond x number step →
+        kept_at slots.new.items x ≡ kept_at (placed slots.old.items number payload step) x }
 {
     if let Step::Consumed(count) = step {
         consumed.push_reserved(payload);
@@ -80,7 +79,7 @@ pub(crate) fn place<T: Drop>(
 }
 
 /// Frees the payloads of the messages that the order no longer holds.
-pub(crate) fn free_dropped<T: Drop>(slots: &mut Vec<Option<T>>, sequence: &Sequence)
+fn free_dropped<T: Drop>(slots: &mut Vec<Option<T>>, sequence: &Sequence)
     requires { length slots.old.items ≡ 256 }
     ensures { slots.new.items ≡ left_by sequence.now slots.old.items }
 {
@@ -88,5 +87,16 @@ pub(crate) fn free_dropped<T: Drop>(slots: &mut Vec<Option<T>>, sequence: &Seque
         if !sequence.is_held(number as u8) {
             slots[usize::from(number)] = None;
         }
+    }
+}
+
+/// Frees the payloads of the messages that the order no longer holds, unless there are none.
+pub(crate) fn settle<T: Drop>(slots: &mut Vec<Option<T>>, sequence: &Sequence, is_needed: bool)
+    requires sized { length slots.old.items ≡ 256 }
+    requires still { is_needed ≡ false → left_by sequence.now slots.old.items ≡ slots.old.items }
+    ensures { slots.new.items ≡ left_by sequence.now slots.old.items }
+{
+    if is_needed {
+        free_dropped(slots, sequence);
     }
 }
