@@ -1,0 +1,18 @@
+use Rattle.spk_order.proofs.Left.{fresh_kept, fresh_left, fresh_data}
+use Rattle.spk_order.proofs.order.Order.reset.Goals as goal
+
+pub invariant_of-self : goal.invariant_of-self
+invariant_of-self g c = fresh_kept c.reset.new.self c.settle.new.slots.items c.self.inside.sequence.wait c.self.inside.sequence.width
+    c.reset.ensures.whole c.reset.ensures.data
+    (fresh_left c.reset.new.self c.self.inside.slots.items c.settle.new.slots.items c.self.inside.sequence.wait c.self.inside.sequence.width
+    c.reset.ensures.data c.settle.ensures)
+
+pub returns-clause-whole : goal.returns-clause-whole
+returns-clause-whole g c = invariant_of-self g c
+
+pub returns-clause-data : goal.returns-clause-data
+returns-clause-data g c =
+    rw (← c.self.view_is) (fresh_data c.reset.new.self c.settle.new.slots.items c.self.inside.sequence.wait c.self.inside.sequence.width
+    c.reset.ensures.data
+    (fresh_left c.reset.new.self c.self.inside.slots.items c.settle.new.slots.items c.self.inside.sequence.wait c.self.inside.sequence.width
+    c.reset.ensures.data c.settle.ensures))

@@ -1,0 +1,179 @@
+ghost use Rattle.std.specs.Prelude.{◌⊎◌, false, ◌≡◌, ℕ, ◌+◌, ◌<◌, ◌≤◌, map, length, Some, is_some, replicate, IfOk, IfErr, OnOk, OnErr};
+ghost use Rattle.spk_sequence.specs.declared.message.Kind.{Kind};
+ghost use Rattle.spk_sequence.specs.declared.answer.Step.{Step};
+ghost use Rattle.spk_sequence.specs.declared.answer.Match.{Match};
+ghost use Rattle.spk_sequence.specs.Data.{IsWhole};
+ghost use Rattle.spk_sequence.specs.Numbers.{held_count};
+ghost use Rattle.spk_sequence.specs.Step.{hand, is_over, tick, match_of, death, fresh_standing};
+ghost use Rattle.spk_order.specs.Ordered.{IsKept};
+ghost use Rattle.spk_order.specs.Step.{consumed_with, handed, stands_so, fresh_order};
+
+use crate::slots::{empty_slots, place, settle};
+use spk_sequence::laws::numbers;
+use spk_sequence::{Gap, Kind, Match, Sequence, Step, Width};
+use std::alloc::{AllocError, Global};
+use std::marker::Model;
+
+/// What became of a message that was handed in, and the payloads consumed, in the order of their numbers.
+#[derive(Debug, Drop)]
+pub struct Handed<T: Drop> {
+    pub step: Step,
+    pub consumed: Vec<T>,
+}
+
+/// Memory was refused, and nothing has changed: the payload comes back.
+#[derive(Debug, Drop)]
+pub struct NoMemory<T: Drop> {
+    pub payload: T,
+}
+
+/// The order of one node's messages at a host, from the beginning of a host session, with the payloads of
+/// the messages that it holds.
+#[derive(Drop)]
+pub struct Order<T: Drop> {
+    alloc: Global,
+    sequence: Sequence,
+    slots: Vec<Option<T>>,
+}
+
+impl<T: Drop> Model for Order<T> {
+    ghost use Rattle.spk_order.specs.Ordered.{Ordered, IsKept};
+
+    ghost Value = { Ordered T };
+
+    ghost view = { λ o. record { standing = o.sequence; kept = o.slots.items } };
+
+    ghost invariant = { λ o. IsKept o.sequence o.slots.items };
+}
+
+impl<T: Drop> Order<T> {
+    /// A node of which nothing is known. A held message waits `wait` milliseconds for the ones
+    /// before it, and `width` numbers are taken at a time. Refused only where memory is.
+    pub fn new(alloc: Global, wait: u64, width: Width) -> Result<Order<T>, AllocError>
+        ensures fresh { IfOk result (λ o. o ≡ fresh_order wait width) }
+        ensures whole { IfOk result (λ o. IsKept o.standing o.kept) }
+    {
+        let slots = empty_slots(alloc)?;
+        let sequence = Sequence::new(wait, width);
+        Ok(Order {
+            alloc,
+            sequence,
+            slots,
+        })
+    }
+
+    /// A message of the node, with its sequence number and its payload, at a moment in milliseconds. What
+    /// becomes of it is the step of `Sequence::hand`. Where it is held, its payload is kept; where it is
+    /// consumed, its payload comes out, and behind it those that were kept under the numbers after its
+    /// own, as many as the step says. The payloads of what the order drops are freed. Refused only where
+    /// memory is, before anything changes.
+    pub fn hand(
+        &mut self,
+        number: u8,
+        kind: Kind,
+        payload: T,
+        now: u64,
+    ) -> Result<Handed<T>, NoMemory<T>>
+        ensures step { IfOk result (λ h. h.step ≡ (hand self.old.standing number kind now).0) }
+        ensures consumed { IfOk result (λ h.
+            map Some h.consumed.items ≡ consumed_with self.old.kept number payload h.step) }
+        ensures few { IfOk result (λ h. length h.consumed.items ≤ self.old.standing.width) }
+        ensures data { OnOk result (self.new ≡ handed self.old number kind payload now) }
+        ensures returned { IfErr result (λ e. e.payload ≡ payload) }
+        ensures unchanged { OnErr result (self.new ≡ self.old) }
+        ensures whole { IsKept self.new.standing self.new.kept }
+    {
+        numbers();
+        let held = self.sequence.held();
+        let room = room_for(&self.sequence, held);
+        let Ok(consumed) = Vec::with_capacity(self.alloc, room) else {
+            return Err(NoMemory { payload });
+        };
+        let step = self.sequence.hand(number, kind, now);
+        let consumed = place(&mut self.slots, consumed, number, payload, step);
+        settle(&mut self.slots, &self.sequence, may_drop(step, held));
+        Ok(Handed { step, consumed })
+    }
+
+    /// A moment in milliseconds: a gap if a held message has waited long enough for one before it.
+    /// The payloads of what the order drops are freed.
+    pub fn tick(&mut self, now: u64) -> Option<Gap>
+        ensures gap { is_some result ≡ is_over self.old.standing now }
+        ensures data { self.new ≡ stands_so (tick self.old.standing now) self.old.kept }
+        ensures whole { IsKept self.new.standing self.new.kept }
+    {
+        numbers();
+        let gap = self.sequence.tick(now);
+        settle(&mut self.slots, &self.sequence, gap.is_some());
+        gap
+    }
+
+    /// An NDEATH of the node, with its bdSeq. The payloads of what the order drops are freed.
+    pub fn death(&mut self, bd: u8) -> Match
+        ensures answer { result ≡ match_of self.old.standing bd }
+        ensures data { self.new ≡ stands_so (death self.old.standing bd) self.old.kept }
+        ensures whole { IsKept self.new.standing self.new.kept }
+    {
+        numbers();
+        let answer = self.sequence.death(bd);
+        settle(&mut self.slots, &self.sequence, is_matched(answer));
+        answer
+    }
+
+    /// A new host session: nothing is known of the node, and every payload is freed.
+    pub fn reset(&mut self)
+        ensures data { self.new ≡ fresh_order self.old.standing.wait self.old.standing.width }
+        ensures whole { IsKept self.new.standing self.new.kept }
+    {
+        self.sequence.reset();
+        settle(&mut self.slots, &self.sequence, true);
+    }
+
+    /// How many messages are held, with their payloads.
+    pub fn held(&self) -> u8
+        ensures count { result ≡ held_count self.now.standing.held }
+        ensures bounded { result ≤ self.now.standing.width }
+    {
+        Sequence::held(&self.sequence)
+    }
+
+    /// How the order stands.
+    pub fn sequence(&self) -> &Sequence
+        ensures standing { result.now ≡ self.now.standing }
+        ensures whole { IsKept self.now.standing self.now.kept }
+    {
+        &self.sequence
+    }
+}
+
+/// So many payloads at most come out at the next message: one, while nothing is held.
+fn room_for(sequence: &Sequence, held: u8) -> usize
+    requires counted { held ≡ held_count sequence.now.held }
+    requires whole { IsWhole sequence.now }
+    ensures some { 0 < result }
+    ensures enough { (number now n : ℕ) (kind : Kind) → number < 256 →
+        (hand sequence.now number kind now).0 ≡ Step.Consumed n → n ≤ result }
+{
+    numbers();
+    if held == 0 { 1 } else { 96 }
+}
+
+/// Whether a death ended the session that is followed.
+fn is_matched(answer: Match) -> bool
+    ensures { result ≡ false → answer ≡ Match.Ignored }
+{
+    match answer {
+        Match::Matched => true,
+        Match::Ignored => false,
+    }
+}
+
+/// Whether a step may have dropped or consumed any of so many held messages.
+fn may_drop(step: Step, held: u8) -> bool
+    ensures { result ≡ false → (step ≡ Step.Held) ⊎ (held ≡ 0) }
+{
+    match step {
+        Step::Held => false,
+        _ => held != 0,
+    }
+}
