@@ -24,6 +24,9 @@ extern "C" {
     fn spk_bench_hand_in_line(rounds: u64) -> u64;
     fn spk_bench_hand_with_holes(rounds: u64) -> u64;
     fn spk_bench_hand_births(rounds: u64) -> u64;
+    fn spk_bench_edge_change(rounds: u64) -> u64;
+    fn spk_bench_edge_births(rounds: u64) -> u64;
+    fn spk_bench_edge_drain(rounds: u64) -> u64;
     fn cpp_payload_decode(bytes: *const u8, length: usize, rounds: u64) -> u64;
     fn cpp_payload_encode(bytes: *const u8, length: usize, rounds: u64) -> u64;
 }
@@ -165,12 +168,25 @@ fn order_rows(rows: &mut Vec<Row>) {
     });
 }
 
+/// What has no peer here.
+fn edge_rows(rows: &mut Vec<Row>) {
+    let exports: [(&str, u64, &'static str, unsafe extern "C" fn(u64) -> u64); 3] = [
+        ("EdgeNode::change, one of 100 metrics", 1, "spk_bench_edge_change", spk_bench_edge_change),
+        ("EdgeNode::command, births of 100 metrics and 10 devices of 10", 1, "spk_bench_edge_births", spk_bench_edge_births),
+        ("EdgeNode, 4,096 changes kept and drained (per change)", 4096, "spk_bench_edge_drain", spk_bench_edge_drain),
+    ];
+    for (name, calls, export, body) in exports {
+        rows.push(Row { name: name.to_owned(), calls, export, ours: Box::new(move |rounds| unsafe { body(rounds) }), peers: Vec::new() });
+    }
+}
+
 fn rows() -> Vec<Row> {
     let mut rows = Vec::new();
     payload_rows(&mut rows);
     packet_rows(&mut rows);
     topic_rows(&mut rows);
     order_rows(&mut rows);
+    edge_rows(&mut rows);
     rows
 }
 
@@ -213,6 +229,10 @@ fn table(word: &str) {
     println!("|---|---|---|---|---|");
     for row in rows().iter().filter(|row| row.name.contains(word)) {
         let ours = enough(&row.ours);
+        if row.peers.is_empty() {
+            let mine = median((0..SAMPLES).map(|_| sample(&row.ours, ours, row.calls)).collect());
+            println!("| {} | {mine:.0} | none | - | - |", row.name);
+        }
         for (peer, body) in &row.peers {
             assert_eq!((row.ours)(3), body(3), "the answers of {} and {peer} differ", row.name);
             let rounds = enough(body);
@@ -254,6 +274,9 @@ fn counts(word: &str) {
     println!("|---|---|---|---|---|");
     for (n, row) in rows().iter().enumerate().filter(|(_, row)| row.name.contains(word)) {
         let ours = instructions(n, 0, row.calls);
+        if row.peers.is_empty() {
+            println!("| {} | {ours:.0} | none | - | - |", row.name);
+        }
         for (who, (peer, _)) in row.peers.iter().enumerate() {
             let theirs = instructions(n, who + 1, row.calls);
             println!("| {} | {ours:.0} | {peer} | {theirs:.0} | {} |", row.name, shown(ours / theirs));

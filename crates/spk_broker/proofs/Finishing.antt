@@ -1,5 +1,5 @@
 -- A call as a whole: what it drafted stands for the rules' step, and is settled or taken back.
-use Rattle.std.proofs.Common.{◌≡◌, ◌≤◌, length, map, refl, sym, ap, subst, ◌∙◌, Result, Ok, Err}
+use Rattle.std.proofs.Common.{◌≡◌, ◌≤◌, Bool, true, false, List, Option, None, length, map, refl, sym, ap, subst, ◌∙◌, Result, Ok, Err}
 use Rattle.std.specs.Result.{IfOk, OnErr, OnOk, is_ok}
 use Rattle.std.specs.declared.alloc.AllocError.{AllocError}
 use Rattle.indexmap.specs.IndexMap.{spare}
@@ -13,16 +13,19 @@ use Rattle.spk_broker.specs.declared.out.Draft.{Draft}
 use Rattle.spk_broker.specs.declared.out.Out.{Out}
 use Rattle.spk_broker.specs.Drafts.{draft_view, empty_draft}
 use Rattle.spk_broker.specs.Sent.{outgoing, sent_view}
-use Rattle.spk_broker.specs.View.{IsKept, IsSettled, Stands, desk_was, stepped}
+use Rattle.spk_broker.specs.View.{IsSound, IsSettled, Stands, desk_now, desk_was, stepped}
 use Rattle.spk_broker_rules.proofs.AnyList.{step-lawful}
 use Rattle.spk_broker.specs.Endings.{Leads, ended}
 use Rattle.spk_broker.specs.declared.ending.Ending.{Ending}
+use Rattle.spk_topics.specs.Grants.{Grants}
+use Rattle.spk_broker.specs.Filing.{IsIndex, takes_grants}
+use Rattle.spk_broker.proofs.Quiet.{index-step}
 use Rattle.spk_broker.proofs.Standing.{begun-stands}
 
 -- what the parts of a call say of it
 pub record Call (e : Event) (b : plain.Broker) (d0 d1 : Desk) (x0 x1 : Draft) (drafted : Result (Unit {0}) AllocError) : Type 0 where
   pub is : desk_was d0 ≡ b
-  pub kept : IsKept (record { desk = d0 })
+  pub kept : IsSound d0
   pub empty : draft_view x0 ≡ empty_draft
   pub done : OnOk drafted ((t : Turn) → Stands d0 x0 t → Stands d1 x1 (stepped e t))
   pub same : desk_was d1 ≡ desk_was d0
@@ -73,7 +76,7 @@ done-is e b d0 d1 d2 x0 x1 drafted (Ok out) k f = f.done (step b e) (stands-ok e
 done-is e b d0 d1 d2 x0 x1 drafted (Err x) k f = tt
 
 pub kept-is : (e : Event) (b : plain.Broker) (d0 d1 d2 : Desk) (x0 x1 : Draft) (drafted : Result (Unit {0}) AllocError) (r : Result Out BrokerFault)
-    → Call e b d0 d1 x0 x1 drafted → Finished d1 d2 x1 drafted r → IsKept (record { desk = d2 })
+    → Call e b d0 d1 x0 x1 drafted → Finished d1 d2 x1 drafted r → IsSound d2
 kept-is e b d0 d1 d2 x0 x1 drafted (Ok out) k f =
     let s = stands-ok e b d0 d1 d2 x0 x1 drafted out k f in
     record { settled = f.settled; lawful = subst IsLawful (sym (f.done (step b e) s)) s.lawful }
@@ -83,7 +86,7 @@ kept-is e b d0 d1 d2 x0 x1 drafted (Err x) k f = record { settled = f.settled; l
 
 pub record CallTo (e : Event) (b : plain.Broker) (d0 d1 : Desk) (x0 x1 : Draft) (drafted : Result Ending AllocError) : Type 0 where
   pub is : desk_was d0 ≡ b
-  pub kept : IsKept (record { desk = d0 })
+  pub kept : IsSound d0
   pub empty : draft_view x0 ≡ empty_draft
   pub done : IfOk drafted (λ n. (t : Turn) → Stands d0 x0 t → Leads d1 x1 n (stepped e t))
   pub same : desk_was d1 ≡ desk_was d0
@@ -131,7 +134,44 @@ done-to e b d0 d1 d2 x0 x1 (Ok n) (Err x) k f = tt
 done-to e b d0 d1 d2 x0 x1 (Err y) (Err x) k f = tt
 
 pub kept-to : (e : Event) (b : plain.Broker) (d0 d1 d2 : Desk) (x0 x1 : Draft) (drafted : Result Ending AllocError) (r : Result Out BrokerFault)
-    → CallTo e b d0 d1 x0 x1 drafted → Concluded d1 d2 x1 drafted r → IsKept (record { desk = d2 })
+    → CallTo e b d0 d1 x0 x1 drafted → Concluded d1 d2 x1 drafted r → IsSound d2
 kept-to e b d0 d1 d2 x0 x1 drafted (Ok out) k f =
     record { settled = f.settled; lawful = subst IsLawful (sym (done-to e b d0 d1 d2 x0 x1 drafted (Ok out) k f)) (step-lawful b e (subst IsLawful k.is k.kept.lawful)) }
 kept-to e b d0 d1 d2 x0 x1 drafted (Err x) k f = record { settled = f.settled; lawful = subst IsLawful (sym (f.same ∙ k.same)) k.kept.lawful }
+
+-- ---- the index
+
+on-step : (i : Option Grants) (e : Event) (b c d : plain.Broker) → takes_grants e ≡ false → c ≡ b → d ≡ (step b e).broker → IsIndex i c.seats → IsIndex i d.seats
+on-step i e b c d quiet from to h =
+    subst (λ (x : plain.Broker). IsIndex i x.seats) (sym to) (index-step i b e quiet (subst (λ (x : plain.Broker). IsIndex i x.seats) from h))
+
+pub index-is : (i : Option Grants) (e : Event) (b : plain.Broker) (d0 d1 d2 : Desk) (x0 x1 : Draft) (drafted : Result (Unit {0}) AllocError) (r : Result Out BrokerFault)
+    → takes_grants e ≡ false → Call e b d0 d1 x0 x1 drafted → Finished d1 d2 x1 drafted r → IsIndex i (desk_was d0).seats → IsIndex i (desk_was d2).seats
+index-is i e b d0 d1 d2 x0 x1 drafted (Ok out) quiet k f h = on-step i e b (desk_was d0) (desk_was d2) quiet k.is (done-is e b d0 d1 d2 x0 x1 drafted (Ok out) k f) h
+index-is i e b d0 d1 d2 x0 x1 drafted (Err x) quiet k f h = subst (λ (y : plain.Broker). IsIndex i y.seats) (sym (f.same ∙ k.same)) h
+
+pub index-to : (i : Option Grants) (e : Event) (b : plain.Broker) (d0 d1 d2 : Desk) (x0 x1 : Draft) (drafted : Result Ending AllocError) (r : Result Out BrokerFault)
+    → (takes_grants e ≡ true → i ≡ None) → CallTo e b d0 d1 x0 x1 drafted → Concluded d1 d2 x1 drafted r → IsIndex i (desk_was d0).seats → IsIndex i (desk_was d2).seats
+index-to i e b d0 d1 d2 x0 x1 drafted (Err x) gone k f h = subst (λ (y : plain.Broker). IsIndex i y.seats) (sym (f.same ∙ k.same)) h
+index-to i e b d0 d1 d2 x0 x1 drafted (Ok out) gone k f h = by (takes_grants e) refl
+  where
+    by : (q : Bool) → takes_grants e ≡ q → IsIndex i (desk_was d2).seats
+    by true is = subst (λ j. IsIndex j (desk_was d2).seats) (sym (gone is)) tt
+    by false is = on-step i e b (desk_was d0) (desk_was d2) is k.is (done-to e b d0 d1 d2 x0 x1 drafted (Ok out) k f) h
+
+-- what stands for turns has the index of its turn
+pub index-on : (i : Option Grants) (d d2 : Desk) (x x2 : Draft) (t t2 : Turn) → Stands d x t → Stands d2 x2 t2 → (IsIndex i t.broker.seats → IsIndex i t2.broker.seats)
+    → IsIndex i (desk_now d).seats → IsIndex i (desk_now d2).seats
+index-on i d d2 x x2 t t2 s s2 on h =
+    subst (λ (ss : List plain.Seat). IsIndex i ss) (sym (ap (λ (b : plain.Broker). b.seats) s2.broker)) (on (subst (λ (ss : List plain.Seat). IsIndex i ss) (ap (λ (b : plain.Broker). b.seats) s.broker) h))
+
+-- between calls the index of before is the one of now
+pub now-index : (i : Option Grants) (d : Desk) → IsSound d → IsIndex i (desk_was d).seats → IsIndex i (desk_now d).seats
+now-index i d sound h = subst (λ (b : plain.Broker). IsIndex i b.seats) (sym sound.settled) h
+
+pub was-index : (i : Option Grants) (d : Desk) → IsSound d → IsIndex i (desk_now d).seats → IsIndex i (desk_was d).seats
+was-index i d sound h = subst (λ (b : plain.Broker). IsIndex i b.seats) sound.settled h
+
+-- at its beginning a call stands for its turn
+pub begun-for : (d : Desk) (x : Draft) → IsSound d → draft_view x ≡ empty_draft → (t : Turn) × Stands d x t
+begun-for d x sound empty = (begun (desk_was d), begun-stands d x (desk_was d) sound.settled empty sound.lawful)

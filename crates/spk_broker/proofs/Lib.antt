@@ -9,10 +9,14 @@ pub mod Filtering
 pub mod Finishing
 pub mod Flats
 pub mod Gives
+pub mod Indexing
+pub mod Keeping
 pub mod Offers
 pub mod Opening
 pub mod Packeted
+pub mod Passing
 pub mod Places
+pub mod Quiet
 pub mod Refilled
 pub mod Retained
 pub mod Rounds

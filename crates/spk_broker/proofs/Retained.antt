@@ -18,7 +18,7 @@ pub from-ok : {T E : Type 0} (r : Result T E) (P : Type 0) → IsOk r → OnOk r
 from-ok (Ok x) P is h = h
 from-ok (Err e) P is h = absurd (let z : ⊥ = cc in z)
 
-same-bytes : (a b : List ℕ) → bytes_eq a b ≡ true → a ≡ b
+pub same-bytes : (a b : List ℕ) → bytes_eq a b ≡ true → a ≡ b
 same-bytes a b e = (bytes_eq-Decides a b).0 e
 
 pub bytes-flip : (a b : List ℕ) → bytes_eq a b ≡ bytes_eq b a

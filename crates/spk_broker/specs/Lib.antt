@@ -7,7 +7,9 @@ pub mod Drafts
 pub mod Endings
 pub mod Entering
 pub mod Fault
+pub mod Filing
 pub mod Granting
+pub mod Letters
 pub mod Offering
 pub mod Parts
 pub mod Plain

@@ -14,11 +14,14 @@ pub record Sent : Type 0 where
   pub bytes : List ℕ
 
 abbrev pub sent_view : Outgoing → Sent
-sent_view o = record { conn = o.conn; sort = o.sort; bytes = o.bytes.items }
+sent_view o = record { conn = o.conn; sort = o.sort; bytes = o.bytes }
 
 -- a PUBLISH of QoS 0 may be lost, nothing else (MQTT 3.1.1, 4.3.1)
+abbrev pub sort_at : ℕ → Sort
+sort_at qos = if qos == 0 then sort.QosZero else sort.Other
+
 abbrev pub sort_of : Message → Sort
-sort_of (Publish dup qos retain topic id payload) = if qos == 0 then sort.QosZero else sort.Other
+sort_of (Publish dup qos retain topic id payload) = sort_at qos
 sort_of (Connect client clean keep will) = sort.Other
 sort_of (ConnAck present code) = sort.Other
 sort_of (PubAck id) = sort.Other

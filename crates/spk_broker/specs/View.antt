@@ -10,6 +10,7 @@ use Rattle.spk_broker_rules.specs.Table.{Table, has}
 use Rattle.spk_broker_rules.specs.Words.{most_topics, option_list}
 use Rattle.spk_broker.specs.Both.{Both}
 use Rattle.spk_broker.specs.Drafts.{draft_view}
+use Rattle.spk_broker.specs.Filing.{IsIndex}
 use Rattle.spk_broker.specs.Sent.{outgoing}
 use Rattle.spk_broker.specs.declared.broker.Broker.TheInside.{Inside}
 use Rattle.spk_broker.specs.declared.desk.Desk.{Desk}
@@ -83,9 +84,15 @@ IsSettled d = desk_now d ≡ desk_was d
 abbrev pub broker_view : Inside → plain.Broker
 broker_view b = desk_was b.desk
 
+-- no call is under way, and the data are lawful
+pub record IsSound (d : Desk) : Type 0 where
+  pub settled : IsSettled d
+  pub lawful : IsLawful (desk_was d)
+
+-- the index, where there is one, has all grants
 pub record IsKept (b : Inside) : Type 0 where
-  pub settled : IsSettled b.desk
-  pub lawful : IsLawful (desk_was b.desk)
+  pub sound : IsSound b.desk
+  pub index : IsIndex b.tree (desk_was b.desk).seats
 
 -- how many messages wait and how many sessions there are
 abbrev pub how_many : Desk → Draft → ℕ

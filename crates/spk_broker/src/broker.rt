@@ -11,6 +11,7 @@ use crate::fault::BrokerFault;
 use crate::guest::Guest;
 use crate::out::Conn;
 use indexmap::IndexMap;
+use spk_topics::Tree;
 use std::alloc::Global;
 use std::marker::Model;
 
@@ -21,6 +22,10 @@ const MOST_OPEN: usize = 1_000;
 #[derive(Drop)]
 pub struct Broker {
     pub(crate) desk: Desk,
+    /// The index of grants, where there is one.
+    pub(crate) tree: Option<Tree>,
+    /// How many publishes went without an index.
+    pub(crate) slow: u8,
 }
 
 impl Model for Broker {
@@ -53,6 +58,8 @@ impl Broker {
                 seats: Vec::new(alloc),
                 retained: IndexMap::new(alloc),
             },
+            tree: None,
+            slow: 0,
         }
     }
 

@@ -128,7 +128,7 @@ impl Desk {
     {
         if let Some(older) = older {
             self.leave(draft, older, true)?;
-            self.route(draft)?;
+            self.route(draft, &None)?;
         }
         Ok(())
     }

@@ -59,7 +59,7 @@ impl Desk {
     {
         self.at(now);
         self.leave(draft, conn, true)?;
-        self.route(draft)?;
+        self.route(draft, &None)?;
         Ok(())
     }
 
@@ -114,7 +114,7 @@ impl Desk {
         self.at(now);
         let conns = silent(self.alloc, &self.seats, self.clock)?;
         self.end_all(draft, &conns)?;
-        self.route(draft)?;
+        self.route(draft, &None)?;
         Ok(())
     }
 

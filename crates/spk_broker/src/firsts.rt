@@ -6,14 +6,15 @@ ghost use Rattle.spk_broker_rules.specs.Plan.{Packet as PacketEvent};
 ghost use Rattle.spk_broker_rules.specs.Step.{Turn, acts, older_in, seat_at, welcome_in};
 ghost use Rattle.spk_broker.specs.Drafts.{draft_view};
 ghost use Rattle.spk_broker.specs.Endings.{IsReady, Leads};
-ghost use Rattle.spk_broker.specs.View.{Stands, desk_was, stepped};
+ghost use Rattle.spk_broker.specs.Filing.{IsIndex};
+ghost use Rattle.spk_broker.specs.View.{Stands, desk_now, desk_was, stepped};
 
 use crate::asking::is_joined;
 use crate::desk::Desk;
 use crate::ending::Ending;
 use crate::out::{Conn, Draft};
-use crate::packets::is_writable;
-use spk_packets::Packet;
+use spk_packets::{Packet, is_writable};
+use spk_topics::Tree;
 use std::alloc::AllocError;
 
 impl Desk {
@@ -51,10 +52,12 @@ impl Desk {
     fn further_packet(
         &mut self,
         draft: &mut Draft,
+        tree: &Option<Tree>,
         conn: Conn,
         packet: &Packet,
     ) -> Result<Ending, AllocError>
-        requires { (draft_view draft.old).keeps ≡ [] }
+        requires index { IsIndex tree.now (desk_now self.old).seats }
+        requires keeps { (draft_view draft.old).keeps ≡ [] }
         ensures done { IfOk result (λ e. (t : Turn) → Stands self.old draft.old t
             → Leads self.new draft.new e (acts (next_packet conn (view packet.now)) t)) }
         ensures ready { IfOk result (λ e. IsReady e self.new.seats) }
@@ -63,7 +66,7 @@ impl Desk {
         match packet {
             Packet::PubAck { id } => Ok(Ending::Acked { conn, id: *id }),
             _ => {
-                self.next_packet(draft, conn, packet)?;
+                self.next_packet(draft, tree, conn, packet)?;
                 Ok(Ending::Nothing)
             }
         }
@@ -73,10 +76,12 @@ impl Desk {
     fn judge_packet(
         &mut self,
         draft: &mut Draft,
+        tree: &Option<Tree>,
         conn: Conn,
         packet: &Packet,
     ) -> Result<Ending, AllocError>
-        requires { (draft_view draft.old).keeps ≡ [] }
+        requires index { IsIndex tree.now (desk_now self.old).seats }
+        requires keeps { (draft_view draft.old).keeps ≡ [] }
         ensures done { IfOk result (λ e. (seen : Seen) (t : Turn)
             → seen.joined ≡ is_some (seat_at conn t.broker.seats)
             → seen.older ≡ older_in (client_in (view packet.now)) t.broker.seats
@@ -85,13 +90,12 @@ impl Desk {
         ensures ready { IfOk result (λ e. IsReady e self.new.seats) }
         ensures same { desk_was self.new ≡ desk_was self.old }
     {
-        let fits = is_writable(self.alloc, packet)?;
-        if !fits {
+        if !is_writable(packet) {
             self.shut(draft, conn)?;
             return Ok(Ending::Nothing);
         }
         if is_joined(&self.seats, conn) {
-            let ending = self.further_packet(draft, conn, packet)?;
+            let ending = self.further_packet(draft, tree, conn, packet)?;
             return Ok(ending);
         }
         let ending = self.first_packet(draft, conn, packet)?;
@@ -102,11 +106,14 @@ impl Desk {
     pub(crate) fn draft_packet(
         &mut self,
         draft: &mut Draft,
+        tree: &Option<Tree>,
         conn: Conn,
         packet: &Packet,
         now: u64,
     ) -> Result<Ending, AllocError>
-        requires { (draft_view draft.old).keeps ≡ [] }
+        requires index { IsIndex tree.now (desk_now self.old).seats }
+        requires stands { (t : Turn) × Stands self.old draft.old t }
+        requires keeps { (draft_view draft.old).keeps ≡ [] }
         ensures done { IfOk result (λ e. (t : Turn) → Stands self.old draft.old t
             → Leads self.new draft.new e (stepped (PacketEvent conn (view packet.now) now) t)) }
         ensures ready { IfOk result (λ e. IsReady e self.new.seats) }
@@ -114,7 +121,7 @@ impl Desk {
     {
         self.at(now);
         self.hear(conn);
-        let ending = self.judge_packet(draft, conn, packet)?;
+        let ending = self.judge_packet(draft, tree, conn, packet)?;
         Ok(ending)
     }
 }

@@ -105,7 +105,7 @@ impl Desk {
             return Ok(());
         }
         self.give(draft, conn, id, entries)?;
-        self.route(draft)?;
+        self.route(draft, &None)?;
         Ok(())
     }
 }

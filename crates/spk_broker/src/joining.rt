@@ -63,8 +63,9 @@ fn take_guest(guests: &mut Vec<Guest>, conn: Conn)
 
 impl Seat {
     /// Its number.
-    fn key(&self) -> u64
-        ensures { result ≡ self.now.was.key }
+    pub(crate) fn key(&self) -> u64
+        ensures was { result ≡ self.now.was.key }
+        ensures now { IfSome self.now.now (λ s. result ≡ s.key) }
     {
         self.key
     }
@@ -145,15 +146,10 @@ fn ack_in(seats: &mut [Seat], conn: Conn, id: u16)
 fn resend(draft: &mut Draft, conn: Conn, copy: &Copy) -> Result<(), AllocError>
     ensures { OnOk result (draft_view draft.new ≡ with_sends (again conn (copy_view copy.now) ∷ []) (draft_view draft.old)) }
 {
-    let packet = Packet::Publish {
-        dup: copy.handed,
-        qos: 1,
-        retain: copy.post.retain,
-        topic: copy.post.topic.clone()?,
-        id: Some(copy.id),
-        payload: copy.post.payload.clone()?,
-    };
-    draft.say(conn, &packet)
+    let publish = copy
+        .post
+        .as_publish(copy.handed, 1, copy.post.retain, Some(copy.id));
+    draft.publish(conn, &publish)
 }
 
 /// All copies are sent again, in the order in which they were made.

@@ -66,7 +66,7 @@ impl Desk {
     {
         self.leave(draft, conn, true)?;
         draft.tell(conn)?;
-        self.route(draft)?;
+        self.route(draft, &None)?;
         Ok(())
     }
 }

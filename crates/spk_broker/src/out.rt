@@ -1,14 +1,14 @@
 //! What a call answers, and the draft of it.
 ghost use Rattle.std.specs.Prelude.{◌≡◌, ◌++◌, ◌∷◌, [], IfOk, OnOk, map, false};
-ghost use Rattle.spk_packets.specs.Message.{Publish};
-ghost use Rattle.spk_packets.specs.View.{view};
+ghost use Rattle.spk_packets.specs.View.{publish_view, view};
 ghost use Rattle.spk_packets.specs.Spelling.{spelling};
-ghost use Rattle.spk_broker.specs.Sent.{outgoing, sort_of};
+ghost use Rattle.spk_broker.specs.Sent.{outgoing, sort_at, sort_of};
 ghost use Rattle.spk_broker.specs.Drafts.{draft_view, empty_draft};
 ghost use Rattle.spk_broker.specs.Parts.{post_view};
 
 use crate::post::Post;
-use spk_packets::{Packet, encode};
+use spk_bytes::Bytes;
+use spk_packets::{Packet, PublishRef, encode};
 use spk_session::Sort;
 use std::alloc::{AllocError, Global};
 use std::collections::VecDeque;
@@ -22,8 +22,8 @@ pub struct Outgoing {
     pub conn: Conn,
     /// Whether it may be dropped.
     pub sort: Sort,
-    /// One packet, in its canonical spelling.
-    pub bytes: Vec<u8>,
+    /// One packet, in its canonical spelling. Those who get the same QoS 0 publish share its bytes.
+    pub bytes: Bytes,
 }
 
 /// What a call answers: what is to be sent, in order, and whom to close once that is sent.
@@ -43,18 +43,19 @@ pub(crate) struct Draft {
     pub(crate) keeps: VecDeque<Post>,
 }
 
+/// Whether a PUBLISH of this QoS may be dropped.
+pub(crate) fn sort_at(qos: u8) -> Sort
+    ensures { result ≡ sort_at qos }
+{
+    if qos == 0 { Sort::QosZero } else { Sort::Other }
+}
+
 /// Whether a packet may be dropped.
 fn sort_of(packet: &Packet) -> Sort
     ensures { result ≡ sort_of (view packet.now) }
 {
     match packet {
-        Packet::Publish { qos, .. } => {
-            if *qos == 0 {
-                Sort::QosZero
-            } else {
-                Sort::Other
-            }
-        }
+        Packet::Publish { qos, .. } => sort_at(*qos),
         _ => Sort::Other,
     }
 }
@@ -64,6 +65,19 @@ fn spelled(alloc: Global, packet: &Packet) -> Result<Vec<u8>, AllocError>
     ensures { IfOk result (λ v. v.items ≡ spelling (view packet.now)) }
 {
     match encode(alloc, packet) {
+        Ok(bytes) => Ok(bytes),
+        Err(_) => Err(AllocError),
+    }
+}
+
+/// The canonical spelling of a PUBLISH. What can't be written is refused like want of memory.
+pub(crate) fn spelled_publish(
+    alloc: Global,
+    publish: &PublishRef<'_>,
+) -> Result<Vec<u8>, AllocError>
+    ensures { IfOk result (λ v. v.items ≡ spelling (publish_view publish.now)) }
+{
+    match publish.encode(alloc) {
         Ok(bytes) => Ok(bytes),
         Err(_) => Err(AllocError),
     }
@@ -91,11 +105,17 @@ impl Draft {
         }) }
     {
         let bytes = spelled(self.alloc, packet)?;
-        self.sends.push(Outgoing {
-            conn,
-            sort: sort_of(packet),
-            bytes,
-        })?;
+        self.send(conn, sort_of(packet), Bytes::new(bytes))
+    }
+
+    /// Bytes for a connection.
+    pub(crate) fn send(&mut self, conn: Conn, sort: Sort, bytes: Bytes) -> Result<(), AllocError>
+        ensures { OnOk result (draft_view self.new ≡ record (draft_view self.old) {
+          sends = (draft_view self.old).sends
+              ++ (record { conn = conn; sort = sort; bytes = bytes }) ∷ [];
+        }) }
+    {
+        self.sends.push(Outgoing { conn, sort, bytes })?;
         Ok(())
     }
 
@@ -120,29 +140,13 @@ impl Draft {
     }
 
     /// One more PUBLISH for a connection.
-    pub(crate) fn publish(
-        &mut self,
-        conn: Conn,
-        post: &Post,
-        qos: u8,
-        retain: bool,
-        id: Option<u16>,
-    ) -> Result<(), AllocError>
+    pub(crate) fn publish(&mut self, conn: Conn, publish: &PublishRef<'_>) -> Result<(), AllocError>
         ensures { OnOk result (draft_view self.new ≡ record (draft_view self.old) {
-          sends = (draft_view self.old).sends ++ outgoing (record {
-            conn = conn;
-            packet = Publish false qos retain (post_view post.now).topic id (post_view post.now).payload;
-          }) ∷ [];
+          sends = (draft_view self.old).sends
+              ++ outgoing (record { conn = conn; packet = publish_view publish.now }) ∷ [];
         }) }
     {
-        let packet = Packet::Publish {
-            dup: false,
-            qos,
-            retain,
-            topic: post.topic.clone()?,
-            id,
-            payload: post.payload.clone()?,
-        };
-        self.say(conn, &packet)
+        let bytes = spelled_publish(self.alloc, publish)?;
+        self.send(conn, sort_at(publish.qos), Bytes::new(bytes))
     }
 }

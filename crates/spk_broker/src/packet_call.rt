@@ -8,6 +8,7 @@ ghost use Rattle.spk_broker_rules.specs.Step.{knows, step};
 
 use crate::broker::Broker;
 use crate::fault::BrokerFault;
+use crate::index::next_index;
 use crate::out::{Conn, Draft, Out};
 use spk_packets::Packet;
 
@@ -29,7 +30,11 @@ impl Broker {
             return Err(BrokerFault::NoSuchConn);
         }
         let mut draft = Draft::new(self.desk.alloc);
-        let drafted = self.desk.draft_packet(&mut draft, conn, packet, now);
+        let tree = self.tree.take();
+        self.tree = next_index(tree, &self.desk, &mut self.slow, packet);
+        let drafted = self
+            .desk
+            .draft_packet(&mut draft, &self.tree, conn, packet, now);
         self.desk.conclude(drafted, draft)
     }
 }

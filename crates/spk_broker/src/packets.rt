@@ -1,33 +1,21 @@
 //! Packets of a connection whose CONNECT was accepted.
-ghost use Rattle.std.specs.Prelude.{◌≡◌, IfErr, IfOk, OnErr, OnOk, Some, None, true, false, is_none, is_some, []};
-ghost use Rattle.spk_packets.specs.Fault.{first_of};
-ghost use Rattle.spk_packets.specs.Spelling.{unwritable};
+ghost use Rattle.std.specs.Prelude.{◌≡◌, IfErr, IfOk, OnErr, OnOk, Some, None, true, false, is_some, []};
 ghost use Rattle.spk_packets.specs.View.{view};
 ghost use Rattle.spk_topics.specs.Text.{topic_refusal};
 ghost use Rattle.spk_broker_rules.specs.Plan.{next_packet, publish, puback};
 ghost use Rattle.spk_broker_rules.specs.Step.{Turn, acts};
 ghost use Rattle.spk_broker.specs.Drafts.{draft_view};
+ghost use Rattle.spk_broker.specs.Filing.{IsIndex};
 ghost use Rattle.spk_broker.specs.Parts.{post_view};
 ghost use Rattle.spk_broker.specs.Plain.{is_plain};
-ghost use Rattle.spk_broker.specs.View.{Stands, desk_was};
+ghost use Rattle.spk_broker.specs.View.{Stands, desk_now, desk_was};
 
 use crate::desk::Desk;
 use crate::out::{Conn, Draft};
 use crate::post::Post;
-use spk_packets::{Packet, PacketFault, encode};
-use spk_topics::Topic;
-use std::alloc::{AllocError, Global};
-
-/// Whether a packet can be written. It asks for the memory to write it.
-pub(crate) fn is_writable(alloc: Global, packet: &Packet) -> Result<bool, AllocError>
-    ensures { IfOk result (λ fits. fits ≡ is_none (first_of (unwritable (view packet.now)))) }
-{
-    match encode(alloc, packet) {
-        Ok(_bytes) => Ok(true),
-        Err(PacketFault::NoMemory) => Err(AllocError),
-        Err(_fault) => Ok(false),
-    }
-}
+use spk_packets::Packet;
+use spk_topics::{Topic, Tree};
+use std::alloc::AllocError;
 
 /// Whether a text is no topic name (section 4.7).
 pub(crate) fn is_no_topic(text: &str) -> bool
@@ -41,10 +29,9 @@ pub(crate) fn is_no_topic(text: &str) -> bool
 
 impl Desk {
     /// PUBACK, where the publish has an identifier (section 3.4).
-    fn puback(&mut self, draft: &mut Draft, conn: Conn, id: Option<u16>) -> Result<(), AllocError>
-        ensures done { OnOk result ((t : Turn) → Stands self.old draft.old t
-            → Stands self.new draft.new (acts (puback conn id) t)) }
-        ensures same { desk_was self.new ≡ desk_was self.old }
+    fn puback(&self, draft: &mut Draft, conn: Conn, id: Option<u16>) -> Result<(), AllocError>
+        ensures { OnOk result ((t : Turn) → Stands self.now draft.old t
+            → Stands self.now draft.new (acts (puback conn id) t)) }
     {
         let Some(id) = id else {
             return Ok(());
@@ -57,10 +44,12 @@ impl Desk {
     fn publish(
         &mut self,
         draft: &mut Draft,
+        tree: &Option<Tree>,
         conn: Conn,
         id: Option<u16>,
         post: Post,
     ) -> Result<(), AllocError>
+        requires { IsIndex tree.now (desk_now self.old).seats }
         ensures done { OnOk result ((t : Turn) → Stands self.old draft.old t
             → Stands self.new draft.new (acts (publish conn id (post_view post)) t)) }
         ensures same { desk_was self.new ≡ desk_was self.old }
@@ -71,7 +60,7 @@ impl Desk {
         }
         self.puback(draft, conn, id)?;
         draft.queue(post)?;
-        self.route(draft)?;
+        self.route(draft, tree)?;
         Ok(())
     }
 
@@ -79,9 +68,11 @@ impl Desk {
     pub(crate) fn next_packet(
         &mut self,
         draft: &mut Draft,
+        tree: &Option<Tree>,
         conn: Conn,
         packet: &Packet,
     ) -> Result<(), AllocError>
+        requires index { IsIndex tree.now (desk_now self.old).seats }
         requires plain { is_plain (view packet.now) ≡ true }
         requires empty { (draft_view draft.old).keeps ≡ [] }
         ensures done { OnOk result ((t : Turn) → Stands self.old draft.old t
@@ -103,7 +94,7 @@ impl Desk {
                     qos: *qos,
                     retain: *retain,
                 };
-                self.publish(draft, conn, *id, post)
+                self.publish(draft, tree, conn, *id, post)
             }
             Packet::Subscribe { id, filters } => {
                 self.subscribe(draft, conn, *id, filters)?;

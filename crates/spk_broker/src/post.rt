@@ -1,7 +1,10 @@
 //! Application messages.
 ghost use Rattle.std.specs.Prelude.{◌≡◌, IfOk, IfSome, OnOk, Some, false, true};
+ghost use Rattle.spk_packets.specs.Message.{Publish};
+ghost use Rattle.spk_packets.specs.View.{publish_view};
 ghost use Rattle.spk_broker.specs.Parts.{post_view};
 
+use spk_packets::PublishRef;
 use std::alloc::{AllocError, Global};
 
 /// An application message: a will that waits for its connection's end (section 3.1.2.5), or what a kept session keeps.
@@ -25,5 +28,25 @@ impl Post {
             qos,
             retain,
         })
+    }
+
+    /// The message as a PUBLISH.
+    pub(crate) fn as_publish(
+        &self,
+        dup: bool,
+        qos: u8,
+        retain: bool,
+        id: Option<u16>,
+    ) -> PublishRef<'_>
+        ensures { publish_view result ≡ Publish dup qos retain (post_view self.now).topic id (post_view self.now).payload }
+    {
+        PublishRef {
+            dup,
+            qos,
+            retain,
+            topic: self.topic.as_str(),
+            id,
+            payload: self.payload.as_slice(),
+        }
     }
 }

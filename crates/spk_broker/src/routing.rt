@@ -5,29 +5,58 @@ ghost use Rattle.indexmap.specs.IndexMap.{spare};
 ghost use Rattle.spk_broker_rules.specs.Plan.{Route};
 ghost use Rattle.spk_broker_rules.specs.Step.{Turn, act, route_one, serve};
 ghost use Rattle.spk_broker.specs.Drafts.{draft_view};
+ghost use Rattle.spk_broker.specs.Filing.{ArePassed, IsIndex};
 ghost use Rattle.spk_broker.specs.Parts.{post_view};
 ghost use Rattle.spk_broker.specs.Rounds.{kept_with, left_of_round, with_round};
-ghost use Rattle.spk_broker.specs.View.{Stands, desk_was, how_many, seat_now, seat_was};
+ghost use Rattle.spk_broker.specs.View.{Stands, desk_now, desk_was, how_many, seat_now, seat_was};
 
 use crate::desk::{Desk, Stored};
+use crate::index::reach;
+use crate::letter::Letter;
 use crate::out::Draft;
 use crate::post::Post;
 use crate::seat::Seat;
 use indexmap::IndexMap;
+use spk_topics::Tree;
 use std::alloc::AllocError;
 
-/// What a routed message does to all sessions.
-fn round(seats: &mut [Seat], draft: &mut Draft, post: &Post) -> Result<(), AllocError>
+/// What a routed message does to all sessions. Those that are known to have no grant that fits are passed over.
+fn visit(
+    seats: &mut [Seat],
+    draft: &mut Draft,
+    post: &Post,
+    found: &Option<Vec<(u64, u8)>>,
+) -> Result<(), AllocError>
+    requires { ArePassed found.now (post_view post.now).topic (flat_map seat_now seats.old) }
     ensures was { map seat_was seats.new ≡ map seat_was seats.old }
     ensures left { OnOk result (flat_map seat_now seats.new ≡
         left_of_round (serve (post_view post.now)) (flat_map seat_now seats.old)) }
     ensures drafted { OnOk result (draft_view draft.new ≡
         with_round (serve (post_view post.now)) (flat_map seat_now seats.old) (draft_view draft.old)) }
 {
+    let mut letter = Letter::new(post);
     for seat in seats.iter_mut() {
-        seat.serve(draft, post)?;
+        seat.concern(draft, &mut letter, found)?;
     }
     Ok(())
+}
+
+/// What a routed message does to all sessions.
+fn round(
+    seats: &mut [Seat],
+    draft: &mut Draft,
+    post: &Post,
+    tree: &Option<Tree>,
+) -> Result<(), AllocError>
+    requires { IsIndex tree.now (flat_map seat_now seats.old) }
+    ensures was { map seat_was seats.new ≡ map seat_was seats.old }
+    ensures left { OnOk result (flat_map seat_now seats.new ≡
+        left_of_round (serve (post_view post.now)) (flat_map seat_now seats.old)) }
+    ensures drafted { OnOk result (draft_view draft.new ≡
+        with_round (serve (post_view post.now)) (flat_map seat_now seats.old) (draft_view draft.old)) }
+{
+    let found = reach(tree, post.topic.as_str());
+    visit(seats, draft, post, &found)
 }
 
 /// Room for what is to be retained, where the message is.
@@ -52,25 +81,33 @@ fn keep(
 
 impl Desk {
     /// One message, routed whole.
-    fn route_one(&mut self, draft: &mut Draft, post: Post) -> Result<(), AllocError>
+    fn route_one(
+        &mut self,
+        draft: &mut Draft,
+        post: Post,
+        tree: &Option<Tree>,
+    ) -> Result<(), AllocError>
+        requires { IsIndex tree.now (desk_now self.old).seats }
         ensures done { OnOk result ((t : Turn) → Stands self.old draft.old t
             → Stands self.new draft.new (route_one (post_view post) t)) }
         ensures same { desk_was self.new ≡ desk_was self.old }
         ensures fewer { OnOk result (how_many self.new draft.new ≤ how_many self.old draft.old) }
+        ensures index { OnOk result (IsIndex tree.now (desk_now self.new).seats) }
     {
-        round(&mut self.seats, draft, &post)?;
+        round(&mut self.seats, draft, &post, tree)?;
         keep(&mut self.retained, draft, post)?;
         Ok(())
     }
 
     /// Those that wait are routed, each whole before the next.
-    pub(crate) fn route(&mut self, draft: &mut Draft) -> Result<(), AllocError>
+    pub(crate) fn route(&mut self, draft: &mut Draft, tree: &Option<Tree>) -> Result<(), AllocError>
+        requires { IsIndex tree.now (desk_now self.old).seats }
         ensures done { OnOk result ((t : Turn) → Stands self.old draft.old t
             → Stands self.new draft.new (act Route t)) }
         ensures same { desk_was self.new ≡ desk_was self.old }
     {
         while let Some(post) = draft.waiting.pop_front() {
-            self.route_one(draft, post)?;
+            self.route_one(draft, post, tree)?;
         }
         Ok(())
     }

@@ -6,9 +6,11 @@ ghost use Rattle.spk_broker.specs.Drafts.{draft_view, hand_some, left_by, served
 ghost use Rattle.spk_broker.specs.Parts.{post_view};
 
 use crate::grants::{best, level};
+use crate::letter::Letter;
 use crate::out::Draft;
 use crate::post::Post;
 use crate::seat::{Copy, Seat};
+use spk_session::Sort;
 use std::alloc::AllocError;
 
 impl Seat {
@@ -49,7 +51,26 @@ impl Seat {
             return Ok(());
         }
         if let Some(line) = &self.here {
-            draft.publish(line.conn, post, 0, retain, None)?;
+            draft.publish(line.conn, &post.as_publish(false, 0, retain, None))?;
+        }
+        Ok(())
+    }
+
+    /// A message of QoS 0 without RETAIN goes to its connection, where it has one: all who get it so share the bytes.
+    fn hand_letter(&mut self, draft: &mut Draft, letter: &mut Letter<'_>) -> Result<(), AllocError>
+        ensures was { self.new.was ≡ self.old.was }
+        ensures left { OnOk result (option_list self.new.now ≡
+            left_by (hand (sent_as letter.old 0 false)) self.old.now) }
+        ensures drafted { OnOk result (draft_view draft.new ≡
+            served_by (hand (sent_as letter.old 0 false)) self.old.now (draft_view draft.old)) }
+        ensures letter { letter.new ≡ letter.old }
+    {
+        if self.ended {
+            return Ok(());
+        }
+        if let Some(line) = &self.here {
+            let bytes = letter.plain(draft.alloc)?;
+            draft.send(line.conn, Sort::QosZero, bytes)?;
         }
         Ok(())
     }
@@ -83,23 +104,29 @@ impl Seat {
             })?;
         }
         if let Some(line) = &self.here {
-            draft.publish(line.conn, post, 1, retain, Some(id))?;
+            draft.publish(line.conn, &post.as_publish(false, 1, retain, Some(id)))?;
         }
         Ok(())
     }
 
     /// What a routed message does to the session: it goes to it with the lesser of its QoS and the greatest one
     /// granted for its topic, without RETAIN (sections 3.3.1.3 and 3.8.4).
-    pub(crate) fn serve(&mut self, draft: &mut Draft, post: &Post) -> Result<(), AllocError>
+    pub(crate) fn serve(
+        &mut self,
+        draft: &mut Draft,
+        letter: &mut Letter<'_>,
+    ) -> Result<(), AllocError>
         ensures was { self.new.was ≡ self.old.was }
         ensures left { OnOk result (option_list self.new.now ≡
-            left_by (serve (post_view post.now)) self.old.now) }
+            left_by (serve letter.old) self.old.now) }
         ensures drafted { OnOk result (draft_view draft.new ≡
-            served_by (serve (post_view post.now)) self.old.now (draft_view draft.old)) }
+            served_by (serve letter.old) self.old.now (draft_view draft.old)) }
+        ensures letter { letter.new ≡ letter.old }
     {
+        let post = letter.post();
         match level(post.qos, self.best(post.topic.as_str())) {
             None => Ok(()),
-            Some(0) => self.hand_plain(draft, post, false),
+            Some(0) => self.hand_letter(draft, letter),
             Some(qos) => self.hand_numbered(draft, post, qos, false),
         }
     }

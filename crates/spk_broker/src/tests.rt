@@ -87,3 +87,53 @@ fn a_thousand_connections_are_open_at_most(rt: HostRuntime) -> Result<(), Fail> 
     assert_eq!(rt; BrokerFault::NoSuchConn.number(), 30);
     Ok(())
 }
+
+/// A QoS 0 publish on `a/b`.
+fn value(alloc: Global) -> Result<Packet, AllocError> {
+    Ok(Packet::Publish {
+        dup: false,
+        qos: 0,
+        retain: false,
+        topic: String::from_str(alloc, "a/b")?,
+        id: None,
+        payload: [7].to_vec(alloc)?,
+    })
+}
+
+/// A client of this name.
+fn join(broker: &mut Broker, alloc: Global, client: &str) -> Result<Conn, Fail> {
+    let conn = broker.open(0)?;
+    let _ = broker.packet(conn, &connect(alloc, client)?, 0)?;
+    Ok(conn)
+}
+
+/// Whether each of 40 publishes goes to so many, in the same bytes.
+fn all_reach(
+    broker: &mut Broker,
+    writer: Conn,
+    packet: &Packet,
+    count: usize,
+) -> Result<bool, BrokerFault> {
+    for _ in 0..40 {
+        let out = broker.packet(writer, packet, 0)?;
+        if out.sends.len() != count {
+            return Ok(false);
+        }
+        for sent in &out.sends {
+            if sent.bytes.as_slice() != [0x30, 6, 0, 3, 97, 47, 98, 7].as_slice() {
+                return Ok(false);
+            }
+        }
+    }
+    Ok(true)
+}
+
+#[test]
+fn a_publish_goes_to_who_subscribed_with_an_index_too(rt: HostRuntime) -> Result<(), Fail> {
+    let alloc = rt.alloc();
+    let mut broker = Broker::new(alloc, 128);
+    let conn = join(&mut broker, alloc, "c")?;
+    let _ = broker.packet(conn, &subscribe(alloc, "a/+")?, 0)?;
+    assert!(rt; all_reach(&mut broker, conn, &value(alloc)?, 1)?);
+    Ok(())
+}

@@ -135,7 +135,7 @@ fn a_node_hears_its_primary_host_alone(rt: HostRuntime) {
 }
 
 /// A plan. Where memory was refused it is made again.
-fn planned(node: &EdgeNode, now: u64, act: Act<'_>) -> Result<Plan, EdgeFault> {
+pub(crate) fn planned(node: &EdgeNode, now: u64, act: Act<'_>) -> Result<Plan, EdgeFault> {
     let input = Input {
         now,
         ack: None,

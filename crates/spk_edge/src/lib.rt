@@ -10,6 +10,8 @@ mod command;
 #[cfg(test)]
 mod command_tests;
 mod config;
+#[cfg(test)]
+mod datatype_tests;
 mod draining;
 mod ends;
 mod hearing;
@@ -21,6 +23,8 @@ mod node;
 #[cfg(test)]
 mod packet_tests;
 mod plan;
+#[cfg(test)]
+mod run_tests;
 mod sealing;
 #[cfg(test)]
 mod tests;

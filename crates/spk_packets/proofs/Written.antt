@@ -1,8 +1,8 @@
 -- Tests of lists as the code has them, and as contracts see them.
-use Rattle.std.proofs.Common.{◌≡◌, ℕ, ◌+◌, ◌%◌, ◌^◌, ◌<◌, ◌≤◌, ◌++◌, ◌⊎◌, inl, inr, Result, Ok, Err, sym, subst, Vec, Bool, true, false, List, [], ◌∷◌, length, map, Option, Some, None, refl, ap, ◌∙◌, append_assoc, string_bytes, String, Global, arith}
-use Rattle.std.specs.Prelude.{nat_lt, ◌||◌, IfOk, IfErr, OnOk}
+use Rattle.std.proofs.Common.{◌≡◌, ℕ, ◌+◌, ◌-◌, ◌%◌, ◌^◌, min, ◌<◌, ◌≤◌, ◌++◌, ◌⊎◌, inl, inr, Result, Ok, Err, sym, subst, Vec, Bool, true, false, List, [], ◌∷◌, length, map, Option, Some, None, refl, ap, ◌∙◌, true≢false, append_assoc, string_bytes, String, Global, arith}
+use Rattle.std.specs.Prelude.{nat_lt, ◌||◌, IfOk, IfErr, OnOk, is_ok, is_none}
 use Rattle.std.specs.List.{list_any, flat_map}
-use Rattle.std.proofs.lemmas.Bool.{lt-ltb, le-ltb}
+use Rattle.std.proofs.lemmas.Bool.{lt-ltb, le-ltb, ltb-true, ltb-false}
 use Rattle.std.proofs.lemmas.List.{length-append}
 use Rattle.spk_packets.specs.declared.packet.Request.{Request}
 use Rattle.spk_packets.specs.declared.fault.PacketFault.{PacketFault}
@@ -97,7 +97,30 @@ connect_parts old a k c w x1 x2 x3 x4 x5 f e1 e2 e3 e4 e5 =
     e5 ∙ ap (λ (x : List ℕ). x ++ w) (e4 ∙ ap (λ (x : List ℕ). x ++ c) (e3 ∙ ap (λ (x : List ℕ). x ++ k) (e2 ∙ ap (λ (x : List ℕ). x ++ f ∷ []) e1)))
     ∙ append_assoc ((((old ++ a) ++ f ∷ []) ++ k)) c w ∙ append_assoc ((old ++ a) ++ f ∷ []) k (c ++ w) ∙ append_assoc (old ++ a) (f ∷ []) (k ++ (c ++ w)) ∙ append_assoc old a (f ∷ (k ++ (c ++ w)))
 
-pub unsubscribe_size : (id n : ℕ) (filters slice : List (String Global)) → slice ≡ filters → n ≡ length (flat_map counted (map (λ filter. string_bytes filter) slice)) % 2 ^ 64
-    → (n + 2) % 2 ^ 64 ≡ length (number id ++ flat_map counted (map (λ filter. string_bytes filter) filters)) % 2 ^ 64
+pub unsubscribe_size : (id n : ℕ) (filters slice : List (String Global)) → slice ≡ filters → n ≡ min (length (flat_map counted (map (λ filter. string_bytes filter) slice))) (2 ^ 64 - 1)
+    → min (n + 2) (2 ^ 64 - 1) ≡ min (length (number id ++ flat_map counted (map (λ filter. string_bytes filter) filters))) (2 ^ 64 - 1)
 unsubscribe_size id n filters slice same is =
-    subst (λ (xs : List (String Global)). (n + 2) % 2 ^ 64 ≡ length (number id ++ flat_map counted (map (λ filter. string_bytes filter) xs)) % 2 ^ 64) same (omega (arith, is))
+    subst (λ (xs : List (String Global)). min (n + 2) (2 ^ 64 - 1) ≡ min (length (number id ++ flat_map counted (map (λ filter. string_bytes filter) xs))) (2 ^ 64 - 1)) same (omega (arith, is))
+
+-- What is no longer than a packet may be is its length, and more is too much.
+writable_as : (p : Message) (r : Result ℕ PacketFault) (len : ℕ) → len ≡ length (body p) → first_of (content_refusals p) ≡ None
+    → IfOk r (λ n. (n ≡ 1 + length (shortest len) + len) × (n ≤ largest)) → IfErr r (λ e. (e ≡ TooLarge) × (largest < 1 + length (shortest len) + len))
+    → is_ok r ≡ is_none (first_of (unwritable p))
+writable_as p (Ok n) len is none ok err = sym (ap is_none (join_writable p (body p) refl none (subst (λ k. 1 + length (shortest k) + k ≤ largest) is (subst (λ k. k ≤ largest) ok.0 ok.1))))
+writable_as p (Err e) len is none ok err = sym (ap is_none (is_too_large p none (subst (λ k. largest < 1 + length (shortest k) + k) is err.1)))
+
+pub is_ok_writable : (p : Message) (r : Result ℕ PacketFault) (len : ℕ) → len ≡ min (length (body p)) (2 ^ 64 - 1) → first_of (content_refusals p) ≡ None
+    → IfOk r (λ n. (n ≡ 1 + length (shortest len) + len) × (n ≤ largest)) → IfErr r (λ e. (e ≡ TooLarge) × (largest < 1 + length (shortest len) + len))
+    → is_ok r ≡ is_none (first_of (unwritable p))
+is_ok_writable p r len is none ok err = by (nat_lt (length (body p)) (2 ^ 64)) refl r ok err
+  where
+    by : (b : Bool) → nat_lt (length (body p)) (2 ^ 64) ≡ b → (q : Result ℕ PacketFault)
+        → IfOk q (λ n. (n ≡ 1 + length (shortest len) + len) × (n ≤ largest)) → IfErr q (λ e. (e ≡ TooLarge) × (largest < 1 + length (shortest len) + len))
+        → is_ok q ≡ is_none (first_of (unwritable p))
+    by true f q ok err = let low : length (body p) < 2 ^ 64 = ltb-true _ _ f in writable_as p q len (omega (arith, is, low)) none ok err
+    by false f (Ok n) ok err = let high : 2 ^ 64 ≤ length (body p) = ltb-false _ _ f in let a = ok.0 in let b = ok.1 in absurd (omega (arith, is, high, a, b))
+    by false f (Err e) ok err = let high : 2 ^ 64 ≤ length (body p) = ltb-false _ _ f in sym (ap is_none (is_too_large p none (omega (arith, high))))
+
+pub held : {X Y : Type 0} {A : Type 0} (r : Result X Y) (b : Bool) → b ≡ is_ok r → b ≡ true → OnOk r A → A
+held (Ok x) b is so h = h
+held (Err e) b is so h = absurd (true≢false (sym so ∙ is))

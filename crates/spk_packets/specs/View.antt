@@ -5,6 +5,7 @@ use Rattle.spk_packets.specs.declared.packet.Packet.{Packet}
 use Rattle.spk_packets.specs.declared.packet.Packet.TheVariants as packets
 use Rattle.spk_packets.specs.declared.packet.Request.{Request}
 use Rattle.spk_packets.specs.declared.packet.Will.{Will}
+use Rattle.spk_packets.specs.declared.borrowed.PublishRef.{PublishRef}
 use Rattle.spk_packets.specs.declared.connect.Flags.{Flags}
 use Rattle.spk_packets.specs.Reading.{FlagsData}
 use Rattle.spk_packets.specs.Message.{WillData, Message, Connect, ConnAck, Publish, PubAck, Subscribe, SubAck, Unsubscribe, UnsubAck, PingReq, PingResp, Disconnect}
@@ -36,3 +37,7 @@ front_view x = (view x.0, x.1)
 -- what connect flags say
 abbrev pub flags_view : Flags → FlagsData
 flags_view flags = record { user = flags.user; password = flags.password; will = option_map (λ will. (will.qos, will.retain)) flags.will; clean = flags.clean }
+
+-- what a PUBLISH says whose topic and payload are borrowed
+abbrev pub publish_view : PublishRef → Message
+publish_view p = Publish p.dup p.qos p.retain p.topic.now p.id p.payload.now

@@ -29,7 +29,7 @@ pub(crate) fn judge(packet: &Packet) -> Result<(), PacketFault>
 }
 
 /// Over 65,535 bytes, or U+0000 is there.
-fn bad(text: &str) -> bool
+pub(crate) fn bad(text: &str) -> bool
     ensures { result ≡ is_bad_text text.now }
 {
     text.len() > 65_535 || text.as_bytes().contains(&0)
@@ -98,7 +98,7 @@ fn bad_will(will: &Option<Will>) -> bool
     }
 }
 
-fn bad_id(qos: u8, id: Option<u16>) -> bool
+pub(crate) fn bad_id(qos: u8, id: Option<u16>) -> bool
     ensures { result ≡ has_bad_id qos id }
 {
     match id {

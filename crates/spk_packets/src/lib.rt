@@ -2,6 +2,7 @@
 //! stream in any pieces.
 #![tactic(auto)]
 
+mod borrowed;
 mod connect;
 mod fault;
 mod feed;
@@ -17,11 +18,12 @@ mod subscribe;
 mod table;
 mod write;
 
+pub use borrowed::PublishRef;
 pub use fault::PacketFault;
 pub use feed::Feed;
 pub use packet::{Packet, Request, Will};
 pub use read::{decode, read_length};
-pub use write::encode;
+pub use write::{encode, is_writable};
 
 #[cfg(test)]
 mod stream_tests;

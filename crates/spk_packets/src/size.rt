@@ -1,7 +1,6 @@
-//! How many bytes a packet's body has, modulo 2^64: a vector has fewer bytes than 2^63, so where a size wraps no packet of it
-//! is written.
+//! How many bytes a packet's body has, or the greatest number where it has more: that is far more than any packet has.
 
-ghost use Rattle.std.specs.Prelude.{◌≡◌, ◌%◌, ◌^◌, length, string_bytes, map};
+ghost use Rattle.std.specs.Prelude.{◌≡◌, ◌-◌, ◌^◌, length, min, string_bytes, map};
 ghost use Rattle.std.specs.Option.{option_map};
 ghost use Rattle.std.specs.List.{flat_map};
 ghost use Rattle.spk_packets.specs.Spelling.{counted, request, id_part, will_part, body};
@@ -9,44 +8,46 @@ ghost use Rattle.spk_packets.specs.View.{view, will_view, request_view};
 
 use crate::packet::{Packet, Request, Will};
 
-fn counted_size(bytes: &[u8]) -> usize
-    ensures { result ≡ length (counted bytes.now) % 2 ^ 64 }
+pub(crate) fn counted_size(bytes: &[u8]) -> usize
+    ensures { result ≡ min (length (counted bytes.now)) (2 ^ 64 - 1) }
 {
-    bytes.len().wrapping_add(2)
+    bytes.len().saturating_add(2)
 }
 
 fn requests_size(requests: &[Request]) -> usize
-    ensures { result ≡ length (flat_map request (map request_view requests.now)) % 2 ^ 64 }
+    ensures { result ≡ min (length (flat_map request (map request_view requests.now))) (2 ^ 64 - 1) }
 {
     let mut sum = 0usize;
     for entry in requests {
         sum = sum
-            .wrapping_add(counted_size(entry.filter.as_bytes()))
-            .wrapping_add(1);
+            .saturating_add(counted_size(entry.filter.as_bytes()))
+            .saturating_add(1);
     }
     sum
 }
 
 fn filters_size(filters: &[String]) -> usize
-    ensures { result ≡ length (flat_map counted (map (λ filter. string_bytes filter) filters.now)) % 2 ^ 64 }
+    ensures { result ≡ min (length (flat_map counted (map (λ filter. string_bytes filter) filters.now))) (2 ^ 64 - 1) }
 {
     let mut sum = 0usize;
     for filter in filters {
-        sum = sum.wrapping_add(counted_size(filter.as_bytes()));
+        sum = sum.saturating_add(counted_size(filter.as_bytes()));
     }
     sum
 }
 
 fn will_size(will: &Option<Will>) -> usize
-    ensures { result ≡ length (will_part (option_map will_view will.now)) % 2 ^ 64 }
+    ensures { result ≡ min (length (will_part (option_map will_view will.now))) (2 ^ 64 - 1) }
 {
     match will {
-        Some(will) => counted_size(will.topic.as_bytes()).wrapping_add(counted_size(&will.message)),
+        Some(will) => counted_size(will.topic.as_bytes()).saturating_add(counted_size(
+            &will.message,
+        )),
         None => 0,
     }
 }
 
-fn id_size(id: Option<u16>) -> usize
+pub(crate) fn id_size(id: Option<u16>) -> usize
     ensures { result ≡ length (id_part id) }
 {
     match id {
@@ -58,12 +59,12 @@ fn id_size(id: Option<u16>) -> usize
 /// How many bytes stand behind the header.
 #[tactic(auto, unfolding(crate::specs::Spelling::body))]
 pub(crate) fn body_size(packet: &Packet) -> usize
-    ensures { result ≡ length (body (view packet.now)) % 2 ^ 64 }
+    ensures { result ≡ min (length (body (view packet.now))) (2 ^ 64 - 1) }
 {
     match packet {
         Packet::Connect { client, will, .. } => counted_size(client.as_bytes())
-            .wrapping_add(will_size(will))
-            .wrapping_add(10),
+            .saturating_add(will_size(will))
+            .saturating_add(10),
         Packet::ConnAck { .. } | Packet::PubAck { .. } | Packet::UnsubAck { .. } => 2,
         Packet::Publish {
             topic,
@@ -71,11 +72,11 @@ pub(crate) fn body_size(packet: &Packet) -> usize
             payload,
             ..
         } => counted_size(topic.as_bytes())
-            .wrapping_add(id_size(*id))
-            .wrapping_add(payload.len()),
-        Packet::Subscribe { filters, .. } => requests_size(filters).wrapping_add(2),
-        Packet::SubAck { codes, .. } => codes.len().wrapping_add(2),
-        Packet::Unsubscribe { filters, .. } => filters_size(filters).wrapping_add(2),
+            .saturating_add(id_size(*id))
+            .saturating_add(payload.len()),
+        Packet::Subscribe { filters, .. } => requests_size(filters).saturating_add(2),
+        Packet::SubAck { codes, .. } => codes.len().saturating_add(2),
+        Packet::Unsubscribe { filters, .. } => filters_size(filters).saturating_add(2),
         Packet::PingReq | Packet::PingResp | Packet::Disconnect => 0,
     }
 }

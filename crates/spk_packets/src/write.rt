@@ -1,6 +1,6 @@
 //! Writing a packet (chapters 2 and 3), canonically.
 
-ghost use Rattle.std.specs.Prelude.{◌≡◌, ◌⊎◌, ◌∷◌, ◌%◌, ◌^◌, ◌+◌, ◌++◌, ◌<◌, ◌≤◌, Some, length, string_bytes, map, false, None, IfOk, IfErr, OnOk};
+ghost use Rattle.std.specs.Prelude.{◌≡◌, ◌⊎◌, ◌∷◌, ◌%◌, ◌^◌, ◌+◌, ◌++◌, ◌<◌, ◌≤◌, Some, length, string_bytes, map, false, None, is_none, IfOk, IfErr, OnOk};
 ghost use Rattle.std.specs.Option.{option_map};
 ghost use Rattle.std.specs.List.{flat_map};
 ghost use Rattle.spk_packets.specs.Fault.{first_of, IsNamed};
@@ -27,7 +27,7 @@ fn put_number(out: &mut Vec<u8>, n: usize) -> Result<(), AllocError>
 
 /// Bytes behind their length.
 #[inline(always)]
-fn put_counted(out: &mut Vec<u8>, bytes: &[u8]) -> Result<(), AllocError>
+pub(crate) fn put_counted(out: &mut Vec<u8>, bytes: &[u8]) -> Result<(), AllocError>
     ensures { OnOk result (out.new.items ≡ out.old.items ++ counted bytes.now) }
 {
     put_number(out, bytes.len())?;
@@ -71,7 +71,7 @@ fn put_will(out: &mut Vec<u8>, will: &Option<Will>) -> Result<(), AllocError>
     Ok(())
 }
 
-fn put_id(out: &mut Vec<u8>, id: Option<u16>) -> Result<(), AllocError>
+pub(crate) fn put_id(out: &mut Vec<u8>, id: Option<u16>) -> Result<(), AllocError>
     ensures put { OnOk result (out.new.items ≡ out.old.items ++ id_part id) }
     ensures word { IsWord id }
 {
@@ -213,7 +213,7 @@ fn size_of(len: usize) -> usize
 
 /// The remaining length at the end, in as few bytes as it has groups of seven bits.
 #[tactic(auto, unfolding(crate::specs::Spelling::shortest))]
-fn put_length(out: &mut Vec<u8>, len: usize) -> Result<(), AllocError>
+pub(crate) fn put_length(out: &mut Vec<u8>, len: usize) -> Result<(), AllocError>
     requires { len < 2097152 }
     ensures { OnOk result (out.new.items ≡ out.old.items ++ shortest len) }
 {
@@ -231,7 +231,7 @@ fn put_length(out: &mut Vec<u8>, len: usize) -> Result<(), AllocError>
 }
 
 /// How many bytes a packet with a body of this length has, if that isn't too much.
-fn whole_of(len: usize) -> Result<usize, PacketFault>
+pub(crate) fn whole_of(len: usize) -> Result<usize, PacketFault>
     ensures ok { IfOk result (λ n. (n ≡ 1 + length (shortest len) + len) × (n ≤ largest)) }
     ensures err { IfErr result (λ e. (e ≡ PacketFault.TooLarge) × (largest < 1 + length (shortest len) + len)) }
 {
@@ -278,4 +278,11 @@ pub fn encode(alloc: Global, packet: &Packet) -> Result<Vec<u8>, PacketFault>
 {
     judge(packet)?;
     join(alloc, packet)
+}
+
+/// Whether the packet can be written: exactly where none of the refusals of `encode` holds. It takes no memory.
+pub fn is_writable(packet: &Packet) -> bool
+    ensures { result ≡ is_none (first_of (unwritable (view packet.now))) }
+{
+    judge(packet).is_ok() && whole_of(body_size(packet)).is_ok()
 }

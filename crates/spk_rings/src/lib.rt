@@ -12,6 +12,7 @@ mod token;
 
 pub use fault::{Full, RingFault};
 pub use inlet::Inlet;
-pub use item::{Bytes, Item};
+pub use item::Item;
 pub use outlet::{Outlet, ring};
+pub use spk_bytes::Bytes;
 pub use token::Token;

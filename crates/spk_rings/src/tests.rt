@@ -42,7 +42,7 @@ fn a_full_ring_hands_the_item_back(rt: HostRuntime) -> Result<(), Fail> {
     assert_eq!(rt; inlet.left(&mut outlet), 1);
     let first = inlet.next().ok_or("nothing there")?;
     assert_eq!(rt; first.cuts, 2);
-    assert_eq!(rt; first.bytes.into_vec().as_slice(), [7u8].as_slice());
+    assert_eq!(rt; first.bytes.as_slice(), [7u8].as_slice());
     assert!(rt; inlet.next().is_none());
     assert_eq!(rt; inlet.left(&mut outlet), 0);
     Ok(())

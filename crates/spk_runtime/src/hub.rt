@@ -5,9 +5,10 @@ ghost use Rattle.spk_ingress.specs.Passes.{TakesFrom};
 use crate::fault::ServeFault;
 use crate::place::Place;
 use spk_broker::{Broker, BrokerFault, Conn, Out};
+use spk_bytes::Bytes;
 use spk_ingress::{Frame, Ingress, TakePass, Taken, Whole};
 use spk_packets::{Packet, PacketFault};
-use spk_rings::{Bytes, Item, Outlet};
+use spk_rings::{Item, Outlet};
 use spk_session::Sort;
 use std::alloc::{AllocError, Global};
 use std::collections::VecDeque;
@@ -136,7 +137,7 @@ impl<'a> Hub<'a> {
     }
 
     /// Offers a send to its client's ring, and notes where it wasn't taken.
-    fn offer(&mut self, conn: Conn, sort: Sort, bytes: Vec<u8>) -> Result<(), AllocError> {
+    fn offer(&mut self, conn: Conn, sort: Sort, bytes: Bytes) -> Result<(), AllocError> {
         let Some(place) = self.place_of(conn) else {
             return Ok(());
         };
@@ -146,10 +147,7 @@ impl<'a> Hub<'a> {
         let Some(outlet) = &mut seat.outlet else {
             return Ok(());
         };
-        let item = Item {
-            bytes: Bytes::new(bytes),
-            cuts: 0,
-        };
+        let item = Item { bytes, cuts: 0 };
         if outlet.offer(item).is_err() {
             self.untold.push_back((conn, sort))?;
         }

@@ -1,9 +1,11 @@
 -- What a grant changed is undone.
-use Rattle.std.proofs.Common.{◌≡◌, ℕ, List, refl, ap, sym, ◌∙◌, cond, Option, Some, None}
+use Rattle.std.proofs.Common.{◌≡◌, ℕ, List, refl, ap, sym, ◌∙◌, cond, Bool, true, false, Option, Some, None}
 use Rattle.std.specs.Ordering.{is_eq, eq_by_cmp}
 use Rattle.std.specs.declared.cmp.Ordering.{Ordering}
 use Rattle.std.specs.declared.cmp.Ordering.TheVariants.{Less, Equal, Greater}
 use Rattle.std.specs.FinMap.{get, insert, remove, same_map, get_tied, get-insert, get-remove}
+use Rattle.std.specs.Option.{is_some}
+use Rattle.std.specs.Cmp.{eq_by_cmp_equiv}
 use Rattle.spk_topics.specs.Grants.{Grants, grant_cmp}
 use Rattle.spk_topics.proofs.RowLemmas.{grants_total, grants_exact}
 
@@ -30,3 +32,16 @@ set-again grants filter key qos old stood = same_map grants_total grants_exact _
     get-insert grants_total (insert grants (filter, key) qos) (filter, key) old q
     ∙ ap (cond (eq_by_cmp grant_cmp q (filter, key)) (Some old)) (get-insert grants_total grants (filter, key) qos q)
     ∙ undone grants (filter, key) q (Some old) (Some qos) stood)
+
+-- what was granted is there
+pub given-one : (grants : Grants) (filter : List ℕ) (key qos : ℕ) → get (insert grants (filter, key) qos) (filter, key) ≡ Some qos
+given-one grants filter key qos = get-insert grants_total grants (filter, key) qos (filter, key)
+    ∙ ap (λ b. cond b (Some qos) (get grants (filter, key))) ((eq_by_cmp_equiv grants_total).refl (filter, key))
+
+-- what was there stays
+pub given-others : (grants : Grants) (filter other : List ℕ) (key qos at : ℕ) → is_some (get grants (other, at)) ≡ true → is_some (get (insert grants (filter, key) qos) (other, at)) ≡ true
+given-others grants filter other key qos at there = ap is_some (get-insert grants_total grants (filter, key) qos (other, at)) ∙ by (eq_by_cmp grant_cmp (other, at) (filter, key))
+  where
+    by : (b : Bool) → is_some (cond b (Some qos) (get grants (other, at))) ≡ true
+    by true = refl
+    by false = there

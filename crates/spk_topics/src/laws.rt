@@ -1,5 +1,5 @@
 //! Laws of the definitions.
-ghost use Rattle.std.specs.Prelude.{◌≡◌, ◌↔◌, ◌∷◌, ℕ, List, IsTrue, not, false, Some, None};
+ghost use Rattle.std.specs.Prelude.{◌≡◌, ◌↔◌, ◌∷◌, ℕ, List, IsTrue, not, true, false, is_some, Some, None};
 ghost use Rattle.std.specs.List.{list_all};
 ghost use Rattle.std.specs.FinMap as map;
 ghost use Rattle.spk_topics.specs.Grants.{Grants};
@@ -39,4 +39,11 @@ pub fn taken_back()
         map.remove (map.insert grants (filter, key) qos) (filter, key) ≡ grants }
     ensures standing { (grants : Grants) (filter : List ℕ) (key qos old : ℕ) → map.get grants (filter, key) ≡ Some old →
         map.insert (map.insert grants (filter, key) qos) (filter, key) old ≡ grants }
+{}
+
+/// What was granted is there, and what else was there stays.
+pub fn granted()
+    ensures one { (grants : Grants) (filter : List ℕ) (key qos : ℕ) → map.get (map.insert grants (filter, key) qos) (filter, key) ≡ Some qos }
+    ensures others { (grants : Grants) (filter other : List ℕ) (key qos at : ℕ) → is_some (map.get grants (other, at)) ≡ true →
+        is_some (map.get (map.insert grants (filter, key) qos) (other, at)) ≡ true }
 {}

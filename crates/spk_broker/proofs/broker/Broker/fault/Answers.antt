@@ -1,32 +1,38 @@
+use Rattle.std.proofs.Common.{refl}
 use Rattle.spk_broker_rules.specs.Plan.{Fault}
-use Rattle.spk_broker.proofs.Finishing.{closes-are, done-is, kept-is, room-for, sends-are}
+use Rattle.spk_broker.proofs.Finishing.{closes-are, done-is, index-is, kept-is, room-for, sends-are}
 use Rattle.spk_broker.proofs.broker.Broker.fault.Goals as goal
 
 pub finish-requires : goal.finish-requires
 finish-requires c =
     room-for (Fault c.args.conn c.args.fault c.args.now) c.args.self.now c.self.inside.desk c.draft_fault-drafted.new.self c.new-draft.result c.draft_fault-drafted.new.draft c.draft_fault-drafted.result
-    (record { is = c.self.view_is; kept = c.self.invariant; empty = c.new-draft.ensures; done = c.draft_fault-drafted.ensures.done; same = c.draft_fault-drafted.ensures.same })
+    (record { is = c.self.view_is; kept = c.self.invariant.sound; empty = c.new-draft.ensures; done = c.draft_fault-drafted.ensures.done; same = c.draft_fault-drafted.ensures.same })
 
 pub invariant_of-self : goal.invariant_of-self
-invariant_of-self c =
-    kept-is (Fault c.args.conn c.args.fault c.args.now) c.args.self.now c.self.inside.desk c.draft_fault-drafted.new.self c.finish.new.self c.new-draft.result c.draft_fault-drafted.new.draft c.draft_fault-drafted.result c.finish.result
-    (record { is = c.self.view_is; kept = c.self.invariant; empty = c.new-draft.ensures; done = c.draft_fault-drafted.ensures.done; same = c.draft_fault-drafted.ensures.same })
-    (record { done = c.finish.ensures.done; sends = c.finish.ensures.sends; closes = c.finish.ensures.closes; variant = c.finish.ensures.variant; same = c.finish.ensures.same; settled = c.finish.ensures.settled })
+invariant_of-self c = record {
+  sound = kept-is (Fault c.args.conn c.args.fault c.args.now) c.args.self.now c.self.inside.desk c.draft_fault-drafted.new.self c.finish.new.self c.new-draft.result c.draft_fault-drafted.new.draft c.draft_fault-drafted.result c.finish.result
+      (record { is = c.self.view_is; kept = c.self.invariant.sound; empty = c.new-draft.ensures; done = c.draft_fault-drafted.ensures.done; same = c.draft_fault-drafted.ensures.same })
+      (record { done = c.finish.ensures.done; sends = c.finish.ensures.sends; closes = c.finish.ensures.closes; variant = c.finish.ensures.variant; same = c.finish.ensures.same; settled = c.finish.ensures.settled });
+  index = index-is c.self.inside.tree (Fault c.args.conn c.args.fault c.args.now) c.args.self.now c.self.inside.desk c.draft_fault-drafted.new.self c.finish.new.self c.new-draft.result c.draft_fault-drafted.new.draft c.draft_fault-drafted.result c.finish.result refl
+      (record { is = c.self.view_is; kept = c.self.invariant.sound; empty = c.new-draft.ensures; done = c.draft_fault-drafted.ensures.done; same = c.draft_fault-drafted.ensures.same })
+      (record { done = c.finish.ensures.done; sends = c.finish.ensures.sends; closes = c.finish.ensures.closes; variant = c.finish.ensures.variant; same = c.finish.ensures.same; settled = c.finish.ensures.settled })
+      c.self.invariant.index;
+}
 
 pub returns-clause-sends : goal.returns-clause-sends
 returns-clause-sends c =
     sends-are (Fault c.args.conn c.args.fault c.args.now) c.args.self.now c.self.inside.desk c.draft_fault-drafted.new.self c.finish.new.self c.new-draft.result c.draft_fault-drafted.new.draft c.draft_fault-drafted.result c.finish.result
-    (record { is = c.self.view_is; kept = c.self.invariant; empty = c.new-draft.ensures; done = c.draft_fault-drafted.ensures.done; same = c.draft_fault-drafted.ensures.same })
+    (record { is = c.self.view_is; kept = c.self.invariant.sound; empty = c.new-draft.ensures; done = c.draft_fault-drafted.ensures.done; same = c.draft_fault-drafted.ensures.same })
     (record { done = c.finish.ensures.done; sends = c.finish.ensures.sends; closes = c.finish.ensures.closes; variant = c.finish.ensures.variant; same = c.finish.ensures.same; settled = c.finish.ensures.settled })
 
 pub returns-clause-closes : goal.returns-clause-closes
 returns-clause-closes c =
     closes-are (Fault c.args.conn c.args.fault c.args.now) c.args.self.now c.self.inside.desk c.draft_fault-drafted.new.self c.finish.new.self c.new-draft.result c.draft_fault-drafted.new.draft c.draft_fault-drafted.result c.finish.result
-    (record { is = c.self.view_is; kept = c.self.invariant; empty = c.new-draft.ensures; done = c.draft_fault-drafted.ensures.done; same = c.draft_fault-drafted.ensures.same })
+    (record { is = c.self.view_is; kept = c.self.invariant.sound; empty = c.new-draft.ensures; done = c.draft_fault-drafted.ensures.done; same = c.draft_fault-drafted.ensures.same })
     (record { done = c.finish.ensures.done; sends = c.finish.ensures.sends; closes = c.finish.ensures.closes; variant = c.finish.ensures.variant; same = c.finish.ensures.same; settled = c.finish.ensures.settled })
 
 pub returns-clause-done : goal.returns-clause-done
 returns-clause-done c =
     done-is (Fault c.args.conn c.args.fault c.args.now) c.args.self.now c.self.inside.desk c.draft_fault-drafted.new.self c.finish.new.self c.new-draft.result c.draft_fault-drafted.new.draft c.draft_fault-drafted.result c.finish.result
-    (record { is = c.self.view_is; kept = c.self.invariant; empty = c.new-draft.ensures; done = c.draft_fault-drafted.ensures.done; same = c.draft_fault-drafted.ensures.same })
+    (record { is = c.self.view_is; kept = c.self.invariant.sound; empty = c.new-draft.ensures; done = c.draft_fault-drafted.ensures.done; same = c.draft_fault-drafted.ensures.same })
     (record { done = c.finish.ensures.done; sends = c.finish.ensures.sends; closes = c.finish.ensures.closes; variant = c.finish.ensures.variant; same = c.finish.ensures.same; settled = c.finish.ensures.settled })

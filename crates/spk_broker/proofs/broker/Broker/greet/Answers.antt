@@ -17,9 +17,12 @@ invariant_of-self-2 c =
     opened (desk_was d) c.args.now c.max-clock.result (map guest_was more) c.max-clock.ensures
     (ap (map guest_was) c.in_ok-push.ensures.items ∙ map_push guest_was d.guests.items _) in
     record {
-      settled = opened-settled d c.max-clock.result more c.self.invariant.settled
-          (guests-more d.guests.items more _ c.in_ok-push.ensures.items (ap (λ (b : plain.Broker). b.guests) c.self.invariant.settled) refl);
-      lawful = subst IsLawful (sym all) (step-lawful (desk_was d) (Open c.args.now) c.self.invariant.lawful);
+      sound = record {
+        settled = opened-settled d c.max-clock.result more c.self.invariant.sound.settled
+            (guests-more d.guests.items more _ c.in_ok-push.ensures.items (ap (λ (b : plain.Broker). b.guests) c.self.invariant.sound.settled) refl);
+        lawful = subst IsLawful (sym all) (step-lawful (desk_was d) (Open c.args.now) c.self.invariant.sound.lawful);
+      };
+      index = c.self.invariant.index;
     }
 
 pub returns-clause-done : goal.returns-clause-done

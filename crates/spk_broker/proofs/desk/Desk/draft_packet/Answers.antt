@@ -2,6 +2,8 @@ use Rattle.std.proofs.Common.{refl}
 use Rattle.spk_packets.specs.View.{view}
 use Rattle.spk_broker_rules.specs.Plan.{At, Hear, Packet}
 use Rattle.spk_broker_rules.specs.Step.{act, seen}
+use Rattle.spk_broker.proofs.Finishing.{index-on}
+use Rattle.spk_broker.proofs.Quiet.{heard-index}
 use Rattle.spk_broker.proofs.desk.Desk.draft_packet.Goals as goal
 
 pub returns-clause-done : goal.returns-clause-done
@@ -9,3 +11,11 @@ returns-clause-done c t s =
     let t2 = act (Hear c.args.conn) (act (At c.args.now) t) in
     c.in_ok-ending.ensures.done (seen t2.broker (Packet c.args.conn (view c.args.packet.now) c.args.now)) t2 refl refl refl
     (c.hear.ensures.done c.args.draft.now (act (At c.args.now) t) (c.at.ensures.done c.args.draft.now t s))
+
+pub judge_packet-requires-clause-index : goal.judge_packet-requires-clause-index
+judge_packet-requires-clause-index c =
+    let t = c.requires.stands.0 in
+    let s = c.requires.stands.1 in
+    index-on c.args.tree.now c.args.self.now c.hear.new.self c.args.draft.now c.args.draft.now t (act (Hear c.args.conn) (act (At c.args.now) t)) s
+    (c.hear.ensures.done c.args.draft.now (act (At c.args.now) t) (c.at.ensures.done c.args.draft.now t s))
+    (heard-index c.args.tree.now c.args.conn (act (At c.args.now) t)) c.requires.index

@@ -6,7 +6,7 @@ use Rattle.spk_broker.specs.View.{Stands}
 use Rattle.spk_broker.proofs.Standing.{say-stands}
 use Rattle.spk_broker.proofs.desk.Desk.puback.Goals as goal
 
-pub returns-clause-done : goal.returns-clause-done
-returns-clause-done c t s =
+pub returns : goal.returns
+returns c t s =
     subst (λ o. Stands c.args.self.now c.say.new.self (acts (puback c.args.conn o) t)) (sym c.in-Some.is)
     (say-stands c.args.self.now c.args.draft.now c.say.new.self t (record { conn = c.args.conn; packet = PubAck c.in-Some.id }) c.in_ok-say.ensures s)

@@ -19,5 +19,5 @@ returns-clause-done c t s =
     let m = post_view c.args.post in
     publish-stands c.route.new.self c.route.new.draft c.args.conn c.args.id m t false (ap (λ l. is_some (topic_refusal l)) (sym c.as_str.ensures.value) ∙ sym c.is_no_topic.ensures ∙ c.if-is_no_topic.false)
     (subst (λ u. Stands c.route.new.self c.route.new.draft u) (sym (acts-append (puback c.args.conn c.args.id) (Queue m ∷ Route ∷ []) t))
-    (c.in_ok-route.ensures.done _ (queue-stands c.puback.new.self c.puback.new.draft c.queue.new.self (acts (puback c.args.conn c.args.id) t) (m ∷ []) c.in_ok-queue.ensures
-    (c.in_ok-puback.ensures.done t s))))
+    (c.in_ok-route.ensures.done _ (queue-stands c.args.self.now c.puback.new.draft c.queue.new.self (acts (puback c.args.conn c.args.id) t) (m ∷ []) c.in_ok-queue.ensures
+    (c.in_ok-puback.ensures t s))))

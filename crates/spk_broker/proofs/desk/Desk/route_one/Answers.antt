@@ -9,6 +9,8 @@ use Rattle.spk_broker.specs.Parts.{post_view}
 use Rattle.spk_broker.specs.Rounds.{kept_with, left_of_round, with_round}
 use Rattle.spk_broker_rules.specs.Step.{serve}
 use Rattle.spk_broker.specs.View.{seat_now}
+use Rattle.spk_broker.specs.Filing.{IsIndex}
+use Rattle.spk_broker.proofs.Quiet.{kept-index}
 use Rattle.spk_broker.proofs.Refilled.{refilled}
 use Rattle.spk_broker.proofs.Routes.{RoutedOne, one-fewer, one-stands}
 use Rattle.spk_broker.proofs.desk.Desk.route_one.Goals as goal
@@ -37,3 +39,8 @@ returns-clause-done c = one-stands (post_view c.args.post) c.args.self.now (end 
 
 pub returns-clause-fewer : goal.returns-clause-fewer
 returns-clause-fewer c = one-fewer (post_view c.args.post) c.args.self.now (end c) c.args.draft.now c.keep.new.draft (facts c)
+
+pub returns-clause-index : goal.returns-clause-index
+returns-clause-index c =
+    subst (IsIndex c.args.tree.now) (sym (facts c).seats)
+    (kept-index c.args.tree.now (post_view c.args.post) (flat_map seat_now c.args.self.now.seats.items) c.requires)

@@ -1,0 +1,8 @@
+-- What contracts see of shared bytes.
+use Rattle.std.specs.Prelude.{ℕ, List}
+use Rattle.spk_bytes.specs.declared.shared.Held.{Held}
+use Rattle.spk_bytes.specs.declared.shared.Held.TheVariants.{Alone, Together}
+
+abbrev pub held_items : Held → List ℕ
+held_items (Alone bytes) = bytes.items
+held_items (Together bytes) = bytes.items.value.items

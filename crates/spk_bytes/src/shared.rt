@@ -1,0 +1,84 @@
+//! Bytes that many may hold.
+ghost use Rattle.std.specs.Prelude.{◌≡◌, IfOk};
+
+use std::alloc::AllocError;
+use std::marker::Model;
+use std::sync::ArcSlice;
+
+/// Who holds the bytes.
+#[derive(Debug, Drop)]
+enum Held {
+    Alone(Vec<u8>),
+    Together(ArcSlice<u8>),
+}
+
+/// The bytes of a packet. Contracts see them as a list of numbers.
+#[derive(Debug, Drop)]
+pub struct Bytes {
+    held: Held,
+}
+
+impl Model for Bytes {
+    ghost use Rattle.std.specs.Prelude.{ℕ, List};
+    ghost use Rattle.spk_bytes.specs.Shared.{held_items};
+
+    ghost Value = { List ℕ };
+
+    ghost view = { λ s. held_items s.held };
+}
+
+impl Bytes {
+    /// These bytes. It takes no memory.
+    pub fn new(bytes: Vec<u8>) -> Bytes
+        ensures { result ≡ bytes.items }
+    {
+        Bytes {
+            held: Held::Alone(bytes),
+        }
+    }
+
+    /// These bytes, so that `share` copies none of them.
+    pub fn shared(bytes: Vec<u8>) -> Result<Bytes, AllocError>
+        ensures { IfOk result (λ b. b ≡ bytes.items) }
+    {
+        Ok(Bytes {
+            held: Held::Together(ArcSlice::from_vec(bytes)?),
+        })
+    }
+
+    /// The same bytes for one more holder. Those of one owner are copied.
+    pub fn share(&self) -> Result<Bytes, AllocError>
+        ensures { IfOk result (λ b. b ≡ self.now) }
+    {
+        match &self.held {
+            Held::Alone(bytes) => Ok(Bytes::new(bytes.clone()?)),
+            Held::Together(bytes) => Ok(Bytes {
+                held: Held::Together(bytes.clone()?),
+            }),
+        }
+    }
+
+    /// The bytes, lent.
+    pub fn as_slice(&self) -> &[u8]
+        ensures { result.now ≡ self.now }
+    {
+        match &self.held {
+            Held::Alone(bytes) => bytes.as_slice(),
+            Held::Together(bytes) => bytes.as_slice(),
+        }
+    }
+}
+
+impl PartialEq for Bytes {
+    ghost use Rattle.std.specs.Prelude.{nat_eq};
+    ghost use Rattle.std.specs.Cmp.{partial_equiv_from_equiv};
+    ghost use Rattle.std.specs.Cmp.Lexicographic.{nat_list_eq_equiv, pointwise};
+
+    ghost eq = { pointwise nat_eq };
+
+    ghost laws = { partial_equiv_from_equiv nat_list_eq_equiv };
+
+    fn eq(&self, other: &Bytes) -> bool {
+        self.as_slice() == other.as_slice()
+    }
+}

@@ -1,0 +1,17 @@
+//! What a host application reads of a packet's bytes: the message of which node it is, under which number, and what is to be
+//! acknowledged (Sparkplug 3.0.0, chapter 4 on topics, chapter 6 on payloads).
+#![tactic(auto)]
+
+mod fault;
+mod numbers;
+mod published;
+mod reading;
+mod said;
+
+pub use fault::ReadFault;
+pub use reading::read;
+
+#[cfg(test)]
+mod tests;
+
+pub use said::{Content, Heard, Numbered, Subject};

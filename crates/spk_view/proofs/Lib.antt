@@ -1,0 +1,4 @@
+pub mod Devices
+pub mod Places
+pub mod Rows
+pub mod Worked

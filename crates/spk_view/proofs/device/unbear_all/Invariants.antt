@@ -1,0 +1,8 @@
+use Rattle.std.proofs.Common.{◌≡◌}
+use Rattle.spk_host_rules.specs.Step.{unborn}
+use Rattle.spk_view.proofs.Places.{mapped}
+use Rattle.spk_view.proofs.device.unbear_all.Given as goal
+
+-- so many of them were told
+abbrev pub invariant-loop-device : goal.invariant-loop-device
+invariant-loop-device l = l.devices ≡ mapped unborn l.device-index l.initial.devices

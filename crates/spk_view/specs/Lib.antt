@@ -1,0 +1,4 @@
+pub mod Data
+pub mod Indexed
+pub mod Prepared
+pub mod Inside

@@ -1,0 +1,19 @@
+//! What a host application of Sparkplug 3.0.0 (chapters 5 and 6) shows of one edge node, and when it asks the node for a
+//! rebirth: tables of metrics, and each event of the node's order done to them.
+#![tactic(auto)]
+
+mod aliases;
+mod device;
+mod metric;
+mod node;
+mod ready;
+mod table;
+#[cfg(test)]
+mod tests;
+mod watch;
+
+pub use device::DeviceView;
+pub use metric::MetricView;
+pub use node::NodeView;
+pub use ready::Ready;
+pub use watch::Watch;

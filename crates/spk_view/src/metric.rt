@@ -1,0 +1,118 @@
+//! A metric that is shown.
+ghost use Rattle.std.specs.Prelude.{◌≡◌, Some, IfOk, string_bytes, ◌==◌};
+ghost use Rattle.std.specs.Option.{option_map};
+ghost use Rattle.spk_payload.specs.View.{content_of, metric_view};
+ghost use Rattle.spk_host_rules.specs.Table.{is_alias, released, row_of, shown_with};
+ghost use Rattle.spk_host_rules.specs.View.{shown_view};
+
+use spk_host_rules::{Shown, shown_value};
+use spk_payload::{Metric, Raw};
+use std::alloc::{AllocError, Global};
+use std::marker::Model;
+
+/// A metric as its birth named it, and what is shown of it (Sparkplug 3.0.0, 6.4.6). Contracts see a `Row`.
+#[derive(Debug, Drop)]
+pub struct MetricView {
+    name: String,
+    alias: Option<u64>,
+    datatype: Option<u32>,
+    shown: Shown,
+}
+
+impl Model for MetricView {
+    ghost use Rattle.std.specs.Prelude.{string_bytes};
+    ghost use Rattle.spk_host_rules.specs.Data.{Row};
+    ghost use Rattle.spk_host_rules.specs.View.{shown_view};
+
+    ghost Value = { Row };
+
+    ghost view = { λ a. record {
+      name = string_bytes a.name;
+      alias = a.alias;
+      datatype = a.datatype;
+      shown = shown_view a.shown;
+    } };
+}
+
+fn copied_value(alloc: Global, value: &Option<Raw>) -> Result<Option<Raw>, AllocError>
+    ensures { IfOk result (λ v. option_map content_of v ≡ option_map content_of value.now) }
+{
+    match value {
+        Some(raw) => Ok(Some(raw.copy(alloc)?)),
+        None => Ok(None),
+    }
+}
+
+impl MetricView {
+    /// The metric's name.
+    pub fn name(&self) -> &str
+        ensures { result.now ≡ self.now.name }
+    {
+        self.name.as_str()
+    }
+
+    /// Its alias, unless a later metric of the birth took it.
+    pub fn alias(&self) -> Option<u64>
+        ensures { result ≡ self.now.alias }
+    {
+        self.alias
+    }
+
+    /// The number of its datatype (Sparkplug 3.0.0, 6.4.16), as its birth gave it.
+    pub fn datatype(&self) -> Option<u32>
+        ensures { result ≡ self.now.datatype }
+    {
+        self.datatype
+    }
+
+    /// What is shown of it.
+    pub fn shown(&self) -> &Shown
+        ensures { shown_view result.now ≡ self.now.shown }
+    {
+        &self.shown
+    }
+
+    /// A metric of a birth, under its name.
+    pub(crate) fn born(
+        alloc: Global,
+        name: &String,
+        metric: &Metric,
+    ) -> Result<MetricView, AllocError>
+        ensures { IfOk result (λ row. row ≡ row_of (string_bytes name.now) (metric_view metric.now)) }
+    {
+        let name = String::from_str(alloc, name.as_str())?;
+        let value = copied_value(alloc, &metric.value)?;
+        let shown = shown_value(metric.datatype, metric.null, value);
+        Ok(MetricView {
+            name,
+            alias: metric.alias,
+            datatype: metric.datatype,
+            shown,
+        })
+    }
+
+    /// Whether it has this alias.
+    pub(crate) fn has_alias(&self, alias: u64) -> bool
+        ensures { result ≡ is_alias self.now.alias alias }
+    {
+        self.alias == Some(alias)
+    }
+
+    /// Another metric took this alias.
+    pub(crate) fn release(&mut self, alias: u64)
+        ensures { self.new ≡ released (Some alias) self.old }
+    {
+        if self.has_alias(alias) {
+            self.alias = None;
+        }
+    }
+
+    /// A value of data, by the datatype of the birth.
+    pub(crate) fn show(&mut self, null: Option<bool>, value: Option<Raw>)
+        ensures { self.new ≡ record self.old {
+          shown = shown_with self.old.datatype null (option_map content_of value);
+        } }
+    {
+        self.shown = shown_value(self.datatype, null, value);
+    }
+}

@@ -1,0 +1,262 @@
+//! The metrics of a node's own or of a device, found by name and by alias.
+ghost use Rattle.std.specs.Prelude.{◌≡◌, ◌⊎◌, ℕ, [], map, length, IfOk, OnOk, Some, None, string_bytes, slice_get, set};
+ghost use Rattle.std.specs.List.{find, list_any};
+ghost use Rattle.std.specs.Option.{option_map, option_copied};
+ghost use Rattle.std.specs.Str.{bytes_eq};
+ghost use Rattle.spk_payload.specs.View.{content_of, metric_view};
+ghost use Rattle.spk_names.specs.Names.{number_in};
+ghost use Rattle.spk_host_rules.specs.Data.{Row};
+ghost use Rattle.spk_host_rules.specs.Step.{show, show_all};
+ghost use Rattle.spk_host_rules.specs.Table.{changes, is_alias, is_lacking, is_name, lacks, name_by, name_of, placed, released, shown_with, table_of, with_metric};
+ghost use Rattle.spk_view.specs.Indexed.{place_in, IsAliased, IsApart, IsIndexed, IsNamed, IsPlaceOf};
+
+use crate::aliases::Aliases;
+use crate::metric::MetricView;
+use spk_names::Names;
+use spk_names::laws::found_again;
+use spk_payload::{Metric, Raw};
+use std::alloc::{AllocError, Global};
+use std::fmt;
+use std::marker::Model;
+
+/// The metrics of an owner in the order of its birth (Sparkplug 3.0.0, 6.4.5). Contracts see the list of rows.
+#[derive(Drop)]
+pub(crate) struct Table {
+    rows: Vec<MetricView>,
+    /// The place of each row, by name.
+    names: Names,
+    /// The place of each row that has an alias, by alias.
+    aliases: Aliases,
+}
+
+impl Model for Table {
+    ghost use Rattle.std.specs.Prelude.{List};
+    ghost use Rattle.spk_host_rules.specs.Data.{Row};
+    ghost use Rattle.spk_view.specs.Indexed.{IsIndexed};
+
+    ghost Value = { List Row };
+
+    ghost view = { λ a. a.rows.items };
+
+    ghost invariant = { λ a. IsIndexed a.rows.items a.names a.aliases };
+}
+
+impl fmt::Debug for Table {
+    fn fmt<W: fmt::Write>(&self, f: &mut fmt::Formatter<W>) -> fmt::Result {
+        self.rows.fmt(f)
+    }
+}
+
+/// Takes an alias away from the row that has it.
+fn release(rows: &mut Vec<MetricView>, aliases: &Aliases, alias: Option<u64>)
+    requires { IsAliased rows.old.items aliases.now }
+    ensures { rows.new.items ≡ map (released alias) rows.old.items }
+{
+    let Some(alias) = alias else {
+        return;
+    };
+    let Some(place) = aliases.find(alias) else {
+        return;
+    };
+    if place < rows.len() {
+        rows[place].release(alias);
+    }
+}
+
+/// Puts a row at the place of the row of its name, or else last, and answers its place.
+fn place(
+    rows: &mut Vec<MetricView>,
+    names: &mut Names,
+    key: String,
+    row: MetricView,
+) -> Result<usize, AllocError>
+    requires key { string_bytes key ≡ row.name }
+    requires named { IsNamed rows.old.items names.old }
+    ensures rows { OnOk result (rows.new.items ≡ placed row rows.old.items) }
+    ensures named { OnOk result (IsNamed rows.new.items names.new) }
+    ensures others { IfOk result (λ place. (k : ℕ) (r : Row) → slice_get rows.new.items k ≡ Some r →
+        ((k ≡ place) × (r ≡ row)) ⊎ (slice_get rows.old.items k ≡ Some r)) }
+{
+    match names.find(key.as_str()) {
+        Some(place) => {
+            rows[place] = row;
+            Ok(place)
+        }
+        None => {
+            let place = rows.len();
+            rows.reserve(1)?;
+            found_again();
+            names.enter(key, place)?;
+            rows.push_reserved(row);
+            Ok(place)
+        }
+    }
+}
+
+/// One more metric of a birth. One without a name counts nowhere.
+fn put(
+    alloc: Global,
+    rows: &mut Vec<MetricView>,
+    names: &mut Names,
+    aliases: &mut Aliases,
+    metric: &Metric,
+) -> Result<(), AllocError>
+    requires { IsIndexed rows.old.items names.old aliases.old }
+    ensures rows { OnOk result (rows.new.items ≡ with_metric rows.old.items (metric_view metric.now)) }
+    ensures indexed { OnOk result (IsIndexed rows.new.items names.new aliases.new) }
+{
+    let Some(name) = &metric.name else {
+        return Ok(());
+    };
+    let row = MetricView::born(alloc, name, metric)?;
+    let key = String::from_str(alloc, name.as_str())?;
+    release(rows, aliases, metric.alias);
+    let place = place(rows, names, key, row)?;
+    aliases.enter(metric.alias, place)?;
+    Ok(())
+}
+
+impl Table {
+    /// No metrics. Takes no memory.
+    pub(crate) fn new(alloc: Global) -> Table
+        ensures { result ≡ [] }
+    {
+        Table {
+            rows: Vec::new(alloc),
+            names: Names::new(alloc),
+            aliases: Aliases::new(alloc),
+        }
+    }
+
+    /// The metrics of a birth.
+    pub(crate) fn born(alloc: Global, metrics: &[Metric]) -> Result<Table, AllocError>
+        ensures { IfOk result (λ table. table ≡ table_of (map metric_view metrics.now)) }
+    {
+        let mut rows = Vec::with_capacity(alloc, metrics.len())?;
+        let mut names = Names::new(alloc);
+        let mut aliases = Aliases::new(alloc);
+        for metric in metrics {
+            put(alloc, &mut rows, &mut names, &mut aliases, metric)?;
+        }
+        Ok(Table {
+            rows,
+            names,
+            aliases,
+        })
+    }
+
+    /// The metrics, in the order of the birth.
+    pub(crate) fn rows(&self) -> &[MetricView]
+        ensures { result.now ≡ self.now }
+    {
+        &self.rows
+    }
+
+    /// The metric of a name.
+    pub(crate) fn find(&self, name: &str) -> Option<&MetricView>
+        ensures { option_copied result ≡ find (λ r. bytes_eq name.now r.name) self.now }
+    {
+        let place = self.place_of_name(name)?;
+        self.rows.get(place)
+    }
+
+    /// The place of the metric of a name.
+    fn place_of_name(&self, name: &str) -> Option<usize>
+        ensures place { IsPlaceOf (λ r. bytes_eq name.now r.name) self.now result }
+        ensures apart { IsApart name_of self.now }
+    {
+        self.names.find(name)
+    }
+
+    /// The place of the metric of an alias.
+    fn place_of_alias(&self, alias: u64) -> Option<usize>
+        ensures { IsPlaceOf (λ r. is_alias r.alias alias) self.now result }
+    {
+        let place = self.aliases.find(alias)?;
+        let row = self.rows.get(place)?;
+        if row.has_alias(alias) {
+            Some(place)
+        } else {
+            None
+        }
+    }
+
+    /// The place of the metric that an alias or, without one, a name means.
+    fn place_of(&self, alias: Option<u64>, name: &Option<String>) -> Option<usize>
+        ensures place { IsPlaceOf
+            (λ r. is_name (name_by self.now alias (option_map string_bytes name.now)) r.name)
+            self.now result }
+        ensures apart { IsApart name_of self.now }
+    {
+        match (alias, name) {
+            (Some(alias), _) => self.place_of_alias(alias),
+            (None, Some(name)) => self.names.find(name.as_str()),
+            (None, None) => None,
+        }
+    }
+
+    /// Whether no row has an alias.
+    fn lacks(&self, alias: Option<u64>) -> bool
+        ensures { result ≡ lacks self.now alias }
+    {
+        match alias {
+            Some(alias) => self.place_of_alias(alias).is_none(),
+            None => false,
+        }
+    }
+
+    /// Whether a metric names an alias that no row has.
+    pub(crate) fn is_lacking(&self, metrics: &[Metric]) -> bool
+        ensures { result ≡ is_lacking self.now (map metric_view metrics.now) }
+    {
+        for metric in metrics {
+            if self.lacks(metric.alias) {
+                return true;
+            }
+        }
+        false
+    }
+
+    /// The place of the row that a metric of data changes.
+    fn place_changed(&self, metric: &Metric) -> Option<usize>
+        ensures place { IsPlaceOf (λ r. changes self.now r.name (metric_view metric.now)) self.now result }
+        ensures apart { IsApart name_of self.now }
+    {
+        let place = self.place_of(metric.alias, &metric.name);
+        if metric.historical == Some(true) {
+            None
+        } else {
+            place
+        }
+    }
+
+    /// A value is shown at a place, if there is one.
+    fn show_at(&mut self, place: Option<usize>, null: Option<bool>, value: Option<Raw>)
+        ensures none { place ≡ None → self.new ≡ self.old }
+        ensures there { (k : ℕ) (r : Row) → place ≡ Some k → slice_get self.old k ≡ Some r → self.new ≡ set self.old k
+            (record r { shown = shown_with r.datatype null (option_map content_of value) }) }
+    {
+        if let Some(place) = place
+            && place < self.rows.len()
+        {
+            self.rows[place].show(null, value);
+        }
+    }
+
+    /// A metric of data is shown, unless it is historical.
+    fn show(&mut self, metric: Metric)
+        ensures { self.new ≡ show (metric_view metric) self.old }
+    {
+        let place = self.place_changed(&metric);
+        self.show_at(place, metric.null, metric.value);
+    }
+
+    /// The metrics of data are shown, in turn.
+    pub(crate) fn show_all(&mut self, metrics: Vec<Metric>)
+        ensures { self.new ≡ show_all (map metric_view metrics.items) self.old }
+    {
+        for metric in metrics {
+            self.show(metric);
+        }
+    }
+}

@@ -1,0 +1,186 @@
+//! What a host keeps of one node.
+ghost use Rattle.std.specs.Prelude.{◌≡◌, ℕ, ◌+◌, ◌<◌, ◌≤◌, ◌||◌, true, false, IfOk, IfErr, OnOk, OnErr, Some, if◌then◌else◌};
+ghost use Rattle.std.specs.Option.{option_map};
+ghost use Rattle.spk_host_rules.specs.Data.{unheard, Message, Consumed, Gap, NotLive, Over};
+ghost use Rattle.spk_host_rules.specs.Step as rules;
+ghost use Rattle.spk_view.specs.Prepared.{asks_by, is_birth_by, is_unknown_by, kept_after, prepared, takes_room, view_by};
+
+use crate::node::NodeView;
+use crate::ready::{Body, Ready};
+use spk_host_rules::may_ask;
+use std::alloc::{AllocError, Global};
+use std::marker::Model;
+
+/// What a host keeps of one node: its view from the first birth on, and when a rebirth was last asked for. It outlives the
+/// sessions of the host. Contracts see a `Keeping`: the `Watch`, and for how many more devices there is room.
+#[derive(Debug, Drop)]
+pub struct Watch {
+    node: NodeView,
+    /// A birth was taken.
+    is_shown: bool,
+    asked: Option<u64>,
+    born_since: bool,
+}
+
+impl Model for Watch {
+    ghost use Rattle.std.specs.Prelude.{◌≡◌, false, [], Some, None, if◌then◌else◌};
+    ghost use Rattle.spk_view.specs.Data.{Keeping};
+
+    ghost Value = { Keeping };
+
+    ghost view = { λ a. record {
+      watch = record {
+        view = if a.is_shown then Some a.node.view else None;
+        asked = a.asked;
+        born_since = a.born_since;
+      };
+      room = a.node.room;
+    } };
+
+    ghost invariant = { λ a. a.is_shown ≡ false → (a.node.view.rows ≡ []) × (a.node.view.devices ≡ []) };
+}
+
+impl Watch {
+    /// A node of which nothing was heard. Takes no memory.
+    pub fn new(alloc: Global) -> Watch
+        ensures { result.watch ≡ unheard }
+    {
+        Watch {
+            node: NodeView::new(alloc),
+            is_shown: false,
+            asked: None,
+            born_since: false,
+        }
+    }
+
+    /// What is shown of the node, from its first birth on.
+    pub fn view(&self) -> Option<&NodeView>
+        ensures { option_map (λ v. v.now.view) result ≡ self.now.watch.view }
+    {
+        if self.is_shown {
+            Some(&self.node)
+        } else {
+            None
+        }
+    }
+
+    /// Makes room for so many more devices. Refused only where memory is.
+    pub fn reserve(&mut self, count: usize) -> Result<(), AllocError>
+        ensures room { OnOk result (count ≤ self.new.room) }
+        ensures more { self.old.room ≤ self.new.room }
+        ensures watch { self.new.watch ≡ self.old.watch }
+        ensures unchanged { OnErr result (self.new ≡ self.old) }
+    {
+        self.node.reserve(count)
+    }
+
+    /// A message of the node is consumed at `now`. Answers whether a rebirth is asked for: the message names a device or an alias
+    /// that the births didn't give, and none was asked for less than `wait` before (milliseconds) without a birth between.
+    ///
+    /// It takes no memory. The message comes back, and nothing has changed, exactly where it is the birth of a device
+    /// that isn't in the view and there is no room for one more.
+    pub fn consume(&mut self, wait: u64, ready: Ready, now: u64) -> Result<bool, Ready>
+        ensures asks { (m : Message) → prepared m ≡ ready →
+            IfOk result (λ asks. asks ≡ rules.asks wait self.old.watch (Consumed m now)) }
+        ensures watch { (m : Message) → prepared m ≡ ready →
+            OnOk result (self.new.watch ≡ rules.step wait self.old.watch (Consumed m now)) }
+        ensures room { OnOk result
+            (self.new.room + (if takes_room self.old.watch.view ready then 1 else 0) ≡ self.old.room) }
+        ensures full { OnErr result ((takes_room self.old.watch.view ready ≡ true) × (self.old.room ≡ 0)) }
+        ensures returned { IfErr result (λ r. r ≡ ready) }
+        ensures unchanged { OnErr result (self.new ≡ self.old) }
+    {
+        if self.is_full_for(&ready) {
+            return Err(ready);
+        }
+        let is_unknown = self.is_unknown(&ready);
+        let is_birth = self.take(ready);
+        Ok(self.ask(wait, is_unknown, is_birth, now))
+    }
+
+    /// A gap in the node's order at `now`: its values are stale. Answers whether a rebirth is asked for, as `consume` does. Takes
+    /// no memory.
+    pub fn gap(&mut self, wait: u64, now: u64) -> bool
+        ensures asks { result ≡ rules.asks wait self.old.watch (Gap now) }
+        ensures watch { self.new.watch ≡ rules.step wait self.old.watch (Gap now) }
+        ensures room { self.new.room ≡ self.old.room }
+    {
+        self.node.lose();
+        self.ask(wait, true, false, now)
+    }
+
+    /// A message came at `now` while the node wasn't followed. Answers whether a rebirth is asked for, as `consume` does. Takes
+    /// no memory.
+    pub fn not_live(&mut self, wait: u64, now: u64) -> bool
+        ensures asks { result ≡ rules.asks wait self.old.watch (NotLive now) }
+        ensures watch { self.new.watch ≡ rules.step wait self.old.watch (NotLive now) }
+        ensures room { self.new.room ≡ self.old.room }
+    {
+        let is_cause = true;
+        self.ask(wait, is_cause, false, now)
+    }
+
+    /// The node's session or the host's is over: the node is offline, and its values are stale. No rebirth is asked for. Takes no
+    /// memory.
+    pub fn over(&mut self)
+        ensures watch { (wait : ℕ) → self.new.watch ≡ rules.step wait self.old.watch Over }
+        ensures room { self.new.room ≡ self.old.room }
+    {
+        self.node.end();
+    }
+
+    /// Whether a message is the birth of a device for which there is no room.
+    fn is_full_for(&self, ready: &Ready) -> bool
+        ensures full { result ≡ true → (takes_room self.now.watch.view ready.now ≡ true) × (self.now.room ≡ 0) }
+        ensures not_full { result ≡ false → takes_room self.now.watch.view ready.now ≡ true → 0 < self.now.room }
+    {
+        match &ready.body {
+            Body::DeviceBirth(name, _) => self.is_shown && self.node.is_full_for(name.as_str()),
+            _ => false,
+        }
+    }
+
+    /// Whether a message names a device or an alias that the births didn't give.
+    fn is_unknown(&self, ready: &Ready) -> bool
+        ensures { result ≡ is_unknown_by self.now.watch.view ready.now }
+    {
+        match &ready.body {
+            Body::NodeBirth(_) | Body::DeviceBirth(_, _) => false,
+            Body::NodeData(metrics) => self.node.is_lacking(metrics),
+            Body::DeviceData(name, metrics) => self.node.is_device_lacking(name.as_str(), metrics),
+            Body::DeviceDeath(name) => self.node.is_device_lacking(name.as_str(), &[]),
+        }
+    }
+
+    /// A message is shown. Answers whether it is a birth of the node.
+    fn take(&mut self, ready: Ready) -> bool
+        requires { takes_room self.old.watch.view ready ≡ true → 0 < self.old.room }
+        ensures birth { result ≡ is_birth_by ready }
+        ensures watch { self.new.watch ≡ record self.old.watch { view = view_by self.old.watch.view ready } }
+        ensures room { self.new.room + (if takes_room self.old.watch.view ready then 1 else 0) ≡ self.old.room }
+    {
+        let is_birth = matches!(&ready.body, Body::NodeBirth(_));
+        if is_birth || self.is_shown {
+            let Ready { body } = ready;
+            self.node.take(body);
+            self.is_shown = true;
+        }
+        is_birth
+    }
+
+    /// Whether a rebirth is asked for at an event, and what is kept of that.
+    fn ask(&mut self, wait: u64, is_cause: bool, is_birth: bool, now: u64) -> bool
+        ensures asks { result ≡ asks_by wait self.old.watch is_cause now }
+        ensures watch { self.new.watch ≡ kept_after wait self.old.watch self.old.watch.view is_cause is_birth now }
+        ensures room { self.new.room ≡ self.old.room }
+    {
+        let asks = is_cause && may_ask(wait, now, self.asked, self.born_since);
+        if asks {
+            self.asked = Some(now);
+            self.born_since = false;
+        } else {
+            self.born_since = is_birth || self.born_since;
+        }
+        asks
+    }
+}
