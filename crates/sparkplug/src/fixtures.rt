@@ -61,6 +61,7 @@ impl Files for Texts {
             "fails" | "interrupted" => (b"08050807", 1, 2, 4),
             "not a text" => (b"08\xff", 1, whole, whole),
             "empty" => (b"", 1, whole, whole),
+            "birth" => (b"120b0a017410011806200350071800\n", 1, whole, whole),
             "longest" => (DIGITS, 16_384, whole, whole),
             "too long" => (DIGITS, 16_385, 50, whole),
             _ => return None,

@@ -10,6 +10,12 @@ use clap::error::ErrorKind;
 use std::alloc::Global;
 use std::io::{self, BufWriter, Write};
 
+/// The text of a file without the white space at its end.
+fn trimmed_text<F: Files>(alloc: Global, files: &mut F, name: &str) -> Result<String, Stop> {
+    let text = text_of(alloc, files, name)?;
+    Ok(String::from_str(alloc, text.as_str().trim_end())?)
+}
+
 /// The hexadecimal digits that a command is given: its word, or a file's text without the white space at its end.
 fn digits_of<F: Files>(
     alloc: Global,
@@ -17,11 +23,25 @@ fn digits_of<F: Files>(
     files: &mut F,
 ) -> Result<String, Stop> {
     if let Some(name) = matches.get_str("file") {
-        let text = text_of(alloc, files, name)?;
-        return Ok(String::from_str(alloc, text.as_str().trim_end())?);
+        return trimmed_text(alloc, files, name);
     }
     let digits = matches.get_str("hex").unwrap_or("");
     Ok(String::from_str(alloc, digits)?)
+}
+
+/// The hexadecimal digits of a birth, where one is given.
+fn birth_of<F: Files>(
+    alloc: Global,
+    matches: &ArgMatches<'_>,
+    files: &mut F,
+) -> Result<Option<String>, Stop> {
+    if let Some(name) = matches.get_str("birth-file") {
+        return Ok(Some(trimmed_text(alloc, files, name)?));
+    }
+    match matches.get_str("birth") {
+        Some(digits) => Ok(Some(String::from_str(alloc, digits)?)),
+        None => Ok(None),
+    }
 }
 
 /// What clap says of the words: its text and status, or want of memory.
@@ -74,7 +94,14 @@ fn command<F: Files, W: Write, N: Write>(
     };
     if let Some(given) = matches.subcommand_matches("show") {
         let digits = digits_of(alloc, given, files)?;
-        show(alloc, out, notes, digits.as_str())?;
+        let birth = birth_of(alloc, given, files)?;
+        show(
+            alloc,
+            out,
+            notes,
+            digits.as_str(),
+            birth.as_ref().map(|digits| digits.as_str()),
+        )?;
     }
     if let Some(given) = matches.subcommand_matches("packets") {
         let digits = digits_of(alloc, given, files)?;

@@ -5,6 +5,7 @@ use crate::places::place_of_fault;
 use crate::texts::{OrDash, json_text, value_text};
 use hex::FromHexError;
 use spk_payload::{Metric, Payload, PayloadFault, decode};
+use spk_view::{NodeView, Ready, Watch};
 use std::alloc::Global;
 use std::io::Write;
 
@@ -17,12 +18,25 @@ pub(crate) fn bytes_of(alloc: Global, digits: &str) -> Result<Vec<u8>, Stop> {
     }
 }
 
+/// The datatype by which a metric's value is read: that of the birth's metric that it means, or else its own.
+fn datatype_at(birth: Option<&NodeView>, metric: &Metric) -> Option<u32> {
+    let Some(node) = birth else {
+        return metric.datatype;
+    };
+    match node.meant_by(metric) {
+        Some(row) => row.datatype(),
+        None => metric.datatype,
+    }
+}
+
 fn metric_line<W: Write>(
     alloc: Global,
     out: &mut W,
+    birth: Option<&NodeView>,
     index: usize,
     metric: Metric,
 ) -> Result<(), Stop> {
+    let value_type = datatype_at(birth, &metric);
     let Metric {
         name,
         alias,
@@ -37,7 +51,7 @@ fn metric_line<W: Write>(
         Some(text) => Some(json_text(alloc, text)?),
         None => None,
     };
-    let value = value_text(alloc, datatype, value)?;
+    let value = value_text(alloc, value_type, value)?;
     let name = OrDash(name);
     let alias = OrDash(alias);
     let time = OrDash(timestamp);
@@ -52,7 +66,12 @@ fn metric_line<W: Write>(
 }
 
 /// Decodes a payload; of a fault the notes tell the place. A note that can't be written is left out.
-fn decode_noting<N: Write>(alloc: Global, notes: &mut N, bytes: &[u8]) -> Result<Payload, Stop> {
+fn decode_noting<N: Write>(
+    alloc: Global,
+    notes: &mut N,
+    whose: &str,
+    bytes: &[u8],
+) -> Result<Payload, Stop> {
     match decode(alloc, bytes) {
         Ok(payload) => Ok(payload),
         Err(PayloadFault::NoMemory) => Err(Stop::no_memory()),
@@ -61,32 +80,60 @@ fn decode_noting<N: Write>(alloc: Global, notes: &mut N, bytes: &[u8]) -> Result
             let count = bytes.len();
             let _ = writeln!(
                 notes,
-                "sparkplug: {fault} in the field at byte {at} of {count}"
+                "sparkplug: {fault} in the field at byte {at} of {count}{whose}"
             );
             Err(Stop::from(fault))
         }
     }
 }
 
-/// Prints the payload that the hexadecimal digits spell.
-pub(crate) fn show<W: Write, N: Write>(
+/// What a host keeps of a birth that the hexadecimal digits spell.
+fn watch_of<N: Write>(alloc: Global, notes: &mut N, digits: &str) -> Result<Watch, Stop> {
+    let bytes = bytes_of(alloc, digits)?;
+    let payload = decode_noting(alloc, notes, " of the birth", &bytes)?;
+    let ready = Ready::node_birth(alloc, &payload.metrics)?;
+    let mut watch = Watch::new(alloc);
+    let _ = watch.consume(0, ready, 0);
+    Ok(watch)
+}
+
+fn print<W: Write>(
     alloc: Global,
     out: &mut W,
-    notes: &mut N,
-    digits: &str,
+    birth: Option<&NodeView>,
+    payload: Payload,
 ) -> Result<(), Stop> {
-    let bytes = bytes_of(alloc, digits)?;
     let Payload {
         timestamp,
         metrics,
         seq,
-    } = decode_noting(alloc, notes, &bytes)?;
+    } = payload;
     let time = OrDash(timestamp);
     let seq = OrDash(seq);
     let count = metrics.len();
     writeln!(out, "timestamp {time} seq {seq} metrics {count}")?;
     for (index, metric) in metrics.into_iter().enumerate() {
-        metric_line(alloc, out, index, metric)?;
+        metric_line(alloc, out, birth, index, metric)?;
     }
     Ok(())
+}
+
+/// Prints the payload that the hexadecimal digits spell. Where a birth is given, the datatypes of its metrics count, as
+/// they do at a host application.
+pub(crate) fn show<W: Write, N: Write>(
+    alloc: Global,
+    out: &mut W,
+    notes: &mut N,
+    digits: &str,
+    birth: Option<&str>,
+) -> Result<(), Stop> {
+    let bytes = bytes_of(alloc, digits)?;
+    let payload = decode_noting(alloc, notes, "", &bytes)?;
+    match birth {
+        Some(digits) => {
+            let watch = watch_of(alloc, notes, digits)?;
+            print(alloc, out, watch.view(), payload)
+        }
+        None => print(alloc, out, None, payload),
+    }
 }

@@ -48,6 +48,61 @@ fn data_without_a_datatype_is_mistyped(rt: HostRuntime) {
     );
 }
 
+/// The metric `t`, an Int32 under the alias 1.
+const BIRTH: &str = "120b0a017410011806200350071800";
+
+/// What is printed of a payload beside a birth, and the status.
+fn beside(rt: &(impl Abort + AllocGlobal), digits: &str, birth: &str, text: &str, status: u8) {
+    let words = ["sparkplug", "show", digits, "--birth", birth];
+    expect(rt, &words, text, status);
+}
+
+#[test]
+fn data_are_read_by_the_datatypes_of_their_birth(rt: HostRuntime) {
+    let drained = "080a1208100118052801500312081001180628015004120810011807280150051802";
+    let shown =
+        "timestamp 10 seq 2 metrics 3\nmetric 0 name - alias 1 time 5 type - historical true transient - null - value 3\nmetric 1 name - alias 1 time 6 type - historical true transient - null - value 4\nmetric 2 name - alias 1 time 7 type - historical true transient - null - value 5\n";
+    beside(&rt, drained, BIRTH, shown, 0);
+    expect(
+        &rt,
+        &["sparkplug", "show", drained, "--birth-file", "birth"],
+        shown,
+        0,
+    );
+    let table = [
+        // by its name, without an alias
+        (
+            "12050a01745005",
+            "timestamp - seq - metrics 1\nmetric 0 name \"t\" alias - time - type - historical - transient - null - value 5\n",
+            0,
+        ),
+        // another alias isn't in the birth, whatever the name; an own datatype then counts
+        (
+            "120710020a01745005",
+            "timestamp - seq - metrics 1\nmetric 0 name \"t\" alias 2 time - type - historical - transient - null - value mistyped\n",
+            0,
+        ),
+        (
+            "1206100220035005",
+            "timestamp - seq - metrics 1\nmetric 0 name - alias 2 time - type 3 historical - transient - null - value 5\n",
+            0,
+        ),
+        // the birth's datatype counts before the metric's own
+        (
+            "12061001200b5005",
+            "timestamp - seq - metrics 1\nmetric 0 name - alias 1 time - type 11 historical - transient - null - value 5\n",
+            0,
+        ),
+        ("0805120b", "fault Truncated (2)\n", 1),
+    ];
+    for (digits, text, status) in table {
+        beside(&rt, digits, BIRTH, text, status);
+    }
+    beside(&rt, "", "080", "fault BadHex (97)\n", 1);
+    beside(&rt, "", "0b", "fault Group (4)\n", 1);
+    beside(&rt, "00", "0b", "fault FieldZero (5)\n", 1);
+}
+
 #[test]
 fn each_kind_of_value_is_shown(rt: HostRuntime) {
     let start = "timestamp - seq - metrics 1\nmetric 0 name - alias - time - type ";
@@ -151,8 +206,18 @@ fn other_digits_are_no_hexadecimal(rt: HostRuntime) {
 
 #[test]
 fn words_that_are_no_command_have_status_2(rt: HostRuntime) {
-    let table: [&[&str]; 6] = [
+    let table: [&[&str]; 8] = [
         &["sparkplug"],
+        &[
+            "sparkplug",
+            "show",
+            "",
+            "--birth",
+            "",
+            "--birth-file",
+            "birth",
+        ],
+        &["sparkplug", "packets", "", "--birth", ""],
         &["sparkplug", "shows"],
         &["sparkplug", "show"],
         &["sparkplug", "show", "-08"],

@@ -18,8 +18,9 @@ prints
 
 A field that isn't there is `-`. A value is what the metric's datatype makes of it; bytes are `hex:` and
 digits. `other` is a float, a double, a data set, a template or an extension, whose values aren't read.
-`mistyped` is a value that the metric's own datatype doesn't read; NDATA and DDATA carry no datatype (it
-is in the birth certificate), so each of their values is `mistyped` here.
+`mistyped` is a value that the datatype doesn't read. NDATA and DDATA carry no datatypes: they are in the
+birth certificate. With its payload they are known, by a metric's alias or, without one, by its name:
+  sparkplug show 080712061001180750081801 --birth 0806120b0a017410011806200350071800
 
 Status: 0 is done; 1 is a fault, printed as `fault NAME (number)`, or output that could not be written;
 2 is a command line that isn't one. docs/FAULTS.md tells each fault by its number.";
@@ -72,7 +73,20 @@ fn on_digits<'a>(alloc: Global, name: &'a str, digits: &'a str) -> Result<Comman
 
 fn show<'a>(alloc: Global) -> Result<Command<'a>, AllocError> {
     let digits = "The payload's bytes in hexadecimal, of either case";
-    let command = on_digits(alloc, "show", digits)?;
+    let birth = Arg::new(alloc, "birth")
+        .long("birth")
+        .value_name("HEX")
+        .help(
+            "Reads the values by the datatypes of this birth's payload, as a host application does",
+        )
+        .action(ArgAction::Set);
+    let file = Arg::new(alloc, "birth-file")
+        .long("birth-file")
+        .value_name("NAME")
+        .help("Reads that HEX from a file")
+        .conflicts_with("birth")?
+        .action(ArgAction::Set);
+    let command = on_digits(alloc, "show", digits)?.arg(birth)?.arg(file)?;
     Ok(
         command
             .about("Prints a payload and its metrics")

@@ -1,31 +1,63 @@
 //! A node with a primary host: STATE, kept changes, packets of the server, and the phases.
 use crate::tests::{
-    CONNECT, Call, FIRST, NBIRTH, NDEATH, Row, assert_answer, config, node, play, registry, told,
+    CONNECT, Call, FIRST, NBIRTH, NDEATH, Row, assert_answer, config, node, play, registry,
+    registry_with, told,
 };
-use crate::{Act, EdgeConfig, EdgeFault, EdgeNode, Input, Numbering, Phase, Plan};
+use crate::{Act, EdgeConfig, EdgeFault, EdgeNode, Input, Numbering, Phase, Plan, Record};
 use spk_state::StateFault;
 use std::process::Abort;
 
-/// A node whose primary host is H. Where memory was refused it is made again.
+/// A node whose primary host is H.
 pub(crate) fn hosted(rt: &(impl Abort + AllocGlobal)) -> EdgeNode {
-    match EdgeNode::new(rt.alloc(), hosted_config(rt), FIRST, registry(rt)) {
-        Err(EdgeFault::NoMemory) => {
-            EdgeNode::new(rt.alloc(), hosted_config(rt), FIRST, registry(rt)).expect(
-                rt,
-                "memory is there again",
-            )
-        }
+    hosted_with(rt, "H", "D", None)
+}
+
+/// A node with a primary host, a device and a last stamp. Where memory was refused it is made again.
+pub(crate) fn hosted_with(
+    rt: &(impl Abort + AllocGlobal),
+    host: &str,
+    device: &str,
+    stamp: Option<u64>,
+) -> EdgeNode {
+    let start = Record {
+        seq: 0,
+        bd: 0,
+        stamp,
+    };
+    match EdgeNode::new(
+        rt.alloc(),
+        hosted_config(rt, host),
+        start,
+        registry_with(rt, device),
+    ) {
+        Err(EdgeFault::NoMemory) => EdgeNode::new(
+            rt.alloc(),
+            hosted_config(rt, host),
+            start,
+            registry_with(rt, device),
+        )
+        .expect(rt, "memory is there again"),
         answer => answer.expect(rt, "a node"),
     }
 }
 
-fn hosted_config(rt: &(impl Abort + AllocGlobal)) -> EdgeConfig {
+fn hosted_config(rt: &(impl Abort + AllocGlobal), host: &str) -> EdgeConfig {
     let mut config = config(rt, "G", 3, Numbering::RunsOn);
-    config.primary = Some(crate::tests::text(rt, "H"));
+    config.primary = Some(crate::tests::text(rt, host));
     config
 }
 
-const ONLINE: &[u8] = b"{\"online\":true,\"timestamp\":1}";
+/// A text of so many letters. Where memory was refused it is made again.
+pub(crate) fn letters(rt: &(impl Abort + AllocGlobal), count: usize) -> String {
+    match "a".repeat(rt.alloc(), count) {
+        Ok(text) => text,
+        Err(_) => "a"
+            .repeat(rt.alloc(), count)
+            .expect(rt, "memory is there again"),
+    }
+}
+
+pub(crate) const ONLINE: &[u8] = b"{\"online\":true,\"timestamp\":1}";
 
 const OFFLINE: &[u8] = b"{\"online\":false,\"timestamp\":1}";
 
@@ -160,7 +192,7 @@ fn drained(rt: &impl Abort, node: &mut EdgeNode) -> Option<(bool, usize)> {
 }
 
 /// Does calls that are all taken.
-fn done(rt: &impl Abort, node: &mut EdgeNode, calls: &[Call]) {
+pub(crate) fn done(rt: &impl Abort, node: &mut EdgeNode, calls: &[Call]) {
     for call in calls {
         assert!(rt; told(node, 9, *call).is_ok(), "of {call:?}");
     }
@@ -249,7 +281,7 @@ fn acts() -> [Taken; 10] {
 }
 
 /// Whether an act is taken in a phase.
-fn is_taken(taken: [bool; 4], phase: Phase) -> bool {
+pub(crate) fn is_taken(taken: [bool; 4], phase: Phase) -> bool {
     let [idle, connecting, waiting, born] = taken;
     match phase {
         Phase::Idle => idle,

@@ -24,6 +24,8 @@ mod node;
 mod packet_tests;
 mod plan;
 #[cfg(test)]
+mod refusal_tests;
+#[cfg(test)]
 mod run_tests;
 mod sealing;
 #[cfg(test)]

@@ -1,5 +1,5 @@
 //! What packets of the server come to, as bytes of MQTT 3.1.1.
-use crate::host_tests::{BAD, SUBSCRIBE, hosted, node_of};
+use crate::host_tests::{BAD, SUBSCRIBE, hosted, letters, node_of};
 use crate::tests::{CONNECT, Call, FIRST, NBIRTH, assert_answer, told};
 use crate::{EdgeFault, EdgeNode, Out, Phase};
 use spk_packets::{Packet, PacketFault, decode};
@@ -100,16 +100,6 @@ fn a_node_that_is_not_accepted_closes(rt: HostRuntime) {
     assert!(rt; out.close && out.packets.is_empty() && out.writes.is_empty());
     assert_eq!(rt; node.phase(), Phase::Idle);
     assert_eq!(rt; node.record().bd, 1);
-}
-
-/// A text of so many letters. Where memory was refused it is made again.
-fn letters(rt: &(impl Abort + AllocGlobal), count: usize) -> String {
-    match "a".repeat(rt.alloc(), count) {
-        Ok(text) => text,
-        Err(_) => "a"
-            .repeat(rt.alloc(), count)
-            .expect(rt, "memory is there again"),
-    }
 }
 
 #[test]

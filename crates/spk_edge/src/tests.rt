@@ -26,10 +26,15 @@ fn add(rt: &impl Abort, registry: &mut Registry, owner: Owner, value: i64, alias
 
 /// The node `t` 7 (alias 1), and the device D, which is down, `t` 9 (alias 2).
 pub(crate) fn registry(rt: &(impl Abort + AllocGlobal)) -> Registry {
+    registry_with(rt, "D")
+}
+
+/// The same with a device of another name.
+pub(crate) fn registry_with(rt: &(impl Abort + AllocGlobal), device: &str) -> Registry {
     let mut registry = Registry::new(rt.alloc());
     add(rt, &mut registry, Owner::Node, 7, 1);
-    let answer = match registry.add_device("D") {
-        Err(DeviceFault::NoMemory) => registry.add_device("D"),
+    let answer = match registry.add_device(device) {
+        Err(DeviceFault::NoMemory) => registry.add_device(device),
         answer => answer,
     };
     assert_eq!(rt; answer, Ok(()));

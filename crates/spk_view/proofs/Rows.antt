@@ -119,7 +119,7 @@ module _ (rows : List Row) (names : List (List ℕ × ℕ)) (is : IsNamed rows n
 pub named-apart : (rows : List Row) (names : List (List ℕ × ℕ)) → IsNamed rows names → IsApart name_of rows
 named-apart rows names is i j r s at there same = row-apart rows names is i j r s at there same
 
-same-name : (n : Option (List ℕ)) (a b : List ℕ) → is_name n a ≡ true → is_name n b ≡ true → a ≡ b
+pub same-name : (n : Option (List ℕ)) (a b : List ℕ) → is_name n a ≡ true → is_name n b ≡ true → a ≡ b
 same-name None a b h k = absurd (true≢false (sym h))
 same-name (Some n) a b h k = sym (same-text n a h) ∙ same-text n b k
 

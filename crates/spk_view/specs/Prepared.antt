@@ -4,7 +4,8 @@ use Rattle.std.specs.List.{list_any}
 use Rattle.std.specs.Option.{option_map}
 use Rattle.std.specs.Str.{bytes_eq}
 use Rattle.spk_host_rules.specs.Data.{Row, Device, View, Watch, Message, NodeBirth, NodeData, DeviceBirth, DeviceData, DeviceDeath}
-use Rattle.spk_host_rules.specs.Table.{table_of, is_lacking}
+use Rattle.spk_payload.specs.Meaning.{MetricData}
+use Rattle.spk_host_rules.specs.Table.{table_of, is_lacking, name_by}
 use Rattle.spk_host_rules.specs.Step as rules
 use Rattle.spk_view.specs.Data.{Prepared, NodeTable, NodeChanges, DeviceTable, DeviceChanges, DeviceEnd}
 
@@ -15,6 +16,10 @@ prepared (NodeData ms) = NodeChanges ms
 prepared (DeviceBirth name ms) = DeviceTable name (table_of ms)
 prepared (DeviceData name ms) = DeviceChanges name ms
 prepared (DeviceDeath name) = DeviceEnd name
+
+-- the name of the row that a metric of data means: that of its alias or, without one, of its name
+abbrev pub meaning : List Row → MetricData → Option (List ℕ)
+meaning rows m = name_by rows m.alias m.name
 
 -- ---- the view
 

@@ -5,6 +5,8 @@ ghost use Rattle.std.specs.Option.{option_copied};
 ghost use Rattle.std.specs.Prelude.{string_bytes};
 ghost use Rattle.std.specs.Str.{bytes_eq};
 ghost use Rattle.spk_payload.specs.View.{metric_view};
+ghost use Rattle.spk_host_rules.specs.Table.{is_name};
+ghost use Rattle.spk_view.specs.Prepared.{meaning};
 ghost use Rattle.spk_host_rules.specs.Step.{dead_device, ended_device, is_device_lacking, rows_if_born, show_all, stale_device, unborn};
 ghost use Rattle.std.specs.Prelude.{true, Some, if◌then◌else◌};
 
@@ -73,6 +75,14 @@ impl DeviceView {
         ensures { option_copied result ≡ find (λ r. bytes_eq name.now r.name) self.now.rows }
     {
         self.table.find(name)
+    }
+
+    /// Its metric that a metric of data means: that of its alias or, without one, of its name (6.4.5).
+    pub fn meant_by(&self, metric: &Metric) -> Option<&MetricView>
+        ensures { option_copied result ≡
+            find (λ r. is_name (meaning self.now.rows (metric_view metric.now)) r.name) self.now.rows }
+    {
+        self.table.meant_by(metric)
     }
 
     /// A device as its birth shows it.

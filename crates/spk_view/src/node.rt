@@ -5,10 +5,10 @@ ghost use Rattle.std.specs.Option.{option_copied};
 ghost use Rattle.std.specs.Str.{bytes_eq};
 ghost use Rattle.spk_payload.specs.View.{metric_view};
 ghost use Rattle.spk_host_rules.specs.Step as rules;
-ghost use Rattle.spk_host_rules.specs.Table.{is_lacking};
+ghost use Rattle.spk_host_rules.specs.Table.{is_lacking, is_name};
 ghost use Rattle.spk_view.specs.Indexed.{IsPlaceOf};
 ghost use Rattle.spk_view.specs.Inside.{body_view};
-ghost use Rattle.spk_view.specs.Prepared.{born_with, device_with, has_device, is_new, view_by};
+ghost use Rattle.spk_view.specs.Prepared.{meaning, born_with, device_with, has_device, is_new, view_by};
 
 use crate::device::{DeviceView, end_all, hear_death, lose_all, unbear_all};
 use crate::metric::MetricView;
@@ -70,6 +70,14 @@ impl NodeView {
         ensures { option_copied result ≡ find (λ r. bytes_eq name.now r.name) self.now.view.rows }
     {
         self.table.find(name)
+    }
+
+    /// The node's own metric that a metric of data means: that of its alias or, without one, of its name (6.4.5).
+    pub fn meant_by(&self, metric: &Metric) -> Option<&MetricView>
+        ensures { option_copied result ≡
+            find (λ r. is_name (meaning self.now.view.rows (metric_view metric.now)) r.name) self.now.view.rows }
+    {
+        self.table.meant_by(metric)
     }
 
     /// The devices, in the order of their first births.

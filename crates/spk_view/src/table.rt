@@ -8,6 +8,7 @@ ghost use Rattle.spk_names.specs.Names.{number_in};
 ghost use Rattle.spk_host_rules.specs.Data.{Row};
 ghost use Rattle.spk_host_rules.specs.Step.{show, show_all};
 ghost use Rattle.spk_host_rules.specs.Table.{changes, is_alias, is_lacking, is_name, lacks, name_by, name_of, placed, released, shown_with, table_of, with_metric};
+ghost use Rattle.spk_view.specs.Prepared.{meaning};
 ghost use Rattle.spk_view.specs.Indexed.{place_in, IsAliased, IsApart, IsIndexed, IsNamed, IsPlaceOf};
 
 use crate::aliases::Aliases;
@@ -157,6 +158,15 @@ impl Table {
         ensures { option_copied result ≡ find (λ r. bytes_eq name.now r.name) self.now }
     {
         let place = self.place_of_name(name)?;
+        self.rows.get(place)
+    }
+
+    /// The metric that a metric of data means.
+    pub(crate) fn meant_by(&self, metric: &Metric) -> Option<&MetricView>
+        ensures { option_copied result ≡
+            find (λ r. is_name (meaning self.now (metric_view metric.now)) r.name) self.now }
+    {
+        let place = self.place_of(metric.alias, &metric.name)?;
         self.rows.get(place)
     }
 
