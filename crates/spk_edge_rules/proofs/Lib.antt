@@ -8,3 +8,4 @@ mod Tellings
 mod Told
 mod Bytes
 pub mod Known
+mod Published

@@ -1,12 +1,20 @@
 -- What the laws say of every run, in the standard's words.
-use Rattle.std.specs.Prelude.{◌≡◌, ℕ, ◌⊎◌, true, false, List, [], ◌∷◌, Option, Some, None, slice_get, if◌then◌else◌}
+use Rattle.std.specs.Prelude.{◌≡◌, ℕ, ◌⊎◌, Bool, true, false, List, [], ◌∷◌, Option, Some, None, is_some, slice_get, All, codes, if◌then◌else◌}
 use Rattle.std.specs.List.{AllByRecursion}
+use Rattle.std.specs.Option.{option_map_or}
+use Rattle.std.specs.Str.{bytes_eq}
 use Rattle.spk_payload.specs.Meaning.{MetricData}
 use Rattle.spk_payload.specs.Spelling.{PayloadFits}
 use Rattle.spk_packets.specs.Grammar.{Spells}
 use Rattle.spk_packets.specs.Message as packets
 use Rattle.spk_device.specs.Book.{Book, DeviceData}
+use Rattle.spk_device.specs.Lawful.{is_level}
+use Rattle.spk_device.specs.Step.{is_taken}
 use Rattle.spk_device.specs.declared.owner.Owner.TheVariants.{Node, Device}
+use Rattle.spk_topics.specs.Spark.{is_name}
+use Rattle.spk_topics.specs.declared.spark.Verb.{Verb}
+use Rattle.spk_topics.specs.declared.spark.Verb.TheVariants.{Birth, Death, Data}
+use Rattle.spk_topics.specs.declared.spark.Verb.TheVariants as verb
 use Rattle.spk_edge_rules.specs.Births.{births_at, own_metrics, rebirth_metric}
 use Rattle.spk_edge_rules.specs.Config.{Config, Setup}
 use Rattle.spk_edge_rules.specs.Inputs.{Act, Open, Accepted, Change, Turn, Command, State, Drain, Stop, Cut, TurnedAway, Pass}
@@ -18,6 +26,41 @@ use Rattle.spk_edge_rules.specs.Run.{Done, Message, session_number}
 abbrev pub SaysSession : Setup → Message → Type 0
 SaysSession s m = opens m.draft ≡ true →
     (rest : List MetricData) × (m.draft.metrics ≡ session_metric (session_number s m.session) (Some m.draft.stamp) ∷ rest)
+
+-- ---- each message (Sparkplug 3.0.0, chapters 4 and 6)
+
+abbrev pub has_number : Verb → Option (List ℕ) → Bool
+has_number Birth device = true
+has_number Data device = true
+has_number Death device = is_some device
+has_number verb.Command device = false
+
+-- it is an NBIRTH, NDATA, DBIRTH, DDATA or DDEATH: an NDEATH has no sequence number, and commands are a host's
+abbrev pub is_numbered : Draft → Bool
+is_numbered d = has_number d.verb d.device
+
+-- The names of the group, the node and each device can stand in a topic. A node is made with no others (`EdgeNode::new`), and a
+-- registry takes no others.
+pub record HasNames (s : Setup) : Type 0 where
+  pub group : is_name s.config.group ≡ true
+  pub node : is_name s.config.node ≡ true
+  pub devices : All (λ d. is_level d.name ≡ true) s.book.devices
+
+-- no metric of the registry has a name that the node's own messages use, as every registry sees to
+abbrev pub IsUnreserved : Setup → Type 0
+IsUnreserved s = All (λ g. is_taken g.name ≡ false) s.book.gauges
+
+-- the metric is named `bdSeq`
+abbrev pub is_session : MetricData → Bool
+is_session m = option_map_or (λ name. bytes_eq name (codes "bdSeq")) m.name false
+
+-- an NBIRTH begins with the bdSeq of its session, and none of its other metrics is named so
+abbrev pub SaysSessionOnce : Setup → Message → Type 0
+SaysSessionOnce s m = opens m.draft ≡ true →
+    (rest : List MetricData) × (m.draft.metrics ≡ session_metric (session_number s m.session) (Some m.draft.stamp) ∷ rest)
+    × AllByRecursion (λ metric. is_session metric ≡ false) rest
+
+-- ---- births
 
 -- A DBIRTH of a device of a registry lists the device's metrics.
 pub record IsDeviceBirth (b : Book) (name : List ℕ) (d : Draft) : Type 0 where

@@ -1,5 +1,5 @@
 //! Laws on lists of inputs: functions that do nothing, whose contracts speak of definitions alone.
-ghost use Rattle.std.specs.Prelude.{◌≡◌, ℕ, ◌-◌, ◌^◌, ◌<◌, List, [], ◌∷◌, ◌++◌, length, min, slice_get, Some, None, Ok, Err, IsTrue};
+ghost use Rattle.std.specs.Prelude.{◌≡◌, ℕ, ◌-◌, ◌^◌, ◌<◌, List, [], ◌∷◌, ◌++◌, length, min, slice_get, Some, None, Ok, Err, IsTrue, true};
 ghost use Rattle.std.specs.List.{AllByRecursion};
 ghost use Rattle.spk_payload.specs.Meaning.{MeansPayload, PayloadData};
 ghost use Rattle.spk_payload.specs.Spelling.{spelling};
@@ -10,12 +10,12 @@ ghost use Rattle.spk_sequence.specs.NodeRecord as sequence;
 ghost use Rattle.spk_store.specs.Kept as kept;
 ghost use Rattle.spk_edge_rules.specs.declared.fault.EdgeFault.{EdgeFault};
 ghost use Rattle.spk_edge_rules.specs.Answers.{Answer};
-ghost use Rattle.spk_edge_rules.specs.Claims.{AreWholeBirths, IsWhole, Joined, ListsWhatIs, SaysSession, link_of, payload_in, topic_in};
+ghost use Rattle.spk_edge_rules.specs.Claims.{AreWholeBirths, HasNames, IsUnreserved, IsWhole, Joined, ListsWhatIs, SaysSession, SaysSessionOnce, is_numbered, link_of, payload_in, topic_in};
 ghost use Rattle.spk_edge_rules.specs.Config.{Config, Setup};
 ghost use Rattle.spk_edge_rules.specs.Inputs.{Input, Open};
 ghost use Rattle.spk_edge_rules.specs.Messages.{Draft, named_by, opens, payload_of, wire};
 ghost use Rattle.spk_edge_rules.specs.Packets.{connect_of, death_payload, will_of};
-ghost use Rattle.spk_edge_rules.specs.Run.{Message, asked_of, book_of, calls_of, opened, outline, published, record_of, right_at, run_of, session_number};
+ghost use Rattle.spk_edge_rules.specs.Run.{Message, asked_of, book_of, calls_of, number_at, opened, opened_at, outline, published, record_of, right_at, run_of, session_number};
 ghost use Rattle.spk_edge_rules.specs.Step.{answer_at, record_at, standing_of};
 
 /// For every node and every list of inputs, newest first, whatever the node begins with.
@@ -69,6 +69,41 @@ pub fn any_list()
     ensures lost { (s : Setup) (is : List Input) →
         (standing_of s is).asked.store.lost ≡ min (kept.lost_of s.capacity (calls_of (run_of s is))) (2 ^ 64 - 1) }
 {}
+
+/// Of each message that a node published, whatever the node begins with and for every list of inputs, newest first.
+pub fn published()
+    // it is an NBIRTH, NDATA, DBIRTH, DDATA or DDEATH
+    ensures kinds { (s : Setup) (is : List Input) (p : ℕ) (m : Message) →
+        slice_get (published (run_of s is)) p ≡ Some m → is_numbered m.draft ≡ true }
+
+    // its stamp is a moment
+    ensures stamps { (s : Setup) (is : List Input) (p : ℕ) (m : Message) →
+        slice_get (published (run_of s is)) p ≡ Some m → m.draft.stamp < 2 ^ 63 }
+
+    // it stays where it stands, whatever comes later
+    ensures grows { (s : Setup) (later is : List Input) → (more : List Message) ×
+        (published (run_of s (later ++ is)) ≡ published (run_of s is) ++ more) }
+
+    // its number is a byte
+    ensures numbers { (s : Setup) (is : List Input) (p : ℕ) →
+        number_at s (published (run_of s is)) p < 256 }
+
+    // its topic has names, if those of the node and of its registry's devices can stand in one
+    ensures names { (s : Setup) (is : List Input) (p : ℕ) (m : Message) → HasNames s →
+        slice_get (published (run_of s is)) p ≡ Some m →
+        IsTrue (has_names (named_by s.config m.draft)) }
+
+    // an NBIRTH says the bdSeq of its session once, if no metric of the registry is named so
+    ensures one_session { (s : Setup) (is : List Input) (p : ℕ) (m : Message) → IsUnreserved s →
+        slice_get (published (run_of s is)) p ≡ Some m → SaysSessionOnce s m }
+
+    // what is done is done at a moment, and so was the last Open
+    ensures moments { (s : Setup) (is : List Input) (i : Input) (answer : Answer) →
+        right_at s (run_of s is) i ≡ Ok answer → i.now < 2 ^ 63 }
+    ensures opened_at { (s : Setup) (is : List Input) → opened_at (run_of s is) < 2 ^ 63 }
+{
+    spk_sequence::laws::records();
+}
 
 /// Of each message's bytes: whoever reads them by the grammar reads that message and nothing else.
 pub fn messages()
