@@ -1,0 +1,4 @@
+pub mod Events
+pub mod Queries
+pub mod Refusals
+pub mod Claims
