@@ -2,9 +2,9 @@
 use Rattle.std.proofs.Common.{◌≡◌, ℕ, zero, suc, ◌+◌, ◌-◌, ◌*◌, ◌<◌, ◌≤◌, ◌%◌, Bool, true, false, not, ◌&&◌, ◌||◌, cond, List, [], ◌∷◌, ◌++◌, length, map, get_or, nat_lt, nat_le, Option, Some, None, Result, Ok, Err, refl, sym, ◌∙◌, ap, subst, arith, inl, inr}
 use Rattle.std.specs.Prelude.{◌==◌}
 use Rattle.std.specs.List.{AllByRecursion}
-use Rattle.std.proofs.lemmas.Bool.{true≢false, cases_Bool, and_parts, eqb-true, leb-true, ltb-true}
-use Rattle.std.proofs.lemmas.List.{map-append}
-use Rattle.spk_sequence.specs.Claims.{IsLawful, IsSameWithMore, with_more}
+use Rattle.std.proofs.lemmas.Bool.{true≢false, cases_Bool, and_parts, eq-eqb, eqb-true, leb-true, ltb-true}
+use Rattle.std.proofs.lemmas.List.{append-nil, map-append}
+use Rattle.spk_sequence.specs.Claims.{AllPublished, IsLawful, IsSameWithMore, with_more}
 use Rattle.spk_sequence.specs.Following.{contains, following, taken}
 use Rattle.spk_sequence.specs.HostRecord as order
 use Rattle.spk_sequence.specs.HostRecord.{HostRecord, MessageComes, DeathComes, TickComes, reach}
@@ -16,9 +16,9 @@ use Rattle.spk_edge_rules.specs.Inputs as edge
 use Rattle.spk_edge_rules.specs.Run as run
 use Rattle.spk_edge_rules.specs.Run.{outline, published, run_of}
 use Rattle.spk_tie.specs.Tie.{host_setting}
-use Rattle.spk_world_rules.specs.Claims.{IsLawfulPair}
+use Rattle.spk_world_rules.specs.Claims.{ComesAs, IsPassedBy, event_of}
 use Rattle.spk_world_rules.specs.Events.{Deed, AtNode, Hand, Death, Tick, Renew, HasWidth, HasWidths, HostData, World, host_at, no_host, node_at}
-use Rattle.spk_world_rules.specs.Queries.{calls_of, inputs_of, record_of, sessions_of, setting_of}
+use Rattle.spk_world_rules.specs.Queries.{calls_of, consumed_of, inputs_of, published_of, record_of, sessions_of, setting_of}
 use Rattle.spk_world_rules.specs.Refusals.{AllDone, Refusal, NoSuch, NotPublished, OutsideWindow, TooFar, OvertakesBirth, death_refusal, has_host, has_node, if_there, is_far, is_far_from, is_outside, message_refusal, overtakes, refusal_of}
 
 -- ---- what the laws below give
@@ -109,14 +109,16 @@ Pair s inputs = IsLawful s inputs × AllNearDeaths s inputs
 pub hand-pair : (s : Setting) (inputs : List order.Input) (p now : ℕ) → Pair s inputs → message_refusal s (order.record_of s inputs) p ≡ None → Pair s (MessageComes p now ∷ inputs)
 hand-pair s inputs p now pair e =
     let r = order.record_of s inputs in
-    let passed = message-passed s r p e in
-    (record {
-      node = pair.0.node;
-      some_places = pair.0.some_places;
-      few_places = pair.0.few_places;
-      may_come = (in-window s r p passed.0 passed.1, pair.0.may_come);
-      numbered = fits s.numbering passed.3 pair.0.numbered;
-    }, (tt, pair.1))
+    let passed = message-passed s r p e in (
+      record {
+        node = pair.0.node;
+        some_places = pair.0.some_places;
+        few_places = pair.0.few_places;
+        may_come = (in-window s r p passed.0 passed.1, pair.0.may_come);
+        numbered = fits s.numbering passed.3 pair.0.numbered;
+      },
+      (tt, pair.1),
+    )
   where
     fits : (numbering : Numbering) → overtakes numbering s (order.record_of s inputs) p ≡ false → NumbersFit numbering s inputs → NumbersFit numbering s (MessageComes p now ∷ inputs)
     fits RunsOn first before = tt
@@ -125,28 +127,32 @@ hand-pair s inputs p now pair e =
 pub death-pair : (s : Setting) (inputs : List order.Input) (sessions session now : ℕ) → Pair s inputs → death_refusal s (order.record_of s inputs) sessions session ≡ None → Pair s (DeathComes session now ∷ inputs)
 death-pair s inputs sessions session now pair e =
     let r = order.record_of s inputs in
-    let near = near-to s (taken s r) session (death-tests (nat_lt session sessions) (is_far s r session) e).1 in
-    (record {
-      node = pair.0.node;
-      some_places = pair.0.some_places;
-      few_places = pair.0.few_places;
-      may_come = ((λ on. told-apart s (taken s r) session near), pair.0.may_come);
-      numbered = fits s.numbering pair.0.numbered;
-    }, (near, pair.1))
+    let near = near-to s (taken s r) session (death-tests (nat_lt session sessions) (is_far s r session) e).1 in (
+      record {
+        node = pair.0.node;
+        some_places = pair.0.some_places;
+        few_places = pair.0.few_places;
+        may_come = ((λ on. told-apart s (taken s r) session near), pair.0.may_come);
+        numbered = fits s.numbering pair.0.numbered;
+      },
+      (near, pair.1),
+    )
   where
     fits : (numbering : Numbering) → NumbersFit numbering s inputs → NumbersFit numbering s (DeathComes session now ∷ inputs)
     fits RunsOn before = tt
     fits Restarts before = (tt, tt, before)
 
 pub tick-pair : (s : Setting) (inputs : List order.Input) (now : ℕ) → Pair s inputs → Pair s (TickComes now ∷ inputs)
-tick-pair s inputs now pair =
-    (record {
-      node = pair.0.node;
-      some_places = pair.0.some_places;
-      few_places = pair.0.few_places;
-      may_come = (tt, pair.0.may_come);
-      numbered = fits s.numbering pair.0.numbered;
-    }, (tt, pair.1))
+tick-pair s inputs now pair = (
+  record {
+    node = pair.0.node;
+    some_places = pair.0.some_places;
+    few_places = pair.0.few_places;
+    may_come = (tt, pair.0.may_come);
+    numbered = fits s.numbering pair.0.numbered;
+  },
+  (tt, pair.1),
+)
   where
     fits : (numbering : Numbering) → NumbersFit numbering s inputs → NumbersFit numbering s (TickComes now ∷ inputs)
     fits RunsOn before = tt
@@ -226,3 +232,110 @@ pairs grows still appends recorded w (Renew k now ∷ done) h n widths all = by 
     by : (b : Bool) → Pair (setting_of w done h n) (inputs_of done h n) → Pair (setting_of w done h n) (cond b [] (inputs_of done h n))
     by true pair = fresh-pair (setting_of w done h n) pair.0.node pair.0.some_places pair.0.few_places
     by false pair = pair
+
+-- ---- a thing that comes
+
+no-longer : {X : Type 0} (x : X) (xs : List X) → xs ≡ x ∷ xs → ⊥
+no-longer x xs e = let same : length xs ≡ suc (length xs) = ap (λ (l : List _). length l) e in omega (arith, same)
+
+pub comes-pair : (w : World) (done : List Deed) (e : Deed) (h n : ℕ) (input : order.Input) → ComesAs done e h n input
+    → Pair (setting_of w (e ∷ done) h n) (inputs_of (e ∷ done) h n) → Pair (setting_of w done h n) (input ∷ inputs_of done h n)
+comes-pair w done (AtNode m i) h n input comes pair = absurd (no-longer input (inputs_of done h n) comes)
+comes-pair w done (Hand k m p now) h n input comes pair = subst (Pair (setting_of w done h n)) comes pair
+comes-pair w done (Death k m session now) h n input comes pair = subst (Pair (setting_of w done h n)) comes pair
+comes-pair w done (Tick k now) h n input comes pair = subst (Pair (setting_of w done h n)) comes pair
+comes-pair w done (Renew k now) h n input comes pair = subst (Pair (setting_of w done h n)) comes pair
+
+hand-here : (w : World) (done : List Deed) (k m h n p now : ℕ) → refusal_of w done (Hand k m p now) ≡ None → ((k == h) && (m == n)) ≡ true
+    → message_refusal (setting_of w done h n) (record_of w done h n) p ≡ None
+hand-here w done k m h n p now e both =
+    let same = and_parts (k == h) (m == n) both in
+    subst (λ i. message_refusal (setting_of w done h i) (record_of w done h i) p ≡ None) (eqb-true m n same.1)
+    (subst (λ i. message_refusal (setting_of w done i m) (record_of w done i m) p ≡ None) (eqb-true k h same.0) (there-none (has_host w k && has_node w m) _ e))
+
+same-head : (x y : order.Input) (xs : List order.Input) → x ∷ xs ≡ y ∷ xs → x ≡ y
+same-head x y xs e = cc
+
+pub comes-near : (w : World) (done : List Deed) (e : Deed) (h n : ℕ) (input : order.Input) → ComesAs done e h n input → refusal_of w done e ≡ None
+    → IsNearBirth (setting_of w done h n) (record_of w done h n) input
+comes-near w done (AtNode m i) h n input comes e = absurd (no-longer input (inputs_of done h n) comes)
+comes-near w done (Hand k m p now) h n input comes e = by ((k == h) && (m == n)) refl comes
+  where
+    by : (b : Bool) → ((k == h) && (m == n)) ≡ b → cond b (MessageComes p now ∷ inputs_of done h n) (inputs_of done h n) ≡ input ∷ inputs_of done h n
+        → IsNearBirth (setting_of w done h n) (record_of w done h n) input
+    by true here same =
+        subst (IsNearBirth (setting_of w done h n) (record_of w done h n)) (same-head (MessageComes p now) input (inputs_of done h n) same)
+        (near-birth (setting_of w done h n) (record_of w done h n) p now (hand-here w done k m h n p now e here))
+    by false elsewhere same = absurd (no-longer input (inputs_of done h n) same)
+comes-near w done (Death k m session now) h n input comes e = by ((k == h) && (m == n)) comes
+  where
+    by : (b : Bool) → cond b (DeathComes session now ∷ inputs_of done h n) (inputs_of done h n) ≡ input ∷ inputs_of done h n
+        → IsNearBirth (setting_of w done h n) (record_of w done h n) input
+    by true same = subst (IsNearBirth (setting_of w done h n) (record_of w done h n)) (same-head (DeathComes session now) input (inputs_of done h n) same) tt
+    by false same = absurd (no-longer input (inputs_of done h n) same)
+comes-near w done (Tick k now) h n input comes e = by (k == h) comes
+  where
+    by : (b : Bool) → cond b (TickComes now ∷ inputs_of done h n) (inputs_of done h n) ≡ input ∷ inputs_of done h n
+        → IsNearBirth (setting_of w done h n) (record_of w done h n) input
+    by true same = subst (IsNearBirth (setting_of w done h n) (record_of w done h n)) (same-head (TickComes now) input (inputs_of done h n) same) tt
+    by false same = absurd (no-longer input (inputs_of done h n) same)
+comes-near w done (Renew k now) h n input comes e = by (k == h) comes
+  where
+    by : (b : Bool) → cond b [] (inputs_of done h n) ≡ input ∷ inputs_of done h n → IsNearBirth (setting_of w done h n) (record_of w done h n) input
+    by true same = absurd (let x : ⊥ = cc in x)
+    by false same = absurd (no-longer input (inputs_of done h n) same)
+
+pub hand-comes : (done : List Deed) (h n p now : ℕ) → ComesAs done (Hand h n p now) h n (MessageComes p now)
+hand-comes done h n p now = ap (λ b. cond b (MessageComes p now ∷ inputs_of done h n) (inputs_of done h n)) (both (eq-eqb h h refl) (eq-eqb n n refl))
+  where
+    both : (h == h) ≡ true → (n == n) ≡ true → ((h == h) && (n == n)) ≡ true
+    both p q = ap (λ x. x && (n == n)) p ∙ q
+
+-- ---- what is added
+
+pub published-more : Appends → (w : World) (done : List Deed) (e : Deed) (n : ℕ) → (more : List run.Message) × (published_of w (e ∷ done) n ≡ published_of w done n ++ more)
+published-more appends w done (AtNode m input) n = by (m == n)
+  where
+    by : (b : Bool) → (more : List run.Message) × (published (run_of (node_at w n) (cond b (input ∷ calls_of done n) (calls_of done n))) ≡ published_of w done n ++ more)
+    by true = appends (node_at w n) (input ∷ []) (calls_of done n)
+    by false = ([], sym (append-nil (published_of w done n)))
+published-more appends w done (Hand k m p now) n = ([], sym (append-nil (published_of w done n)))
+published-more appends w done (Death k m session now) n = ([], sym (append-nil (published_of w done n)))
+published-more appends w done (Tick k now) n = ([], sym (append-nil (published_of w done n)))
+published-more appends w done (Renew k now) n = ([], sym (append-nil (published_of w done n)))
+
+pub adds : (w : World) (done : List Deed) (e : Deed) (h n : ℕ) (input : order.Input) → ComesAs done e h n input
+    → consumed_of w (e ∷ done) h n ≡ consumed_of w done h n ++ (event_of w done h n input).consumed
+adds w done (AtNode m i) h n input comes = absurd (no-longer input (inputs_of done h n) comes)
+adds w done (Hand k m p now) h n input comes = ap (λ is. order.consumed_of (order.record_of (setting_of w done h n) is)) comes
+adds w done (Death k m session now) h n input comes = ap (λ is. order.consumed_of (order.record_of (setting_of w done h n) is)) comes
+adds w done (Tick k now) h n input comes = ap (λ is. order.consumed_of (order.record_of (setting_of w done h n) is)) comes
+adds w done (Renew k now) h n input comes = ap (λ is. order.consumed_of (order.record_of (setting_of w done h n) is)) comes
+
+pub keeps : Grows → Appends → (w : World) (done : List Deed) (e : Deed) (h n : ℕ) → IsPassedBy done e h n → Pair (setting_of w done h n) (inputs_of done h n)
+    → consumed_of w (e ∷ done) h n ≡ consumed_of w done h n
+keeps grows appends w done (AtNode m i) h n passed pair = by (m == n)
+  where
+    by : (b : Bool) → order.consumed_of (order.record_of (host_setting (node_at w n) (published (run_of (node_at w n) (cond b (i ∷ calls_of done n) (calls_of done n)))) (host_at w h).wait (host_at w h).width) (inputs_of done h n))
+        ≡ consumed_of w done h n
+    by false = refl
+    by true =
+        let st = setting_of w done h n in
+        let more = appends (node_at w n) (i ∷ []) (calls_of done n) in
+        ap (λ (r : NodeRecord). order.consumed_of (order.record_of (record st { published = r }) (inputs_of done h n))) (ap outline more.1 ∙ outline-append (published_of w done n) more.0)
+        ∙ ap order.consumed_of (grows st (outline more.0) (inputs_of done h n) pair.0).same_record
+keeps grows appends w done (Hand k m p now) h n passed pair = ap (λ is. order.consumed_of (order.record_of (setting_of w done h n) is)) passed
+keeps grows appends w done (Death k m session now) h n passed pair = ap (λ is. order.consumed_of (order.record_of (setting_of w done h n) is)) passed
+keeps grows appends w done (Tick k now) h n passed pair = ap (λ is. order.consumed_of (order.record_of (setting_of w done h n) is)) passed
+keeps grows appends w done (Renew k now) h n passed pair = ap (λ is. order.consumed_of (order.record_of (setting_of w done h n) is)) passed
+
+pub renews : (w : World) (done : List Deed) (h n now : ℕ) → consumed_of w (Renew h now ∷ done) h n ≡ []
+renews w done h n now = ap (λ b. order.consumed_of (order.record_of (setting_of w done h n) (cond b [] (inputs_of done h n)))) (eq-eqb h h refl)
+
+-- ---- what came was published
+
+pub all-published : (s : Setting) (inputs : List order.Input) → AllMayCome s inputs → AllPublished s inputs
+all-published s [] all = tt
+all-published s (MessageComes p now ∷ inputs) all = (all.0.published, all-published s inputs all.1)
+all-published s (DeathComes session now ∷ inputs) all = (tt, all-published s inputs all.1)
+all-published s (TickComes now ∷ inputs) all = (tt, all-published s inputs all.1)

@@ -20,3 +20,7 @@ event_of w done h n input =
 -- a thing done that comes to this host of this node, as that input
 abbrev pub ComesAs : List Deed → Deed → (h n : ℕ) → order.Input → Type 0
 ComesAs done e h n input = inputs_of (e ∷ done) h n ≡ input ∷ inputs_of done h n
+
+-- a thing done that doesn't come to this host of this node
+abbrev pub IsPassedBy : List Deed → Deed → (h n : ℕ) → Type 0
+IsPassedBy done e h n = inputs_of (e ∷ done) h n ≡ inputs_of done h n
