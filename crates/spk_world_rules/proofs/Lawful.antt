@@ -1,16 +1,16 @@
 -- What isn't refused may come: inside the window, with numbers and bdSeqs that tell positions and sessions apart.
-use Rattle.std.proofs.Common.{◌≡◌, ℕ, zero, suc, ◌+◌, ◌-◌, ◌*◌, ◌<◌, ◌≤◌, ◌%◌, Bool, true, false, not, ◌&&◌, ◌||◌, cond, List, [], ◌∷◌, ◌++◌, length, map, get_or, nat_lt, nat_le, Option, Some, None, Result, Ok, Err, refl, sym, ◌∙◌, ap, subst, arith, inl, inr}
+use Rattle.std.proofs.Common.{◌≡◌, ℕ, zero, suc, ◌+◌, ◌-◌, ◌*◌, ◌<◌, ◌≤◌, Bool, true, false, not, ◌&&◌, ◌||◌, cond, List, [], ◌∷◌, ◌++◌, length, get_or, nat_lt, nat_le, Option, Some, None, refl, sym, ◌∙◌, ap, subst, arith, inl, inr}
 use Rattle.std.specs.Prelude.{◌==◌}
 use Rattle.std.specs.List.{AllByRecursion}
-use Rattle.std.proofs.lemmas.Bool.{true≢false, cases_Bool, and_parts, eq-eqb, eqb-true, leb-true, ltb-true}
+use Rattle.std.proofs.lemmas.Bool.{true≢false, and_parts, eq-eqb, eqb-true, leb-true, ltb-true}
 use Rattle.std.proofs.lemmas.List.{append-nil, map-append}
 use Rattle.spk_sequence.specs.Claims.{AllPublished, IsLawful, IsSameWithMore, with_more}
-use Rattle.spk_sequence.specs.Following.{contains, following, taken}
+use Rattle.spk_sequence.specs.Following.{following, taken}
 use Rattle.spk_sequence.specs.HostRecord as order
 use Rattle.spk_sequence.specs.HostRecord.{HostRecord, MessageComes, DeathComes, TickComes, reach}
 use Rattle.spk_sequence.specs.NodeRecord.{IsNodeRecord, NodeRecord, Numbering, RunsOn, Restarts, Setting, opens, session_at, start_of}
 use Rattle.spk_sequence.specs.NodeRecord as sequence
-use Rattle.spk_sequence.specs.Window.{AllMayCome, AllNearDeaths, InWindow, IsAfterBirth, IsNearBirth, IsNearTo, IsToldApart, MayCome, NumbersFit, handed_of}
+use Rattle.spk_sequence.specs.Window.{AllMayCome, AllNearDeaths, InWindow, IsAfterBirth, IsNearBirth, IsNearTo, IsToldApart, NumbersFit}
 use Rattle.spk_edge_rules.specs.Config.{Setup}
 use Rattle.spk_edge_rules.specs.Inputs as edge
 use Rattle.spk_edge_rules.specs.Run as run
@@ -19,7 +19,7 @@ use Rattle.spk_tie.specs.Tie.{host_setting}
 use Rattle.spk_world_rules.specs.Claims.{ComesAs, IsPassedBy, event_of}
 use Rattle.spk_world_rules.specs.Events.{Deed, AtNode, Hand, Death, Tick, Renew, HasWidth, HasWidths, HostData, World, host_at, no_host, node_at}
 use Rattle.spk_world_rules.specs.Queries.{calls_of, consumed_of, inputs_of, published_of, record_of, sessions_of, setting_of}
-use Rattle.spk_world_rules.specs.Refusals.{AllDone, Refusal, NoSuch, NotPublished, OutsideWindow, TooFar, OvertakesBirth, death_refusal, has_host, has_node, if_there, is_far, is_far_from, is_outside, message_refusal, overtakes, refusal_of}
+use Rattle.spk_world_rules.specs.Refusals.{AllDone, Refusal, NotPublished, OutsideWindow, TooFar, OvertakesBirth, death_refusal, has_host, has_node, if_there, is_far, is_far_from, is_outside, message_refusal, overtakes, refusal_of}
 
 -- ---- what the laws below give
 

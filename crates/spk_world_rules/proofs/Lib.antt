@@ -1,1 +1,2 @@
 mod Lawful
+mod Worked

@@ -1,6 +1,6 @@
 -- A world: edge nodes, host applications, and what is done in it, one thing at a time. Messages are handed over by their positions
 -- among all that their node published, deaths by the session that died.
-use Rattle.std.specs.Prelude.{◌≡◌, ℕ, ◌<◌, ◌≤◌, List, [], ◌∷◌, get_or, None}
+use Rattle.std.specs.Prelude.{ℕ, ◌<◌, ◌≤◌, List, [], get_or, None}
 use Rattle.std.specs.List.{AllByRecursion}
 use Rattle.spk_device.specs.Book.{empty_book}
 use Rattle.spk_sequence.specs.NodeRecord.{RunsOn}

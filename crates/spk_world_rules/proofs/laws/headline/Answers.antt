@@ -1,4 +1,4 @@
-use Rattle.std.proofs.Common.{◌∷◌, ℕ, List}
+use Rattle.std.proofs.Common.{◌∷◌}
 use Rattle.spk_sequence.specs.HostRecord.{MessageComes}
 use Rattle.spk_world_rules.specs.Events.{Hand}
 use Rattle.spk_world_rules.specs.Queries.{inputs_of, setting_of}
