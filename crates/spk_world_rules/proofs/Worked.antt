@@ -1,6 +1,7 @@
 -- Worlds worked out by hand: what is refused, answered and consumed, so that no law of worlds is empty.
-use Rattle.std.proofs.Common.{◌≡◌, ℕ, true, List, [], ◌∷◌, map, reverse, Option, Some, None, refl, ◌∙◌, ap, pos, codes}
+use Rattle.std.proofs.Common.{◌≡◌, ℕ, true, List, [], ◌∷◌, map, reverse, Option, Some, None, refl, ◌∙◌, ap, pos, codes, cond, false, ◌+◌}
 use Rattle.std.specs.List.{range_with_len}
+use Rattle.std.specs.Fmt.{digits}
 use Rattle.std.specs.Str.{is_utf8, chars}
 use lib.Utf8.{encode}
 use Rattle.spk_protobuf.specs.Reading as fields
@@ -18,8 +19,11 @@ use Rattle.spk_sequence.specs.HostRecord.{MessageComes}
 use Rattle.spk_sequence.specs.NodeRecord.{NodeRecord, Numbering, RunsOn, Restarts, Setting}
 use Rattle.spk_edge_rules.specs.Inputs as edge
 use Rattle.spk_edge_rules.specs.Run.{outline}
+use Rattle.spk_world_rules.specs.Answers.{Added, Gaps, answer_of, is_gap}
 use Rattle.spk_world_rules.specs.Claims.{event_of}
 use Rattle.spk_world_rules.specs.Events.{AtNode, Deed, Death, Hand, Renew, Tick, World}
+use Rattle.spk_world_rules.specs.Files as file
+use Rattle.spk_world_rules.specs.Files.{deed_of}
 use Rattle.spk_world_rules.specs.Queries.{consumed_of, inputs_of, published_of, setting_of}
 use Rattle.spk_world_rules.specs.Refusals.{NoSuch, NotPublished, OutsideWindow, OvertakesBirth, Refusal, TooFar, death_refusal, message_refusal, refusal_of}
 
@@ -221,6 +225,39 @@ numbers_that_restart = (
   refuses_hand Restarts (reverse second_birth) five 1 14 None five_published refl,
   answers (world Restarts) (reverse second_birth) five (MessageComes 1 14) (Stepped Old) five_published refl,
 )
+
+-- ---- answers
+
+-- an Open gives no message, an acceptance without a primary host the NBIRTH, and a change one NDATA
+pub what_a_node_adds : (answer_of (world RunsOn) [] (opens_at 5) ≡ Added 0)
+    × (answer_of (world RunsOn) (opens_at 5 ∷ []) (accepted_at 6) ≡ Added 1)
+    × (answer_of (world RunsOn) (accepted_at 6 ∷ opens_at 5 ∷ []) (set_to 7 8) ≡ Added 1)
+unfolding packets.spelling packets.body packets.shortest packets.has_bad_text packets.has_bad_body packets.is_qos_two payload.spelling payload.metric_spelling wire.varint wire.groups_of wire.bytes_field reading.payload_at reading.metric_at reading.each_item reading.text_at fields.items_of fields.items_within fields.field_at fields.varint_at fields.groups_at fields.value_at fields.some_at is_utf8 chars encode
+what_a_node_adds = (refl, refl, refl)
+
+pub gaps_of_all_nodes : (answer_of (world RunsOn) (reverse waited) (Tick 0 2011) ≡ Gaps 0) × (answer_of (world RunsOn) (reverse waited) (Tick 0 2012) ≡ Gaps 1)
+gaps_of_all_nodes = (
+  gaps (reverse waited) 2011 (Ticked false) (answers (world RunsOn) (reverse waited) four (order.TickComes 2011) (Ticked false) four_published refl),
+  gaps (reverse waited) 2012 (Ticked true) (answers (world RunsOn) (reverse waited) four (order.TickComes 2012) (Ticked true) four_published refl),
+)
+  where
+    gaps : (done : List Deed) (now : ℕ) (reply : Reply) → (event_of (world RunsOn) done 0 0 (order.TickComes now)).reply ≡ reply
+        → answer_of (world RunsOn) done (Tick 0 now) ≡ Gaps (0 + cond (is_gap reply) 1 0)
+    gaps done now reply e = ap (λ r. Gaps (0 + cond (is_gap r) 1 0)) e
+
+-- ---- the file of the first worked world
+
+pub the_first_file : map (deed_of (world RunsOn)) (file.Open 0 5 ∷ file.Accepted 0 6 ∷ file.Set 0 7 1 (Some (Signed (pos 8))) ∷ file.Hand 0 0 0 9 ∷ file.Hand 0 0 1 10 ∷ [])
+    ≡ both_handed
+the_first_file = refl
+
+pub a_rebirth_command : deed_of (world RunsOn) (file.Rebirth 0 9) ≡ rebirth_at 9
+unfolding packets.spelling packets.body packets.shortest packets.has_bad_text packets.has_bad_body packets.is_qos_two payload.spelling payload.metric_spelling wire.varint wire.groups_of wire.bytes_field reading.payload_at reading.metric_at reading.each_item reading.text_at fields.items_of fields.items_within fields.field_at fields.varint_at fields.groups_at fields.value_at fields.some_at is_utf8 chars encode
+a_rebirth_command = refl
+
+pub a_state : deed_of (world RunsOn) (file.State 0 9 true 5) ≡ at_node 9 (edge.State (codes "{\"online\":true,\"timestamp\":5}"))
+unfolding packets.spelling packets.body packets.shortest packets.has_bad_text packets.has_bad_body packets.is_qos_two payload.spelling payload.metric_spelling wire.varint wire.groups_of wire.bytes_field reading.payload_at reading.metric_at reading.each_item reading.text_at fields.items_of fields.items_within fields.field_at fields.varint_at fields.groups_at fields.value_at fields.some_at is_utf8 chars encode digits
+a_state = refl
 
 -- ---- the window, and sessions that are far apart, of a node record alone
 
