@@ -1,2 +1,3 @@
 mod Lawful
+mod Within
 mod Worked

@@ -1,6 +1,7 @@
 //! Laws on lists of what was done: functions that do nothing, whose contracts speak of definitions alone.
-ghost use Rattle.std.specs.Prelude.{◌≡◌, ℕ, List, [], ◌∷◌, ◌++◌};
+ghost use Rattle.std.specs.Prelude.{◌≡◌, ℕ, ◌<◌, true, List, [], ◌∷◌, ◌++◌, length};
 ghost use Rattle.spk_sequence.specs.Claims.{AfterDeath, AfterGap, BirthPrefixes, HasCause, TakesBirth};
+ghost use Rattle.spk_sequence.specs.Following.{contains};
 ghost use Rattle.spk_sequence.specs.HostRecord.{Input, MessageComes};
 ghost use Rattle.spk_sequence.specs.Positions.{right_at};
 ghost use Rattle.spk_edge_rules.specs.Run.{Message, outline};
@@ -27,6 +28,10 @@ pub fn headline()
     // node published under that birth, each once
     ensures prefixes { (w : World) (done : List Deed) (h n : ℕ) → HasWidths w → AllDone w done →
         BirthPrefixes (outline (published_of w done n)) (consumed_of w done h n) }
+
+    // each of these positions was published, so it has the topic and the payload that were published there
+    ensures within { (w : World) (done : List Deed) (h n p : ℕ) → HasWidths w → AllDone w done →
+        contains p (consumed_of w done h n) ≡ true → p < length (published_of w done n) }
 
     // while the host doesn't follow the node, as after a gap, nothing is consumed but a newer birth
     ensures after_gap { (w : World) (done : List Deed) (e : Deed) (h n : ℕ) (input : Input) →

@@ -1,8 +1,9 @@
 use Rattle.std.proofs.Common.{◌∷◌}
 use Rattle.spk_sequence.specs.HostRecord.{MessageComes}
 use Rattle.spk_world_rules.specs.Events.{Hand}
-use Rattle.spk_world_rules.specs.Queries.{inputs_of, setting_of}
+use Rattle.spk_world_rules.specs.Queries.{consumed_of, inputs_of, published_of, setting_of}
 use Rattle.spk_world_rules.proofs.Lawful.{adds, all-published, comes-near, comes-pair, hand-comes, keeps, pairs, published-more, renews}
+use Rattle.spk_world_rules.proofs.Within.{within-published}
 use Rattle.spk_world_rules.proofs.laws.headline.Goals as goal
 
 pub returns-clause-prefixes : goal.returns-clause-prefixes
@@ -50,3 +51,7 @@ returns-clause-renews c = renews
 
 pub returns-clause-published : goal.returns-clause-published
 returns-clause-published c = published-more c.published.ensures.grows
+
+pub returns-clause-within : goal.returns-clause-within
+returns-clause-within c = λ w done h n p widths all there.
+    within-published (published_of w done n) (consumed_of w done h n) p (returns-clause-prefixes c w done h n widths all) there
