@@ -262,6 +262,7 @@ planned n i g g' setting p fit now given is set sealed =
       writes = s.writes;
       close = s.close;
       messages = s.messages;
+      whole = s.whole;
       after = after-is n i given.given setting p given.acted set s (rules-lawful n.config n.standing.asked i r ruled).keeps;
     }
 
@@ -291,6 +292,7 @@ done_by n i p after out plan is same = record {
   packets = ap (λ (o : Out). map bytes_of o.packets.items) same ∙ plan.packets;
   writes = ap (λ (o : Out). map write_view o.writes.items) same ∙ plan.writes;
   close = ap (λ (o : Out). o.close) same ∙ plan.close;
+  whole = plan.whole;
   stands = is ∙ plan.after;
 }
 

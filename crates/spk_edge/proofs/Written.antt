@@ -1,17 +1,24 @@
 -- Packets that are written one after the other.
-use Rattle.std.proofs.Common.{◌≡◌, ◌⊎◌, inl, inr, ℕ, zero, suc, ◌+◌, ◌<◌, ◌≤◌, Bool, true, false, ◌&&◌, List, [], ◌∷◌, ◌++◌, length, map, take, get_or, Vec, refl, sym, ap, subst, ◌∙◌, arith}
+use Rattle.std.proofs.Common.{◌≡◌, ◌⊎◌, inl, inr, ℕ, zero, suc, ◌+◌, ◌<◌, ◌≤◌, Bool, true, false, ◌&&◌, List, [], ◌∷◌, ◌++◌, length, map, take, get_or, Vec, refl, sym, ap, subst, ◌∙◌, arith, Option, Some, None, is_none, Result, Ok, Err}
 use Rattle.std.specs.List.{AllByRecursion, list_all}
 use Rattle.std.proofs.lemmas.List.{take_more, map_push, take_all}
 use Rattle.std.proofs.lemmas.List.Folds.{list_all-append}
 use Rattle.std.specs.declared.alloc.Global.{Global}
 use Rattle.spk_payload.specs.Meaning.{MetricData}
-use Rattle.spk_payload.specs.Spelling.{HoldsOther}
+use Rattle.spk_payload.specs.Spelling.{HoldsOther, PayloadFits}
+use Rattle.std.specs.Prelude.{OnOk}
+use Rattle.std.specs.Str.{IsUtf8}
+use Rattle.spk_packets.specs.Fault.{first_of}
+use Rattle.spk_packets.specs.Grammar.{Spells}
 use Rattle.spk_packets.specs.Message as packets
 use Rattle.spk_packets.specs.Spelling as packet
 use Rattle.spk_edge_rules.specs.Answers.{is_writable}
 use Rattle.spk_edge_rules.specs.declared.fault.EdgeFault.{EdgeFault}
 use Rattle.spk_edge_rules.specs.declared.fault.EdgeFault.TheVariants.{NoMemory, TooLarge}
-use Rattle.spk_edge.specs.Sealing.{AreKnown, IsUnwritten, bytes_of}
+use Rattle.std.proofs.lemmas.Bool.{true≢false}
+use Rattle.spk_packets.specs.declared.fault.PacketFault.{PacketFault}
+use Rattle.spk_edge.specs.View.{MessageData}
+use Rattle.spk_edge.specs.Sealing.{AreKnown, IsUnwritten, IsWhole, bytes_of, wire_of}
 
 -- known values are no unknown ones
 pub known-no-other : (ms : List MetricData) → AreKnown ms → HoldsOther ms → ⊥
@@ -62,3 +69,37 @@ pub known_at : {X : Type 0} (P : X → Type 0) (xs : List X) (i : ℕ) (x : X) �
 known_at P [] i x lt is all = absurd (omega (arith, lt))
 known_at P (y ∷ xs) zero x lt is all = subst P (sym is) all.0
 known_at P (y ∷ xs) (suc i) x lt is all = known_at P xs i x (omega (arith, lt)) is all.1
+
+all-push : {Y : Type 0} (P : Y → Type 0) (ys : List Y) (y : Y) → AllByRecursion P ys → P y → AllByRecursion P (ys ++ y ∷ [])
+all-push P [] y all p = (p, tt)
+all-push P (z ∷ ys) y all p = (all.0, all-push P ys y all.1 p)
+
+-- one more is whole
+pub wholes_more : {X Y : Type 0} (view : X → Y) (P : Y → Type 0) (xs : List X) (i : ℕ) (x : X) → i < length xs → x ≡ get_or xs i x
+    → AllByRecursion P (map view (take i xs)) → P (view x) → AllByRecursion P (map view (take (i + 1) xs))
+wholes_more view P xs i x lt is so_far one =
+    subst (AllByRecursion P) (sym (ap (map view) (take_more xs i x lt) ∙ map_push view (take i xs) (get_or xs i x)))
+    (all-push P (map view (take i xs)) (view (get_or xs i x)) so_far (subst (λ y. P (view y)) is one))
+
+-- what isn't refused and whose topic is a text is spelled
+pub writable-none : (o : Option PacketFault) → is_none o ≡ true → o ≡ None
+writable-none None e = refl
+writable-none (Some f) e = absurd (true≢false (sym e))
+
+pub words-of : (m : MessageData) → packet.HasWords (wire_of m)
+unfolding packet.HasWords
+words-of m = tt
+
+pub on-ok : {X E A B : Type 0} (r : Result X E) → (A → B) → OnOk r A → OnOk r B
+on-ok (Ok x) f a = f a
+on-ok (Err e) f a = tt
+
+abbrev pub SpelledAll : Type 0
+SpelledAll = (p : packets.Message) → packet.PacketFits p → first_of (packet.unwritable p) ≡ None → Spells (packet.spelling p) p
+
+-- a message that was written is whole
+pub written-whole : SpelledAll → (m : MessageData) → IsUtf8 m.topic → PayloadFits m.payload → is_writable (wire_of m) ≡ true → IsWhole m
+written-whole spells m text fits writable = record {
+  spelled = spells (wire_of m) (words-of m, text) (writable-none (first_of (packet.unwritable (wire_of m))) writable);
+  fits = fits;
+}

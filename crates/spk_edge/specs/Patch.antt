@@ -23,7 +23,7 @@ use Rattle.spk_edge_rules.specs.Inputs.{ChangeData}
 use Rattle.spk_edge_rules.specs.Rules as rule
 use Rattle.spk_edge_rules.specs.Rules.{Asked}
 use Rattle.spk_edge_rules.specs.Step as step
-use Rattle.spk_edge.specs.Sealing.{bytes_of, numbered, seq_past, wire_of}
+use Rattle.spk_edge.specs.Sealing.{AreWhole, bytes_of, numbered, seq_past, wire_of}
 use Rattle.spk_edge.specs.View.{GivenData, MessageData, NodeData, change_view, given_of, given_view, keeping_view, message_view, unnumbered, write_view}
 use Rattle.spk_edge.specs.declared.message.Given.{Given}
 use Rattle.spk_edge.specs.declared.message.Keeping.{Keeping}
@@ -78,6 +78,7 @@ pub record IsPlan (n : NodeData) (i : inputs.Input) (p : Plan) : Type 0 where
   pub close : p.out.close ≡ answer.given.close
   pub messages : map message_view p.messages.items
       ≡ numbered n.config.numbering n.standing.seq (map (unnumbered n.config) answer.given.drafts)
+  pub whole : AreWhole (numbered n.config.numbering n.standing.seq (map (unnumbered n.config) answer.given.drafts))
   pub after : patched n p ≡ record n { standing = step.stepped n.config n.standing i answer.given }
 
 -- memory was refused, or the rules refuse the input with this fault
@@ -112,6 +113,7 @@ pub record IsSealed (n : NodeData) (i : inputs.Input) (g : GivenData) (setting :
   pub writes : map write_view p.out.writes.items ≡ g.writes
   pub close : p.out.close ≡ g.close
   pub messages : map message_view p.messages.items ≡ numbers_of n g
+  pub whole : AreWhole (numbers_of n g)
   pub tally : IsTallyAfter n.standing.asked i g.phase g.heard (numbers_of n g) (seq_past n.config.numbering n.standing.seq g.messages) p.tally
   pub set : p.setting ≡ setting
   pub kept : keeping_view p.kept ≡ g.kept
@@ -163,6 +165,7 @@ pub record IsDone (n : NodeData) (i : inputs.Input) (after : NodeData) (out : Ou
   pub packets : map bytes_of out.packets.items ≡ map spelling answer.packets
   pub writes : map write_view out.writes.items ≡ answer.given.writes
   pub close : out.close ≡ answer.given.close
+  pub whole : AreWhole (numbered n.config.numbering n.standing.seq (map (unnumbered n.config) answer.given.drafts))
   pub stands : after ≡ record n { standing = step.stepped n.config n.standing i answer.given }
 
 -- an input that nothing acknowledges

@@ -4,7 +4,9 @@ use Rattle.std.specs.List.{AllByRecursion, list_all}
 use Rattle.std.specs.declared.alloc.Global.{Global}
 use Rattle.spk_payload.specs.Meaning.{MetricData, Other}
 use Rattle.spk_payload.specs.Spelling as payload
+use Rattle.spk_packets.specs.Grammar.{Spells}
 use Rattle.spk_packets.specs.Message as packets
+use Rattle.spk_packets.specs.Spelling as packet
 use Rattle.spk_sequence.specs.NodeRecord.{Numbering, RunsOn, Restarts}
 use Rattle.spk_edge_rules.specs.Answers.{is_writable}
 use Rattle.spk_edge_rules.specs.declared.fault.EdgeFault.{EdgeFault}
@@ -21,6 +23,14 @@ AllKnown messages = AllByRecursion (λ m. AreKnown m.payload.metrics) messages
 -- the packet of a message that has its number
 abbrev pub wire_of : MessageData → packets.Message
 wire_of m = packets.Publish false 0 false m.topic None (payload.spelling m.payload)
+
+-- Its packet's spelling spells its packet, and its payload has a spelling: who reads these bytes reads this message.
+pub record IsWhole (m : MessageData) : Type 0 where
+  pub spelled : Spells (packet.spelling (wire_of m)) (wire_of m)
+  pub fits : payload.PayloadFits m.payload
+
+abbrev pub AreWhole : List MessageData → Type 0
+AreWhole messages = AllByRecursion IsWhole messages
 
 -- ---- numbers
 

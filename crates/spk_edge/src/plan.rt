@@ -75,6 +75,7 @@ fn packets(
         (message_view m)) messages.now)) }
     ensures writable { OnOk result (list_all is_writable
         (map view plain.now ++ map (λ m. seal.wire_of (message_view m)) messages.now) ≡ true) }
+    ensures whole { OnOk result (seal.AreWhole (map message_view messages.now)) }
     ensures fault { IfErr result (seal.IsUnwritten
         (map view plain.now ++ map (λ m. seal.wire_of (message_view m)) messages.now)) }
 {

@@ -1,6 +1,7 @@
 //! Messages get their numbers, and packets are written.
 ghost use Rattle.std.specs.Prelude.{◌≡◌, ◌⊎◌, IfOk, IfErr, OnOk, map, true, false, ◌∷◌, []};
 ghost use Rattle.std.specs.List.{AllByRecursion, list_all};
+ghost use Rattle.spk_payload.specs.Spelling.{PayloadFits};
 ghost use Rattle.spk_packets.specs.Spelling.{spelling};
 ghost use Rattle.spk_packets.specs.View.{view};
 ghost use Rattle.spk_edge_rules.specs.Answers.{is_writable};
@@ -11,6 +12,7 @@ use crate::config::Numbering;
 use crate::message::Published;
 use crate::texts::spelled;
 use spk_edge_rules::EdgeFault;
+use spk_packets::laws::spelling_spells;
 use spk_packets::{Packet, PacketFault, encode};
 use std::alloc::{AllocError, Global};
 
@@ -45,7 +47,8 @@ pub(crate) fn written_packets(alloc: Global, packets: &[Packet]) -> Result<Vec<V
 /// The packet of a message that has its number.
 fn publish(alloc: Global, message: &Published) -> Result<Packet, AllocError>
     requires { seal.AreKnown (message_view message.now).payload.metrics }
-    ensures { IfOk result (λ p. view p ≡ seal.wire_of (message_view message.now)) }
+    ensures packet { IfOk result (λ p. view p ≡ seal.wire_of (message_view message.now)) }
+    ensures fits { OnOk result (PayloadFits (message_view message.now).payload) }
 {
     Ok(Packet::Publish {
         dup: false,
@@ -63,10 +66,12 @@ fn written_message(alloc: Global, message: &Published) -> Result<Vec<u8>, EdgeFa
     ensures bytes { IfOk result (λ v. seal.bytes_of v ≡
         spelling (seal.wire_of (message_view message.now))) }
     ensures writable { OnOk result (is_writable (seal.wire_of (message_view message.now)) ≡ true) }
+    ensures whole { OnOk result (seal.IsWhole (message_view message.now)) }
     ensures fault { IfErr result (λ e. (e ≡ EdgeFault.NoMemory)
         ⊎ ((e ≡ EdgeFault.TooLarge) × (is_writable (seal.wire_of (message_view message.now)) ≡
         false))) }
 {
+    spelling_spells();
     let packet = publish(alloc, message)?;
     written(alloc, &packet)
 }
@@ -81,6 +86,7 @@ pub(crate) fn written_messages(
         map spelling (map (λ m. seal.wire_of (message_view m)) messages.now)) }
     ensures writable { OnOk result (list_all is_writable (map (λ m. seal.wire_of
         (message_view m)) messages.now) ≡ true) }
+    ensures whole { OnOk result (seal.AreWhole (map message_view messages.now)) }
     ensures fault { IfErr result (seal.IsUnwritten (map (λ m. seal.wire_of
         (message_view m)) messages.now)) }
 {

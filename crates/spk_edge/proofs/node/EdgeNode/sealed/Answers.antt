@@ -1,4 +1,4 @@
-use Rattle.std.proofs.Common.{◌≡◌, ◌∙◌, ap, sym, refl, true, List, ◌++◌, map, length}
+use Rattle.std.proofs.Common.{◌≡◌, ◌∙◌, ap, sym, refl, subst, true, List, ◌++◌, map, length}
 use Rattle.std.specs.List.{last_or, list_all}
 use Rattle.std.proofs.lemmas.Result.{err_from_is_err_and}
 use Rattle.spk_packets.specs.Spelling.{spelling}
@@ -6,7 +6,7 @@ use Rattle.spk_packets.specs.View.{view}
 use Rattle.spk_packets.specs.declared.packet.Packet.{Packet}
 use Rattle.spk_edge_rules.specs.Answers.{is_writable}
 use Rattle.spk_edge.specs.Patch.{are_timely, numbers_of, packets_of}
-use Rattle.spk_edge.specs.Sealing.{seq_past, wire_of}
+use Rattle.spk_edge.specs.Sealing.{AreWhole, seq_past, wire_of}
 use Rattle.spk_edge.specs.View.{MessageData, NodeData, given_view, message_view, numbering_view}
 use Rattle.spk_edge.specs.declared.message.Published.{Published}
 use Rattle.spk_edge.proofs.Seals.{numbers-are, refilled, same-packets, still-known, unsealed}
@@ -68,6 +68,7 @@ returns-clause-sealed c =
       writes = refl;
       close = refl;
       messages = ap (map message_view) full ∙ numbers;
+      whole = subst AreWhole here c.in_ok-packets.ensures.whole;
       tally = record {
         of_phase = c.tally_after-tally.ensures.of_phase;
         of_heard = c.tally_after-tally.ensures.of_heard;
