@@ -9,6 +9,7 @@ use Rattle.spk_edge_rules.specs.Config.{Setup}
 use Rattle.spk_edge_rules.specs.Messages.{Draft, opens, wire}
 use Rattle.spk_edge_rules.specs.Step.{begins_anew, next_of, number_of, seq_after, wires}
 use Rattle.spk_edge_rules.specs.Run.{Message, births_in, number_at, outline, posts, setting_of, wires_at, with_posts}
+use Rattle.spk_edge_rules.specs.Claims.{numbers_at, numbers_from}
 use Rattle.spk_edge_rules.proofs.Chains.{Ends, births-snoc, no_draft, opens-at, same-start, start-below}
 
 -- ---- one message at a time
@@ -145,3 +146,19 @@ seq-right s session [] messages seq posted is = subst (λ (ms : List Message). S
 seq-right s session (d ∷ ds) messages seq posted is =
     subst (λ (ms : List Message). SeqIs s ms (seq_after s.config seq (d ∷ ds))) (sym (posted-cons session messages d ds))
     (seq-right s session ds (with_post session messages d) (next_of s.config seq d) posted.1 (seq-post s session messages d seq is posted.0))
+
+pub numbers-right : (s : Setup) (session : ℕ) (ds : List Draft) (messages : List Message) (seq : ℕ) → Posted session messages ds → SeqIs s messages seq
+    → numbers_from s.config seq ds ≡ numbers_at s (with_posts messages session ds) (length messages) ds
+numbers-right s session [] messages seq posted is = refl
+numbers-right s session (d ∷ ds) messages seq posted is =
+    let ys = with_post session messages d in
+    let more = posts session (births_in ys) ds in
+    let size : length ys ≡ length messages + 1 = length-post session messages d in
+    let head : number_of s.config seq d ≡ number_at s (ys ++ more) (length messages) =
+    sym (number-post s session messages d seq is posted.0) ∙ sym (number-stays s ys more (length messages) (omega (arith, size))) in
+    let tail : numbers_from s.config (next_of s.config seq d) ds ≡ numbers_at s (ys ++ more) (length messages + 1) ds =
+    numbers-right s session ds ys (next_of s.config seq d) posted.1 (seq-post s session messages d seq is posted.0)
+    ∙ ap (λ n. numbers_at s (ys ++ more) n ds) size in
+    ap (λ n. n ∷ numbers_from s.config (next_of s.config seq d) ds) head
+    ∙ ap (λ (ns : List ℕ). number_at s (ys ++ more) (length messages) ∷ ns) tail
+    ∙ ap (λ (ms : List Message). numbers_at s ms (length messages) (d ∷ ds)) (sym (posted-cons session messages d ds))

@@ -1,5 +1,5 @@
 -- Each message of a run: its kind, its stamp, its names, and that no metric behind the first of an NBIRTH is named `bdSeq`.
-use Rattle.std.proofs.Common.{◌≡◌, ℕ, zero, suc, ◌+◌, ◌-◌, ◌<◌, ◌^◌, Bool, true, false, not, ◌&&◌, ◌||◌, cond, List, [], ◌∷◌, ◌++◌, drop, map, nat_lt, codes, option_map, Option, Some, None, is_some, Ok, refl, sym, ◌∙◌, ap, subst, append_assoc, arith, Result, Err}
+use Rattle.std.proofs.Common.{◌≡◌, ℕ, zero, suc, ◌+◌, ◌-◌, ◌<◌, ◌^◌, Bool, true, false, not, ◌&&◌, ◌||◌, cond, List, [], ◌∷◌, ◌++◌, drop, map, nat_lt, codes, option_map, Option, Some, None, is_some, Ok, refl, sym, ◌∙◌, ap, subst, append_assoc, length, arith, Result, Err}
 use Rattle.std.specs.Prelude.{All, slice_get}
 use Rattle.std.specs.List.{AllByRecursion, enumerate_from, filter, list_all, position_from}
 use Rattle.std.specs.Str.{bytes_eq}
@@ -25,7 +25,7 @@ use Rattle.spk_edge_rules.specs.Answers.{Answer}
 use Rattle.spk_edge_rules.specs.Step.{is_open}
 use Rattle.std.proofs.lemmas.List.{append-nil}
 use Rattle.spk_edge_rules.specs.Births.{births_at, birth_stamp, data_draft, device_birth, device_of, later_stamp, node_birth, owner_at, owner_is_up, stamped, turn_draft}
-use Rattle.spk_edge_rules.specs.Claims.{HasNames, IsUnreserved, SaysSessionOnce, is_numbered, is_session}
+use Rattle.spk_edge_rules.specs.Claims.{HasNames, IsUnreserved, SaysSessionOnce, is_numbered, is_session, numbers_at, numbers_from}
 use Rattle.spk_edge_rules.specs.Commands.{Order, command_of, wants_rebirth, writes_in}
 use Rattle.spk_edge_rules.specs.Config.{Config, Setup}
 use Rattle.spk_edge_rules.specs.Inputs.{Act, Open, Accepted, Change, Turn, Command, State, Drain, Stop, Cut, TurnedAway, Pass, Input, ChangeData}
@@ -33,8 +33,10 @@ use Rattle.spk_edge_rules.specs.Messages.{Draft, named_by, opens, spark_of}
 use Rattle.spk_edge_rules.specs.Rules as rule
 use Rattle.spk_edge_rules.specs.Rules.{Given, acked, acts, born, changing, commanded, draining, heard_in, hearing, is_born, is_connecting, is_waiting, joining, leaving, nothing, rules, telling, turning}
 use Rattle.spk_edge_rules.specs.Run.{Done, Message, asked_of, births_in, book_of, device_by, gauge_by, opened, opened_at, posts, published, right_at, run_of, with_done}
-use Rattle.spk_edge_rules.proofs.Courses.{Gives, by_if, refused-gives, rules-taken}
-use Rattle.spk_edge_rules.proofs.Records.{AllRight, right-given, told-all}
+use Rattle.spk_edge_rules.proofs.Courses.{Gives, by_if, refused-gives, rules-lawful, rules-taken}
+use Rattle.spk_edge_rules.proofs.Numbers.{numbers-right}
+use Rattle.spk_edge_rules.specs.Step.{standing_of}
+use Rattle.spk_edge_rules.proofs.Records.{AllRight, posted-of, right-given, runs-all, told-all}
 use Rattle.spk_edge_rules.proofs.Told.{sessions}
 
 -- ---- lists
@@ -334,3 +336,15 @@ opened-run s (e ∷ h) right = by (is_open e.input.act) (opened-run s h right.1)
 
 pub opened-at : (s : Setup) (is : List Input) → opened_at (run_of s is) < 2 ^ 63
 opened-at s is = opened-run s (run_of s is) (told-all s is).right
+
+-- ---- numbers
+
+pub sent-under : (s : Setup) (is : List Input) (i : Input) (answer : Answer) → right_at s (run_of s is) i ≡ Ok answer
+    → numbers_from s.config (standing_of s is).seq answer.given.drafts ≡ numbers_at s (published (run_of s (i ∷ is))) (length (published (run_of s is))) answer.given.drafts
+sent-under s is i answer e =
+    let h = run_of s is in
+    let told = told-all s is in
+    let given = right-given s h i answer e in
+    let posted = posted-of s h i answer.given (runs-all s h told.right) (rules-lawful s.config (asked_of s h) i answer.given given).course in
+    numbers-right s (opened h - 1) answer.given.drafts (published h) (standing_of s is).seq posted told.seq
+    ∙ ap (λ (ms : List Message). numbers_at s ms (length (published h)) answer.given.drafts) (sym (ap (λ r. published (with_done h i r)) e))

@@ -91,7 +91,7 @@ posted-birth session messages sessions d (inr (m, ends, within)) last opening ne
       stamp = newer m ends;
     }))
 
-posted-of : (s : Setup) (h : List Done) (i : Input) (g : Given) → Runs s h → Course (asked_of s h) i.now i.act g → Posted (opened h - 1) (published h) g.drafts
+pub posted-of : (s : Setup) (h : List Done) (i : Input) (g : Given) → Runs s h → Course (asked_of s h) i.now i.act g → Posted (opened h - 1) (published h) g.drafts
 posted-of s h i g runs (Quiet none p) = subst (Posted (opened h - 1) (published h)) (sym none) tt
 posted-of s h i g runs (One d one closed of_stamp is_up stays not_open) =
     let (m, ends, last) = runs.born is_up in

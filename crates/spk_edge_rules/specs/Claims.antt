@@ -1,6 +1,6 @@
 -- What the laws say of every run, in the standard's words.
-use Rattle.std.specs.Prelude.{◌≡◌, ℕ, ◌⊎◌, Bool, true, false, List, [], ◌∷◌, Option, Some, None, is_some, slice_get, All, codes, if◌then◌else◌}
-use Rattle.std.specs.List.{AllByRecursion}
+use Rattle.std.specs.Prelude.{◌≡◌, ℕ, ◌⊎◌, Bool, true, false, List, [], ◌∷◌, Option, Some, None, is_some, slice_get, All, codes, map, if◌then◌else◌}
+use Rattle.std.specs.List.{AllByRecursion, enumerate_from}
 use Rattle.std.specs.Option.{option_map_or}
 use Rattle.std.specs.Str.{bytes_eq}
 use Rattle.spk_payload.specs.Meaning.{MetricData}
@@ -20,7 +20,8 @@ use Rattle.spk_edge_rules.specs.Config.{Config, Setup}
 use Rattle.spk_edge_rules.specs.Inputs.{Act, Open, Accepted, Change, Turn, Command, State, Drain, Stop, Cut, TurnedAway, Pass}
 use Rattle.spk_edge_rules.specs.Messages.{Draft, is_birth, opens, payload_of, wire}
 use Rattle.spk_edge_rules.specs.Packets.{session_metric}
-use Rattle.spk_edge_rules.specs.Run.{Done, Message, session_number}
+use Rattle.spk_edge_rules.specs.Run.{Done, Message, number_at, session_number}
+use Rattle.spk_edge_rules.specs.Step.{next_of, number_of}
 
 -- an NBIRTH begins with the bdSeq of its session
 abbrev pub SaysSession : Setup → Message → Type 0
@@ -59,6 +60,14 @@ abbrev pub SaysSessionOnce : Setup → Message → Type 0
 SaysSessionOnce s m = opens m.draft ≡ true →
     (rest : List MetricData) × (m.draft.metrics ≡ session_metric (session_number s m.session) (Some m.draft.stamp) ∷ rest)
     × AllByRecursion (λ metric. is_session metric ≡ false) rest
+
+-- the numbers that messages get, where this one comes next, and those of their positions from p on
+abbrev pub numbers_from : Config → ℕ → List Draft → List ℕ
+numbers_from c seq [] = []
+numbers_from c seq (d ∷ ds) = number_of c seq d ∷ numbers_from c (next_of c seq d) ds
+
+abbrev pub numbers_at : Setup → List Message → ℕ → List Draft → List ℕ
+numbers_at s messages p drafts = map (λ e. number_at s messages e.0) (enumerate_from p drafts)
 
 -- ---- births
 

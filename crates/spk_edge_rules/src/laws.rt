@@ -10,7 +10,7 @@ ghost use Rattle.spk_sequence.specs.NodeRecord as sequence;
 ghost use Rattle.spk_store.specs.Kept as kept;
 ghost use Rattle.spk_edge_rules.specs.declared.fault.EdgeFault.{EdgeFault};
 ghost use Rattle.spk_edge_rules.specs.Answers.{Answer};
-ghost use Rattle.spk_edge_rules.specs.Claims.{AreWholeBirths, HasNames, IsUnreserved, IsWhole, Joined, ListsWhatIs, SaysSession, SaysSessionOnce, is_numbered, link_of, payload_in, topic_in};
+ghost use Rattle.spk_edge_rules.specs.Claims.{AreWholeBirths, HasNames, IsUnreserved, IsWhole, Joined, ListsWhatIs, SaysSession, SaysSessionOnce, is_numbered, link_of, numbers_at, numbers_from, payload_in, topic_in};
 ghost use Rattle.spk_edge_rules.specs.Config.{Config, Setup};
 ghost use Rattle.spk_edge_rules.specs.Inputs.{Input, Open};
 ghost use Rattle.spk_edge_rules.specs.Messages.{Draft, named_by, opens, payload_of, wire};
@@ -87,6 +87,13 @@ pub fn published()
     // its number is a byte
     ensures numbers { (s : Setup) (is : List Input) (p : ℕ) →
         number_at s (published (run_of s is)) p < 256 }
+
+    // it was sent under the number of its position, which the node's data counted on to
+    ensures sent { (s : Setup) (is : List Input) (i : Input) (answer : Answer) →
+        right_at s (run_of s is) i ≡ Ok answer →
+        numbers_from s.config (standing_of s is).seq answer.given.drafts ≡
+        numbers_at s (published (run_of s (i ∷ is))) (length (published (run_of s is)))
+        answer.given.drafts }
 
     // its topic has names, if those of the node and of its registry's devices can stand in one
     ensures names { (s : Setup) (is : List Input) (p : ℕ) (m : Message) → HasNames s →

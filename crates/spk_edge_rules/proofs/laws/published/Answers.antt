@@ -1,5 +1,5 @@
 use Rattle.spk_edge_rules.specs.Run.{published, run_of, setting_of}
-use Rattle.spk_edge_rules.proofs.Published.{good-at, grows, moment-of, opened-at, session-once}
+use Rattle.spk_edge_rules.proofs.Published.{good-at, grows, moment-of, opened-at, sent-under, session-once}
 use Rattle.spk_edge_rules.proofs.laws.published.Goals as goal
 
 pub returns-clause-kinds : goal.returns-clause-kinds
@@ -25,3 +25,6 @@ returns-clause-moments c = moment-of
 
 pub returns-clause-opened_at : goal.returns-clause-opened_at
 returns-clause-opened_at c = opened-at
+
+pub returns-clause-sent : goal.returns-clause-sent
+returns-clause-sent c = sent-under
