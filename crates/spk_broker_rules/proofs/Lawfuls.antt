@@ -15,7 +15,7 @@ abbrev AreLow : ℕ → List Seat → Type 0
 AreLow n ss = AllByRecursion (λ (s : Seat). IsLow n s.here) ss
 
 -- what is found is one of the list
-found-in : {X : Type 0} (P : X → Type 0) (p : X → Bool) (xs : List X) (x : X) → AllByRecursion P xs → find p xs ≡ Some x → P x
+pub found-in : {X : Type 0} (P : X → Type 0) (p : X → Bool) (xs : List X) (x : X) → AllByRecursion P xs → find p xs ≡ Some x → P x
 found-in P p [] x all e = absurd (none e)
   where
     none : {Y : Type 0} {y : Y} → None ≡ Some y → ⊥

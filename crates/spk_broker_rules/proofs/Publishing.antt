@@ -13,7 +13,7 @@ use Rattle.spk_broker_rules.specs.Listening.{is_joined, is_listening, plain_publ
 use Rattle.spk_broker_rules.proofs.Lists.{find-map, flat_map-map, flat_map-same}
 use Rattle.spk_broker_rules.proofs.Routing.{route-done, route-next}
 
-abbrev post_of : List ℕ → List ℕ → Post
+abbrev pub post_of : List ℕ → List ℕ → Post
 post_of topic payload = record { topic = topic; payload = payload; qos = 0; retain = false }
 
 no-level : (q : ℕ) → min 0 q ≡ 0
@@ -56,14 +56,14 @@ all-none : {X : Type 0} (f : Seat → List X) → ((s : Seat) → f s ≡ []) �
 all-none f h [] = refl
 all-none f h (s ∷ ss) = ap₂ (λ xs ys. xs ++ ys) (h s) (all-none f h ss)
 
-abbrev turn_from : Broker → List Send → List ℕ → List Post → Turn
+abbrev pub turn_from : Broker → List Send → List ℕ → List Post → Turn
 turn_from b xs cs ps = record { broker = b; sends = xs; closes = cs; waiting = ps }
 
 abbrev with_seats : Broker → List Seat → Broker
 with_seats b ss = record b { seats = ss }
 
 -- routed, it changes nothing
-plain-routed : (topic payload : List ℕ) (b : Broker) → route (turn_from b [] [] (post_of topic payload ∷ [])) ≡ turn_from b (flat_map (given_to topic payload) b.seats) [] []
+pub plain-routed : (topic payload : List ℕ) (b : Broker) → route (turn_from b [] [] (post_of topic payload ∷ [])) ≡ turn_from b (flat_map (given_to topic payload) b.seats) [] []
 plain-routed topic payload b =
     route-next m [] (turn_from b [] [] (m ∷ [])) refl ∙ ap route once ∙ route-done (turn_from b (flat_map (given_to topic payload) b.seats) [] []) refl
   where

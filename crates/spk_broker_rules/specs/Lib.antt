@@ -8,4 +8,5 @@ pub mod Story
 pub mod Table
 pub mod TakeOver
 pub mod Telling
+pub mod Topics
 pub mod Words

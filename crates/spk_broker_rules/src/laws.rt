@@ -2,13 +2,14 @@
 ghost use Rattle.std.specs.Prelude.{◌≡◌, ◌⊎◌, ◌==◌, ℕ, List, [], ◌∷◌, Bool, true, false, not, Option, Some, is_some};
 ghost use Rattle.std.specs.List.{find, flat_map};
 ghost use Rattle.spk_packets.specs.Message.{Connect, Disconnect, WillData};
-ghost use Rattle.spk_broker_rules.specs.Data.{Broker, Post};
+ghost use Rattle.spk_broker_rules.specs.Data.{Broker, Post, fresh_broker};
 ghost use Rattle.spk_broker_rules.specs.Lawful.{IsLawful};
 ghost use Rattle.spk_broker_rules.specs.Listening.{IsPlain, given_to, is_closed_in, is_joined, lets_go, listens, plain_publish, takes_back};
 ghost use Rattle.spk_broker_rules.specs.Past.{Past, broker_of, guests, is_open, may_open, older_of, session_at};
 ghost use Rattle.spk_broker_rules.specs.Plan.{Event, Packet};
 ghost use Rattle.spk_broker_rules.specs.Step.{Turn, after, is_full, knows, noted, route, route_one, step};
 ghost use Rattle.spk_broker_rules.specs.TakeOver.{GoesQuietly, IsAccepted, TakesOver};
+ghost use Rattle.spk_broker_rules.specs.Topics.{Brings, FiltersIn, FitsAlike, HasFilters, HasTopics, IsOff, SendsOn, TopicIn};
 ghost use Rattle.spk_broker_rules.specs.Telling.{Answers, Leads, Telling, may_be};
 
 /// For every limit of drops and every list of events, newest first, each of which might come: stepping the data gives
@@ -87,4 +88,32 @@ pub fn staying()
     ensures listening { (b : Broker) (conn : ℕ) (topic : List ℕ) (e : Event) → IsLawful b → listens b conn topic ≡ true →
         lets_go conn e ≡ false → takes_back conn e ≡ false →
         (listens (step b e).broker conn topic ≡ true) ⊎ (is_closed_in conn (step b e) ≡ true) }
+{}
+
+/// Topics: nothing is sent on a topic that nobody brought. While the topics of wills, of retained and of unacknowledged
+/// messages, of each PUBLISH and of each CONNECT's will keep off some set of topics, no PUBLISH on one of them is sent to
+/// anybody; and a plain publish on one of them leaves nothing behind.
+pub fn topics()
+    // a new broker has no message
+    ensures first { (limit : ℕ) (on : List ℕ → Bool) → HasTopics (IsOff on) (fresh_broker limit) }
+
+    // an event that keeps off them leaves data that do
+    ensures kept { (b : Broker) (e : Event) (on : List ℕ → Bool) → HasTopics (IsOff on) b → Brings (TopicIn (IsOff on)) e → HasTopics (IsOff on) (step b e).broker }
+
+    // and no PUBLISH on them is sent
+    ensures others { (b : Broker) (e : Event) (on : List ℕ → Bool) → HasTopics (IsOff on) b → Brings (TopicIn (IsOff on)) e → SendsOn (IsOff on) (step b e).sends }
+
+    // a plain publish may be on them: it is neither kept nor retained, whoever sends it
+    ensures plain { (b : Broker) (conn moment : ℕ) (topic payload : List ℕ) (on : List ℕ → Bool) → HasTopics (IsOff on) b →
+        HasTopics (IsOff on) (step b (Packet conn (plain_publish topic payload) moment)).broker }
+{}
+
+/// Filters: who listens to a topic has joined; and while the filters of each SUBSCRIBE fit both of two topics or neither, so do
+/// all that are granted, and each connection listens to both or to neither.
+pub fn filters()
+    ensures heard { (b : Broker) (conn : ℕ) (topic : List ℕ) → listens b conn topic ≡ true → is_joined b conn ≡ true }
+    ensures first { (limit : ℕ) (one other : List ℕ) → HasFilters (FitsAlike one other) (fresh_broker limit) }
+    ensures kept { (b : Broker) (e : Event) (one other : List ℕ) → HasFilters (FitsAlike one other) b → Brings (FiltersIn (FitsAlike one other)) e →
+        HasFilters (FitsAlike one other) (step b e).broker }
+    ensures alike { (b : Broker) (conn : ℕ) (one other : List ℕ) → HasFilters (FitsAlike one other) b → listens b conn one ≡ listens b conn other }
 {}
