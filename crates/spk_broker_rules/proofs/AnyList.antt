@@ -1,5 +1,5 @@
 -- Over any list of events the data is what the past asks for, and each event is told in one way.
-use Rattle.std.proofs.Common.{◌≡◌, ℕ, arith, true, List, [], ◌∷◌, refl, sym, ◌∙◌, ap, subst}
+use Rattle.std.proofs.Common.{◌≡◌, ℕ, true, List, [], ◌∷◌, refl, sym, ◌∙◌, ap, subst}
 use Rattle.spk_broker_rules.specs.Data.{Broker}
 use Rattle.spk_broker_rules.specs.Lawful.{IsLawful}
 use Rattle.spk_broker_rules.specs.Plan.{Event, Act, Opens, At, Hear, Drop, Say, Leave, Tell, Queue, Route, Forget, Accept, Give, Take, Ack, before, plan}
@@ -9,7 +9,7 @@ use Rattle.spk_broker_rules.specs.Story.{Story, Tells, TellsAll}
 use Rattle.spk_broker_rules.specs.Telling.{Answers, Telling, Leads, story_at, may_be}
 use Rattle.spk_broker_rules.proofs.Asked.{seen-same}
 use Rattle.spk_broker_rules.proofs.Gifts.{gave, took}
-use Rattle.spk_broker_rules.proofs.Lawfuls.{lawful-act, lawful-acts}
+use Rattle.spk_broker_rules.proofs.Places.{first-lawful, lawful-act, lawful-acts}
 use Rattle.spk_broker_rules.proofs.Routing.{Routing, routing-found, routing-one}
 use Rattle.spk_broker_rules.proofs.Turns.{turn_of, opened, was_heard, was_dropped, left, forgot, accepted, acked}
 
@@ -111,7 +111,7 @@ pub record IsTied (limit : ℕ) (es : List Event) (h : Past) : Type 0 where
   pub lawful : IsLawful (broker_of limit h)
 
 pub tied : (limit : ℕ) (es : List Event) (h : Past) → Leads limit es h → IsTied limit es h
-tied limit [] h is = record { data_is = ap (broker_of limit) (sym is); lawful = subst (λ g. IsLawful (broker_of limit g)) (sym is) (record { guests = tt; lines = tt; keys = omega arith }) }
+tied limit [] h is = record { data_is = ap (broker_of limit) (sym is); lawful = subst (λ g. IsLawful (broker_of limit g)) (sym is) (first-lawful limit) }
 tied limit (e ∷ es) h (g, leads, may, t, is) =
     let before_it : IsTied limit es g = tied limit es g leads in
     let a : Answered limit g e = answered limit g e before_it.lawful in
@@ -147,5 +147,5 @@ one-past limit (e ∷ es) h g (a, la, ma, ta, ea) (b, lb, mb, tb, eb) =
     sym ea ∙ same-end limit e a b same ta tb ∙ eb
 
 pub lawful-after : (limit : ℕ) (es : List Event) → IsLawful (after limit es)
-lawful-after limit [] = record { guests = tt; lines = tt; keys = omega arith }
+lawful-after limit [] = first-lawful limit
 lawful-after limit (e ∷ es) = step-lawful (after limit es) e (lawful-after limit es)

@@ -18,7 +18,7 @@ use Rattle.spk_broker_rules.proofs.Lists.{eqb-flip, eqb-is, eqb-self, any-map, f
 use Rattle.spk_broker_rules.proofs.Seats.{deeds-self, deeds-other, seat_at-same}
 use Rattle.spk_broker_rules.proofs.Gifts.{AreCalm, calm-share}
 use Rattle.spk_broker_rules.proofs.Rounds.{AreApart, apart-sessions, one-told, round, round-cons, round-out, round-sessions, over, over-out}
-use Rattle.spk_broker_rules.proofs.Lawfuls.{lawful-act, lawful-one}
+use Rattle.spk_broker_rules.proofs.Places.{lawful-act, lawful-one}
 use Rattle.spk_broker_rules.proofs.Turns.{turn_of, all-below}
 use Rattle.spk_broker_rules.proofs.AnyList.{tells-one, told, Told, LawfulTurn, tied}
 use Rattle.spk_broker_rules.proofs.Counts.{count, count-append, count-above, any-count, Balanced, balanced-same, balanced-lost, balanced-left, balanced-moved, balanced-more, IsIn, sum-swap, sum-drop, apart-without, found-there}

@@ -11,7 +11,7 @@ use Rattle.spk_broker_rules.specs.Words.{best, level, sent_as, option_list}
 use Rattle.spk_broker_rules.specs.Step.{Turn, Served, hand_at, serve, serve_at, numbered, bursts, route_one, route_some, route, most}
 use Rattle.spk_broker_rules.specs.Past.{broker_of}
 use Rattle.spk_broker_rules.specs.Story.{Story, Routes, nothing_waits, goes_on, told_one}
-use Rattle.spk_broker_rules.proofs.Lawfuls.{lawful-one}
+use Rattle.spk_broker_rules.proofs.Places.{lawful-one}
 use Rattle.spk_broker_rules.proofs.Rounds.{one-told}
 use Rattle.spk_broker_rules.proofs.Turns.{turn_of}
 

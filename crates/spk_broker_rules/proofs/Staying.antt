@@ -18,7 +18,8 @@ use Rattle.spk_broker_rules.specs.Plan.{Event, Open, Packet, Fault, Closed, Tick
 use Rattle.spk_broker_rules.specs.Listening.{is_joined, listens, is_disconnect, is_unsubscribe, lets_go, takes_back, is_closed_in}
 use Rattle.spk_broker_rules.specs.Step.{Turn, Served, act, acts, on_lines, guest_heard, line_heard, guest_dropped, line_dropped, sits, swap, left_behind, leave_at, seat_at, is_guest, is_away, forget_at, line_of, new_seat, take_up, away_for, accept_of, other_grants, give_at, take_at, ack_at, offer, offer_at, with_key, hand, hand_at, serve, serve_at, numbered, bursts, route_one, route_some, route, noted, begun, seen, step}
 use Rattle.spk_broker_rules.proofs.Lists.{eqb-is, eqb-self, found-passes, any-map, all-also}
-use Rattle.spk_broker_rules.proofs.Lawfuls.{lawful-act, lawful-acts, lawful-offer_at, lawful-found, heard-line, dropped-line}
+use Rattle.spk_broker_rules.proofs.Lawfuls.{heard-line, dropped-line}
+use Rattle.spk_broker_rules.proofs.Places.{lawful-act, lawful-acts, lawful-offer_at, lawful-found}
 
 yes_no : true ≡ false → ⊥
 yes_no e = true≢false e

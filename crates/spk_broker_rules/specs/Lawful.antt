@@ -1,7 +1,8 @@
 -- What holds of the data of each broker.
-use Rattle.std.specs.Prelude.{ℕ, ◌<◌, ◌≤◌, List, [], ◌∷◌, Option, Some, None}
-use Rattle.std.specs.List.{AllByRecursion}
+use Rattle.std.specs.Prelude.{ℕ, ◌+◌, ◌<◌, ◌≤◌, length, List, [], ◌∷◌, Option, Some, None}
+use Rattle.std.specs.List.{filter, AllByRecursion}
 use Rattle.spk_broker_rules.specs.Data.{Line, Guest, Seat, Broker}
+use Rattle.spk_broker_rules.specs.Step.{is_guest, sits}
 
 -- a connection's number was given
 abbrev pub IsLow : ℕ → Option Line → Type 0
@@ -13,8 +14,15 @@ abbrev pub Rises : ℕ → ℕ → List Seat → Type 0
 Rises low top [] = low ≤ top
 Rises low top (s ∷ ss) = (low < s.key) × Rises s.key top ss
 
--- The connections that are there were given a number, and sessions stand in the order in which they were made.
+-- how many stand under this connection: of those without an accepted CONNECT, and of sessions
+abbrev pub places : ℕ → Broker → ℕ
+places conn b = length (filter (is_guest conn) b.guests) + length (filter (sits conn) b.seats)
+
+-- The connections that are there were given a number, and each stands at one place. Sessions stand in the order in which they
+-- were made, and each was made by a connection that has left those without an accepted CONNECT.
 pub record IsLawful (b : Broker) : Type 0 where
   pub guests : AllByRecursion (λ (g : Guest). g.conn ≤ b.given) b.guests
   pub lines : AllByRecursion (λ (s : Seat). IsLow b.given s.here) b.seats
   pub keys : Rises 0 b.made b.seats
+  pub apart : (conn : ℕ) → places conn b ≤ 1
+  pub made : b.made + length b.guests ≤ b.given
