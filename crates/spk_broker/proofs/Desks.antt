@@ -8,7 +8,7 @@ use Rattle.spk_broker_rules.specs.Data as plain
 use Rattle.spk_broker_rules.specs.Plan.{Forget, Take}
 use Rattle.spk_broker_rules.specs.Step.{Turn, act, away_for, begun, forget_at, is_away, other_guests, seat_at, take_at, take_up, with_seats}
 use Rattle.spk_broker_rules.specs.Words.{resent}
-use Rattle.spk_broker_rules.proofs.Lawfuls.{lawful-act}
+use Rattle.spk_broker_rules.proofs.Places.{lawful-act}
 use Rattle.spk_broker.specs.Asking.{passes, seat_here, seats_now}
 use Rattle.spk_broker.specs.Both.{Both}
 use Rattle.spk_broker.specs.Changes.{changed_at, forgot}

@@ -10,7 +10,7 @@ use Rattle.spk_broker_rules.specs.Lawful.{Rises}
 use Rattle.spk_broker_rules.specs.Plan.{Give}
 use Rattle.spk_broker_rules.specs.Step.{Turn, act, give_at, offer, other_grants, seat_at, sits, swap, with_seats}
 use Rattle.spk_broker_rules.specs.Words.{codes_of, granted_of, offers_to, option_list, with_entry}
-use Rattle.spk_broker_rules.proofs.Lawfuls.{lawful-found}
+use Rattle.spk_broker_rules.proofs.Places.{lawful-found}
 use Rattle.spk_broker.specs.Asking.{passes, seat_here, seats_now}
 use Rattle.spk_broker.specs.Both.{Both}
 use Rattle.spk_broker.specs.Drafts.{Drafted, draft_view}

@@ -10,7 +10,7 @@ use Rattle.spk_broker_rules.specs.Data as plain
 use Rattle.spk_broker_rules.specs.Lawful.{Rises}
 use Rattle.spk_broker_rules.specs.Step.{Turn, bursts, hand, hand_at, numbered, offer, offer_at, swap, with_key}
 use Rattle.spk_broker_rules.specs.Words.{offered, offers_to, option_list}
-use Rattle.spk_broker_rules.proofs.Lawfuls.{lawful-offer_at}
+use Rattle.spk_broker_rules.proofs.Places.{lawful-offer_at}
 use Rattle.spk_broker_rules.proofs.Lists.{eqb-self, flat_map-append}
 use Rattle.spk_broker.specs.Asking.{seats_now}
 use Rattle.spk_broker.specs.Both.{Both}

@@ -7,7 +7,7 @@ use Rattle.spk_broker_rules.specs.Data as plain
 use Rattle.spk_broker_rules.specs.Plan.{Route}
 use Rattle.spk_broker_rules.specs.Step.{Turn, act, retained_with, route, route_one, serve}
 use Rattle.spk_broker_rules.specs.Table.{Table}
-use Rattle.spk_broker_rules.proofs.Lawfuls.{lawful-one}
+use Rattle.spk_broker_rules.proofs.Places.{lawful-one}
 use Rattle.spk_broker_rules.proofs.Routing.{fewer, route-done, route-next}
 use Rattle.spk_broker.specs.declared.desk.Desk.{Desk}
 use Rattle.spk_broker.specs.declared.out.Draft.{Draft}

@@ -8,7 +8,7 @@ use Rattle.spk_broker_rules.specs.Lawful.{IsLawful, Rises}
 use Rattle.spk_broker_rules.specs.Plan.{At, Hear, Drop, Leave}
 use Rattle.spk_broker_rules.specs.Step.{Turn, act, begun, guest_dropped, guest_heard, leave_at, left_behind, other_guests, seat_at, sits, swap, will_at}
 use Rattle.spk_broker_rules.specs.Words.{option_list}
-use Rattle.spk_broker_rules.proofs.Lawfuls.{lawful-act}
+use Rattle.spk_broker_rules.proofs.Places.{lawful-act}
 use Rattle.spk_broker_rules.proofs.Lists.{found-passes}
 use Rattle.spk_broker.specs.Asking.{passes, seat_here, seats_now}
 use Rattle.spk_broker.specs.Both.{Both}

@@ -19,8 +19,14 @@ use Rattle.spk_broker_rules.proofs.Lawfuls.{IsOrdered, found-in, ordered-act, or
 
 -- ---- counting
 
-abbrev bit : Bool → ℕ
+abbrev pub bit : Bool → ℕ
 bit b = cond b 1 0
+
+pub bit-one : (b : Bool) → b ≡ true → bit b ≡ 1
+bit-one b e = ap bit e
+
+pub bit-none : (b : Bool) → b ≡ false → bit b ≡ 0
+bit-none b e = ap bit e
 
 abbrev pub tally : {X : Type 0} → (X → Bool) → List X → ℕ
 tally p xs = length (filter p xs)
@@ -162,7 +168,7 @@ split p low top (y ∷ ys) x r e = by (p y) e (split p y.key top ys x r.1)
           swapped = λ new. ap₂ (λ b xs. cond b new (y ∷ []) ++ xs) (below-other y.key x.key above) (s.swapped new);
         }
 
-tally-swap : (q : Seat → Bool) (x : Seat) (new ss : List Seat) → Split x ss → tally q (swap x.key new ss) + bit (q x) ≡ tally q ss + tally q new
+pub tally-swap : (q : Seat → Bool) (x : Seat) (new ss : List Seat) → Split x ss → tally q (swap x.key new ss) + bit (q x) ≡ tally q ss + tally q new
 tally-swap q x new ss s =
     let a : tally q (swap x.key new ss) ≡ tally q (s.front ++ (new ++ s.back)) = ap (tally q) (s.swapped new) in
     let b : tally q ss ≡ tally q (s.front ++ (x ∷ s.back)) = ap (tally q) s.is in
@@ -429,7 +435,7 @@ none-above c b l h =
     let a = tally-none (is_guest c) b.guests (all-also (λ (g : Guest). g.conn ≤ b.given) (λ (g : Guest). eqb g.conn c ≡ false) (λ g e. below-other g.conn c (omega arith)) b.guests l.guests) in
     let d = tally-none (sits c) b.seats (all-also (λ (s : Seat). IsLow b.given s.here) (λ (s : Seat). sits c s ≡ false) (λ s e. above-none b.given s.here c h e) b.seats l.lines) in omega arith
 
-places-opens : (c : ℕ) (t : Turn) → places c (opens t).broker ≡ places c t.broker + bit (eqb (t.broker.given + 1) c)
+pub places-opens : (c : ℕ) (t : Turn) → places c (opens t).broker ≡ places c t.broker + bit (eqb (t.broker.given + 1) c)
 places-opens c t =
     let a = tally-append (is_guest c) t.broker.guests ((record { conn = t.broker.given + 1; heard = t.broker.clock; drops = 0 }) ∷ []) in
     let b = tally-cons (is_guest c) (record { conn = t.broker.given + 1; heard = t.broker.clock; drops = 0 }) [] in omega arith
@@ -495,7 +501,7 @@ made-offers key (p ∷ ps) t m = made-offers key ps (offer key t p) (by (with_ke
     by None = m
     by (Some s) = m
 
-length-map : {X Y : Type 0} (f : X → Y) (xs : List X) → length (map f xs) ≡ length xs
+pub length-map : {X Y : Type 0} (f : X → Y) (xs : List X) → length (map f xs) ≡ length xs
 length-map f [] = refl
 length-map f (x ∷ xs) = ap suc (length-map f xs)
 

@@ -1,13 +1,14 @@
 //! Laws of the definitions alone: functions that do nothing, whose contracts speak of definitions.
-ghost use Rattle.std.specs.Prelude.{◌≡◌, ◌⊎◌, ◌==◌, ℕ, List, [], ◌∷◌, Bool, true, false, not, Option, Some, is_some};
-ghost use Rattle.std.specs.List.{find, flat_map};
-ghost use Rattle.spk_packets.specs.Message.{Connect, Disconnect, WillData};
+ghost use Rattle.std.specs.Prelude.{◌≡◌, ◌⊎◌, ◌+◌, ◌≤◌, ◌==◌, ℕ, List, [], ◌∷◌, length, Bool, true, false, not, Option, Some, is_some, if◌then◌else◌};
+ghost use Rattle.std.specs.List.{filter, find, flat_map};
+ghost use Rattle.spk_packets.specs.Message.{Connect, Disconnect, Message, WillData};
 ghost use Rattle.spk_broker_rules.specs.Data.{Broker, Post, fresh_broker};
+ghost use Rattle.spk_broker_rules.specs.Knowing.{IsWelcomed, is_opening, speaks_of};
 ghost use Rattle.spk_broker_rules.specs.Lawful.{IsLawful};
 ghost use Rattle.spk_broker_rules.specs.Listening.{IsPlain, given_to, is_closed_in, is_joined, lets_go, listens, plain_publish, takes_back};
 ghost use Rattle.spk_broker_rules.specs.Past.{Past, broker_of, guests, is_open, may_open, older_of, session_at};
-ghost use Rattle.spk_broker_rules.specs.Plan.{Event, Packet};
-ghost use Rattle.spk_broker_rules.specs.Step.{Turn, after, is_full, knows, noted, route, route_one, step};
+ghost use Rattle.spk_broker_rules.specs.Plan.{Event, Open, Packet};
+ghost use Rattle.spk_broker_rules.specs.Step.{Turn, after, is_full, is_guest, knows, noted, route, route_one, step};
 ghost use Rattle.spk_broker_rules.specs.TakeOver.{GoesQuietly, IsAccepted, TakesOver};
 ghost use Rattle.spk_broker_rules.specs.Topics.{Brings, FiltersIn, FitsAlike, HasFilters, HasTopics, IsOff, SendsOn, TopicIn};
 ghost use Rattle.spk_broker_rules.specs.Telling.{Answers, Leads, Telling, may_be};
@@ -116,4 +117,44 @@ pub fn filters()
     ensures kept { (b : Broker) (e : Event) (one other : List ℕ) → HasFilters (FitsAlike one other) b → Brings (FiltersIn (FitsAlike one other)) e →
         HasFilters (FitsAlike one other) (step b e).broker }
     ensures alike { (b : Broker) (conn : ℕ) (one other : List ℕ) → HasFilters (FitsAlike one other) b → listens b conn one ≡ listens b conn other }
+{}
+
+/// Connections: their numbers are fresh, one is known until its client ends it or the caller is told to close it, and from then on
+/// never again.
+pub fn knowing()
+    // the number that the next one gets was never given, and `open` gives it
+    ensures fresh { (b : Broker) → IsLawful b → knows b (b.given + 1) ≡ false }
+    ensures opened { (b : Broker) (moment : ℕ) → knows (step b (Open moment)).broker (b.given + 1) ≡ true }
+    ensures given { (b : Broker) (e : Event) → IsLawful b → (step b e).broker.given ≡ (if is_opening e then b.given + 1 else b.given) }
+
+    // it stands, or is among the closes, unless its client ends it
+    ensures stands { (b : Broker) (conn : ℕ) (e : Event) → IsLawful b → knows b conn ≡ true → lets_go conn e ≡ false →
+        (knows (step b e).broker conn ≡ true) ⊎ (is_closed_in conn (step b e) ≡ true) }
+
+    // who is among the closes, or whose client ended it, is known no more; each is told once
+    ensures closed { (b : Broker) (conn : ℕ) (e : Event) → IsLawful b → is_closed_in conn (step b e) ≡ true → knows (step b e).broker conn ≡ false }
+    ensures ended { (b : Broker) (conn : ℕ) (e : Event) → IsLawful b → lets_go conn e ≡ true → knows (step b e).broker conn ≡ false }
+    ensures once { (b : Broker) (conn : ℕ) (e : Event) → IsLawful b → length (filter (λ d. d == conn) (step b e).closes) ≤ 1 }
+
+    // and doesn't come back
+    ensures gone { (b : Broker) (conn : ℕ) (e : Event) → IsLawful b → conn ≤ b.given → knows b conn ≡ false → knows (step b e).broker conn ≡ false }
+{}
+
+/// Joining: a connection without an accepted CONNECT stays as it is at what others do, and its own first packet makes it join or
+/// closes it.
+pub fn joining()
+    // at an event that isn't its own, when it was opened, heard and how often a send to it was dropped stay the same
+    ensures waits { (b : Broker) (conn : ℕ) (e : Event) → IsLawful b → knows b conn ≡ true → is_joined b conn ≡ false → speaks_of conn e ≡ false →
+        find (is_guest conn) (step b e).broker.guests ≡ find (is_guest conn) b.guests }
+    ensures unjoined { (b : Broker) (conn : ℕ) (e : Event) → IsLawful b → knows b conn ≡ true → is_joined b conn ≡ false → speaks_of conn e ≡ false →
+        is_joined (step b e).broker conn ≡ false }
+
+    // its first packet
+    ensures first { (b : Broker) (conn : ℕ) (p : Message) (moment : ℕ) → IsLawful b → knows b conn ≡ true → is_joined b conn ≡ false →
+        (is_joined (step b (Packet conn p moment)).broker conn ≡ true) ⊎ (is_closed_in conn (step b (Packet conn p moment)) ≡ true) }
+
+    // a CONNECT that isn't turned away joins
+    ensures accepted { (b : Broker) (conn moment : ℕ) (client : List ℕ) (clean : Bool) (alive : ℕ) (will : Option WillData) →
+        IsLawful b → knows b conn ≡ true → is_joined b conn ≡ false → IsWelcomed b client clean alive will →
+        is_joined (step b (Packet conn (Connect client clean alive will) moment)).broker conn ≡ true }
 {}
