@@ -485,7 +485,7 @@ module _ (c : ℕ) where
 
 -- ---- numbers
 
-opened-at : (b : Broker) (moment : ℕ) → (step b (Open moment)).broker ≡ (opens (noted b (Open moment))).broker
+pub opened-at : (b : Broker) (moment : ℕ) → (step b (Open moment)).broker ≡ (opens (noted b (Open moment))).broker
 unfolding step
 opened-at b moment = refl
 
@@ -532,7 +532,7 @@ limit-step b (Closed d moment) l = (at-step b (Closed d moment) l refl).1
 limit-step b (Tick moment) l = (at-step b (Tick moment) l refl).1
 limit-step b (Refused d s moment) l = (at-step b (Refused d s moment) l refl).1
 
-opening-cases : (e : Event) → (is_opening e ≡ false) ⊎ ((moment : ℕ) × (e ≡ Open moment))
+pub opening-cases : (e : Event) → (is_opening e ≡ false) ⊎ ((moment : ℕ) × (e ≡ Open moment))
 opening-cases (Open moment) = inr (moment, refl)
 opening-cases (Packet d p moment) = inl refl
 opening-cases (Fault d f moment) = inl refl

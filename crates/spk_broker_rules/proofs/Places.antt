@@ -96,7 +96,7 @@ tally-missed {X} p (y ∷ ys) e = by (p y) e (tally-missed p ys)
     by true f rest = absurd (no f)
     by false f rest = rest f
 
-tally-map : {X : Type 0} (f : X → X) (p : X → Bool) → ((x : X) → p (f x) ≡ p x) → (xs : List X) → tally p (map f xs) ≡ tally p xs
+pub tally-map : {X : Type 0} (f : X → X) (p : X → Bool) → ((x : X) → p (f x) ≡ p x) → (xs : List X) → tally p (map f xs) ≡ tally p xs
 tally-map f p same [] = refl
 tally-map f p same (x ∷ xs) =
     let a = tally-cons p (f x) (map f xs) in let b = tally-cons p x xs in let c = tally-map f p same xs in let d = ap bit (same x) in omega arith

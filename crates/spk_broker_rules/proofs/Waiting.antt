@@ -40,7 +40,7 @@ unseated {X} p xs e = by (find p xs) refl
     by None i = refl
     by (Some x) i = let n = tally-found p xs x i in absurd (omega arith)
 
-none-pass : {X : Type 0} (p : X → Bool) (xs : List X) → tally p xs ≡ 0 → AllByRecursion (λ x. p x ≡ false) xs
+pub none-pass : {X : Type 0} (p : X → Bool) (xs : List X) → tally p xs ≡ 0 → AllByRecursion (λ x. p x ≡ false) xs
 none-pass p [] e = tt
 none-pass {X} p (x ∷ xs) e = by (p x) refl (none-pass p xs)
   where

@@ -1,4 +1,5 @@
 pub mod Data
+pub mod Dropping
 pub mod Knowing
 pub mod Lawful
 pub mod Listening

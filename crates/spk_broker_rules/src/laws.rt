@@ -2,13 +2,16 @@
 ghost use Rattle.std.specs.Prelude.{◌≡◌, ◌⊎◌, ◌+◌, ◌≤◌, ◌==◌, ℕ, List, [], ◌∷◌, length, Bool, true, false, not, Option, Some, is_some, if◌then◌else◌};
 ghost use Rattle.std.specs.List.{filter, find, flat_map};
 ghost use Rattle.spk_packets.specs.Message.{Connect, Disconnect, Message, WillData};
+ghost use Rattle.spk_session.specs.declared.answer.Sort.TheVariants as sort;
+ghost use Rattle.spk_session.specs.Step.{is_spent, one_more};
 ghost use Rattle.spk_broker_rules.specs.Data.{Broker, Post, fresh_broker};
+ghost use Rattle.spk_broker_rules.specs.Dropping.{HasFew, drops_after};
 ghost use Rattle.spk_broker_rules.specs.Knowing.{IsWelcomed, is_opening, speaks_of};
 ghost use Rattle.spk_broker_rules.specs.Lawful.{IsLawful};
 ghost use Rattle.spk_broker_rules.specs.Listening.{IsPlain, given_to, is_closed_in, is_joined, lets_go, listens, plain_publish, takes_back};
 ghost use Rattle.spk_broker_rules.specs.Past.{Past, broker_of, guests, is_open, may_open, older_of, session_at};
-ghost use Rattle.spk_broker_rules.specs.Plan.{Event, Open, Packet};
-ghost use Rattle.spk_broker_rules.specs.Step.{Turn, after, is_full, is_guest, knows, noted, route, route_one, step};
+ghost use Rattle.spk_broker_rules.specs.Plan.{Event, Open, Packet, Refused};
+ghost use Rattle.spk_broker_rules.specs.Step.{Turn, after, drops_in, is_full, is_guest, knows, noted, route, route_one, step};
 ghost use Rattle.spk_broker_rules.specs.TakeOver.{GoesQuietly, IsAccepted, TakesOver};
 ghost use Rattle.spk_broker_rules.specs.Topics.{Brings, FiltersIn, FitsAlike, HasFilters, HasTopics, IsOff, SendsOn, TopicIn};
 ghost use Rattle.spk_broker_rules.specs.Telling.{Answers, Leads, Telling, may_be};
@@ -157,4 +160,25 @@ pub fn joining()
     ensures accepted { (b : Broker) (conn moment : ℕ) (client : List ℕ) (clean : Bool) (alive : ℕ) (will : Option WillData) →
         IsLawful b → knows b conn ≡ true → is_joined b conn ≡ false → IsWelcomed b client clean alive will →
         is_joined (step b (Packet conn (Connect client clean alive will) moment)).broker conn ≡ true }
+{}
+
+/// Drops: a refused PUBLISH of QoS 0 is one drop more and nothing else, until there are as many as close the connection; nothing
+/// else changes how many there were, so that an open connection always has had fewer.
+pub fn drops()
+    ensures first { (limit : ℕ) → HasFew (fresh_broker limit) }
+    ensures few { (b : Broker) (e : Event) → IsLawful b → HasFew b → HasFew (step b e).broker }
+    ensures limit { (b : Broker) (e : Event) → IsLawful b → (step b e).broker.limit ≡ b.limit }
+
+    // whoever is known before and after an event
+    ensures kept { (b : Broker) (conn : ℕ) (e : Event) → IsLawful b → knows b conn ≡ true → knows (step b e).broker conn ≡ true →
+        drops_in conn (step b e).broker ≡ drops_after conn e (drops_in conn b) }
+
+    // below the limit a drop is noted, at the limit it closes
+    ensures noted { (b : Broker) (conn moment : ℕ) → IsLawful b → knows b conn ≡ true → is_spent b.limit (one_more (drops_in conn b)) ≡ false →
+        step b (Refused conn sort.QosZero moment) ≡ noted b (Refused conn sort.QosZero moment) }
+    ensures spent { (b : Broker) (conn moment : ℕ) → IsLawful b → knows b conn ≡ true → is_spent b.limit (one_more (drops_in conn b)) ≡ true →
+        is_closed_in conn (step b (Refused conn sort.QosZero moment)) ≡ true }
+
+    // any other refused send closes
+    ensures other { (b : Broker) (conn moment : ℕ) → is_closed_in conn (step b (Refused conn sort.Other moment)) ≡ true }
 {}
