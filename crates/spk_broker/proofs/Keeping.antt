@@ -1,23 +1,17 @@
 -- What holds of the key and the grants of each session goes on holding, unless a SUBSCRIBE or an UNSUBSCRIBE comes.
-use Rattle.std.proofs.Common.{◌≡◌, ℕ, zero, suc, ◌+◌, Bool, true, false, not, ◌&&◌, cond, eqb, List, [], ◌∷◌, ◌++◌, map, length, refl, sym, ap, ◌∙◌, subst, Option, Some, None, true≢false}
-use Rattle.std.specs.Option.{is_some, option_map}
-use Rattle.std.specs.List.{find, flat_map, AllByRecursion}
-use Rattle.spk_packets.specs.Fault.{first_of}
-use Rattle.spk_packets.specs.Message.{Message, WillData, Connect, ConnAck, Publish, PubAck, Subscribe, SubAck, Unsubscribe, UnsubAck, PingReq, PingResp, Disconnect}
-use Rattle.spk_packets.specs.Spelling.{unwritable}
-use Rattle.spk_packets.specs.declared.fault.PacketFault.{PacketFault}
+use Rattle.std.proofs.Common.{◌≡◌, ℕ, zero, suc, ◌+◌, Bool, true, false, ◌&&◌, cond, eqb, List, [], ◌∷◌, map, length, refl, sym, ap, ◌∙◌, subst, Option, Some, None, true≢false}
+use Rattle.std.specs.Option.{option_map}
+use Rattle.std.specs.List.{find, flat_map}
 use Rattle.spk_session.specs.PacketIds.{next_id}
 use Rattle.spk_session.specs.Step.{has_room}
-use Rattle.spk_session.specs.declared.answer.Sort.TheVariants as sort
-use Rattle.spk_topics.specs.Text.{topic_refusal}
-use Rattle.spk_broker_rules.specs.Data.{Post, Line, Guest, Seat, Broker}
-use Rattle.spk_broker_rules.specs.Words.{handed_out, best, is_empty, level, sent_as, without_id, will_post}
-use Rattle.spk_broker_rules.specs.Plan.{Act, Opens, At, Hear, Drop, Say, Leave, Tell, Queue, Route, Forget, Accept, Give, Take, Ack, Event, Open, Packet, Fault, Closed, Tick, Refused, Seen, before, plan, packet, next_packet, first_packet, connect, has_bad_topic, join, take_over, tell_older, is_bad_level, is_fatal, puback, publish}
-use Rattle.spk_broker_rules.specs.Step.{Turn, act, acts, begun, noted, seen, step, swap, leave_at, seat_at, sits, is_guest, is_away, forget_at, line_of, line_heard, line_dropped, new_seat, take_up, away_for, accept_of, ack_at, hand_at, serve, serve_at, route_one, route_some, route, numbered, bursts}
+use Rattle.spk_broker_rules.specs.Data.{Post, Line, Guest, Seat}
+use Rattle.spk_broker_rules.specs.Words.{handed_out, best, level, sent_as, without_id}
+use Rattle.spk_broker_rules.specs.Plan.{Act, Opens, At, Hear, Drop, Say, Leave, Tell, Queue, Route, Forget, Accept, Give, Take, Ack}
+use Rattle.spk_broker_rules.specs.Step.{Turn, act, acts, swap, leave_at, seat_at, sits, is_guest, is_away, forget_at, line_of, line_heard, line_dropped, new_seat, take_up, away_for, accept_of, ack_at, hand_at, serve, serve_at, route_one, route_some, route, numbered, bursts}
 use Rattle.spk_broker_rules.specs.Table.{Table}
 use Rattle.spk_session.specs.Step.{without}
 use Rattle.spk_broker_rules.proofs.Lists.{all-append, all-mapped, all-flat}
-use Rattle.spk_broker.specs.Filing.{AllOf, all_quiet, is_quiet, regrants}
+use Rattle.spk_broker.specs.Filing.{AllOf, all_quiet, is_quiet}
 
 -- what is found is one of the list
 found-is : (Q : ℕ → Table ℕ → Type 0) (p : Seat → Bool) (ss : List Seat) (s : Seat) → AllOf Q ss → find p ss ≡ Some s → Q s.key s.grants

@@ -1,13 +1,13 @@
 -- A session that the index doesn't find has no grant that fits, and a message does nothing to it.
 use Rattle.std.proofs.Common.{◌≡◌, ◌↔◌, ℕ, suc, zero, ◌+◌, ◌<◌, Bool, true, false, not, ◌||◌, cond, eqb, List, [], ◌∷◌, ◌++◌, length, drop, set, get_or, slice_index_or, refl, sym, ap, ◌∙◌, subst, arith, Option, Some, None, true≢false, eq-eqb, Vec, Global}
-use Rattle.std.specs.Prelude.{Contains, IsTrue, max, unwrap_or}
+use Rattle.std.specs.Prelude.{IsTrue, max, unwrap_or}
 use Rattle.std.specs.Option.{is_some}
-use Rattle.std.specs.List.{flat_map, list_any, AllByRecursion}
+use Rattle.std.specs.List.{flat_map}
 use Rattle.std.specs.FinMap as tree
 use Rattle.std.specs.Str.{bytes_eq}
 use Rattle.std.proofs.lemmas.List.{append-nil}
 use Rattle.spk_topics.specs.Fitting.{is_match}
-use Rattle.spk_topics.specs.Grants.{Grants, HasGrant, Finds}
+use Rattle.spk_topics.specs.Grants.{Grants, Finds}
 use Rattle.spk_topics.specs.Matching.{Matches}
 use Rattle.spk_broker_rules.specs.Data as plain
 use Rattle.spk_broker_rules.specs.Step.{Served, serve, serve_at, stays}
@@ -16,7 +16,7 @@ use Rattle.spk_broker_rules.specs.Words.{best, level, option_list}
 use Rattle.spk_broker_rules.proofs.Tables.{bytes_self}
 use Rattle.spk_broker.specs.Both.{Both}
 use Rattle.spk_broker.specs.Drafts.{Drafted, left_by, served_by, with_served}
-use Rattle.spk_broker.specs.Filing.{AllOf, AreFiled, ArePassed, IsFiled, IsIndex, has_key, is_passed}
+use Rattle.spk_broker.specs.Filing.{AllOf, AreFiled, ArePassed, IsFiled, has_key}
 use Rattle.spk_broker.specs.View.{seat_now}
 
 -- ---- nobody that fits

@@ -1,4 +1,4 @@
-use Rattle.std.proofs.Common.{◌≡◌, ◌∙◌, ◌<◌, ◌≤◌, length, map, take, subst, sym, ap, string_bytes, true, true≢false, arith}
+use Rattle.std.proofs.Common.{◌≡◌, map, subst, sym, string_bytes, true, true≢false, arith}
 use Rattle.std.proofs.lemmas.List.{take_all}
 use Rattle.std.specs.FinMap as tree
 use Rattle.std.specs.Option.{is_some}

@@ -1,0 +1,31 @@
+use Rattle.std.proofs.Common.{◌≡◌, ℕ, Bool, Global, Option, String, refl, sym, subst}
+use Rattle.spk_packets.specs.View.{view}
+use Rattle.spk_packets.specs.declared.packet.Packet.{Packet}
+use Rattle.spk_packets.specs.declared.packet.Packet.TheVariants as packets
+use Rattle.spk_packets.specs.declared.packet.Will.{Will}
+use Rattle.spk_broker_rules.specs.Plan.{Seen, first_packet, shut}
+use Rattle.spk_broker_rules.specs.Step.{acts}
+use Rattle.spk_broker.specs.declared.ending.Ending.TheVariants.{Nothing}
+use Rattle.spk_broker.specs.Endings.{Leads}
+use Rattle.spk_broker.proofs.Packeted.{leads-plain}
+use Rattle.spk_broker.proofs.desk.Desk.first_packet.Goals as goal
+
+-- whatever isn't a CONNECT
+shuts : (seen : Seen) (conn : ℕ) (p : Packet) → ((client : String Global) (clean : Bool) (alive : ℕ) (will : Option Will) → p ≡ packets.Connect client clean alive will → ⊥)
+    → first_packet seen conn (view p) ≡ shut conn
+shuts seen conn (packets.Connect client clean alive will) other = absurd (other client clean alive will refl)
+shuts seen conn (packets.ConnAck present code) other = refl
+shuts seen conn (packets.Publish dup qos retain topic id payload) other = refl
+shuts seen conn (packets.PubAck id) other = refl
+shuts seen conn (packets.Subscribe id filters) other = refl
+shuts seen conn (packets.SubAck id codes) other = refl
+shuts seen conn (packets.Unsubscribe id filters) other = refl
+shuts seen conn (packets.UnsubAck id) other = refl
+shuts seen conn packets.PingReq other = refl
+shuts seen conn packets.PingResp other = refl
+shuts seen conn packets.Disconnect other = refl
+
+pub returns-in_default-clause-done : goal.returns-in_default-clause-done
+returns-in_default-clause-done c seen t older welcome s =
+    subst (λ l. Leads c.shut.new.self c.shut.new.draft Nothing (acts l t)) (sym (shuts seen c.args.conn c.args.packet.now c.in_default.not-Connect))
+    (leads-plain c.shut.new.self c.shut.new.draft (acts (shut c.args.conn) t) (c.in_ok-shut.ensures.done t s))
