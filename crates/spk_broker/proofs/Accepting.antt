@@ -1,11 +1,12 @@
 -- An accepted CONNECT: what is prepared comes to what the rules say.
-use Rattle.std.proofs.Common.{◌≡◌, ℕ, ◌≤◌, Bool, true, false, not, ◌&&◌, cond, if◌then◌else◌, append-nil, List, [], ◌∷◌, ◌++◌, length, map, get_or, refl, sym, ap, subst, ◌∙◌, Option, Some, None}
+use Rattle.std.proofs.Common.{◌≡◌, ℕ, ◌+◌, ◌<◌, ◌≤◌, arith, Bool, true, false, not, ◌&&◌, cond, if◌then◌else◌, append-nil, List, [], ◌∷◌, ◌++◌, length, map, get_or, refl, sym, ap, subst, ◌∙◌, Option, Some, None}
 use Rattle.std.proofs.lemmas.List.{map-append}
 use Rattle.std.proofs.lemmas.List.Quantifiers.{position-Some}
 use Rattle.std.specs.List.{find, position}
 use Rattle.std.specs.Option.{option_map, option_map_or}
 use Rattle.indexmap.specs.IndexMap.{spare}
 use Rattle.spk_broker_rules.specs.Data as plain
+use Rattle.spk_broker_rules.specs.Lawful.{IsLawful}
 use Rattle.spk_broker_rules.specs.Plan.{Accept, Act, Forget, Seen, connect, has_bad_topic, join, shut, take_over, tell_older, turn_away}
 use Rattle.spk_broker_rules.specs.Step.{Turn, accept_of, act, acts, away_for, begun, is_guest, line_of, take_up}
 use Rattle.spk_packets.specs.Message.{WillData}
@@ -15,7 +16,7 @@ use Rattle.spk_broker.specs.Connecting.{Comes, acts_of, finished, judged}
 use Rattle.spk_broker.specs.Drafts.{Drafted, draft_view}
 use Rattle.spk_broker.specs.Entering.{entered, taken, with_sends}
 use Rattle.spk_broker.specs.Sent.{outgoing}
-use Rattle.spk_broker.specs.View.{Stands, desk_now, with_keeps}
+use Rattle.spk_broker.specs.View.{Stands, desk_now, desk_was, guest_was, with_keeps}
 use Rattle.spk_broker.specs.declared.connecting.Judged.TheVariants.{Refused, Shut, Joins}
 use Rattle.spk_broker.specs.declared.desk.Desk.{Desk}
 use Rattle.spk_broker.specs.declared.guest.Guest.{Guest}
@@ -41,6 +42,18 @@ guest-there conn gs i d e =
 
 pub guest-gone : (conn : ℕ) (gs : List Guest) → position (test_at guest_here (is_guest conn)) gs ≡ None → find (is_guest conn) (guests_now gs) ≡ None
 guest-gone conn gs e = ap (find (is_guest conn)) (guests-alive gs) ∙ lost-alive guest_here (is_guest conn) gs e
+
+-- where there is a guest, more numbers were given than sessions made
+pub is-lower : (d : Desk) (conn alive : ℕ) (will : Option plain.Post) (x : plain.Line) → Some x ≡ option_map (λ g. line_of g alive will) (find (is_guest conn) (guests_now d.guests.items))
+    → IsLawful (desk_was d) → d.made < d.given
+is-lower d conn alive will x e l = by d.guests.items e l.made
+  where
+    none : {Y : Type 0} {y : Y} → Some y ≡ None → ⊥
+    none h = cc
+
+    by : (gs : List Guest) → Some x ≡ option_map (λ g. line_of g alive will) (find (is_guest conn) (guests_now gs)) → d.made + length (map guest_was gs) ≤ d.given → d.made < d.given
+    by [] f h = absurd (none f)
+    by (g ∷ gs) f h = omega arith
 
 -- ---- retained messages are left alone
 

@@ -3,6 +3,7 @@ ghost use Rattle.std.specs.Prelude.{ℕ, ◌≡◌, ◌∷◌, ◌++◌, [], IfO
 ghost use Rattle.std.specs.List.{find};
 ghost use Rattle.std.specs.Option.{option_map};
 ghost use Rattle.spk_packets.specs.View.{will_view};
+ghost use Rattle.spk_broker_rules.specs.Lawful.{IsLawful};
 ghost use Rattle.spk_broker_rules.specs.Plan.{Accept, Forget, Seen, connect, has_bad_topic, join, take_over, tell_older};
 ghost use Rattle.spk_broker_rules.specs.Step.{Turn, act, acts, is_guest, line_of, older_in, welcome_in};
 ghost use Rattle.spk_broker_rules.specs.Words.{option_list, will_post};
@@ -109,6 +110,7 @@ impl Desk {
         alive: u16,
         will: Option<Post>,
     ) -> Result<Option<Entry>, AllocError>
+        requires lawful { IsLawful (desk_was self.old) }
         ensures done { IfOk result (λ e. (t : Turn) → Stands self.old draft.old t
             → Comes self.new draft.new e (act (Accept conn client.now kept alive (option_map post_view will)) t)) }
         ensures whole { IfOk result (λ e. IfSome e IsWhole) }
@@ -154,6 +156,7 @@ impl Desk {
         alive: u16,
         will: Option<Post>,
     ) -> Result<Option<Entry>, AllocError>
+        requires lawful { IsLawful (desk_was self.old) }
         ensures done { IfOk result (λ e. (t : Turn) → Stands self.old draft.old t → Comes self.new draft.new e
             (acts (join (older_in client.now t.broker.seats) conn client.now clean alive (option_map post_view will)) t)) }
         ensures whole { IfOk result (λ e. IfSome e IsWhole) }
@@ -178,6 +181,7 @@ impl Desk {
         alive: u16,
         will: &Option<Will>,
     ) -> Result<Option<Entry>, AllocError>
+        requires lawful { IsLawful (desk_was self.old) }
         ensures done { IfOk result (λ e. (seen : Seen) (t : Turn) → seen.older ≡ older_in client.now t.broker.seats
             → seen.welcome ≡ welcome_in client.now t.broker.seats → Stands self.old draft.old t
             → Comes self.new draft.new e (acts (connect seen conn client.now clean alive (option_map will_view will.now)) t)) }

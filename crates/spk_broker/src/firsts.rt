@@ -1,6 +1,7 @@
 //! Which packet it is: the first one of a connection, or a further one.
 ghost use Rattle.std.specs.Prelude.{◌≡◌, [], true, is_some, IfOk};
 ghost use Rattle.spk_packets.specs.View.{view};
+ghost use Rattle.spk_broker_rules.specs.Lawful.{IsLawful};
 ghost use Rattle.spk_broker_rules.specs.Plan.{Seen, client_in, first_packet, next_packet, packet as packet_acts};
 ghost use Rattle.spk_broker_rules.specs.Plan.{Packet as PacketEvent};
 ghost use Rattle.spk_broker_rules.specs.Step.{Turn, acts, older_in, seat_at, welcome_in};
@@ -25,6 +26,7 @@ impl Desk {
         conn: Conn,
         packet: &Packet,
     ) -> Result<Ending, AllocError>
+        requires lawful { IsLawful (desk_was self.old) }
         ensures done { IfOk result (λ e. (seen : Seen) (t : Turn)
             → seen.older ≡ older_in (client_in (view packet.now)) t.broker.seats
             → seen.welcome ≡ welcome_in (client_in (view packet.now)) t.broker.seats → Stands self.old draft.old t
@@ -82,6 +84,7 @@ impl Desk {
     ) -> Result<Ending, AllocError>
         requires index { IsIndex tree.now (desk_now self.old).seats }
         requires keeps { (draft_view draft.old).keeps ≡ [] }
+        requires lawful { IsLawful (desk_was self.old) }
         ensures done { IfOk result (λ e. (seen : Seen) (t : Turn)
             → seen.joined ≡ is_some (seat_at conn t.broker.seats)
             → seen.older ≡ older_in (client_in (view packet.now)) t.broker.seats
@@ -114,6 +117,7 @@ impl Desk {
         requires index { IsIndex tree.now (desk_now self.old).seats }
         requires stands { (t : Turn) × Stands self.old draft.old t }
         requires keeps { (draft_view draft.old).keeps ≡ [] }
+        requires lawful { IsLawful (desk_was self.old) }
         ensures done { IfOk result (λ e. (t : Turn) → Stands self.old draft.old t
             → Leads self.new draft.new e (stepped (PacketEvent conn (view packet.now) now) t)) }
         ensures ready { IfOk result (λ e. IsReady e self.new.seats) }

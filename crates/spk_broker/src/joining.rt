@@ -239,7 +239,8 @@ impl Desk {
         kept: bool,
         line: Line,
     ) -> Result<Entry, AllocError>
-        requires { line_was line ≡ line_now line }
+        requires line { line_was line ≡ line_now line }
+        requires number { self.old.made < self.old.given }
         ensures entry { IfOk result (λ e. entered e (desk_now self.old) ≡
             (take_up None client.now kept (line_now line) (begun (desk_now self.old))).broker) }
         ensures whole { IfOk result IsWhole }
@@ -250,7 +251,7 @@ impl Desk {
         ensures retained { self.new.retained ≡ self.old.retained }
         ensures same { desk_was self.new ≡ desk_was self.old }
     {
-        let key = self.made.checked_add(1).ok_or(AllocError)?;
+        let key = self.made + 1;
         let conn = line.conn;
         draft.say(
             conn,
@@ -308,7 +309,8 @@ impl Desk {
         kept: bool,
         line: Line,
     ) -> Result<Entry, AllocError>
-        requires { line_was line ≡ line_now line }
+        requires line { line_was line ≡ line_now line }
+        requires number { self.old.made < self.old.given }
         ensures entry { IfOk result (λ e. entered e (desk_now self.old) ≡ (taken client.now kept (line_now line) (desk_now self.old)).broker) }
         ensures whole { IfOk result IsWhole }
         ensures room { IfOk result (λ e. HasRoom e self.new.seats) }

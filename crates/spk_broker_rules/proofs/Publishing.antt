@@ -105,7 +105,7 @@ sits-heard conn clock c s = by s.here
     by None = refl
     by (Some l) = ap (λ n. eqb n c) (one l (eqb l.conn conn))
 
-joined-heard : (conn clock : ℕ) (ss : List Seat) → is_some (seat_at conn (map (heard_seat conn clock) ss)) ≡ is_some (seat_at conn ss)
+pub joined-heard : (conn clock : ℕ) (ss : List Seat) → is_some (seat_at conn (map (heard_seat conn clock) ss)) ≡ is_some (seat_at conn ss)
 joined-heard conn clock ss = ap is_some (find-map (heard_seat conn clock) (sits conn) (sits conn) (sits-heard conn clock conn) ss) ∙ by (seat_at conn ss)
   where
     by : (o : Option Seat) → is_some (option_map (heard_seat conn clock) o) ≡ is_some o

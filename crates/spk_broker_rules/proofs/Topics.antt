@@ -1,5 +1,5 @@
 -- Filters and topics: what stands in the data or is sent came with an event.
-use Rattle.std.proofs.Common.{◌≡◌, ℕ, zero, suc, ◌+◌, min, Bool, true, false, ◌&&◌, ◌||◌, max, unwrap_or, ap₂, cond, List, [], ◌∷◌, ◌++◌, map, length, refl, sym, subst, Option, Some, None}
+use Rattle.std.proofs.Common.{◌≡◌, ◌∙◌, ℕ, zero, suc, ◌+◌, min, Bool, true, false, ◌&&◌, ◌||◌, max, unwrap_or, ap₂, cond, List, [], ◌∷◌, ◌++◌, map, length, refl, sym, subst, Option, Some, None, true≢false}
 use Rattle.std.specs.Prelude.{nat_lt}
 use Rattle.std.specs.List.{find, fold, list_any, flat_map, AllByRecursion}
 use Rattle.std.specs.Option.{option_map, option_map_or, is_some}
@@ -20,7 +20,7 @@ use Rattle.spk_broker_rules.specs.Topics.{IsOff, FitsAlike, IsOn, WillIsOn, HasT
 use Rattle.spk_broker_rules.specs.Step.{Turn, Served, act, acts, on_lines, guest_heard, line_heard, guest_dropped, line_dropped, sits, swap, left_behind, leave_at, will_at, seat_at, is_guest, is_away, forget_at, line_of, new_seat, take_up, away_for, accept_of, other_grants, give_at, take_at, ack_at, offer, offer_at, with_key, hand, hand_at, serve, serve_at, numbered, copies_with, bursts, conn_at, retained_with, route_one, route_some, route, noted, begun, seen, step}
 use Rattle.spk_broker_rules.proofs.Lists.{all-also, all-append, all-filter, all-mapped, all-flat}
 use Rattle.spk_broker_rules.proofs.Lawfuls.{found-in}
-use Rattle.spk_broker_rules.proofs.Publishing.{post_of, plain-routed}
+use Rattle.spk_broker_rules.proofs.Publishing.{joined-heard, post_of, plain-routed}
 
 module _ (F T : List ℕ → Type 0) where
   abbrev pub Grants : Table ℕ → Type 0
@@ -594,3 +594,22 @@ alike-kept b e one other = filters-kept (FitsAlike one other) b e
 
 pub alike-heard : (b : Broker) (conn : ℕ) (one other : List ℕ) → HasFilters (FitsAlike one other) b → listens b conn one ≡ listens b conn other
 alike-heard b conn one other = listens-alike one other b conn
+
+-- from whoever hasn't joined it goes to nobody
+pub off-unjoined : (b : Broker) (conn moment : ℕ) (topic payload : List ℕ) (on : List ℕ → Bool) → HasTopics (IsOff on) b → is_joined b conn ≡ false
+    → SendsOn (IsOff on) (step b (Packet conn (plain_publish topic payload) moment)).sends
+unfolding step
+off-unjoined b conn moment topic payload on h j =
+    by (is_some (first_of (unwritable (plain_publish topic payload)))) (is_some (seat_at conn (noted b (Packet conn (plain_publish topic payload) moment)).broker.seats))
+    (joined-heard conn (max b.clock moment) b.seats ∙ j)
+  where
+    closing : SendsOn (IsOff on) (acts (shut conn) (noted b (Packet conn (plain_publish topic payload) moment))).sends
+    closing =
+        (of-acts Free (IsOff on) (shut conn) (noted b (Packet conn (plain_publish topic payload) moment)) (tt, (tt, (tt, tt)))
+        (of-noted Free (IsOff on) b (Packet conn (plain_publish topic payload) moment) (from-topics (IsOff on) b h))).sends
+
+    by : (a k : Bool) → k ≡ false
+        → SendsOn (IsOff on) (acts (cond a (shut conn) (cond k (cond (is_some (topic_refusal topic)) (shut conn) (Queue (post_of topic payload) ∷ Route ∷ [])) (shut conn))) (noted b (Packet conn (plain_publish topic payload) moment))).sends
+    by true k e = closing
+    by false true e = absurd (true≢false e)
+    by false false e = closing

@@ -110,6 +110,10 @@ pub fn topics()
     // a plain publish may be on them: it is neither kept nor retained, whoever sends it
     ensures plain { (b : Broker) (conn moment : ℕ) (topic payload : List ℕ) (on : List ℕ → Bool) → HasTopics (IsOff on) b →
         HasTopics (IsOff on) (step b (Packet conn (plain_publish topic payload) moment)).broker }
+
+    // from whoever hasn't joined it goes to nobody
+    ensures unjoined { (b : Broker) (conn moment : ℕ) (topic payload : List ℕ) (on : List ℕ → Bool) → HasTopics (IsOff on) b → is_joined b conn ≡ false →
+        SendsOn (IsOff on) (step b (Packet conn (plain_publish topic payload) moment)).sends }
 {}
 
 /// Filters: who listens to a topic has joined; and while the filters of each SUBSCRIBE fit both of two topics or neither, so do

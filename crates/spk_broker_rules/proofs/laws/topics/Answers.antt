@@ -1,4 +1,4 @@
-use Rattle.spk_broker_rules.proofs.Topics.{off-first, off-kept, off-plain, off-sent}
+use Rattle.spk_broker_rules.proofs.Topics.{off-first, off-kept, off-plain, off-sent, off-unjoined}
 use Rattle.spk_broker_rules.proofs.laws.topics.Goals as goal
 
 pub returns-clause-first : goal.returns-clause-first
@@ -12,3 +12,6 @@ returns-clause-others c = off-sent
 
 pub returns-clause-plain : goal.returns-clause-plain
 returns-clause-plain c = off-plain
+
+pub returns-clause-unjoined : goal.returns-clause-unjoined
+returns-clause-unjoined c = off-unjoined

@@ -47,3 +47,6 @@ next_index-requires c =
 
 pub draft_packet-drafted-requires-clause-stands : goal.draft_packet-drafted-requires-clause-stands
 draft_packet-drafted-requires-clause-stands c = begun-for c.self.inside.desk c.new-draft.result c.self.invariant.sound c.new-draft.ensures
+
+pub draft_packet-drafted-requires-clause-lawful : goal.draft_packet-drafted-requires-clause-lawful
+draft_packet-drafted-requires-clause-lawful c = c.self.invariant.sound.lawful

@@ -1,5 +1,6 @@
-use Rattle.std.proofs.Common.{refl}
+use Rattle.std.proofs.Common.{refl, subst, sym, ◌∙◌}
 use Rattle.spk_packets.specs.View.{view}
+use Rattle.spk_broker_rules.specs.Lawful.{IsLawful}
 use Rattle.spk_broker_rules.specs.Plan.{At, Hear, Packet}
 use Rattle.spk_broker_rules.specs.Step.{act, seen}
 use Rattle.spk_broker.proofs.Finishing.{index-on}
@@ -19,3 +20,6 @@ judge_packet-requires-clause-index c =
     index-on c.args.tree.now c.args.self.now c.hear.new.self c.args.draft.now c.args.draft.now t (act (Hear c.args.conn) (act (At c.args.now) t)) s
     (c.hear.ensures.done c.args.draft.now (act (At c.args.now) t) (c.at.ensures.done c.args.draft.now t s))
     (heard-index c.args.tree.now c.args.conn (act (At c.args.now) t)) c.requires.index
+
+pub judge_packet-requires-clause-lawful : goal.judge_packet-requires-clause-lawful
+judge_packet-requires-clause-lawful c = subst IsLawful (sym (c.hear.ensures.same ∙ c.at.ensures.same)) c.requires.lawful

@@ -1,6 +1,7 @@
-use Rattle.std.proofs.Common.{◌≡◌, ◌∙◌, ap, refl, subst}
+use Rattle.std.proofs.Common.{◌≡◌, ◌∙◌, ap, refl, subst, sym}
 use Rattle.std.specs.Option.{option_map}
 use Rattle.spk_broker_rules.specs.Data as plain
+use Rattle.spk_broker_rules.specs.Lawful.{IsLawful}
 use Rattle.spk_broker_rules.specs.Plan.{join}
 use Rattle.spk_broker_rules.specs.Step.{Turn, acts, older_in}
 use Rattle.spk_broker_rules.specs.Words.{option_list}
@@ -22,3 +23,6 @@ returns-clause-done c t s =
     (joins c.older-older.result c.args.conn c.args.client.now c.args.clean c.args.alive (option_map post_view c.args.will) t
     ∙ ap (λ o. acts (join o c.args.conn c.args.client.now c.args.clean c.args.alive (option_map post_view c.args.will)) t) found)
     told
+
+pub accept-requires : goal.accept-requires
+accept-requires c = record { lawful = subst IsLawful (sym (c.clean_up.ensures.same ∙ c.take_over.ensures.same)) c.requires.lawful }
