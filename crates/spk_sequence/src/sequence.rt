@@ -91,6 +91,14 @@ impl Sequence {
         }
     }
 
+    /// What would become of a message: the step that `hand` would answer. Nothing changes.
+    pub fn step_of(&self, number: u8, kind: Kind, now: u64) -> Step
+        ensures step { result ≡ (hand self.now number kind now).0 }
+    {
+        let mut copy = self.copied();
+        copy.hand(number, kind, now)
+    }
+
     /// A moment in milliseconds: a gap if a held message has waited long enough for one before it.
     pub fn tick(&mut self, now: u64) -> Option<Gap>
         ensures gap { is_some result ≡ is_over self.old now }
@@ -130,6 +138,21 @@ impl Sequence {
         self.next = 0;
         self.since = 0;
         self.slots.clear_all();
+    }
+
+    /// Whether a held message has waited long enough for one before it, so that `tick` would answer a gap.
+    pub fn is_over(&self, now: u64) -> bool
+        ensures value { result ≡ is_over self.now now }
+        ensures whole { IsWhole self.now }
+    {
+        self.is_any_held() && self.wait <= now.saturating_sub(self.since)
+    }
+
+    /// How long a held message waits for the ones before it, in milliseconds.
+    pub fn wait(&self) -> u64
+        ensures { result ≡ self.now.wait }
+    {
+        self.wait
     }
 
     /// How the host stands to the node.
@@ -173,6 +196,22 @@ impl Sequence {
     {
         let place = self.place_of(number);
         place < self.width() && self.is_held_at(place)
+    }
+
+    /// An order that stands the same.
+    fn copied(&self) -> Sequence
+        ensures { result ≡ self.now }
+    {
+        Sequence {
+            wait: self.wait,
+            width: self.width,
+            phase: self.phase,
+            stamp: self.stamp,
+            bd: self.bd,
+            next: self.next,
+            since: self.since,
+            slots: self.slots.copied(),
+        }
     }
 
     fn hand_birth(&mut self, number: u8, stamp: u64, bd: u8, now: u64) -> Step
@@ -284,13 +323,6 @@ impl Sequence {
         self.slots
             .get(self.next.wrapping_add(place) % 128)
             .is_some()
-    }
-
-    fn is_over(&self, now: u64) -> bool
-        ensures value { result ≡ is_over self.now now }
-        ensures whole { IsWhole self.now }
-    {
-        self.is_any_held() && self.wait <= now.saturating_sub(self.since)
     }
 
     /// The node is no longer followed, and what is held is dropped.

@@ -34,6 +34,16 @@ impl Slots {
         }
     }
 
+    /// Slots that hold the same.
+    pub(crate) fn copied(&self) -> Slots
+        ensures { result ≡ self.now }
+    {
+        Slots {
+            mask: self.mask,
+            stamps: self.stamps,
+        }
+    }
+
     /// What a slot holds.
     pub(crate) fn get(&self, slot: u8) -> Option<Option<u64>>
         requires { slot < 128 }

@@ -1,0 +1,3 @@
+pub mod Along
+pub mod Heard
+pub mod Parts

@@ -1,0 +1,4 @@
+pub mod Data
+pub mod Step
+pub mod Room
+pub mod Inputs

@@ -1,0 +1,24 @@
+-- How much room a step takes.
+use Rattle.std.specs.Prelude.{◌≡◌, ℕ, ◌+◌, ◌-◌, List, []}
+use Rattle.spk_sequence.specs.declared.answer.Step.{Step}
+use Rattle.spk_sequence.specs.declared.answer.Step.TheVariants as step
+
+-- how many events the view hears by a step, at most
+abbrev pub most_heard : Step → ℕ
+most_heard (step.Consumed n) = 1 + (n - 1)
+most_heard step.Gap = 1
+most_heard step.NotLive = 1
+most_heard step.Held = 0
+most_heard step.Old = 0
+most_heard step.OldBirth = 0
+most_heard step.DeadSession = 0
+
+-- nothing is consumed where the step consumes nothing
+abbrev pub IsNothing : {X : Type 0} → Step → List X → Type 0
+IsNothing (step.Consumed n) taken = Unit {0}
+IsNothing step.Gap taken = taken ≡ []
+IsNothing step.NotLive taken = taken ≡ []
+IsNothing step.Held taken = taken ≡ []
+IsNothing step.Old taken = taken ≡ []
+IsNothing step.OldBirth taken = taken ≡ []
+IsNothing step.DeadSession taken = taken ≡ []

@@ -1,0 +1,147 @@
+//! What a host keeps of one node.
+ghost use Rattle.std.specs.Prelude.{◌≡◌, ◌+◌, ◌≤◌, ℕ, map, length, IfOk, OnOk, OnErr, is_some, if◌then◌else◌};
+ghost use Rattle.std.specs.Option.{option_map};
+ghost use Rattle.spk_reading.specs.View.{numbered_view};
+ghost use Rattle.spk_sequence.specs.Step as sequence;
+ghost use Rattle.spk_host_node.specs.Data as plain;
+ghost use Rattle.spk_host_node.specs.Step as spec;
+
+use crate::hearing::{Handed, hear, most_heard};
+use crate::kept::Kept;
+use spk_order::Order;
+use spk_reading::Numbered;
+use spk_sequence::{Match, Phase, Step, Width};
+use spk_view::{NodeView, Watch};
+use std::alloc::{AllocError, Global};
+use std::marker::Model;
+
+/// What came of a moment: whether there was a gap, and whether a rebirth is asked for.
+#[derive(Clone, Copy, Debug, PartialEq, Eq)]
+pub struct Ticked {
+    pub is_gap: bool,
+    pub asks: bool,
+}
+
+/// What a host keeps of one node (Sparkplug 3.0.0, chapter 5): the order of its messages in the host's present session, and its
+/// view and the limit of rebirth requests, which outlive the session. Contracts see a `NodeData`.
+#[derive(Drop)]
+pub struct HostNode {
+    alloc: Global,
+    order: Order<Kept>,
+    watch: Watch,
+}
+
+impl Model for HostNode {
+    ghost use Rattle.spk_host_node.specs.Data.{NodeData};
+
+    ghost Value = { NodeData };
+
+    ghost view = { λ n. record { order = n.order; watch = n.watch.watch } };
+}
+
+impl HostNode {
+    /// A node of which nothing was ever heard. A held message waits `wait` milliseconds for the ones before it, and so much time
+    /// passes between two rebirth requests; `width` numbers are taken at a time. Refused only where memory is.
+    pub fn new(alloc: Global, wait: u64, width: Width) -> Result<HostNode, AllocError>
+        ensures { IfOk result (λ n. n ≡ plain.fresh_node wait width) }
+    {
+        let order = Order::new(alloc, wait, width)?;
+        let watch = Watch::new(alloc);
+        Ok(HostNode {
+            alloc,
+            order,
+            watch,
+        })
+    }
+
+    /// How the host stands to the node. Takes no memory.
+    pub fn phase(&self) -> Phase
+        ensures { result ≡ self.now.order.standing.phase }
+    {
+        self.order.sequence().phase()
+    }
+
+    /// What is shown of the node, from its first birth on. Takes no memory.
+    pub fn view(&self) -> Option<&NodeView>
+        ensures { option_map (λ v. v.now.view) result ≡ self.now.watch.view }
+    {
+        self.watch.view()
+    }
+
+    /// What would become of a message.
+    fn step_of(&self, message: &Numbered, now: u64) -> Step
+        ensures { result ≡ spec.step_of self.now.order (numbered_view message.now) now }
+    {
+        self.order
+            .sequence()
+            .step_of(message.number, message.kind, now)
+    }
+
+    /// How many rebirths may be asked for at a message, at most. Takes no memory.
+    pub fn most_requests(&self, message: &Numbered, now: u64) -> usize
+        ensures { spec.requests_of self.now (numbered_view message.now) now ≤ result }
+    {
+        most_heard(self.step_of(message, now))
+    }
+
+    /// A message of the node at a moment, in milliseconds. What becomes of it is the step of the node's order; where messages are
+    /// consumed, they are shown in order. Refused only where memory is, before anything changes.
+    pub fn hand(&mut self, message: Numbered, now: u64) -> Result<Handed, AllocError>
+        ensures step { IfOk result (λ h. h.step ≡ spec.step_of self.old.order (numbered_view message) now) }
+        ensures consumed { IfOk result (λ h.
+            map numbered_view h.consumed.items ≡ spec.taken_of self.old.order (numbered_view message) now) }
+        ensures requests { IfOk result (λ h. h.requests ≡ spec.requests_of self.old (numbered_view message) now) }
+        ensures data { OnOk result (self.new ≡ spec.hand self.old (numbered_view message) now) }
+        ensures unchanged { OnErr result (self.new ≡ self.old) }
+    {
+        let room = most_heard(self.step_of(&message, now));
+        self.watch.reserve(room)?;
+        let consumed = Vec::with_capacity(self.alloc, room)?;
+        let wait = self.order.sequence().wait();
+        let (number, kind) = (message.number, message.kind);
+        let kept = Kept::new(self.alloc, message)?;
+        let Ok(handed) = self.order.hand(number, kind, kept, now) else {
+            return Err(AllocError);
+        };
+        Ok(hear(&mut self.watch, wait, handed, consumed, now))
+    }
+
+    /// Whether a held message has waited long enough for one before it, so that `tick` would be a gap. Takes no memory.
+    pub fn is_over(&self, now: u64) -> bool
+        ensures { result ≡ sequence.is_over self.now.order.standing now }
+    {
+        self.order.sequence().is_over(now)
+    }
+
+    /// A moment, in milliseconds: a gap, if a held message has waited long enough for one before it. Takes no memory.
+    pub fn tick(&mut self, now: u64) -> Ticked
+        ensures gap { result.is_gap ≡ sequence.is_over self.old.order.standing now }
+        ensures asks { result.asks ≡ spec.tick_asks self.old now }
+        ensures data { self.new ≡ spec.tick self.old now }
+    {
+        let wait = self.order.sequence().wait();
+        let is_gap = self.order.tick(now).is_some();
+        let asks = is_gap && self.watch.gap(wait, now);
+        Ticked { is_gap, asks }
+    }
+
+    /// An NDEATH of the node, with its bdSeq. Takes no memory.
+    pub fn death(&mut self, bd: u8) -> Match
+        ensures answer { result ≡ sequence.match_of self.old.order.standing bd }
+        ensures data { self.new ≡ spec.death self.old bd }
+    {
+        let answer = self.order.death(bd);
+        if let Match::Matched = answer {
+            self.watch.over();
+        }
+        answer
+    }
+
+    /// The host's session is over: nothing is known of the node's order, and what is shown is offline and stale. Takes no memory.
+    pub fn over(&mut self)
+        ensures { self.new ≡ spec.over self.old }
+    {
+        self.order.reset();
+        self.watch.over();
+    }
+}
