@@ -22,7 +22,8 @@ pub struct Handed {
 
 /// How many events the view hears by a step, at most.
 pub(crate) fn most_heard(step: Step) -> usize
-    ensures { result ≡ most_heard step }
+    ensures most { result ≡ most_heard step }
+    ensures few { result ≤ 256 }
 {
     match step {
         Step::Consumed(count) => 1 + usize::from(count.saturating_sub(1)),

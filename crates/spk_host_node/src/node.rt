@@ -79,7 +79,8 @@ impl HostNode {
 
     /// How many rebirths may be asked for at a message, at most. Takes no memory.
     pub fn most_requests(&self, message: &Numbered, now: u64) -> usize
-        ensures { spec.requests_of self.now (numbered_view message.now) now ≤ result }
+        ensures enough { spec.requests_of self.now (numbered_view message.now) now ≤ result }
+        ensures few { result ≤ 256 }
     {
         most_heard(self.step_of(message, now))
     }
@@ -111,6 +112,13 @@ impl HostNode {
         ensures { result ≡ sequence.is_over self.now.order.standing now }
     {
         self.order.sequence().is_over(now)
+    }
+
+    /// Whether `tick` would be a gap at which a rebirth is asked for. Takes no memory.
+    pub fn is_asked(&self, now: u64) -> bool
+        ensures { result ≡ spec.tick_asks self.now now }
+    {
+        self.is_over(now) && self.watch.asks_at_gap(self.order.sequence().wait(), now)
     }
 
     /// A moment, in milliseconds: a gap, if a held message has waited long enough for one before it. Takes no memory.

@@ -109,6 +109,13 @@ impl Watch {
         self.ask(wait, true, false, now)
     }
 
+    /// Whether a rebirth would be asked for at a gap at `now`: what `gap` would answer. Nothing changes.
+    pub fn asks_at_gap(&self, wait: u64, now: u64) -> bool
+        ensures { result ≡ rules.asks wait self.now.watch (Gap now) }
+    {
+        may_ask(wait, now, self.asked, self.born_since)
+    }
+
     /// A message came at `now` while the node wasn't followed. Answers whether a rebirth is asked for, as `consume` does. Takes
     /// no memory.
     pub fn not_live(&mut self, wait: u64, now: u64) -> bool

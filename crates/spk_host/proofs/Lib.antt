@@ -1,0 +1,5 @@
+pub mod Found
+pub mod Heard
+pub mod Mapped
+pub mod Parts
+pub mod Requests

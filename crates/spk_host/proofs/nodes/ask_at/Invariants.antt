@@ -1,0 +1,12 @@
+use Rattle.std.proofs.Common.{◌≡◌, ◌++◌, map, drop}
+use Rattle.spk_topics.specs.Spark.{named}
+use Rattle.spk_host.specs.Step.{gaps_at, requests_at, spelled, topics_at}
+use Rattle.spk_host.proofs.nodes.ask_at.Given as goal
+
+-- what is there and that of the rest is all
+abbrev pub invariant-loop-entry : goal.invariant-loop-entry
+invariant-loop-entry l = record {
+  gaps : l.steps.items ++ gaps_at l.now (drop l.entry-index l.nodes) ≡ gaps_at l.now l.nodes;
+  topics : map named l.rebirths.items ++ topics_at l.now (drop l.entry-index l.nodes) ≡ topics_at l.now l.nodes;
+  packets : map (λ b. b.items) l.packets.items ++ spelled (requests_at l.now (drop l.entry-index l.nodes)) ≡ spelled (requests_at l.now l.nodes);
+}

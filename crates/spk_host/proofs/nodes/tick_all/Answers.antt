@@ -1,0 +1,13 @@
+use Rattle.std.proofs.Common.{◌∙◌, sym, ap, set, arith}
+use Rattle.spk_host.specs.Step.{tick_entry}
+use Rattle.spk_host.proofs.Mapped.{mapped-all, mapped-more}
+use Rattle.spk_host.proofs.nodes.tick_all.Goals as goal
+
+pub loop-entry-preserved : goal.loop-entry-preserved
+loop-entry-preserved c =
+    ap (set c.loop-entry.nodes c.loop-entry.entry-index) (c.tick.ensures ∙ ap (tick_entry c.args.now) (sym c.entry-item.is))
+    ∙ mapped-more (tick_entry c.args.now) c.args.nodes.now c.loop-entry.nodes c.loop-entry.entry-index c.entry-item.result
+    c.loop-entry.invariant (omega arith) c.entry-item.is
+
+pub returns : goal.returns
+returns c = c.loop-entry.invariant ∙ mapped-all (tick_entry c.args.now) c.args.nodes.now c.loop-entry.entry-index (omega arith)

@@ -1,0 +1,4 @@
+pub mod Data
+pub mod Nodes
+pub mod Step
+pub mod View

@@ -1,0 +1,131 @@
+-- What a host does at each call: what it hands out, and its data after it, by the steps of its session (`spk_host_session`) and of the
+-- node concerned (`spk_host_node`).
+use Rattle.std.specs.Prelude.{ℕ, ◌==◌, Bool, List, [], ◌∷◌, ◌++◌, map, replicate, Option, Some, None, Result, Ok, Err, if◌then◌else◌}
+use Rattle.spk_packets.specs.Message.{Message, PubAck}
+use Rattle.spk_packets.specs.Spelling.{spelling}
+use Rattle.spk_sequence.specs.declared.answer.Step.{Step}
+use Rattle.spk_sequence.specs.declared.answer.Step.TheVariants as step
+use Rattle.spk_sequence.specs.Step as sequence
+use Rattle.spk_topics.specs.Spark.{Named}
+use Rattle.spk_topics.specs.Spark.Named.{of_node}
+use Rattle.spk_topics.specs.declared.spark.Verb.TheVariants.{Command}
+use Rattle.spk_reading.specs.Data as said
+use Rattle.spk_reading.specs.Data.{ContentData, HeardData, NumberedData}
+use Rattle.spk_host_session.specs.Data.{is_address}
+use Rattle.spk_host_session.specs.Packets.{rebirth_of}
+use Rattle.spk_host_session.specs.Step as session
+use Rattle.spk_host_session.specs.declared.fault.HostFault.{HostFault}
+use Rattle.spk_host_node.specs.Data.{NodeData, fresh_node}
+use Rattle.spk_host_node.specs.Step as node
+use Rattle.spk_host.specs.Data.{Entry, HostData, OutData}
+use Rattle.spk_host.specs.Nodes.{change_node, node_or, put_node}
+
+-- ---- what is sent
+
+abbrev pub spelled : List Message → List (List ℕ)
+spelled packets = map spelling packets
+
+-- the acknowledgement of a PUBLISH at QoS 1
+abbrev pub acks : Option ℕ → List Message
+acks None = []
+acks (Some id) = PubAck id ∷ []
+
+-- So many rebirth requests to a node. A node whose NCMD topic can't be written is asked for none.
+abbrev pub topics_to : List ℕ → List ℕ → ℕ → List Named
+topics_to group name count = if is_address group name then replicate count (of_node group Command name) else []
+
+abbrev pub requests_to : List ℕ → List ℕ → ℕ → ℕ → List Message
+requests_to group name now count = if is_address group name then replicate count (rebirth_of group name now) else []
+
+abbrev pub nothing : OutData
+nothing = record { consumed = []; steps = []; rebirths = []; packets = [] }
+
+abbrev pub sends : List Message → OutData
+sends packets = record nothing { packets = spelled packets }
+
+-- ---- a message of a node
+
+-- the acknowledgement first, then the requests
+abbrev pub message_out : NodeData → Option ℕ → NumberedData → ℕ → OutData
+message_out n ack m now = record {
+  consumed = node.taken_of n.order m now;
+  steps = node.step_of n.order m now ∷ [];
+  rebirths = topics_to m.group m.node (node.requests_of n m now);
+  packets = spelled (acks ack ++ requests_to m.group m.node now (node.requests_of n m now));
+}
+
+-- ---- a packet
+
+abbrev pub fresh : HostData → NodeData
+fresh h = fresh_node h.session.config.wait h.session.config.width
+
+abbrev pub published_out : HostData → Option ℕ → ContentData → ℕ → OutData
+published_out h ack (said.Message m) now = message_out (node_or (fresh h) h.nodes m.group m.node) ack m now
+published_out h ack (said.Death group name bd) now = sends (acks ack)
+published_out h ack said.Nothing now = sends (acks ack)
+
+abbrev pub nodes_after : HostData → ContentData → ℕ → List Entry
+nodes_after h (said.Message m) now = put_node m.group m.node (node.hand (node_or (fresh h) h.nodes m.group m.node) m now) h.nodes
+nodes_after h (said.Death group name bd) now = change_node group name (λ n. node.death n bd) h.nodes
+nodes_after h said.Nothing now = h.nodes
+
+abbrev pub over_entry : Entry → Entry
+over_entry e = record e { kept = node.over e.kept }
+
+-- what the session says, where it says anything
+abbrev pub said_by : Result (List Message) HostFault → List Message
+said_by (Ok packets) = packets
+said_by (Err f) = []
+
+abbrev pub packet_out : HostData → HeardData → ℕ → OutData
+packet_out h (said.Published ack content) now = published_out h ack content now
+packet_out h (said.Answered code) now = sends (said_by (session.says h.session (session.Answered code)))
+packet_out h said.Granted now = sends (said_by (session.says h.session session.Granted))
+packet_out h said.Other now = nothing
+
+-- A CONNACK that turns the host away ends its session.
+abbrev pub after_packet : HostData → HeardData → ℕ → HostData
+after_packet h (said.Published ack content) now = record h { nodes = nodes_after h content now }
+after_packet h (said.Answered code) now = record {
+  session = session.after h.session (session.Answered code);
+  nodes = if code == 0 then h.nodes else map over_entry h.nodes;
+}
+after_packet h said.Granted now = h
+after_packet h said.Other now = h
+
+-- ---- a moment
+
+abbrev pub has_gap : ℕ → Entry → Bool
+has_gap now e = sequence.is_over e.kept.order.standing now
+
+abbrev pub is_asked : ℕ → Entry → Bool
+is_asked now e = node.tick_asks e.kept now
+
+abbrev pub tick_entry : ℕ → Entry → Entry
+tick_entry now e = record e { kept = node.tick e.kept now }
+
+-- the requests to nodes, in their order
+abbrev pub topics_at : ℕ → List Entry → List Named
+topics_at now [] = []
+topics_at now (e ∷ nodes) = (if is_asked now e then topics_to e.group e.node 1 else []) ++ topics_at now nodes
+
+abbrev pub requests_at : ℕ → List Entry → List Message
+requests_at now [] = []
+requests_at now (e ∷ nodes) = (if is_asked now e then requests_to e.group e.node now 1 else []) ++ requests_at now nodes
+
+abbrev pub gaps_at : ℕ → List Entry → List Step
+gaps_at now [] = []
+gaps_at now (e ∷ nodes) = (if has_gap now e then step.Gap ∷ [] else []) ++ gaps_at now nodes
+
+abbrev pub tick_out : List Entry → ℕ → OutData
+tick_out nodes now = record {
+  consumed = [];
+  steps = gaps_at now nodes;
+  rebirths = topics_at now nodes;
+  packets = spelled (requests_at now nodes);
+}
+
+-- ---- the end of the session
+
+abbrev pub over_all : HostData → HostData
+over_all h = record h { nodes = map over_entry h.nodes }

@@ -1,0 +1,301 @@
+//! A host application.
+ghost use Rattle.std.specs.Prelude.{◌≡◌, ◌⊎◌, ℕ, [], ◌∷◌, true, false, map, is_some, IfOk, IfErr, OnOk, OnErr, Ok, Err, None, Some, if◌then◌else◌, ◌==◌};
+ghost use Rattle.std.specs.List.{find};
+ghost use Rattle.std.specs.Option.{option_copied, option_map};
+ghost use Rattle.spk_reading.specs.Data.{HeardData};
+ghost use Rattle.spk_reading.specs.Meaning.{IsReadFault, Says};
+ghost use Rattle.spk_reading.specs.View.{content_view, heard_view};
+ghost use Rattle.spk_reading.specs.declared.fault.ReadFault.{ReadFault};
+ghost use Rattle.spk_host_session.specs.Answer.{Gives, spelled};
+ghost use Rattle.spk_host_session.specs.Data.{is_good};
+ghost use Rattle.spk_host_session.specs.Step as session;
+ghost use Rattle.spk_host_session.specs.View.{config_view};
+ghost use Rattle.spk_host.specs.Data as plain;
+ghost use Rattle.spk_host.specs.Nodes.{is_of, node_or};
+ghost use Rattle.spk_host.specs.Step as step;
+ghost use Rattle.spk_host.specs.View.{fault_of, out_view};
+
+use crate::entry::Entry;
+use crate::messages::acknowledged;
+use crate::nodes::{ask_at, end_all, hear, hear_death, place_of, tick_all};
+use crate::out::Out;
+use spk_host_session::{HostConfig, HostFault, HostSession};
+use spk_reading::{Content, Heard, ReadFault, read};
+use spk_sequence::Phase;
+use spk_view::NodeView;
+use std::alloc::{AllocError, Global};
+use std::marker::Model;
+
+/// A host application (Sparkplug 3.0.0, chapter 5): its session with the server, and what it keeps of each edge node that it heard.
+/// Contracts see a `HostData`.
+#[derive(Drop)]
+pub struct Host {
+    alloc: Global,
+    session: HostSession,
+    nodes: Vec<Entry>,
+}
+
+impl Model for Host {
+    ghost use Rattle.spk_host.specs.Data.{HostData};
+
+    ghost Value = { HostData };
+
+    ghost view = { λ h. record { session = h.session; nodes = h.nodes.items } };
+}
+
+/// A fault in reading.
+fn fault_of(fault: ReadFault) -> HostFault
+    ensures { result ≡ fault_of fault }
+{
+    match fault {
+        ReadFault::NoMemory => HostFault::NoMemory,
+        ReadFault::NotSparkplug => HostFault::NotSparkplug,
+        ReadFault::BadPayload => HostFault::BadPayload,
+        ReadFault::NoSeq => HostFault::NoSeq,
+        ReadFault::NoStamp => HostFault::NoStamp,
+        ReadFault::NoBdSeq => HostFault::NoBdSeq,
+    }
+}
+
+/// Packets alone.
+fn sent(alloc: Global, packets: Vec<Vec<u8>>) -> Out
+    ensures { out_view result ≡ record step.nothing { packets = map (λ b. b.items) packets.items } }
+{
+    Out {
+        consumed: Vec::new(alloc),
+        steps: Vec::new(alloc),
+        rebirths: Vec::new(alloc),
+        packets,
+    }
+}
+
+impl Host {
+    /// A host that isn't within a session and heard of no node. Refused with NotSparkplug (70) for a name or a group that can't stand
+    /// in a topic or has over 60,000 bytes. Takes no memory.
+    pub fn new(alloc: Global, config: HostConfig) -> Result<Host, HostFault>
+        ensures made { IfOk result (λ h. h ≡ record {
+          session = record { config = config_view config; began = None };
+          nodes = [];
+        }) }
+        ensures good { OnOk result (is_good (config_view config) ≡ true) }
+        ensures fault { IfErr result (λ e. (e ≡ HostFault.NotSparkplug) × (is_good (config_view config) ≡ false)) }
+    {
+        let session = HostSession::new(alloc, config)?;
+        Ok(Host {
+            alloc,
+            session,
+            nodes: Vec::new(alloc),
+        })
+    }
+
+    /// A session begins: CONNECT, whose will is STATE offline with this moment, in milliseconds since 1970, at QoS 1, retained.
+    /// Refused with WrongPhase (75) within a session.
+    pub fn connected(&mut self, now: u64) -> Result<Out, HostFault>
+        ensures said { Gives (λ o. (out_view o).packets) result (spelled (session.says self.old.session (session.Connected now))) }
+        ensures alone { IfOk result (λ o. out_view o ≡ record step.nothing { packets = (out_view o).packets }) }
+        ensures data { OnOk result (self.new ≡ record self.old {
+          session = session.after self.old.session (session.Connected now);
+        }) }
+        ensures unchanged { OnErr result (self.new ≡ self.old) }
+    {
+        if self.session.is_open() {
+            return Err(HostFault::WrongPhase);
+        }
+        let mut packets = Vec::with_capacity(self.alloc, 1)?;
+        packets.push_reserved(self.session.connected(now)?);
+        Ok(sent(self.alloc, packets))
+    }
+
+    /// What was heard within a session.
+    fn hear(&mut self, heard: Heard, now: u64) -> Result<Out, HostFault>
+        requires open { is_some self.old.session.began ≡ true }
+        ensures out { Gives out_view result (Ok (step.packet_out self.old (heard_view heard) now)) }
+        ensures data { OnOk result (self.new ≡ step.after_packet self.old (heard_view heard) now) }
+        ensures unchanged { OnErr result (self.new ≡ self.old) }
+    {
+        match heard {
+            Heard::Published { ack, content } => Ok(self.hear_content(ack, content, now)?),
+            Heard::Answered(code) => self.answered(code),
+            Heard::Granted => self.granted(),
+            Heard::Other => Ok(sent(self.alloc, Vec::new(self.alloc))),
+        }
+    }
+
+    /// A PUBLISH came.
+    fn hear_content(
+        &mut self,
+        ack: Option<u16>,
+        content: Content,
+        now: u64,
+    ) -> Result<Out, AllocError>
+        ensures out { IfOk result (λ o. out_view o ≡ step.published_out self.old ack (content_view content) now) }
+        ensures data { OnOk result
+            (self.new ≡ record self.old { nodes = step.nodes_after self.old (content_view content) now }) }
+        ensures unchanged { OnErr result (self.new ≡ self.old) }
+    {
+        match content {
+            Content::Message(message) => {
+                let config = self.session.config();
+                let (wait, width) = (config.wait, config.width);
+                hear(self.alloc, &mut self.nodes, wait, width, ack, message, now)
+            }
+            Content::Death { group, node, bd } => {
+                let packets = acknowledged(self.alloc, ack)?;
+                hear_death(&mut self.nodes, group.as_str(), node.as_str(), bd);
+                Ok(sent(self.alloc, packets))
+            }
+            Content::Nothing => Ok(sent(self.alloc, acknowledged(self.alloc, ack)?)),
+        }
+    }
+
+    /// CONNACK came.
+    fn answered(&mut self, code: u8) -> Result<Out, HostFault>
+        requires open { is_some self.old.session.began ≡ true }
+        ensures out { Gives out_view result
+            (Ok (step.sends (step.said_by (session.says self.old.session (session.Answered code))))) }
+        ensures data { OnOk result (self.new ≡ record {
+          session = session.after self.old.session (session.Answered code);
+          nodes = if code == 0 then self.old.nodes else map step.over_entry self.old.nodes;
+        }) }
+        ensures unchanged { OnErr result (self.new ≡ self.old) }
+    {
+        let packets = self.session.answered(code)?;
+        if code != 0 {
+            end_all(&mut self.nodes);
+        }
+        Ok(sent(self.alloc, packets))
+    }
+
+    /// SUBACK came.
+    fn granted(&self) -> Result<Out, HostFault>
+        requires open { is_some self.now.session.began ≡ true }
+        ensures { Gives out_view result (Ok (step.sends (step.said_by (session.says self.now.session session.Granted)))) }
+    {
+        let mut packets = Vec::with_capacity(self.alloc, 1)?;
+        packets.push_reserved(self.session.granted()?);
+        Ok(sent(self.alloc, packets))
+    }
+
+    /// The bytes of a packet came at a moment, in milliseconds. Of what they say (`spk_reading`) a PUBLISH at QoS 1 is acknowledged
+    /// first; a message of a node is handed to it, an NDEATH is told it; CONNACK 0 is answered by SUBSCRIBE, SUBACK by STATE online;
+    /// a CONNACK with another code ends the session.
+    ///
+    /// Refused with WrongPhase (75) outside a session, and then with what `spk_reading::read` refuses (70 to 74). A packet that is
+    /// refused isn't acknowledged, and changes nothing.
+    pub fn packet(&mut self, bytes: &[u8], now: u64) -> Result<Out, HostFault>
+        ensures outside { self.old.session.began ≡ None → result ≡ Err HostFault.WrongPhase }
+        ensures answer { (h : HeardData) → is_some self.old.session.began ≡ true → Says bytes.now h →
+            Gives out_view result (Ok (step.packet_out self.old h now)) }
+        ensures fault { (f : ReadFault) → is_some self.old.session.began ≡ true → IsReadFault bytes.now f →
+            IfErr result (λ e. (e ≡ HostFault.NoMemory) ⊎ (e ≡ fault_of f)) }
+        ensures only { IfErr result (λ e. (e ≡ HostFault.NoMemory) ⊎ ((e ≡ HostFault.WrongPhase)
+            × (self.old.session.began ≡ None)) ⊎ ((f : ReadFault) × IsReadFault bytes.now f × (e ≡ fault_of f))) }
+        ensures said { OnOk result ((h : HeardData) × Says bytes.now h) }
+        ensures data { (h : HeardData) → Says bytes.now h → OnOk result (self.new ≡ step.after_packet self.old h now) }
+        ensures unchanged { OnErr result (self.new ≡ self.old) }
+    {
+        if !self.session.is_open() {
+            return Err(HostFault::WrongPhase);
+        }
+        match read(self.alloc, bytes) {
+            Ok(heard) => self.hear(heard, now),
+            Err(fault) => Err(fault_of(fault)),
+        }
+    }
+
+    /// A moment, in milliseconds: a gap at each node of which a held message has waited long enough for one before it, with the
+    /// requests for a rebirth that are due, in the order in which the nodes were first heard. Refused with WrongPhase (75) outside a
+    /// session.
+    pub fn tick(&mut self, now: u64) -> Result<Out, HostFault>
+        ensures outside { self.old.session.began ≡ None → result ≡ Err HostFault.WrongPhase }
+        ensures answer { is_some self.old.session.began ≡ true → Gives out_view result (Ok (step.tick_out self.old.nodes now)) }
+        ensures data { OnOk result (self.new ≡ record self.old { nodes = map (step.tick_entry now) self.old.nodes }) }
+        ensures unchanged { OnErr result (self.new ≡ self.old) }
+    {
+        if !self.session.is_open() {
+            return Err(HostFault::WrongPhase);
+        }
+        let out = ask_at(self.alloc, &self.nodes, now)?;
+        tick_all(&mut self.nodes, now);
+        Ok(out)
+    }
+
+    /// The session ends: STATE offline with this moment, at QoS 1, retained, and DISCONNECT. Refused with WrongPhase (75) outside a
+    /// session.
+    pub fn stop(&mut self, now: u64) -> Result<Out, HostFault>
+        ensures said { Gives (λ o. (out_view o).packets) result (spelled (session.says self.old.session (session.Stopped now))) }
+        ensures alone { IfOk result (λ o. out_view o ≡ record step.nothing { packets = (out_view o).packets }) }
+        ensures data { OnOk result (self.new ≡ record {
+          session = session.after self.old.session (session.Stopped now);
+          nodes = map step.over_entry self.old.nodes;
+        }) }
+        ensures unchanged { OnErr result (self.new ≡ self.old) }
+    {
+        let packets = self.session.stop(now)?;
+        end_all(&mut self.nodes);
+        Ok(sent(self.alloc, packets))
+    }
+
+    /// The connection is gone, and with it the session, if there was one: each node is offline, and its values are stale. Takes no
+    /// memory.
+    pub fn ended(&mut self)
+        ensures { self.new ≡ record {
+          session = session.after self.old.session session.Ended;
+          nodes = map step.over_entry self.old.nodes;
+        } }
+    {
+        self.session.ended();
+        end_all(&mut self.nodes);
+    }
+
+    /// The session ends without a farewell, if there was one, and the next begins: CONNECT, as `connected` says. Whole or nothing.
+    pub fn renew(&mut self, now: u64) -> Result<Out, AllocError>
+        ensures said { IfOk result (λ o. spelled (session.says self.old.session (session.Renewed now)) ≡ Ok (out_view o).packets) }
+        ensures alone { IfOk result (λ o. out_view o ≡ record step.nothing { packets = (out_view o).packets }) }
+        ensures data { OnOk result (self.new ≡ record {
+          session = session.after self.old.session (session.Renewed now);
+          nodes = map step.over_entry self.old.nodes;
+        }) }
+        ensures unchanged { OnErr result (self.new ≡ self.old) }
+    {
+        let mut packets = Vec::with_capacity(self.alloc, 1)?;
+        packets.push_reserved(self.session.renew(now)?);
+        end_all(&mut self.nodes);
+        Ok(sent(self.alloc, packets))
+    }
+
+    /// The nodes that the host heard, in the order in which they were first heard.
+    pub fn nodes(&self) -> &[Entry]
+        ensures { result.now ≡ self.now.nodes }
+    {
+        &self.nodes
+    }
+
+    /// What is kept of a node, if it was heard. Takes no memory. The cost is that of going over the nodes.
+    fn node(&self, group: &str, node: &str) -> Option<&Entry>
+        ensures { option_copied result ≡ find (is_of group.now node.now) self.now.nodes }
+    {
+        match place_of(&self.nodes, group, node) {
+            Some(place) => self.nodes.get(place),
+            None => None,
+        }
+    }
+
+    /// How the host stands to a node: one that was never heard is Unknown. Takes no memory.
+    pub fn phase(&self, group: &str, node: &str) -> Phase
+        ensures { result ≡ (node_or (step.fresh self.now) self.now.nodes group.now node.now).order.standing.phase }
+    {
+        match self.node(group, node) {
+            Some(entry) => entry.kept().phase(),
+            None => Phase::Unknown,
+        }
+    }
+
+    /// What is shown of a node, from its first birth on. Takes no memory.
+    pub fn view(&self, group: &str, node: &str) -> Option<&NodeView>
+        ensures { option_map (λ v. v.now.view) result ≡
+            (node_or (step.fresh self.now) self.now.nodes group.now node.now).watch.view }
+    {
+        self.node(group, node)?.kept().view()
+    }
+}
