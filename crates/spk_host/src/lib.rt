@@ -7,6 +7,8 @@ mod host;
 mod messages;
 mod nodes;
 mod out;
+#[cfg(test)]
+mod tests;
 
 pub use entry::Entry;
 pub use host::Host;

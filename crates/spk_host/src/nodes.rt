@@ -1,6 +1,5 @@
 //! The nodes that a host heard, in the order in which they were first heard.
-ghost use Rattle.std.specs.Prelude.{◌≡◌, ◌++◌, ◌∷◌, [], map, IfOk, OnOk, OnErr, if◌then◌else◌};
-ghost use Rattle.spk_topics.specs.Spark.{named};
+ghost use Rattle.std.specs.Prelude.{◌≡◌, ◌++◌, ◌∷◌, [], map, IfOk, OnOk, OnErr};
 ghost use Rattle.std.specs.List.{position};
 ghost use Rattle.spk_reading.specs.View.{numbered_view};
 ghost use Rattle.spk_host_node.specs.Data.{fresh_node};
@@ -15,7 +14,6 @@ use crate::messages::hear_message;
 use crate::out::Out;
 use spk_reading::Numbered;
 use spk_sequence::{Step, Width};
-use spk_topics::Spark;
 use std::alloc::{AllocError, Global};
 
 /// The place of the node of these names, if it was heard.
@@ -84,36 +82,6 @@ pub(crate) fn hear_death(nodes: &mut Vec<Entry>, group: &str, node: &str, bd: u8
         Some(place) => nodes[place].death(bd),
         None => {}
     }
-}
-
-/// The gap that a node has at a moment, if it has one.
-fn gap_of(entry: &Entry, now: u64, steps: &mut Vec<Step>) -> Result<(), AllocError>
-    ensures { OnOk result (steps.new.items ≡
-        steps.old.items ++ (if step.has_gap now entry.now then Step.Gap ∷ [] else [])) }
-{
-    if entry.kept().is_over(now) {
-        steps.push(Step::Gap)?;
-    }
-    Ok(())
-}
-
-/// The request to a node at a moment, if there is one.
-fn request_to(
-    alloc: Global,
-    entry: &Entry,
-    now: u64,
-    rebirths: &mut Vec<Spark>,
-    packets: &mut Vec<Vec<u8>>,
-) -> Result<(), AllocError>
-    ensures topics { OnOk result (map named rebirths.new.items ≡ map named rebirths.old.items ++
-        (if step.is_asked now entry.now then step.topics_to entry.now.group entry.now.node 1 else [])) }
-    ensures packets { OnOk result (map (λ b. b.items) packets.new.items ≡ map (λ b. b.items) packets.old.items ++
-        step.spelled (if step.is_asked now entry.now then step.requests_to entry.now.group entry.now.node now 1 else [])) }
-{
-    if entry.kept().is_asked(now) {
-        ask(alloc, entry.group(), entry.node(), now, rebirths, packets)?;
-    }
-    Ok(())
 }
 
 /// What a moment hands out: the gaps, and the requests to the nodes that had one, in their order.
