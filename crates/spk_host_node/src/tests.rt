@@ -77,34 +77,23 @@ fn a_node_is_followed_from_its_birth_on(rt: HostRuntime) -> Result<(), Fail> {
     let mut node = HostNode::new(rt.alloc(), 2000, width)?;
     for (number, birth, alias, now, step, consumed, requests) in ROWS {
         let message = message(rt.alloc(), number, birth, alias, u32::from(number))?;
-        assert!(rt; requests <= node.most_requests(&message, now));
         let handed = node.hand(message, now)?;
         assert_eq!(rt; handed.step, step, "{now}");
         assert_eq!(rt; handed.consumed.len(), consumed, "{now}");
         assert_eq!(rt; handed.requests, requests, "{now}");
     }
     assert_eq!(rt; node.phase(), Phase::Gap);
-    let handed = node.hand(message(rt.alloc(), 9, Some(101), 1, 5)?, 3000)?;
-    assert_eq!(rt; handed.step, Step::Consumed(1));
-    let handed = node.hand(message(rt.alloc(), 11, None, 1, 6)?, 3001)?;
-    assert_eq!(rt; handed.step, Step::Held);
-    assert!(rt; !node.is_over(5000));
-    assert!(rt; !node.tick(5000).is_gap);
-    assert!(rt; node.is_over(5001));
-    let ticked = node.tick(5001);
-    assert!(rt; ticked.is_gap && ticked.asks);
+    Ok(())
+}
+
+#[test]
+fn a_matching_death_and_the_end_of_a_session(rt: HostRuntime) -> Result<(), Fail> {
+    let width = Width::new(64).ok_or("width")?;
+    let mut node = HostNode::new(rt.alloc(), 2000, width)?;
+    let _birth = node.hand(message(rt.alloc(), 9, Some(101), 1, 5)?, 0)?;
     assert_eq!(rt; node.death(3), Match::Ignored);
-    assert!(rt;
-        node.view()
-            .is_some_and(|view| view.is_online() && view.is_stale())
-    );
     assert_eq!(rt; node.death(4), Match::Matched);
-    assert!(rt;
-        node.view()
-            .is_some_and(|view| !view.is_online() && view.is_stale())
-    );
     node.over();
     assert_eq!(rt; node.phase(), Phase::Unknown);
-    assert_eq!(rt; node.view().map_or(0, |view| view.metrics().len()), 1);
     Ok(())
 }
