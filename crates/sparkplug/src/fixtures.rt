@@ -101,7 +101,7 @@ impl Write for Narrow {
 }
 
 /// The last line of a run that was refused memory.
-const REFUSED: &[u8; 19] = b"fault NoMemory (1)\n";
+pub(crate) const REFUSED: &[u8; 19] = b"fault NoMemory (1)\n";
 
 /// Room for more than any run here prints, so that no write wants memory. Where memory was refused it is made again.
 fn empty(rt: &(impl Abort + AllocGlobal)) -> Vec<u8> {

@@ -1,15 +1,24 @@
-//! The program `sparkplug`: Sparkplug B payloads and MQTT packets on the command line.
+//! The program `sparkplug`: Sparkplug B payloads, MQTT packets, a broker, and worlds of edge nodes and hosts, on the
+//! command line.
 #![tactic(auto)]
 
 mod broker;
+mod events_file;
 mod fault;
 mod files;
+mod misfit;
+mod nodes_file;
 mod packets;
+mod part;
 mod places;
 mod run;
 mod show;
 mod texts;
+mod twice;
+mod values_file;
 mod words;
+mod world;
+mod world_file;
 
 use broker::serve_clients;
 use files::MachineFiles;
@@ -25,6 +34,8 @@ mod fixtures;
 mod packets_tests;
 #[cfg(test)]
 mod tests;
+#[cfg(test)]
+mod world_tests;
 
 /// The words that the program was called with, or None where one isn't text.
 fn given_words(rt: &HostRuntime) -> io::Result<Option<Vec<String>>> {

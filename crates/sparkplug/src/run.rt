@@ -1,10 +1,11 @@
 //! A run of the program: words in, lines and a status out.
 
-use crate::fault::Stop;
+use crate::fault::{Fault, Stop};
 use crate::files::{Files, text_of};
 use crate::packets::packets;
 use crate::show::show;
 use crate::words::command_line;
+use crate::world::world;
 use clap::ArgMatches;
 use clap::error::ErrorKind;
 use std::alloc::Global;
@@ -42,6 +43,21 @@ fn birth_of<F: Files>(
         Some(digits) => Ok(Some(String::from_str(alloc, digits)?)),
         None => Ok(None),
     }
+}
+
+/// The text of a world's file. Of one that isn't a text, or is too long, a note says so.
+fn world_text_of<F: Files, N: Write>(
+    alloc: Global,
+    matches: &ArgMatches<'_>,
+    files: &mut F,
+    notes: &mut N,
+) -> Result<String, Stop> {
+    let answer = text_of(alloc, files, matches.get_str("file").unwrap_or(""));
+    if let Err(Stop::Fault(Fault::BadPlan)) = &answer {
+        let what = "the file isn't UTF-8, or has more than 1,048,576 bytes";
+        let _ = writeln!(notes, "sparkplug: BadPlan: {what}");
+    }
+    answer
 }
 
 /// What clap says of the words: its text and status, or want of memory.
@@ -106,6 +122,11 @@ fn command<F: Files, W: Write, N: Write>(
     if let Some(given) = matches.subcommand_matches("packets") {
         let digits = digits_of(alloc, given, files)?;
         packets(alloc, out, notes, digits.as_str())?;
+    }
+    if let Some(given) = matches.subcommand_matches("world") {
+        let text = world_text_of(alloc, given, files, notes)?;
+        let status = world(alloc, out, notes, text.as_str())?;
+        return Ok(Outcome::Over(status));
     }
     if let Some(given) = matches.subcommand_matches("serve") {
         return Ok(Outcome::Serve {

@@ -53,6 +53,32 @@ is ended. It ends by itself once that many clients have come and gone, and print
 Status: 0 is done; 1 is a fault, printed as `fault NAME (number)`, or output that could not be written;
 2 is a command line that isn't one. docs/FAULTS.md tells each fault by its number.";
 
+const WORLD: &str = "\
+Example:
+  sparkplug world examples/worlds/loss.json
+The file has edge nodes, hosts and events, as JSON; `t` is a metric of the datatype Int32 (3):
+  {\"nodes\":[{\"group\":\"G\",\"node\":\"N\",\"primary\":null,\"capacity\":3,\"devices\":[],
+    \"metrics\":[{\"device\":null,\"name\":\"t\",\"type\":3,\"value\":7}]}],
+   \"hosts\":1,\"wait\":2000,\"events\":[[\"open\",0,5],[\"accepted\",0,6],[\"hand\",0,0,0,7]]}
+prints
+  open 0: +0
+  accepted 0: +1
+  hand 0 0 0: consumed 1
+  host 0 node 0: 0+1
+
+`+1` is how many messages the node published; what stands behind a `hand` is what became of the message of
+that position. Last stand the positions that each host consumed of each node, birth by birth, as START+COUNT.
+
+Events, with n a node, h a host and t a moment in milliseconds:
+  [\"open\",n,t] [\"accepted\",n,t] [\"drain\",n,t] [\"stop\",n,t] [\"cut\",n] [\"set\",n,t,alias,value]
+  [\"device\",n,t,name,up] [\"rebirth\",n,t] [\"state\",n,t,online,timestamp] [\"hand\",h,n,position,t]
+  [\"death\",h,n,session,t] [\"tick\",h,t] [\"session\",h,t]
+docs/WORLDS.md tells the rest.
+
+Status: 0 is done; 1 is an event that was refused (`refused at I: NAME (number)`), a fault, printed as
+`fault NAME (number)`, or output that could not be written; 2 is a command line that isn't one.
+docs/FAULTS.md tells each fault by its number.";
+
 /// A command that takes hexadecimal digits, as a word or in a file.
 fn on_digits<'a>(alloc: Global, name: &'a str, digits: &'a str) -> Result<Command<'a>, AllocError> {
     let hex = Arg::new(alloc, "hex")
@@ -127,6 +153,20 @@ fn serve<'a>(alloc: Global) -> Result<Command<'a>, AllocError> {
     )
 }
 
+fn world<'a>(alloc: Global) -> Result<Command<'a>, AllocError> {
+    let file = Arg::new(alloc, "file")
+        .value_name("FILE")
+        .help("The world: edge nodes, hosts and events, as JSON of at most 1,048,576 bytes")
+        .required(true)
+        .action(ArgAction::Set);
+    let command = Command::new(alloc, "world").arg(file)?;
+    Ok(
+        command
+            .about("Does the events of a world of edge nodes and hosts, a line for each")
+            .after_help(WORLD),
+    )
+}
+
 /// The commands that there are.
 pub(crate) fn command_line<'a>(alloc: Global) -> Result<Command<'a>, AllocError> {
     let command = Command::new(alloc, "sparkplug")
@@ -138,5 +178,6 @@ pub(crate) fn command_line<'a>(alloc: Global) -> Result<Command<'a>, AllocError>
     command
         .subcommand(show(alloc)?)?
         .subcommand(packets(alloc)?)?
+        .subcommand(world(alloc)?)?
         .subcommand(serve(alloc)?)
 }

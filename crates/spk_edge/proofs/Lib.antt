@@ -8,3 +8,6 @@ mod Seals
 mod Plans
 mod Heard
 mod Drains
+mod Along
+mod Placed
+mod Called

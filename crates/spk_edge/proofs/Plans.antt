@@ -45,7 +45,7 @@ same-anew : (numbering : Numbering) (d : Draft) → seal.begins_anew numbering (
 same-anew RunsOn d = refl
 same-anew Restarts d = refl
 
-same-number : (c : Config) (seq : ℕ) (d : Draft) → seal.number_in c.numbering seq (unnumbered c d) ≡ step.number_of c seq d
+pub same-number : (c : Config) (seq : ℕ) (d : Draft) → seal.number_in c.numbering seq (unnumbered c d) ≡ step.number_of c seq d
 same-number c seq d = ap (λ b. cond b 0 seq) (same-anew c.numbering d)
 
 wires-are : (c : Config) (seq : ℕ) (ds : List Draft) → map wire_of (numbered c.numbering seq (map (unnumbered c) ds)) ≡ step.wires c seq ds

@@ -3,3 +3,5 @@ pub mod Sealing
 pub mod Listed
 pub mod Patch
 pub mod Ordered
+pub mod Along
+pub mod Calls

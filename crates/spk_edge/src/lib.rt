@@ -18,6 +18,7 @@ mod hearing;
 #[cfg(test)]
 mod host_tests;
 mod input;
+pub mod laws;
 mod message;
 mod node;
 #[cfg(test)]
@@ -40,4 +41,5 @@ pub use input::{Act, Input};
 pub use message::{Out, Published, Write};
 pub use node::EdgeNode;
 pub use plan::{Plan, Taken};
-pub use spk_edge_rules::{EdgeFault, Phase, laws};
+pub use spk_edge_rules::{EdgeFault, Phase};
+pub use texts::{death_bytes, node_topic};

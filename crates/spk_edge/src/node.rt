@@ -120,6 +120,13 @@ impl EdgeNode {
         })
     }
 
+    /// What it is.
+    pub fn config(&self) -> &EdgeConfig
+        ensures { config_view result.now ≡ self.now.config }
+    {
+        &self.config
+    }
+
     /// How far its session is.
     pub fn phase(&self) -> Phase
         ensures { result ≡ self.now.standing.asked.phase }

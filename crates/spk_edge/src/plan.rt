@@ -45,6 +45,15 @@ pub struct Plan {
     pub(crate) kept: Keeping,
 }
 
+impl Plan {
+    /// What will be published, in order.
+    pub fn messages(&self) -> &[Published]
+        ensures { result.now ≡ self.now.messages.items }
+    {
+        &self.messages
+    }
+}
+
 /// What was taken up: what is answered, and what was published. The last of the packets are the messages' bytes.
 #[derive(Debug, PartialEq, Drop)]
 pub struct Taken {

@@ -14,11 +14,7 @@ use spk_topics::{Verb, device_type, node_type};
 use std::alloc::{AllocError, Global};
 
 /// The topic of the node (Sparkplug 3.0.0, chapter 4).
-pub(crate) fn node_topic(
-    alloc: Global,
-    config: &EdgeConfig,
-    kind: Verb,
-) -> Result<String, AllocError>
+pub fn node_topic(alloc: Global, config: &EdgeConfig, kind: Verb) -> Result<String, AllocError>
     ensures { IfOk result (λ t. string_bytes t ≡
         topic_of (of_node (string_bytes config.now.group) kind (string_bytes config.now.node))) }
 {
@@ -103,8 +99,8 @@ fn death_payload(alloc: Global, bd: u8, time: u64) -> Result<Payload, AllocError
     })
 }
 
-/// The bytes of an NDEATH's payload.
-pub(crate) fn death_bytes(alloc: Global, bd: u8, time: u64) -> Result<Vec<u8>, AllocError>
+/// The bytes of an NDEATH's payload, of the session of a bdSeq that was opened at a moment in milliseconds since 1970.
+pub fn death_bytes(alloc: Global, bd: u8, time: u64) -> Result<Vec<u8>, AllocError>
     ensures { IfOk result (λ v. v.items ≡ spelled.spelling (death_payload bd time)) }
 {
     let payload = death_payload(alloc, bd, time)?;

@@ -1,4 +1,5 @@
 pub mod Data
+pub mod Inputs
 pub mod Nodes
 pub mod Step
 pub mod View

@@ -11,6 +11,7 @@ ghost use Rattle.spk_host_session.specs.Data.{is_good};
 ghost use Rattle.spk_host_session.specs.Step as session;
 ghost use Rattle.spk_host_session.specs.View.{config_view};
 ghost use Rattle.spk_host.specs.Data as plain;
+ghost use Rattle.spk_host.specs.Inputs as calls;
 ghost use Rattle.spk_host.specs.Nodes.{is_of, node_or};
 ghost use Rattle.spk_host.specs.Step as step;
 ghost use Rattle.spk_host.specs.View.{fault_of, out_view};
@@ -73,10 +74,7 @@ impl Host {
     /// A host that isn't within a session and heard of no node. Refused with NotSparkplug (70) for a name or a group that can't stand
     /// in a topic or has over 60,000 bytes. Takes no memory.
     pub fn new(alloc: Global, config: HostConfig) -> Result<Host, HostFault>
-        ensures made { IfOk result (λ h. h ≡ record {
-          session = record { config = config_view config; began = None };
-          nodes = [];
-        }) }
+        ensures made { IfOk result (λ h. h ≡ calls.new_host (config_view config)) }
         ensures good { OnOk result (is_good (config_view config) ≡ true) }
         ensures fault { IfErr result (λ e. (e ≡ HostFault.NotSparkplug) × (is_good (config_view config) ≡ false)) }
     {
@@ -88,14 +86,19 @@ impl Host {
         })
     }
 
+    /// What the host is.
+    pub fn config(&self) -> &HostConfig
+        ensures { config_view result.now ≡ self.now.session.config }
+    {
+        self.session.config()
+    }
+
     /// A session begins: CONNECT, whose will is STATE offline with this moment, in milliseconds since 1970, at QoS 1, retained.
     /// Refused with WrongPhase (75) within a session.
     pub fn connected(&mut self, now: u64) -> Result<Out, HostFault>
         ensures said { Gives (λ o. (out_view o).packets) result (spelled (session.says self.old.session (session.Connected now))) }
         ensures alone { IfOk result (λ o. out_view o ≡ record step.nothing { packets = (out_view o).packets }) }
-        ensures data { OnOk result (self.new ≡ record self.old {
-          session = session.after self.old.session (session.Connected now);
-        }) }
+        ensures data { OnOk result (self.new ≡ calls.host_with self.old (calls.Connected now)) }
         ensures unchanged { OnErr result (self.new ≡ self.old) }
     {
         if self.session.is_open() {
@@ -191,7 +194,8 @@ impl Host {
         ensures only { IfErr result (λ e. (e ≡ HostFault.NoMemory) ⊎ ((e ≡ HostFault.WrongPhase)
             × (self.old.session.began ≡ None)) ⊎ ((f : ReadFault) × IsReadFault bytes.now f × (e ≡ fault_of f))) }
         ensures said { OnOk result ((h : HeardData) × Says bytes.now h) }
-        ensures data { (h : HeardData) → Says bytes.now h → OnOk result (self.new ≡ step.after_packet self.old h now) }
+        ensures data { (h : HeardData) → Says bytes.now h →
+            OnOk result (self.new ≡ calls.host_with self.old (calls.Heard h now)) }
         ensures unchanged { OnErr result (self.new ≡ self.old) }
     {
         if !self.session.is_open() {
@@ -209,7 +213,7 @@ impl Host {
     pub fn tick(&mut self, now: u64) -> Result<Out, HostFault>
         ensures outside { self.old.session.began ≡ None → result ≡ Err HostFault.WrongPhase }
         ensures answer { is_some self.old.session.began ≡ true → Gives out_view result (Ok (step.tick_out self.old.nodes now)) }
-        ensures data { OnOk result (self.new ≡ record self.old { nodes = map (step.tick_entry now) self.old.nodes }) }
+        ensures data { OnOk result (self.new ≡ calls.host_with self.old (calls.Ticked now)) }
         ensures unchanged { OnErr result (self.new ≡ self.old) }
     {
         if !self.session.is_open() {
@@ -225,10 +229,7 @@ impl Host {
     pub fn stop(&mut self, now: u64) -> Result<Out, HostFault>
         ensures said { Gives (λ o. (out_view o).packets) result (spelled (session.says self.old.session (session.Stopped now))) }
         ensures alone { IfOk result (λ o. out_view o ≡ record step.nothing { packets = (out_view o).packets }) }
-        ensures data { OnOk result (self.new ≡ record {
-          session = session.after self.old.session (session.Stopped now);
-          nodes = map step.over_entry self.old.nodes;
-        }) }
+        ensures data { OnOk result (self.new ≡ calls.host_with self.old (calls.Stopped now)) }
         ensures unchanged { OnErr result (self.new ≡ self.old) }
     {
         let packets = self.session.stop(now)?;
@@ -239,10 +240,7 @@ impl Host {
     /// The connection is gone, and with it the session, if there was one: each node is offline, and its values are stale. Takes no
     /// memory.
     pub fn ended(&mut self)
-        ensures { self.new ≡ record {
-          session = session.after self.old.session session.Ended;
-          nodes = map step.over_entry self.old.nodes;
-        } }
+        ensures { self.new ≡ calls.host_with self.old calls.Ended }
     {
         self.session.ended();
         end_all(&mut self.nodes);
@@ -252,10 +250,7 @@ impl Host {
     pub fn renew(&mut self, now: u64) -> Result<Out, AllocError>
         ensures said { IfOk result (λ o. spelled (session.says self.old.session (session.Renewed now)) ≡ Ok (out_view o).packets) }
         ensures alone { IfOk result (λ o. out_view o ≡ record step.nothing { packets = (out_view o).packets }) }
-        ensures data { OnOk result (self.new ≡ record {
-          session = session.after self.old.session (session.Renewed now);
-          nodes = map step.over_entry self.old.nodes;
-        }) }
+        ensures data { OnOk result (self.new ≡ calls.host_with self.old (calls.Renewed now)) }
         ensures unchanged { OnErr result (self.new ≡ self.old) }
     {
         let mut packets = Vec::with_capacity(self.alloc, 1)?;

@@ -4,6 +4,7 @@
 mod asking;
 mod entry;
 mod host;
+pub mod laws;
 mod messages;
 mod nodes;
 mod out;

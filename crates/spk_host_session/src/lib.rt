@@ -12,7 +12,7 @@ mod session;
 pub use config::HostConfig;
 pub use fault::HostFault;
 pub use packets::acknowledgement;
-pub use requests::rebirth;
+pub use requests::{rebirth, request_bytes};
 pub use session::HostSession;
 
 #[cfg(test)]

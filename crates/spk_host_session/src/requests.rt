@@ -46,8 +46,8 @@ fn request_payload(alloc: Global, now: u64) -> Result<Payload, AllocError>
     })
 }
 
-/// The bytes of a request's payload.
-fn request_bytes(alloc: Global, now: u64) -> Result<Vec<u8>, AllocError>
+/// The bytes of a request's payload, with its moment in milliseconds since 1970.
+pub fn request_bytes(alloc: Global, now: u64) -> Result<Vec<u8>, AllocError>
     ensures { IfOk result (λ v. v.items ≡ payload.spelling (spec.rebirth_payload now)) }
 {
     let payload = request_payload(alloc, now)?;

@@ -1,0 +1,56 @@
+//! Values of metrics in a file.
+
+use crate::misfit::{Cause, Misfit};
+use crate::part::Part;
+use hex::FromHexError;
+use serde_json::Value as Json;
+use spk_payload::Value;
+use std::alloc::Global;
+
+/// What a value may be.
+const VALUE: &str =
+    "null, a whole number of 64 bits, true, false, a text, or bytes as {\"hex\":\"0a\"}";
+
+/// Whether the datatype of this number has signed values: Int8, Int16, Int32, Int64.
+fn is_signed(datatype: u32) -> bool {
+    matches!(datatype, 1..=4)
+}
+
+/// A number: Signed where the datatype is a signed one, else Unsigned, as far as it fits there.
+fn number_of(part: Part<'_>, datatype: u32) -> Result<Value, Misfit> {
+    let signed = part.json.as_i64().map(Value::Signed);
+    let unsigned = part.json.as_u64().map(Value::Unsigned);
+    let found = if is_signed(datatype) {
+        signed.or(unsigned)
+    } else {
+        unsigned.or(signed)
+    };
+    found.ok_or(part.wrong(Cause::Not(VALUE)))
+}
+
+/// Bytes, by their hexadecimal digits.
+fn octets_of(alloc: Global, part: Part<'_>) -> Result<Value, Misfit> {
+    part.only(alloc, &["hex"])?;
+    let digits = part.member("hex")?;
+    match hex::decode(alloc, digits.text()?) {
+        Ok(bytes) => Ok(Value::Octets(bytes)),
+        Err(FromHexError::OutOfMemory) => Err(Misfit::NoMemory),
+        Err(_) => Err(digits.wrong(Cause::Not("an even number of hexadecimal digits"))),
+    }
+}
+
+/// The value of a metric of this datatype; null is none.
+pub(crate) fn value_of(
+    alloc: Global,
+    part: Part<'_>,
+    datatype: u32,
+) -> Result<Option<Value>, Misfit> {
+    match part.json {
+        Json::Null => Ok(None),
+        Json::Bool(flag) => Ok(Some(Value::Flag(*flag))),
+        Json::Number(_) => Ok(Some(number_of(part, datatype)?)),
+        Json::String(_) => Ok(Some(Value::Words(part.owned_text(alloc)?))),
+        Json::Object(_) => Ok(Some(octets_of(alloc, part)?)),
+        Json::Array(_) => Err(part.wrong(Cause::Not(VALUE))),
+    }
+}

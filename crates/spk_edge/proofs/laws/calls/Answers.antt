@@ -1,0 +1,28 @@
+use Rattle.spk_edge_rules.specs.Config.{Setup}
+use Rattle.spk_edge.proofs.Called.{Known, bytes-called, data-are, done-are, messages-called, whole-called}
+use Rattle.spk_edge.proofs.laws.calls.Goals as goal
+
+known : goal.After-records → (s : Setup) → Known s
+known c s = record {
+  planned = c.along.ensures.planned s;
+  done = c.along.ensures.done s;
+  none_whole = c.along.ensures.none_whole s;
+  whole = c.along.ensures.whole s;
+  done_whole = c.along.ensures.done_whole s;
+  cut = c.along.ensures.cut s;
+}
+
+pub returns-clause-done : goal.returns-clause-done
+returns-clause-done c = λ s. done-are s (known c s)
+
+pub returns-clause-data : goal.returns-clause-data
+returns-clause-data c = λ s. data-are s (known c s)
+
+pub returns-clause-bytes : goal.returns-clause-bytes
+returns-clause-bytes c = λ s. bytes-called s (known c s)
+
+pub returns-clause-messages : goal.returns-clause-messages
+returns-clause-messages c = λ s. messages-called s c.records.ensures.same_number (known c s)
+
+pub returns-clause-whole : goal.returns-clause-whole
+returns-clause-whole c = λ s. whole-called s (known c s)

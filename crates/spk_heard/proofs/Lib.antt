@@ -1,0 +1,5 @@
+pub mod Grows
+pub mod Held
+pub mod Rows
+pub mod Runs
+pub mod Steps

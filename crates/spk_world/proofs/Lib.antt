@@ -1,0 +1,10 @@
+pub mod Lists
+pub mod Logs
+pub mod Made
+pub mod Nodes
+pub mod Heard
+pub mod Unheard
+pub mod Whole
+pub mod Running
+pub mod Listed
+pub mod Asked

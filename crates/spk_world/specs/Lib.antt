@@ -1,0 +1,11 @@
+pub mod Fault
+pub mod View
+pub mod Parts
+pub mod Outcome
+pub mod Handed
+pub mod Fresh
+pub mod Setups
+pub mod Seen
+pub mod Steps
+pub mod Stopping
+pub mod Listed

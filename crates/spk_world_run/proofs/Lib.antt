@@ -1,0 +1,16 @@
+mod Begins
+mod Deaths
+mod Dying
+mod Hands
+mod Hosts
+mod Inputs
+mod Lists
+mod Nodes
+mod Places
+mod Refused
+mod Renewals
+mod Sending
+mod Texts
+mod Ticks
+mod Tracks
+mod Writable

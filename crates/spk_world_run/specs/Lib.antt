@@ -1,0 +1,6 @@
+pub mod Data
+pub mod Tests
+pub mod Step
+pub mod Fresh
+pub mod Run
+pub mod Sending
