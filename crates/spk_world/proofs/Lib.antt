@@ -8,3 +8,4 @@ pub mod Whole
 pub mod Running
 pub mod Listed
 pub mod Asked
+pub mod Beginning

@@ -9,7 +9,9 @@ use Rattle.spk_edge.specs.declared.config.EdgeConfig.{EdgeConfig}
 use Rattle.spk_host_session.specs.Data as session
 use Rattle.spk_host_session.specs.View as host_view
 use Rattle.spk_host_session.specs.declared.config.HostConfig.{HostConfig}
+use Rattle.spk_world_rules.specs.Events.{HasWidth}
 use Rattle.spk_world_run.specs.Data.{HostPart, NodePart}
+use Rattle.spk_world_run.specs.Fresh.{host_of}
 use Rattle.spk_world.specs.Fresh.{are_apart, fresh_host, fresh_part}
 
 abbrev pub fresh_node : EdgeConfig × Book → NodePart
@@ -27,6 +29,10 @@ is_good_host c = session.is_good (host_view.config_view c)
 
 abbrev pub HasLawful : EdgeConfig × Book → Type 0
 HasLawful p = IsLawful p.1
+
+-- its window has 1 to 96 places
+abbrev pub HasWide : HostConfig → Type 0
+HasWide c = HasWidth (host_of (host_view.config_view c))
 
 -- one isn't taken, or two have one group and one name
 abbrev pub AreBadNodes : List (EdgeConfig × Book) → Type 0

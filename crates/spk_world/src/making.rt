@@ -1,11 +1,13 @@
 //! A world is made.
-ghost use Rattle.std.specs.Prelude.{◌≡◌, ◌⊎◌, map, length, true, false, IfOk, IfErr, OnOk};
+ghost use Rattle.std.specs.Prelude.{◌≡◌, ◌⊎◌, map, length, true, false, [], IfOk, IfErr, OnOk};
 ghost use Rattle.std.specs.List.{AllByRecursion, list_any, list_all};
 ghost use Rattle.spk_device.specs.Lawful.{IsLawful};
 ghost use Rattle.spk_edge.specs.Patch as patch;
 ghost use Rattle.spk_edge.specs.View.{config_view};
 ghost use Rattle.spk_world.specs.Fresh.{are_apart, are_namesakes, fresh_part};
-ghost use Rattle.spk_world.specs.Setups.{AreBadNodes, HasLawful, fresh_member, fresh_node, is_good_host, is_good_setup};
+ghost use Rattle.spk_world.specs.Listed.{world_of};
+ghost use Rattle.spk_world.specs.Setups.{AreBadNodes, HasLawful, HasWide, fresh_member, fresh_node, is_good_host, is_good_setup};
+ghost use Rattle.spk_world_run.specs.Run.{IsRun};
 
 use crate::fault::WorldFault;
 use crate::log::Log;
@@ -15,6 +17,7 @@ use crate::world::World;
 use spk_device::Registry;
 use spk_edge::{EdgeConfig, EdgeFault, EdgeNode, Record};
 use spk_host::{HostConfig, HostFault};
+use spk_world_run::laws::begins;
 use std::alloc::Global;
 
 /// What a node begins with that none ran before.
@@ -77,6 +80,15 @@ fn nodes_of(alloc: Global, setups: Vec<(EdgeConfig, Registry)>) -> Result<Vec<No
     Ok(nodes)
 }
 
+/// Every width is one of a window.
+fn are_wide(configs: &[HostConfig])
+    ensures { AllByRecursion HasWide configs.now }
+{
+    for config in configs {
+        let _places = config.width.get();
+    }
+}
+
 /// The hosts, with a track of each of so many nodes.
 fn hosts_of(
     alloc: Global,
@@ -96,7 +108,8 @@ fn hosts_of(
 }
 
 impl World {
-    /// A world of nodes that were told nothing, and of hosts whose first sessions began at moment 0.
+    /// A world of nodes that were told nothing, and of hosts whose first sessions began at moment 0: one in which nothing was
+    /// done.
     ///
     /// Refused with Edge (84) for a node that `spk_edge` refuses, or two nodes of one group and name; with Host (85) for a host that
     /// `spk_host` refuses.
@@ -105,6 +118,7 @@ impl World {
         nodes: Vec<(EdgeConfig, Registry)>,
         hosts: Vec<HostConfig>,
     ) -> Result<World, WorldFault>
+        ensures begins { IfOk result (IsRun (world_of nodes.items hosts.items) []) }
         ensures nodes { IfOk result (λ w. w.nodes ≡ map fresh_node nodes.items) }
         ensures hosts { IfOk result (λ w. w.hosts ≡ map (fresh_member (length nodes.items)) hosts.items) }
         ensures good_nodes { OnOk result (list_all is_good_setup nodes.items ≡ true) }
@@ -115,6 +129,8 @@ impl World {
             ⊎ (((e ≡ WorldFault.Edge EdgeFault.BadConfig) × AreBadNodes nodes.items)
             ⊎ ((e ≡ WorldFault.Host HostFault.NotSparkplug) × (list_all is_good_host hosts.items ≡ false)))) }
     {
+        begins();
+        are_wide(&hosts);
         let nodes = nodes_of(alloc, nodes)?;
         let hosts = hosts_of(alloc, hosts, nodes.len())?;
         Ok(World {
