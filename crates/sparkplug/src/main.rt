@@ -3,22 +3,15 @@
 #![tactic(auto)]
 
 mod broker;
-mod events_file;
 mod fault;
 mod files;
-mod misfit;
-mod nodes_file;
 mod packets;
-mod part;
 mod places;
 mod run;
 mod show;
 mod texts;
-mod twice;
-mod values_file;
 mod words;
 mod world;
-mod world_file;
 
 use broker::serve_clients;
 use files::MachineFiles;

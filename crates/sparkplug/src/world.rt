@@ -1,9 +1,7 @@
 //! The command `world`: the events of a world of edge nodes and hosts, line by line.
 
 use crate::fault::{Fault, Stop};
-use crate::misfit::Misfit;
-use crate::nodes_file::MOST_NODES;
-use crate::world_file::{MOST_HOSTS, world_of};
+use spk_files::{MOST_HOSTS, MOST_NODES, Misfit, world_of};
 use spk_sequence::{Match, Step};
 use spk_world::{Consumed, Done, Event, Published, World, WorldFault};
 use std::alloc::Global;

@@ -1,8 +1,7 @@
-use crate::fault::Fault;
 use crate::files::Files;
 use crate::fixtures::{REFUSED, expect, noted, printed};
 use crate::run::{Outcome, run_with_notes};
-use crate::world_file::read_world;
+use spk_files::{FileFault, read_world};
 use std::io::Write;
 use std::process::Abort;
 
@@ -719,9 +718,9 @@ fn wrong_events_are_bad_plans(rt: HostRuntime) {
 // Of a wrong text no other fault is answered, and none of a good one; want of memory goes first.
 #[test]
 fn a_text_is_a_world_or_a_bad_plan(rt: HostRuntime) {
-    for (text, fault) in [("[]", Some(Fault::BadPlan)), (EACH, None)] {
+    for (text, fault) in [("[]", Some(FileFault::BadPlan)), (EACH, None)] {
         let mut answer = read_world(rt.alloc(), text).err();
-        if answer == Some(Fault::NoMemory) {
+        if answer == Some(FileFault::NoMemory) {
             answer = read_world(rt.alloc(), text).err();
         }
         assert_eq!(rt; answer, fault);

@@ -32,8 +32,6 @@ mod seat;
 mod serving;
 mod settling;
 mod subscribing;
-#[cfg(test)]
-mod tests;
 mod turning;
 
 pub use broker::Broker;

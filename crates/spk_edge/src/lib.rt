@@ -7,33 +7,17 @@ mod births;
 mod calls;
 mod changing;
 mod command;
-#[cfg(test)]
-mod command_tests;
 mod config;
-#[cfg(test)]
-mod datatype_tests;
 mod draining;
 mod ends;
 mod hearing;
-#[cfg(test)]
-mod host_tests;
 mod input;
 pub mod laws;
 mod message;
 mod node;
-#[cfg(test)]
-mod packet_tests;
 mod plan;
-#[cfg(test)]
-mod refusal_tests;
-#[cfg(test)]
-mod run_tests;
 mod sealing;
-#[cfg(test)]
-mod tests;
 mod texts;
-#[cfg(test)]
-mod twin_tests;
 mod values;
 
 pub use config::{EdgeConfig, Numbering, Record};

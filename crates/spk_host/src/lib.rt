@@ -8,8 +8,6 @@ pub mod laws;
 mod messages;
 mod nodes;
 mod out;
-#[cfg(test)]
-mod tests;
 
 pub use entry::Entry;
 pub use host::Host;

@@ -6,8 +6,6 @@ mod hearing;
 mod kept;
 pub mod laws;
 mod node;
-#[cfg(test)]
-mod tests;
 
 pub use hearing::Handed;
 pub use node::{HostNode, Ticked};

@@ -24,8 +24,3 @@ pub use feed::Feed;
 pub use packet::{Packet, Request, Will};
 pub use read::{decode, read_length};
 pub use write::{encode, is_writable};
-
-#[cfg(test)]
-mod stream_tests;
-#[cfg(test)]
-mod tests;

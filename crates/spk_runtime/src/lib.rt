@@ -9,8 +9,6 @@ mod hub;
 mod place;
 mod server;
 mod socket;
-#[cfg(test)]
-mod tests;
 
 pub use fault::ServeFault;
 pub use server::serve;

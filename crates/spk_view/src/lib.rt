@@ -8,8 +8,6 @@ mod metric;
 mod node;
 mod ready;
 mod table;
-#[cfg(test)]
-mod tests;
 mod watch;
 
 pub use device::DeviceView;

@@ -1,14 +1,24 @@
 -- A world by the list of all that was done in it, newest first.
-use Rattle.std.specs.Prelude.{◌≡◌, ◌⊎◌, List, [], ◌∷◌, None, map, slice_get, take, Some}
+use Rattle.std.specs.Prelude.{◌≡◌, ◌⊎◌, ℕ, ◌<◌, List, [], ◌∷◌, length, None, map, slice_get, take, Some}
 use Rattle.spk_device.specs.Book.{Book}
 use Rattle.spk_edge.specs.Patch.{setup_of}
 use Rattle.spk_edge.specs.View as edge
 use Rattle.spk_edge.specs.declared.config.EdgeConfig.{EdgeConfig}
 use Rattle.spk_edge_rules.specs.Config.{Setup}
+use Rattle.spk_heard.specs.Read.{AreRead}
+use Rattle.spk_host.specs.Data.{HostData}
+use Rattle.spk_host.specs.Inputs.{Call, host_after, node_calls}
+use Rattle.spk_host.specs.Nodes.{node_or}
+use Rattle.spk_host_node.specs.Data.{fresh_node}
+use Rattle.spk_host_node.specs.Inputs as node
+use Rattle.spk_host_node.specs.Inputs.{events_of, since_end}
+use Rattle.spk_host_rules.specs.Showing.{IsShown}
+use Rattle.spk_host_session.specs.Data.{Config}
 use Rattle.spk_host_session.specs.View as host
 use Rattle.spk_host_session.specs.declared.config.HostConfig.{HostConfig}
-use Rattle.spk_world_rules.specs.Events.{Deed, World}
+use Rattle.spk_world_rules.specs.Events.{Deed, World, host_at, node_at}
 use Rattle.spk_world_rules.specs.Files.{Event, deed_of}
+use Rattle.spk_world_rules.specs.Queries.{inputs_of, published_of}
 use Rattle.spk_world_rules.specs.Refusals.{refusal_of}
 use Rattle.spk_world_run.specs.Data.{WorldData}
 use Rattle.spk_world_run.specs.Fresh.{host_of}
@@ -40,3 +50,19 @@ pub record IsStoppedBy (w : World) (done : List Deed) (events : List Event) (aft
   pub there : slice_get events s.index ≡ Some event
   pub before : IsRun w (with_events w (take s.index events) done) after
   pub refused : IsRefusedBy w (with_events w (take s.index events) done) event s.fault
+
+-- what of a host's calls concerns a node of the world
+abbrev pub calls_at : World → ℕ → List Call → List node.Input
+calls_at w n calls = node_calls calls (node_at w n).config.group (node_at w n).config.node
+
+-- A host was told these calls, newest first. What it was told of a node in its present session is what came of that node, message by message of
+-- its position; and of each node it shows the values at the last message consumed, stale and online as these calls make it.
+pub record IsHeard (w : World) (done : List Deed) (h : ℕ) (host : HostData) : Type 0 where
+  pub config : Config
+  pub calls : List Call
+  pub is : host ≡ host_after config calls
+  pub waits : config.wait ≡ (host_at w h).wait
+  pub wide : config.width ≡ (host_at w h).width
+  pub read : (n : ℕ) → n < length w.nodes → AreRead (node_at w n) (published_of w done n) (inputs_of done h n) (since_end (calls_at w n calls))
+  pub shows : (n : ℕ) → n < length w.nodes → IsShown (events_of config.wait config.width (calls_at w n calls))
+      (node_or (fresh_node config.wait config.width) host.nodes (node_at w n).config.group (node_at w n).config.node).watch.view

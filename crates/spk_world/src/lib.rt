@@ -14,18 +14,10 @@ mod member;
 mod node;
 mod packets;
 mod records;
-#[cfg(test)]
-mod refused_tests;
 mod renewing;
 mod seen;
-#[cfg(test)]
-mod tests;
 mod ticking;
 mod track;
-#[cfg(test)]
-mod twin;
-#[cfg(test)]
-mod twin_tests;
 mod world;
 
 pub use answer::{Done, Stopped};

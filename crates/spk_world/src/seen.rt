@@ -7,12 +7,14 @@ ghost use Rattle.spk_world_rules.specs.Events as rules;
 ghost use Rattle.spk_world_rules.specs.Events.{Deed, node_at};
 ghost use Rattle.spk_world_rules.specs.Queries.{consumed_of, published_of};
 ghost use Rattle.spk_world_run.specs.Run.{AreConsumed, IsRun, posts_of};
+ghost use Rattle.spk_world.specs.Listed.{IsHeard};
 ghost use Rattle.spk_world.specs.Seen as spec;
 ghost use Rattle.spk_world.specs.View.{consumed_view, published_view};
 
 use crate::records::{Consumed, Published};
 use crate::world::World;
 use spk_host::Host;
+use spk_host::laws::any_list;
 use spk_world_rules::laws::headline;
 
 impl World {
@@ -60,8 +62,19 @@ impl World {
         Some(&part.log.published)
     }
 
-    /// A host. Takes no memory.
+    /// A host: what it shows is its view. Takes no memory.
     pub fn host(&self, host: usize) -> Option<&Host>
+        ensures exact { option_map (λ h. h.now) result ≡ spec.host_at self.now host }
+        // in a world in which a list of things was done: it was told what came of each node, and shows the values at the last
+        // message consumed of it
+        ensures listed { (w : rules.World) (done : List Deed) → IsRun w done self.now →
+            IfSome result (λ h. IsHeard w done host h.now) }
+    {
+        any_list();
+        self.host_there(host)
+    }
+
+    fn host_there(&self, host: usize) -> Option<&Host>
         ensures { option_map (λ h. h.now) result ≡ spec.host_at self.now host }
     {
         let member = self.hosts.get(host)?;

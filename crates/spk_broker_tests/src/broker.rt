@@ -1,0 +1,319 @@
+//! Tables of calls: bytes in, bytes out, by hand from the standard. Out of memory is a right answer wherever
+//! memory is asked for: nothing has changed then, and the call is made again.
+
+use spk_broker::{Broker, BrokerFault, Conn, Out};
+use spk_packets::{PacketFault, decode};
+use spk_session::Sort;
+use std::alloc::Global;
+use std::test::Fail;
+
+/// What comes to the broker.
+#[derive(Drop)]
+enum Event {
+    Opens,
+    Says(&'static [u8]),
+    /// Bytes of another protocol level.
+    Faults,
+    Ends,
+    Ticks,
+    /// A send of QoS 0 to it was refused.
+    Drops,
+}
+
+type Sends = &'static [(Conn, &'static [u8])];
+
+/// Of which connection, what, and when; then what is sent, and who is closed.
+type Row = (Conn, Event, u64, Sends, &'static [Conn]);
+
+fn call(
+    alloc: Global,
+    broker: &mut Broker,
+    conn: Conn,
+    event: &Event,
+    now: u64,
+) -> Result<Out, BrokerFault> {
+    match event {
+        Event::Opens => {
+            broker.open(now)?;
+            Ok(Out {
+                sends: Vec::new(alloc),
+                closes: Vec::new(alloc),
+            })
+        }
+        Event::Says(bytes) => match decode(alloc, bytes) {
+            Ok((packet, _)) => broker.packet(conn, &packet, now),
+            Err(_) => Err(BrokerFault::NoMemory),
+        },
+        Event::Faults => broker.fault(conn, PacketFault::BadLevel, now),
+        Event::Ends => broker.closed(conn, now),
+        Event::Ticks => broker.tick(now),
+        Event::Drops => broker.refused(conn, Sort::QosZero, now),
+    }
+}
+
+/// The call, made again where memory was refused.
+fn answer(
+    alloc: Global,
+    broker: &mut Broker,
+    conn: Conn,
+    event: &Event,
+    now: u64,
+) -> Result<Out, BrokerFault> {
+    match call(alloc, broker, conn, event, now) {
+        Err(BrokerFault::NoMemory) => call(alloc, broker, conn, event, now),
+        answer => answer,
+    }
+}
+
+/// Whether exactly this is sent and closed, in this order.
+fn is_right(out: &Out, sends: &[(Conn, &[u8])], closes: &[Conn]) -> bool {
+    if out.sends.len() != sends.len() {
+        return false;
+    }
+    for (sent, wanted) in out.sends.iter().zip(sends.iter()) {
+        if sent.conn != wanted.0 || sent.bytes.as_slice() != wanted.1 {
+            return false;
+        }
+    }
+    out.closes.as_slice() == closes
+}
+
+/// How many rows are right before the first that isn't.
+fn plays(alloc: Global, broker: &mut Broker, rows: &[Row]) -> Result<usize, BrokerFault> {
+    for (place, (conn, event, now, sends, closes)) in rows.iter().enumerate() {
+        let out = answer(alloc, broker, *conn, event, *now)?;
+        if !is_right(&out, sends, closes) {
+            return Ok(place);
+        }
+    }
+    Ok(rows.len())
+}
+
+/// CONNECT with clean session 1, keep alive 60 and no client id.
+const HELLO: &[u8] = b"\x10\x0c\x00\x04MQTT\x04\x02\x00\x3c\x00\x00";
+/// The client `x` with clean session 1, and with clean session 0.
+const X: &[u8] = b"\x10\x0d\x00\x04MQTT\x04\x02\x00\x3c\x00\x01x";
+
+const X_STAYS: &[u8] = b"\x10\x0d\x00\x04MQTT\x04\x00\x00\x3c\x00\x01x";
+/// CONNACK: accepted, without and with a session present.
+const WELCOME: &[u8] = b"\x20\x02\x00\x00";
+
+const WELCOME_BACK: &[u8] = b"\x20\x02\x01\x00";
+
+const DISCONNECT: &[u8] = b"\xe0\x00";
+
+/// First packets, the greatest grant of two filters, PUBACK before what the publish sends, PINGREQ.
+const FIRST: [Row; 9] = [
+    (1, Event::Opens, 0, &[], &[]),
+    (1, Event::Says(HELLO), 0, &[(1, WELCOME)], &[]),
+    (2, Event::Opens, 0, &[], &[]),
+    (
+        2,
+        Event::Says(b"\x10\x0c\x00\x04MQTT\x04\x00\x00\x3c\x00\x00"),
+        0,
+        &[(2, b"\x20\x02\x00\x02")],
+        &[2],
+    ),
+    (
+        1,
+        Event::Says(b"\x82\x0e\x00\x01\x00\x03a/#\x00\x00\x03+/b\x01"),
+        0,
+        &[(1, b"\x90\x04\x00\x01\x00\x01")],
+        &[],
+    ),
+    (
+        1,
+        Event::Says(b"\x32\x08\x00\x03a/b\x00\x097"),
+        0,
+        &[
+            (1, b"\x40\x02\x00\x09"),
+            (1, b"\x32\x08\x00\x03a/b\x00\x017"),
+        ],
+        &[],
+    ),
+    (1, Event::Says(b"\x40\x02\x00\x01"), 0, &[], &[]),
+    (1, Event::Says(b"\xc0\x00"), 0, &[(1, b"\xd0\x00")], &[]),
+    (1, Event::Says(DISCONNECT), 0, &[], &[]),
+];
+
+/// A take-over: the older one's will, then the newer one's CONNACK; the older one is closed.
+const TAKE_OVER: [Row; 7] = [
+    (1, Event::Opens, 0, &[], &[]),
+    (
+        1,
+        Event::Says(b"\x10\x13\x00\x04MQTT\x04\x06\x00\x3c\x00\x01x\x00\x01w\x00\x016"),
+        0,
+        &[(1, WELCOME)],
+        &[],
+    ),
+    (2, Event::Opens, 0, &[], &[]),
+    (2, Event::Says(HELLO), 0, &[(2, WELCOME)], &[]),
+    (
+        2,
+        Event::Says(b"\x82\x06\x00\x01\x00\x01#\x02"),
+        0,
+        &[(2, b"\x90\x03\x00\x01\x01")],
+        &[],
+    ),
+    (3, Event::Opens, 0, &[], &[]),
+    (
+        3,
+        Event::Says(X),
+        0,
+        &[(2, b"\x30\x04\x00\x01w6"), (3, WELCOME)],
+        &[1],
+    ),
+];
+
+/// A retained message, kept and removed; silence; bytes of another level before and after CONNECT.
+const RETAINED: [Row; 13] = [
+    (1, Event::Opens, 0, &[], &[]),
+    (1, Event::Says(HELLO), 0, &[(1, WELCOME)], &[]),
+    (1, Event::Says(b"\x31\x04\x00\x01ax"), 0, &[], &[]),
+    (
+        1,
+        Event::Says(b"\x82\x06\x00\x01\x00\x01a\x00"),
+        0,
+        &[(1, b"\x90\x03\x00\x01\x00"), (1, b"\x31\x04\x00\x01ax")],
+        &[],
+    ),
+    (
+        1,
+        Event::Says(b"\x31\x03\x00\x01a"),
+        0,
+        &[(1, b"\x30\x03\x00\x01a")],
+        &[],
+    ),
+    (
+        1,
+        Event::Says(b"\x82\x06\x00\x02\x00\x01a\x00"),
+        0,
+        &[(1, b"\x90\x03\x00\x02\x00")],
+        &[],
+    ),
+    (0, Event::Ticks, 90000, &[], &[]),
+    (0, Event::Ticks, 90001, &[], &[1]),
+    (2, Event::Opens, 90001, &[], &[]),
+    (2, Event::Faults, 90001, &[(2, b"\x20\x02\x00\x01")], &[2]),
+    (3, Event::Opens, 90001, &[], &[]),
+    (3, Event::Says(HELLO), 90001, &[(3, WELCOME)], &[]),
+    (3, Event::Faults, 90001, &[], &[3]),
+];
+
+/// What a kept session keeps while it is away, and what is sent again.
+const KEPT: [Row; 22] = [
+    (1, Event::Opens, 0, &[], &[]),
+    (1, Event::Says(X_STAYS), 0, &[(1, WELCOME)], &[]),
+    (
+        1,
+        Event::Says(b"\x82\x06\x00\x01\x00\x01a\x01"),
+        0,
+        &[(1, b"\x90\x03\x00\x01\x01")],
+        &[],
+    ),
+    (1, Event::Says(DISCONNECT), 0, &[], &[]),
+    (2, Event::Opens, 0, &[], &[]),
+    (2, Event::Says(HELLO), 0, &[(2, WELCOME)], &[]),
+    (
+        2,
+        Event::Says(b"\x32\x06\x00\x01a\x00\x07x"),
+        0,
+        &[(2, b"\x40\x02\x00\x07")],
+        &[],
+    ),
+    (3, Event::Opens, 0, &[], &[]),
+    (
+        3,
+        Event::Says(X_STAYS),
+        0,
+        &[(3, WELCOME_BACK), (3, b"\x32\x06\x00\x01a\x00\x01x")],
+        &[],
+    ),
+    (3, Event::Ends, 0, &[], &[]),
+    (4, Event::Opens, 0, &[], &[]),
+    (
+        4,
+        Event::Says(X_STAYS),
+        0,
+        &[(4, WELCOME_BACK), (4, b"\x3a\x06\x00\x01a\x00\x01x")],
+        &[],
+    ),
+    (4, Event::Says(b"\x40\x02\x00\x01"), 0, &[], &[]),
+    (4, Event::Says(DISCONNECT), 0, &[], &[]),
+    (5, Event::Opens, 0, &[], &[]),
+    (5, Event::Says(X_STAYS), 0, &[(5, WELCOME_BACK)], &[]),
+    (5, Event::Says(DISCONNECT), 0, &[], &[]),
+    (6, Event::Opens, 0, &[], &[]),
+    (6, Event::Says(X), 0, &[(6, WELCOME)], &[]),
+    (6, Event::Says(DISCONNECT), 0, &[], &[]),
+    (7, Event::Opens, 0, &[], &[]),
+    (7, Event::Says(X_STAYS), 0, &[(7, WELCOME)], &[]),
+];
+
+#[test]
+fn rows_are_right(rt: HostRuntime) -> Result<(), Fail> {
+    let tables: [&[Row]; 4] = [&FIRST, &TAKE_OVER, &RETAINED, &KEPT];
+    for rows in tables {
+        let mut broker = Broker::new(rt.alloc(), 128);
+        assert_eq!(rt; plays(rt.alloc(), &mut broker, rows)?, rows.len());
+    }
+    Ok(())
+}
+
+/// How many drops close a connection, where there are at most 300.
+fn drops_that_close(alloc: Global, limit: u16) -> Result<usize, BrokerFault> {
+    let mut broker = Broker::new(alloc, limit);
+    let _ = answer(alloc, &mut broker, 1, &Event::Opens, 0)?;
+    let _ = answer(alloc, &mut broker, 1, &Event::Says(HELLO), 0)?;
+    for drops in 1..300 {
+        let out = answer(alloc, &mut broker, 1, &Event::Drops, 0)?;
+        if out.closes.as_slice() == [1].as_slice() {
+            return Ok(drops);
+        }
+    }
+    Ok(0)
+}
+
+#[test]
+fn the_limit_of_drops_is_the_one_that_closes(rt: HostRuntime) -> Result<(), Fail> {
+    assert_eq!(rt; drops_that_close(rt.alloc(), 64)?, 64);
+    assert_eq!(rt; drops_that_close(rt.alloc(), 254)?, 254);
+    assert_eq!(rt; drops_that_close(rt.alloc(), 0)?, 1);
+    Ok(())
+}
+
+/// How many of 40 publishes go to their own connection alone: the broker makes its index of grants on the way.
+fn heard_alone(alloc: Global) -> Result<usize, BrokerFault> {
+    let mut broker = Broker::new(alloc, 128);
+    let _ = answer(alloc, &mut broker, 1, &Event::Opens, 0)?;
+    let _ = answer(alloc, &mut broker, 1, &Event::Says(HELLO), 0)?;
+    let asked = Event::Says(b"\x82\x08\x00\x05\x00\x03a/+\x00");
+    let _ = answer(alloc, &mut broker, 1, &asked, 0)?;
+    for said in 0..40 {
+        let value = Event::Says(b"\x30\x06\x00\x03a/b7");
+        let out = answer(alloc, &mut broker, 1, &value, 0)?;
+        if !is_right(&out, &[(1, b"\x30\x06\x00\x03a/b7")], &[]) {
+            return Ok(said);
+        }
+    }
+    Ok(40)
+}
+
+#[test]
+fn a_publish_goes_to_who_subscribed_with_an_index_too(rt: HostRuntime) -> Result<(), Fail> {
+    assert_eq!(rt; heard_alone(rt.alloc())?, 40);
+    Ok(())
+}
+
+#[test]
+fn a_thousand_connections_are_open_at_most(rt: HostRuntime) -> Result<(), Fail> {
+    let mut broker = Broker::new(rt.alloc(), 128);
+    for _ in 1..1001 {
+        let _ = answer(rt.alloc(), &mut broker, 0, &Event::Opens, 0)?;
+    }
+    assert!(rt; broker.open(0) == Err(BrokerFault::Limit));
+    assert!(rt; broker.closed(1001, 0) == Err(BrokerFault::NoSuchConn));
+    assert_eq!(rt; BrokerFault::Limit.number(), 31);
+    assert_eq!(rt; BrokerFault::NoSuchConn.number(), 30);
+    Ok(())
+}

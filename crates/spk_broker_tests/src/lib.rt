@@ -1,0 +1,7 @@
+//! Tests of the broker, and of the broker over TCP, over public calls alone. They stand apart since a crate with tests is proved twice.
+#![tactic(auto)]
+
+#[cfg(test)]
+mod broker;
+#[cfg(test)]
+mod serve;

@@ -1,0 +1,95 @@
+//! What commands ask of a node with the metric `t`, 1, and a device `D` with a metric `t`, 2, both Int32.
+use crate::node::{Call, REBIRTH, node, told};
+use spk_device::Alias;
+use spk_edge::{EdgeFault, EdgeNode, Numbering, Out, Write};
+use spk_payload::Value;
+use std::process::Abort;
+
+/// A command's answer. Where memory was refused the call is made again.
+fn commanded(node: &mut EdgeNode, now: u64, topic: &str, payload: &[u8]) -> Result<Out, EdgeFault> {
+    match node.command(now, topic, payload) {
+        Err(EdgeFault::NoMemory) => node.command(now, topic, payload),
+        answer => answer,
+    }
+}
+
+/// A topic, a payload, and the values written, by their aliases, and whether a rebirth is asked; none for a BadCommand.
+type Row = (
+    &'static str,
+    &'static [u8],
+    Option<(&'static [(Alias, i64)], bool)>,
+);
+
+const NODE: &str = "spBv1.0/G/NCMD/N";
+
+const DEVICE: &str = "spBv1.0/G/DCMD/N/D";
+
+const NO_REBIRTH: &[u8] = b"\x08\x09\x12\x1c\x0a\x14Node Control/Rebirth\x18\x09\x20\x0b\x70\x00";
+
+const ROWS: [Row; 20] = [
+    (NODE, REBIRTH, Some((&[], true))),
+    (NODE, NO_REBIRTH, Some((&[], false))),
+    (DEVICE, REBIRTH, None),
+    (NODE, b"", Some((&[], false))),
+    (NODE, b"\x12\x05\x0a\x01t\x50\x05", Some((&[(1, 5)], false))),
+    (
+        DEVICE,
+        b"\x12\x05\x0a\x01t\x50\x05",
+        Some((&[(2, 5)], false)),
+    ),
+    (NODE, b"\x12\x04\x10\x01\x50\x05", Some((&[(1, 5)], false))),
+    (DEVICE, b"\x12\x04\x10\x01\x50\x05", None),
+    (NODE, b"\x12\x04\x10\x02\x50\x05", None),
+    (
+        NODE,
+        b"\x12\x04\x10\x01\x50\x05\x12\x04\x10\x01\x50\x06",
+        Some((&[(1, 5), (1, 6)], false)),
+    ),
+    (
+        NODE,
+        b"\x12\x04\x10\x01\x50\x05\x12\x04\x10\x03\x50\x06",
+        None,
+    ),
+    (NODE, b"\x12\x06\x10\x01\x38\x01\x50\x05", None),
+    (NODE, b"\x12\x02\x10\x01", None),
+    (NODE, b"\x12\x04\x10\x01\x70\x01", None),
+    (NODE, b"\x12\x05\x10", None),
+    ("spBv1.0/G/DCMD/N/E", b"", Some((&[], false))),
+    ("spBv1.0/G/DCMD/N/E", b"\x12\x05\x0a\x01t\x50\x05", None),
+    ("spBv1.0/G/NCMD/M", b"", None),
+    ("spBv1.0/H/NCMD/N", b"", None),
+    ("spBv1.0/G/NDATA/N", b"", None),
+];
+
+/// The writes are these.
+fn assert_writes(rt: &impl Abort, writes: &[Write], want: &[(Alias, i64)]) {
+    assert_eq!(rt; writes.len(), want.len());
+    for (write, (alias, number)) in writes.iter().zip(want) {
+        assert_eq!(rt; write.alias, *alias);
+        assert_eq!(rt; write.value, Value::Signed(*number));
+    }
+}
+
+/// A birth is all that a node publishes for a command.
+#[test]
+fn commands_are_done_whole_or_not_at_all(rt: HostRuntime) {
+    let mut node = node(&rt, Numbering::RunsOn);
+    assert!(rt; told(&mut node, 5, Call::Open).is_ok());
+    assert!(rt; told(&mut node, 6, Call::Accepted).is_ok());
+    for (topic, payload, want) in ROWS {
+        match (commanded(&mut node, 7, topic, payload), want) {
+            (Ok(out), Some((values, is_born_again))) => {
+                assert_writes(&rt, &out.writes, values);
+                assert_eq!(rt;
+                    !out.packets.is_empty(),
+                    is_born_again,
+                    "{topic:?} {payload:?}"
+                );
+            }
+            (answer, want) => {
+                assert_eq!(rt; answer.err(), Some(EdgeFault::BadCommand));
+                assert!(rt; want.is_none(), "{topic:?} {payload:?}");
+            }
+        }
+    }
+}

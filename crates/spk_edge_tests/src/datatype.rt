@@ -1,0 +1,204 @@
+//! Commands with a value of each datatype, as Sparkplug 3.0.0 (6.4.16) writes it in a payload.
+use crate::node::{FIRST, config};
+use spk_device::{DeviceFault, Owner, Registry};
+use spk_edge::{EdgeConfig, EdgeFault, EdgeNode, Numbering, Write};
+use spk_payload::Value;
+use std::process::Abort;
+
+/// A value of the tables.
+#[derive(Clone, Copy, Debug)]
+enum Plain {
+    Signed(i64),
+    Unsigned(u64),
+    Flag(bool),
+    Words(&'static str),
+    Octets(&'static [u8]),
+}
+
+/// A datatype, a payload with one metric, the alias 1, and what is written; none for a BadCommand.
+type Row = (u32, &'static [u8], Option<Plain>);
+
+const ROWS: [Row; 34] = [
+    (
+        1,
+        b"\x12\x08\x10\x01P\xfb\xff\xff\xff\x0f",
+        Some(Plain::Signed(-5)),
+    ),
+    // one byte of a narrow number, and one too large (own rule)
+    (1, b"\x12\x05\x10\x01P\x80\x01", Some(Plain::Signed(-128))),
+    (1, b"\x12\x05\x10\x01P\x80\x02", None),
+    (1, b"\x12\x04\x10\x01X\x05", None),
+    (
+        2,
+        b"\x12\x08\x10\x01P\xd4\xfd\xff\xff\x0f",
+        Some(Plain::Signed(-300)),
+    ),
+    (2, b"\x12\x05\x10\x01z\x015", None),
+    (
+        3,
+        b"\x12\x08\x10\x01P\x90\xdd\xfb\xff\x0f",
+        Some(Plain::Signed(-70_000)),
+    ),
+    (3, b"\x12\x04\x10\x01p\x01", None),
+    (
+        4,
+        b"\x12\x0d\x10\x01X\x80\x80\x80\x80\x80\xe0\xff\xff\xff\x01",
+        Some(Plain::Signed(-1_099_511_627_776)),
+    ),
+    (4, b"\x12\x04\x10\x01P\x05", None),
+    (5, b"\x12\x05\x10\x01P\xff\x01", Some(Plain::Unsigned(255))),
+    (5, b"\x12\x05\x10\x01P\x80\x02", None),
+    (
+        6,
+        b"\x12\x06\x10\x01P\xff\xff\x03",
+        Some(Plain::Unsigned(65_535)),
+    ),
+    (6, b"\x12\x06\x10\x01P\x80\x80\x04", None),
+    (
+        7,
+        b"\x12\x08\x10\x01P\xff\xff\xff\xff\x0f",
+        Some(Plain::Unsigned(4_294_967_295)),
+    ),
+    (
+        7,
+        b"\x12\x08\x10\x01X\xff\xff\xff\xff\x0f",
+        Some(Plain::Unsigned(4_294_967_295)),
+    ),
+    (7, b"\x12\x08\x10\x01X\x80\x80\x80\x80\x10", None),
+    (
+        8,
+        b"\x12\x0d\x10\x01X\xff\xff\xff\xff\xff\xff\xff\xff\xff\x01",
+        Some(Plain::Unsigned(u64::MAX)),
+    ),
+    (8, b"\x12\x06\x10\x01\x82\x01\x01\x05", None),
+    (3, b"\x12\x07\x10\x01e\x00\x00\xc0?", None),
+    (3, b"\x12\x0b\x10\x01i\x00\x00\x00\x00\x00\x00\xf8?", None),
+    (11, b"\x12\x04\x10\x01p\x01", Some(Plain::Flag(true))),
+    (11, b"\x12\x04\x10\x01p\x00", Some(Plain::Flag(false))),
+    (11, b"\x12\x04\x10\x01P\x01", None),
+    (12, b"\x12\x06\x10\x01z\x02on", Some(Plain::Words("on"))),
+    (12, b"\x12\x07\x10\x01\x82\x01\x02on", None),
+    (
+        13,
+        b"\x12\x09\x10\x01X\x80\xd0\x95\xff\xbc1",
+        Some(Plain::Unsigned(1_700_000_000_000)),
+    ),
+    (13, b"\x12\x04\x10\x01p\x00", None),
+    (
+        14,
+        b"\x12\x09\x10\x01z\x05gr\xc3\xbcn",
+        Some(Plain::Words("gr\u{fc}n")),
+    ),
+    (15, b"\x12\x08\x10\x01z\x047e57", Some(Plain::Words("7e57"))),
+    (15, b"\x12\x04\x10\x01X\x07", None),
+    (
+        17,
+        b"\x12\x07\x10\x01\x82\x01\x02\x00\xff",
+        Some(Plain::Octets(&[0, 255])),
+    ),
+    (17, b"\x12\x06\x10\x01z\x02ab", None),
+    (
+        18,
+        b"\x12\x05\x10\x01\x82\x01\x00",
+        Some(Plain::Octets(&[])),
+    ),
+];
+
+fn is_plain(value: &Value, plain: Plain) -> bool {
+    match (value, plain) {
+        (Value::Signed(value), Plain::Signed(plain)) => *value == plain,
+        (Value::Unsigned(value), Plain::Unsigned(plain)) => *value == plain,
+        (Value::Flag(value), Plain::Flag(plain)) => *value == plain,
+        (Value::Words(value), Plain::Words(plain)) => value.as_str() == plain,
+        (Value::Octets(value), Plain::Octets(plain)) => value.as_slice() == plain,
+        _ => false,
+    }
+}
+
+/// Whose metric is written, and by which command.
+const TARGETS: [(Owner, &str); 2] = [
+    (Owner::Node, "spBv1.0/G/NCMD/N"),
+    (Owner::Device(0), "spBv1.0/G/DCMD/N/D"),
+];
+
+/// The device `D`, and the metric `m` of a datatype, alias 1. Where memory was refused a call is made again.
+fn registry(rt: &(impl Abort + AllocGlobal), owner: Owner, datatype: u32) -> Registry {
+    let mut registry = Registry::new(rt.alloc());
+    if registry.add_device("D").is_err() {
+        assert_eq!(rt; registry.add_device("D"), Ok(()));
+    }
+    let answer = match registry.add_metric(owner, "m", datatype, None) {
+        Err(DeviceFault::NoMemory) => registry.add_metric(owner, "m", datatype, None),
+        answer => answer,
+    };
+    assert_eq!(rt; answer, Ok(1));
+    registry
+}
+
+fn node(
+    rt: &(impl Abort + AllocGlobal),
+    owner: Owner,
+    datatype: u32,
+) -> Result<EdgeNode, EdgeFault> {
+    let config: EdgeConfig = config(rt, "G", 3, Numbering::RunsOn);
+    EdgeNode::new(rt.alloc(), config, FIRST, registry(rt, owner, datatype))
+}
+
+/// A node that waits. Where memory was refused it is made again.
+fn joined(rt: &(impl Abort + AllocGlobal), owner: Owner, datatype: u32) -> Option<EdgeNode> {
+    let mut node = match node(rt, owner, datatype) {
+        Err(EdgeFault::NoMemory) => node(rt, owner, datatype).ok()?,
+        answer => answer.ok()?,
+    };
+    if node.open(5).is_err() {
+        node.open(5).ok()?;
+    }
+    if node.accepted(6).is_err() {
+        node.accepted(6).ok()?;
+    }
+    Some(node)
+}
+
+/// What a command writes. Where memory was refused the call is made again.
+fn written(node: &mut EdgeNode, topic: &str, payload: &[u8]) -> Result<Vec<Write>, EdgeFault> {
+    let answer = match node.command(7, topic, payload) {
+        Err(EdgeFault::NoMemory) => node.command(7, topic, payload),
+        answer => answer,
+    };
+    answer.map(|out| out.writes)
+}
+
+/// What a command wrote is the value, or it is refused.
+fn assert_written(
+    rt: &impl Abort,
+    answer: Result<Vec<Write>, EdgeFault>,
+    plain: Option<Plain>,
+    datatype: u32,
+) {
+    match (answer, plain) {
+        (Ok(writes), Some(plain)) => {
+            assert_eq!(rt; writes.len(), 1, "of {datatype}");
+            for write in &writes {
+                assert!(rt;
+                    write.alias == 1 && is_plain(&write.value, plain),
+                    "of {datatype}: {plain:?}"
+                );
+            }
+        }
+        (answer, plain) => {
+            assert_eq!(rt; answer.err(), Some(EdgeFault::BadCommand), "of {datatype}");
+            assert!(rt; plain.is_none(), "of {datatype}: {plain:?}");
+        }
+    }
+}
+
+#[test]
+fn a_value_of_each_datatype_is_written(rt: HostRuntime) {
+    for (owner, topic) in TARGETS {
+        for (datatype, payload, plain) in ROWS {
+            let mut node = joined(&rt, owner, datatype).expect(&rt, "a node");
+            let answer = written(&mut node, topic, payload);
+            assert_written(&rt, answer, plain, datatype);
+        }
+    }
+}

@@ -1,0 +1,113 @@
+//! What packets of the server come to, as bytes of MQTT 3.1.1.
+use crate::host::{BAD, SUBSCRIBE, hosted, letters, node_of};
+use crate::node::{CONNECT, Call, FIRST, NBIRTH, assert_answer, told};
+use spk_edge::{EdgeFault, EdgeNode, Out, Phase};
+use spk_packets::{Packet, PacketFault, decode};
+use std::process::Abort;
+
+/// The packet that the bytes are. Where memory was refused it is read again.
+fn packet_of(rt: &(impl Abort + AllocGlobal), bytes: &[u8]) -> Packet {
+    let first = match decode(rt.alloc(), bytes) {
+        Err(PacketFault::NoMemory) => decode(rt.alloc(), bytes),
+        answer => answer,
+    };
+    let (packet, _) = first.expect(rt, "a packet");
+    packet
+}
+
+/// What a packet gives. Where memory was refused the call is made again.
+fn answered(
+    rt: &(impl Abort + AllocGlobal),
+    node: &mut EdgeNode,
+    now: u64,
+    bytes: &[u8],
+) -> Result<Out, EdgeFault> {
+    let packet = packet_of(rt, bytes);
+    match node.packet(now, &packet) {
+        Err(EdgeFault::NoMemory) => node.packet(now, &packet),
+        answer => answer,
+    }
+}
+
+/// A moment, a packet, and the packets that it gives, or its refusal.
+type Row = (
+    u64,
+    &'static [u8],
+    Result<&'static [&'static str], EdgeFault>,
+);
+
+static ROWS: [Row; 11] = [
+    // a PUBLISH of QoS 1 before the births
+    (
+        5,
+        b"2\x14\x00\x10spBv1.0/G/NCMD/N\x00\x08",
+        Err(EdgeFault::WrongPhase),
+    ),
+    (6, b"\x20\x02\x00\x00", Ok(&[SUBSCRIBE])),
+    (
+        6,
+        b"2\x14\x00\x10spBv1.0/G/NCMD/N\x00\x08",
+        Ok(&["40020008"]),
+    ),
+    (
+        6,
+        b"2\"\x00\x0fspBv1.0/STATE/H\x00\x07{\"online\":true}",
+        Err(BAD),
+    ),
+    (
+        6,
+        b"20\x00\x0fspBv1.0/STATE/I\x00\x08{\"online\":true,\"timestamp\":1}",
+        Err(EdgeFault::BadCommand),
+    ),
+    (
+        6,
+        b"20\x00\x0fspBv1.0/STATE/H\x00\x07{\"online\":true,\"timestamp\":1}",
+        Ok(&["40020007", NBIRTH]),
+    ),
+    (
+        7,
+        b"02\x00\x10spBv1.0/G/NCMD/N\x08\x09\x12\x1c\x0a\x14Node Control/Rebirth\x18\x09 \x0bp\x01",
+        Ok(&[
+            "3052001273704276312e302f472f4e42495254482f4e0807120d0a056264536571180720045800121c0a144e6f646520436f6e74726f6c2f526562697274681807200b7000120b0a017410011807200350071801",
+        ]),
+    ),
+    (
+        7,
+        b"2\x14\x00\x10spBv1.0/G/NCMD/M\x00\x09",
+        Err(EdgeFault::BadCommand),
+    ),
+    // once it is joined, a CONNACK that doesn't accept says nothing
+    (7, b"\x20\x02\x00\x05", Ok(&[])),
+    (7, b"\xd0\x00", Ok(&[])),
+    (8, b"\x20\x02\x00\x00", Err(EdgeFault::WrongPhase)),
+];
+
+#[test]
+fn a_packet_is_a_call_and_what_is_done_is_acknowledged_first(rt: HostRuntime) {
+    let mut node = hosted(&rt);
+    assert_answer(&rt, 5, told(&mut node, 5, Call::Open), &Ok(&[CONNECT]));
+    for (now, bytes, wanted) in ROWS {
+        assert_answer(&rt, now, answered(&rt, &mut node, now, bytes), &wanted);
+    }
+    assert_eq!(rt; node.phase(), Phase::Born);
+}
+
+#[test]
+fn a_node_that_is_not_accepted_closes(rt: HostRuntime) {
+    let mut node = hosted(&rt);
+    assert_answer(&rt, 5, told(&mut node, 5, Call::Open), &Ok(&[CONNECT]));
+    let out = answered(&rt, &mut node, 6, b"\x20\x02\x00\x05").expect(&rt, "it is taken");
+    assert!(rt; out.close && out.packets.is_empty() && out.writes.is_empty());
+    assert_eq!(rt; node.phase(), Phase::Idle);
+    assert_eq!(rt; node.record().bd, 1);
+}
+
+#[test]
+fn a_name_too_long_for_a_topic_is_too_large(rt: HostRuntime) {
+    let group = letters(&rt, 65_530);
+    let mut node = node_of(&rt, group.as_str(), 1);
+    let answer = told(&mut node, 5, Call::Open);
+    assert_answer(&rt, 5, answer, &Err(EdgeFault::TooLarge));
+    assert_eq!(rt; node.phase(), Phase::Idle);
+    assert_eq!(rt; node.record(), FIRST);
+}

@@ -1,0 +1,16 @@
+//! Files of the program (own format, JSON): a world's edge nodes, hosts and events. What is wrong with a file is told with its place.
+#![tactic(auto)]
+
+mod events;
+mod fault;
+mod misfit;
+mod nodes;
+mod part;
+mod twice;
+mod values;
+mod world;
+
+pub use fault::FileFault;
+pub use misfit::{Cause, Misfit, Place};
+pub use nodes::MOST_NODES;
+pub use world::{MOST_HOSTS, read_world, world_of};

@@ -1,0 +1,169 @@
+//! What is wrong with a file, and where in it.
+
+use serde_json::Error as JsonError;
+use spk_device::{DeviceFault, Refusal};
+use spk_world::WorldFault;
+use std::alloc::{AllocError, AllocFailed};
+use std::fmt;
+
+/// How deep a place may lie, as `nodes[0].metrics[1].value.hex` does.
+const DEEPEST: usize = 6;
+
+/// A step into a value.
+#[derive(Clone, Copy, Debug, PartialEq, Eq)]
+enum Turn {
+    Member(&'static str),
+    Item(usize),
+}
+
+/// A place in a file, as `nodes[0].capacity`.
+#[derive(Clone, Copy, Debug, PartialEq, Eq)]
+pub struct Place {
+    turns: [Option<Turn>; DEEPEST],
+}
+
+impl Place {
+    /// The file as a whole.
+    pub(crate) const FILE: Place = Place {
+        turns: [None; DEEPEST],
+    };
+
+    /// One step farther. What lies deeper than files go keeps its place.
+    fn then(self, turn: Turn) -> Place {
+        let mut turns = self.turns;
+        for slot in turns.iter_mut() {
+            if slot.is_none() {
+                *slot = Some(turn);
+                return Place { turns };
+            }
+        }
+        self
+    }
+
+    /// The member of this name.
+    pub(crate) fn member(self, name: &'static str) -> Place {
+        self.then(Turn::Member(name))
+    }
+
+    /// The item of this number, from 0.
+    pub(crate) fn item(self, index: usize) -> Place {
+        self.then(Turn::Item(index))
+    }
+}
+
+impl fmt::Display for Place {
+    fn fmt<W: fmt::Write>(&self, f: &mut fmt::Formatter<W>) -> fmt::Result {
+        let mut is_first = true;
+        for turn in self.turns.iter().flatten() {
+            match turn {
+                Turn::Member(name) if is_first => write!(f, "{name}")?,
+                Turn::Member(name) => write!(f, ".{name}")?,
+                Turn::Item(index) => write!(f, "[{index}]")?,
+            }
+            is_first = false;
+        }
+        if is_first {
+            write!(f, "the file")?;
+        }
+        Ok(())
+    }
+}
+
+/// What is wrong at a place.
+#[derive(Debug, PartialEq, Drop)]
+pub enum Cause {
+    /// The text isn't JSON: it is read up to this line and column.
+    NoJson { line: usize, column: usize },
+    /// A member isn't there.
+    Missing,
+    /// There is a member of this name, which isn't one of the file's.
+    Unknown(String),
+    /// There are two members of this name.
+    Twice(String),
+    /// It isn't that.
+    Not(&'static str),
+    /// It isn't a number from the first to the second.
+    Outside(u64, u64),
+    /// It hasn't so many parts.
+    Parts(usize),
+    /// It has more than so many items.
+    More(usize),
+    /// No device before it has that name.
+    NoDevice,
+    /// An earlier node has its group and name.
+    Namesake,
+    /// The registry refuses it.
+    Registry(Refusal),
+    /// No world is made of it.
+    World(WorldFault),
+}
+
+impl fmt::Display for Cause {
+    fn fmt<W: fmt::Write>(&self, f: &mut fmt::Formatter<W>) -> fmt::Result {
+        match self {
+            Cause::NoJson { line, column } => {
+                write!(f, "isn't JSON at line {line}, column {column}")
+            }
+            Cause::Missing => write!(f, "is missing"),
+            Cause::Unknown(name) => write!(f, "has a member that isn't known: {name:?}"),
+            Cause::Twice(name) => write!(f, "has an object with two members {name:?}"),
+            Cause::Not(what) => write!(f, "isn't {what}"),
+            Cause::Outside(least, most) => {
+                write!(f, "isn't a whole number from {least} to {most}")
+            }
+            Cause::Parts(count) => write!(f, "hasn't {count} parts"),
+            Cause::More(most) => write!(f, "has more than {most} items"),
+            Cause::NoDevice => write!(f, "isn't the name of a device of the node"),
+            Cause::Namesake => write!(f, "has the group and name of an earlier node"),
+            Cause::Registry(refusal) => {
+                let number = refusal.number();
+                write!(f, "is refused: {refusal} ({number})")
+            }
+            Cause::World(fault) => {
+                let number = fault.number();
+                write!(f, "is refused: {fault} ({number})")
+            }
+        }
+    }
+}
+
+/// Why a file isn't read.
+#[derive(Debug, PartialEq, Drop)]
+pub enum Misfit {
+    /// A growth was refused.
+    NoMemory,
+    /// This is wrong there.
+    Wrong(Place, Cause),
+}
+
+impl Misfit {
+    /// Why a text isn't JSON.
+    pub(crate) fn of_json(error: &JsonError) -> Misfit {
+        if error.is_memory() {
+            return Misfit::NoMemory;
+        }
+        let line = error.line();
+        let column = error.column();
+        Misfit::Wrong(Place::FILE, Cause::NoJson { line, column })
+    }
+
+    /// What the registry says of the device or the metric there.
+    pub(crate) fn of_registry(place: Place, fault: DeviceFault) -> Misfit {
+        match fault {
+            DeviceFault::NoMemory => Misfit::NoMemory,
+            DeviceFault::Refused(refusal) => Misfit::Wrong(place, Cause::Registry(refusal)),
+        }
+    }
+}
+
+impl From<AllocError> for Misfit {
+    fn from(_refused: AllocError) -> Misfit {
+        Misfit::NoMemory
+    }
+}
+
+impl<T: Drop> From<AllocFailed<T>> for Misfit {
+    fn from(_refused: AllocFailed<T>) -> Misfit {
+        Misfit::NoMemory
+    }
+}

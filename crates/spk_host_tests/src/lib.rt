@@ -1,0 +1,9 @@
+//! Tests of the host application, of what it keeps of a node, and of what it shows, over public calls alone. They stand apart since a crate with tests is proved twice.
+#![tactic(auto)]
+
+#[cfg(test)]
+mod host;
+#[cfg(test)]
+mod node;
+#[cfg(test)]
+mod view;

@@ -1,0 +1,507 @@
+//! Long runs of three nodes and two hosts beside a second, plain telling of the rules. Node 0 runs on, node 1 runs on and
+//! has a primary host, node 2's numbers restart. Each has the metrics `t`, `s` and `f` (aliases 1 to 3), and the device D
+//! with its own `t` (alias 4).
+use crate::twin::{Hearer, Pair, Source, Twin};
+use spk_device::{Owner, Registry};
+use spk_edge::{EdgeConfig, EdgeFault, Numbering};
+use spk_host::HostConfig;
+use spk_payload::Value;
+use spk_sequence::{Match, Step, Width};
+use spk_world::{Consumed, Done, Event, Published, World, WorldFault};
+use std::alloc::Global;
+use std::process::Abort;
+use std::test::Fail;
+
+/// How many nodes and hosts there are.
+const NODES: usize = 3;
+
+const HOSTS: usize = 2;
+
+/// How many events a run has, and the milliseconds from one to the next.
+const EVENTS: u64 = 20_000;
+
+const PACE: u64 = 10;
+
+/// A number that the run's next choice is made by.
+#[derive(Drop)]
+struct Dice {
+    seed: u64,
+}
+
+impl Dice {
+    /// One of so many sides, from 0.
+    fn roll(&mut self, sides: u64) -> u64 {
+        self.seed = self
+            .seed
+            .wrapping_mul(6_364_136_223_846_793_005)
+            .wrapping_add(1_442_695_040_888_963_407);
+        let pick = self.seed >> 33;
+        pick.checked_rem(sides).unwrap_or(0)
+    }
+}
+
+/// A text. Where memory was refused it is made again.
+fn text(alloc: Global, words: &str) -> Option<String> {
+    match String::from_str(alloc, words) {
+        Ok(text) => Some(text),
+        Err(_) => String::from_str(alloc, words).ok(),
+    }
+}
+
+fn registry(alloc: Global) -> Option<Registry> {
+    let mut registry = Registry::new(alloc);
+    let _first = registry.add_metric(Owner::Node, "t", 3, None).ok()?;
+    let _second = registry.add_metric(Owner::Node, "s", 12, None).ok()?;
+    let _third = registry.add_metric(Owner::Node, "f", 11, None).ok()?;
+    registry.add_device("D").ok()?;
+    let _fourth = registry.add_metric(Owner::Device(0), "t", 3, None).ok()?;
+    Some(registry)
+}
+
+fn config(
+    alloc: Global,
+    node: &str,
+    primary: Option<String>,
+    numbering: Numbering,
+) -> Option<EdgeConfig> {
+    Some(EdgeConfig {
+        group: text(alloc, "G")?,
+        node: text(alloc, node)?,
+        primary,
+        keep: 0,
+        capacity: 3,
+        numbering,
+    })
+}
+
+fn host(alloc: Global, name: &str, wait: u64, width: Width) -> Option<HostConfig> {
+    Some(HostConfig {
+        name: text(alloc, name)?,
+        group: text(alloc, "G")?,
+        wait,
+        keep: 0,
+        width,
+    })
+}
+
+const WAITS: [u64; HOSTS] = [150, 1_500];
+
+fn world(alloc: Global, width: Width) -> Option<World> {
+    let primary = Some(text(alloc, "H0")?);
+    let first = config(alloc, "A", None, Numbering::RunsOn)?;
+    let second = config(alloc, "B", primary, Numbering::RunsOn)?;
+    let third = config(alloc, "C", None, Numbering::Restarts)?;
+    let mut nodes = Vec::with_capacity(alloc, NODES).ok()?;
+    nodes.push((first, registry(alloc)?)).ok()?;
+    nodes.push((second, registry(alloc)?)).ok()?;
+    nodes.push((third, registry(alloc)?)).ok()?;
+    let mut hosts = Vec::with_capacity(alloc, HOSTS).ok()?;
+    hosts.push(host(alloc, "H0", WAITS[0], width)?).ok()?;
+    hosts.push(host(alloc, "H1", WAITS[1], width)?).ok()?;
+    World::new(alloc, nodes, hosts).ok()
+}
+
+fn twin(alloc: Global, width: u64) -> Option<Twin> {
+    let mut nodes = Vec::with_capacity(alloc, NODES).ok()?;
+    for restarts in [false, false, true] {
+        nodes.push(Source::new(alloc, restarts)).ok()?;
+    }
+    let mut hosts = Vec::with_capacity(alloc, HOSTS).ok()?;
+    for wait in WAITS {
+        hosts.push(Hearer::new(alloc, wait, NODES)).ok()?;
+    }
+    Some(Twin {
+        width,
+        nodes,
+        hosts,
+    })
+}
+
+/// A value: mostly one of the metric's type.
+fn value_of(alloc: Global, dice: &mut Dice, alias: u64) -> Option<Option<Value>> {
+    let pick = dice.roll(10);
+    if pick == 0 {
+        return Some(None);
+    }
+    if pick == 1 || alias == 3 {
+        return Some(Some(Value::Flag(dice.roll(2) == 0)));
+    }
+    if alias == 2 {
+        let words = if pick < 5 { "up and down" } else { "down" };
+        return Some(Some(Value::Words(text(alloc, words)?)));
+    }
+    Some(Some(Value::Signed(i64::from((dice.roll(200) % 256) as u8))))
+}
+
+/// An event of a node.
+fn edge_event(alloc: Global, dice: &mut Dice, node: usize, now: u64) -> Option<Event> {
+    Some(match dice.roll(32) {
+        0..=3 => Event::Open { node, now },
+        4..=7 => Event::Accepted { node, now },
+        8 => Event::Cut { node },
+        9 => Event::Stop { node, now },
+        10..=11 => Event::Rebirth { node, now },
+        12..=15 => Event::State {
+            node,
+            now,
+            online: dice.roll(6) != 0,
+            timestamp: now,
+        },
+        16..=17 => Event::Drain { node, now },
+        18..=19 => Event::Device {
+            node,
+            now,
+            name: text(alloc, if dice.roll(9) == 0 { "E" } else { "D" })?,
+            up: dice.roll(2) == 0,
+        },
+        _ => {
+            let alias = dice
+                .roll(5)
+                .saturating_add(if dice.roll(20) == 0 { 0 } else { 1 });
+            Event::Set {
+                node,
+                now,
+                alias,
+                value: value_of(alloc, dice, alias)?,
+            }
+        }
+    })
+}
+
+/// A position near what a host awaits of a node, or far from it.
+fn position_of(dice: &mut Dice, node: &Source, pair: &Pair, width: u64) -> u64 {
+    let next = pair.next();
+    let reach = pair
+        .greatest()
+        .map_or(0, |greatest| greatest.saturating_add(1));
+    let newer = pair.taken.map_or(0, |taken| taken.saturating_add(1));
+    match dice.roll(20) {
+        // in order, or the next birth
+        0..=6 if pair.follows => next,
+        0..=6 => node
+            .birth_from(newer.max(reach.saturating_sub(width)))
+            .unwrap_or(next),
+        7 => node.birth_from(newer).unwrap_or(next),
+        // displaced within the window, and at its ends
+        8..=9 => next.saturating_add(dice.roll(4)),
+        10 => next.saturating_add(dice.roll(width.saturating_add(1))),
+        11 => next
+            .saturating_add(width)
+            .saturating_add(dice.roll(3))
+            .saturating_sub(1),
+        12 => reach
+            .saturating_add(254)
+            .saturating_sub(width.saturating_mul(2))
+            .saturating_add(dice.roll(4)),
+        13 => reach
+            .saturating_add(dice.roll(4))
+            .saturating_sub(width.saturating_add(2)),
+        // repeats
+        14 => next.saturating_sub(dice.roll(width.saturating_add(2)).saturating_add(1)),
+        15 => pair.taken.unwrap_or(0),
+        // anywhere
+        16 => dice.roll(node.length().saturating_add(2)),
+        17 => node.birth_from(dice.roll(node.length())).unwrap_or(0),
+        18 => node.birth_from(newer).unwrap_or(0),
+        _ => reach.saturating_add(dice.roll(3)),
+    }
+}
+
+/// A session near that of the birth taken last, or far from it.
+fn session_of(dice: &mut Dice, node: &Source, pair: &Pair) -> u64 {
+    let taken = pair.taken.and_then(|taken| node.message(taken));
+    let session = taken.map_or(0, |sent| sent.session);
+    match dice.roll(8) {
+        0..=2 => session,
+        3 => session.saturating_add(1),
+        4 => session.saturating_sub(1),
+        5 => session.saturating_add(255).saturating_add(dice.roll(2)),
+        6 => dice.roll(node.sessions.saturating_add(2)),
+        _ => session.saturating_sub(dice.roll(2).saturating_add(255)),
+    }
+}
+
+/// An event of a host.
+fn host_event(dice: &mut Dice, twin: &Twin, host: usize, node: usize, now: u64) -> Event {
+    let kind = dice.roll(1_000);
+    if kind < 2 {
+        return Event::Session { host, now };
+    }
+    if kind < 60 {
+        let later = dice.roll(4).saturating_mul(100);
+        return Event::Tick {
+            host,
+            now: now.saturating_add(later),
+        };
+    }
+    let (Some(source), Some(pair)) = (twin.nodes.get(node), twin.pair(host, node)) else {
+        return Event::Hand {
+            host,
+            node,
+            position: 0,
+            now,
+        };
+    };
+    if kind < 100 {
+        return Event::Death {
+            host,
+            node,
+            session: session_of(dice, source, pair),
+            now,
+        };
+    }
+    Event::Hand {
+        host,
+        node,
+        position: position_of(dice, source, pair, twin.width),
+        now,
+    }
+}
+
+/// The event of a turn. At three times one node opens and cuts connections only, so that its sessions are many; and the
+/// hosts are behind at some times, and catch up at others.
+fn event_of(alloc: Global, dice: &mut Dice, twin: &Twin, turn: u64) -> Option<Event> {
+    let now = turn.saturating_mul(PACE).saturating_sub(dice.roll(25));
+    if turn % 6_000 >= 5_400 {
+        let node = (turn / 6_000) as usize;
+        return Some(if turn % 2 == 0 {
+            Event::Open { node, now }
+        } else {
+            Event::Cut { node }
+        });
+    }
+    let (mut host, mut node) = (dice.roll(2) as usize, dice.roll(3) as usize);
+    if dice.roll(200) == 0 {
+        host = HOSTS;
+    }
+    if dice.roll(200) == 0 {
+        node = NODES;
+    }
+    let is_behind = turn % 1_000 < 300;
+    if dice.roll(10) < (if is_behind { 8 } else { 3 }) {
+        let is_last = dice.roll(100) == 0;
+        return edge_event(alloc, dice, node, if is_last { 1 << 63 } else { now });
+    }
+    Some(host_event(dice, twin, host, node, now))
+}
+
+/// The node of an event of nodes, and whether it opens a session.
+fn told_node(event: &Event) -> Option<(usize, bool)> {
+    match event {
+        Event::Open { node, now: _ } => Some((*node, true)),
+        Event::Accepted { node, now: _ }
+        | Event::Drain { node, now: _ }
+        | Event::Stop { node, now: _ }
+        | Event::Rebirth { node, now: _ } => Some((*node, false)),
+        Event::Cut { node } => Some((*node, false)),
+        Event::Set {
+            node,
+            now: _,
+            alias: _,
+            value: _,
+        } => Some((*node, false)),
+        Event::Device {
+            node,
+            now: _,
+            name: _,
+            up: _,
+        } => Some((*node, false)),
+        Event::State {
+            node,
+            now: _,
+            online: _,
+            timestamp: _,
+        } => Some((*node, false)),
+        _ => None,
+    }
+}
+
+fn sent_by(world: &World, node: usize) -> &[Published] {
+    world.published(node).unwrap_or(&[])
+}
+
+/// An event of a node: its answer is the count of what was published since, and the twin hears it.
+fn assert_told(
+    rt: &impl Abort,
+    world: &World,
+    twin: &mut Twin,
+    answer: Result<Done, WorldFault>,
+    node: usize,
+    opens: bool,
+) {
+    let published = sent_by(world, node);
+    let before = twin.nodes.get(node).map_or(0, |source| source.sent.len());
+    let added = published.len().saturating_sub(before);
+    match answer {
+        Ok(done) => {
+            assert!(rt; node < NODES);
+            assert_eq!(rt; done, Done::Edge { added });
+            twin.hear(node, opens, published);
+        }
+        Err(WorldFault::Edge(_fault)) => {
+            assert!(rt; node < NODES);
+            assert_eq!(rt; added, 0);
+        }
+        Err(fault) => {
+            assert_eq!(rt; fault, WorldFault::NoSuch);
+            assert!(rt; node >= NODES);
+        }
+    }
+}
+
+/// What a host consumed is at the positions that the twin says, and is what was published there.
+fn assert_consumed(rt: &impl Abort, consumed: &[Consumed], published: &[Published], pair: &Pair) {
+    assert_eq!(rt; consumed.len(), pair.consumed.len());
+    for (message, position) in consumed.iter().zip(pair.consumed.iter()) {
+        assert_eq!(rt; message.position, *position);
+        let is_same = match published.get(message.position as usize) {
+            Some(sent) => sent.topic == message.topic && sent.payload == message.payload,
+            None => false,
+        };
+        assert!(rt; is_same, "at {position}");
+    }
+}
+
+fn assert_all_consumed(rt: &impl Abort, world: &World, twin: &Twin) {
+    for host in 0..HOSTS {
+        for node in 0..NODES {
+            if let (Some(pair), Some(source)) = (twin.pair(host, node), twin.nodes.get(node)) {
+                let consumed = world.consumed(host, node).unwrap_or(&[]);
+                assert_consumed(rt, consumed, sent_by(world, node), pair);
+                assert!(rt; pair.are_prefixes(source));
+            }
+        }
+    }
+}
+
+/// The sorts of answers, each with a place of its own.
+const SORTS: usize = 27;
+
+fn place_of_step(step: Step) -> usize {
+    match step {
+        Step::Consumed(1) => 3,
+        Step::Consumed(_count) => 4,
+        Step::Held => 5,
+        Step::Old => 6,
+        Step::Gap => 7,
+        Step::OldBirth => 8,
+        Step::DeadSession => 9,
+        Step::NotLive => 10,
+    }
+}
+
+fn place_of_done(done: Done) -> usize {
+    match done {
+        Done::Edge { added } => added.min(2),
+        Done::Hand(step) => place_of_step(step),
+        Done::Death(Match::Matched) => 11,
+        Done::Death(Match::Ignored) => 12,
+        Done::Tick { gaps } => if gaps == 0 { 13 } else { 14 },
+        Done::Session => 15,
+    }
+}
+
+fn place_of_fault(fault: WorldFault, is_death: bool) -> usize {
+    match fault {
+        WorldFault::NoSuch => 16,
+        WorldFault::NotPublished => if is_death { 17 } else { 18 },
+        WorldFault::OutsideWindow => 19,
+        WorldFault::TooFar => if is_death { 20 } else { 21 },
+        WorldFault::OvertakesBirth => 22,
+        WorldFault::Edge(EdgeFault::WrongPhase) => 23,
+        WorldFault::Edge(EdgeFault::ClockEnd) => 24,
+        WorldFault::Edge(EdgeFault::Device(_refusal)) => 25,
+        _ => 26,
+    }
+}
+
+fn count(counts: &mut [u64; SORTS], event: &Event, answer: Result<Done, WorldFault>) {
+    let is_death = match event {
+        Event::Death {
+            host: _,
+            node: _,
+            session: _,
+            now: _,
+        } => true,
+        _ => false,
+    };
+    let place = match answer {
+        Ok(done) => place_of_done(done),
+        Err(fault) => place_of_fault(fault, is_death),
+    };
+    if let Some(count) = counts.get_mut(place) {
+        *count = count.saturating_add(1);
+    }
+}
+
+/// One event is done by the world and by the twin, and their answers are the same.
+fn assert_step(
+    rt: &impl Abort,
+    world: &mut World,
+    twin: &mut Twin,
+    event: &Event,
+) -> Result<Done, WorldFault> {
+    let answer = match world.step(event) {
+        Err(WorldFault::NoMemory) => world.step(event),
+        answer => answer,
+    };
+    if let Some(wanted) = twin.answer(event) {
+        assert_eq!(rt; answer, wanted, "of {event:?}");
+    }
+    if let Some((node, opens)) = told_node(event) {
+        assert_told(rt, world, twin, answer, node, opens);
+    }
+    answer
+}
+
+/// Every sort of answer came up. With one place nothing is ever held.
+fn assert_counted(rt: &impl Abort, counts: &[u64; SORTS], width: u64) {
+    for (place, count) in counts.iter().enumerate() {
+        let is_none = place == 26 || (width == 1 && (place == 4 || place == 5 || place == 14));
+        if is_none {
+            assert_eq!(rt; *count, 0, "at {place}");
+        } else {
+            assert!(rt; *count >= 5, "{count} at {place}");
+        }
+    }
+}
+
+/// A run at a width.
+fn run(rt: &(impl Abort + AllocGlobal), places: u8, seed: u64) -> Result<(), Fail> {
+    let width = Width::new(places).ok_or("width")?;
+    let mut world = match world(rt.alloc(), width) {
+        Some(world) => world,
+        None => world(rt.alloc(), width).ok_or("a world")?,
+    };
+    let mut twin = match twin(rt.alloc(), u64::from(places)) {
+        Some(twin) => twin,
+        None => twin(rt.alloc(), u64::from(places)).ok_or("a twin")?,
+    };
+    let mut dice = Dice { seed };
+    let mut counts = [0u64; SORTS];
+    for turn in 0..EVENTS {
+        let event = event_of(rt.alloc(), &mut dice, &twin, turn).ok_or("an event")?;
+        let answer = assert_step(rt, &mut world, &mut twin, &event);
+        count(&mut counts, &event, answer);
+        if turn % 100 == 99 {
+            assert_all_consumed(rt, &world, &twin);
+        }
+    }
+    assert_counted(rt, &counts, u64::from(places));
+    Ok(())
+}
+
+#[test]
+fn a_long_run_at_width_1_is_as_it_is_told_a_second_time(rt: HostRuntime) -> Result<(), Fail> {
+    run(&rt, 1, 2)
+}
+
+#[test]
+fn a_long_run_at_width_64_is_as_it_is_told_a_second_time(rt: HostRuntime) -> Result<(), Fail> {
+    run(&rt, 64, 1)
+}
+
+#[test]
+fn a_long_run_at_width_96_is_as_it_is_told_a_second_time(rt: HostRuntime) -> Result<(), Fail> {
+    run(&rt, 96, 3)
+}

@@ -1,0 +1,11 @@
+//! Tests of the world, over public calls alone. They stand apart since a crate with tests is proved twice.
+#![tactic(auto)]
+
+#[cfg(test)]
+mod beside_twin;
+#[cfg(test)]
+mod refused;
+#[cfg(test)]
+mod twin;
+#[cfg(test)]
+mod worlds;
