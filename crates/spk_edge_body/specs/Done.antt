@@ -34,10 +34,10 @@ pub record EdgeDone (s : Setup) (start : EdgeStart) (end : EdgeEnd) : Type 0 whe
   pub inlet : SameInlet start.inlet end.inlet
   pub emptied : ahead end.inlet ≡ []
 
--- the frames put since end with the sender's end
-abbrev pub IsEnded : List Frame → List Frame → Type 0
-IsEnded before after = (frames : List Frame) × (after ≡ before ++ frames ++ End ∷ [])
+-- the last frame is the sender's end
+abbrev pub IsEnded : List Frame → Type 0
+IsEnded put = (frames : List Frame) × (put ≡ frames ++ End ∷ [])
 
 -- An edge failed: for memory, and then its last frame is its end all the same; or the frames' taker is gone.
-abbrev pub EdgeFailed : EdgeStart → EdgeFailure → Type 0
-EdgeFailed start f = (f.fault ≡ Closed) ⊎ ((f.fault ≡ NoMemory) × IsEnded (frames_put start.pass) (frames_put f.pass))
+abbrev pub EdgeFailed : EdgeFailure → Type 0
+EdgeFailed f = (f.fault ≡ Closed) ⊎ ((f.fault ≡ NoMemory) × IsEnded (frames_put f.pass))

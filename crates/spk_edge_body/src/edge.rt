@@ -67,7 +67,7 @@ pub fn run_edge<R: Wait, G: Gate>(
     ensures done { (s : Setup) → start.node ≡ node_of s [] → IfOk result (EdgeDone s start) }
     ensures pass { IfOk result (λ e. PutsInto ingress.now e.pass
         × (e.pass.sender ≡ start.pass.sender)) }
-    ensures failed { IfErr result (EdgeFailed start) }
+    ensures failed { IfErr result EdgeFailed }
     ensures failed_pass { IfErr result (λ e. PutsInto ingress.now e.pass
         × (e.pass.sender ≡ start.pass.sender)) }
 {
