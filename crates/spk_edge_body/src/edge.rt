@@ -8,7 +8,7 @@ ghost use Rattle.spk_edge_body.specs.Done.{EdgeDone, EdgeFailed};
 use crate::desk::Desk;
 use crate::told::Told;
 use spk_edge::{EdgeNode, Published};
-use spk_ingress::{Ingress, PutPass};
+use spk_ingress::{Frame, Ingress, PutPass};
 use spk_plan::{Gate, PlantFault, Step};
 use spk_rings::Inlet;
 use std::alloc::Global;
@@ -80,7 +80,7 @@ pub fn run_edge<R: Wait, G: Gate>(
     } = start;
     let mut desk = Desk::new(alloc, node, pass, place, inlet);
     let ran = desk.run(rt, gate, ingress, &script);
-    let put = desk.sender.put_end(rt, gate, ingress);
+    let put = desk.sender.put(rt, gate, ingress, Frame::End);
     let Desk {
         node,
         inputs,

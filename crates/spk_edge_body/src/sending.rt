@@ -24,6 +24,7 @@ fn frame_of(alloc: Global, bytes: Vec<u8>) -> Result<Frame, PlantFault>
     ensures ok { IfOk result (λ f. f ≡ Frame.Packet bytes.items) }
     ensures fault { IfErr result (λ e. e ≡ PlantFault.NoMemory) }
 {
+    // What a node answers is one packet each, so that memory alone can be wanting.
     let Ok(frame) = Frame::packet(alloc, bytes) else {
         return Err(PlantFault::NoMemory);
     };
@@ -32,7 +33,7 @@ fn frame_of(alloc: Global, bytes: Vec<u8>) -> Result<Frame, PlantFault>
 
 impl Sender {
     /// Tells the gate, and puts a frame. Refused with Closed (90) alone.
-    fn put<R: Wait, G: Gate>(
+    pub(crate) fn put<R: Wait, G: Gate>(
         &mut self,
         rt: &R,
         gate: &G,
@@ -52,20 +53,6 @@ impl Sender {
         };
         self.count = self.count.saturating_add(1);
         Ok(())
-    }
-
-    /// Puts the end of the sender.
-    pub(crate) fn put_end<R: Wait, G: Gate>(
-        &mut self,
-        rt: &R,
-        gate: &G,
-        ingress: &Ingress,
-    ) -> Result<(), PlantFault>
-        requires { PutsInto ingress.now self.old.pass }
-        ensures pass { PutsInto ingress.now self.new.pass × (self.new.pass.sender ≡ self.old.pass.sender) }
-        ensures ok { OnOk result (frames_put self.new.pass ≡ frames_put self.old.pass ++ Frame.End ∷ []) }
-    {
-        self.put(rt, gate, ingress, Frame::End)
     }
 
     /// Puts the end of a connection. A pass that put so many of them that a `u64` can't count them is Closed anyway.

@@ -80,7 +80,7 @@ fn told_of(alloc: Global, act: Act<'_>) -> Result<ToldAct, AllocError>
 
 impl Told {
     /// A copy of an input.
-    pub fn of(alloc: Global, input: Input<'_>) -> Result<Told, AllocError>
+    pub(crate) fn of(alloc: Global, input: Input<'_>) -> Result<Told, AllocError>
         ensures { IfOk result (λ t. told_view t ≡ input_view input.entry) }
     {
         Ok(Told {
