@@ -3,3 +3,4 @@ pub mod Putting
 pub mod Standing
 pub mod Hearing
 pub mod Leading
+pub mod Passes
