@@ -3,4 +3,3 @@ pub mod Putting
 pub mod Standing
 pub mod Hearing
 pub mod Leading
-pub mod Passes

@@ -7,8 +7,6 @@ mod edge;
 mod laws;
 mod sending;
 mod steps;
-#[cfg(test)]
-mod tests;
 mod told;
 
 pub use edge::{EdgeEnd, EdgeFailure, EdgeStart, run_edge};
