@@ -1,5 +1,5 @@
 //! The edge node.
-ghost use Rattle.std.specs.Prelude.{◌≡◌, ◌⊎◌, IfOk, IfErr, OnOk, true, false};
+ghost use Rattle.std.specs.Prelude.{◌≡◌, ◌⊎◌, IfOk, IfErr, OnOk, true, false, length};
 ghost use Rattle.spk_topics.specs.Spark.{is_name};
 ghost use Rattle.spk_topics.specs.Text.{holds};
 ghost use Rattle.spk_edge.specs.Patch as patch;
@@ -139,6 +139,13 @@ impl EdgeNode {
         ensures { result ≡ self.now.standing.asked.store.lost }
     {
         self.store.lost()
+    }
+
+    /// How many changes are kept.
+    pub fn kept(&self) -> usize
+        ensures { result ≡ length self.now.standing.asked.store.items }
+    {
+        self.store.len()
     }
 
     /// What a node that runs after this one goes on with.

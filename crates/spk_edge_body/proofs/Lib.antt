@@ -1,0 +1,5 @@
+pub mod Stepping
+pub mod Putting
+pub mod Standing
+pub mod Hearing
+pub mod Leading

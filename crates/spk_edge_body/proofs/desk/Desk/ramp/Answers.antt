@@ -1,0 +1,20 @@
+use Rattle.std.proofs.Common.{◌≡◌, ◌∙◌, ◌+◌, subst, List, [], ◌∷◌, Some}
+use Rattle.spk_payload.specs.Typing.{typed_view}
+use Rattle.spk_edge_rules.specs.Inputs.{Act, Change}
+use Rattle.spk_edge_body.specs.Script.{Asked, ramp}
+use Rattle.spk_edge_body.proofs.Leading.{asked-then, ramp-more}
+use Rattle.spk_edge_body.proofs.desk.Desk.ramp.Goals as goal
+
+pub loop-before-preserved : goal.loop-before-preserved
+loop-before-preserved g c = record {
+  into = c.in_ok-once.ensures.pass.0;
+  sender = c.in_ok-once.ensures.pass.1 ∙ c.loop-before.invariant.sender;
+  went = λ o log at.
+      let so_far = c.loop-before.invariant.went o log at in
+      let asked = c.in_ok-once.ensures.asked o so_far.0 so_far.1 in (
+        asked.0,
+        asked.1,
+        subst (λ (acts : List Act). Asked acts log asked.0) (ramp-more c.args.alias c.loop-before.before c.args.sort (typed_view c.value_of.result) c.value_of.ensures)
+            (asked-then (ramp c.args.alias c.args.sort c.loop-before.before) (Change c.args.alias (Some (typed_view c.value_of.result)) ∷ []) log so_far.0 asked.0 so_far.2 asked.2),
+      );
+}

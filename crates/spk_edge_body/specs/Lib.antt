@@ -1,0 +1,7 @@
+pub mod Told
+pub mod Frames
+pub mod Log
+pub mod Script
+pub mod Done
+pub mod Taking
+pub mod At

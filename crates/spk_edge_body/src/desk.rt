@@ -1,0 +1,389 @@
+//! An edge node with what it was told and what it gave.
+ghost use Rattle.std.specs.Prelude.{◌≡◌, ◌⊎◌, ◌+◌, List, [], ◌∷◌, length, ◌&&◌, ◌||◌, nat_lt, is_err, Ok, false, Some, None, if◌then◌else◌, OnOk, IfOk, IfErr};
+ghost use Rattle.spk_edge.specs.Patch.{IsPlan};
+ghost use Rattle.spk_edge.specs.View.{act_view, input_view};
+ghost use Rattle.spk_edge.specs.Along.{node_of};
+ghost use Rattle.spk_edge_rules.specs.Config.{Setup};
+ghost use Rattle.spk_edge_rules.specs.Inputs as inputs;
+ghost use Rattle.spk_edge_rules.specs.Rules.{is_born};
+ghost use Rattle.spk_edge_rules.specs.Run.{right_at, run_of};
+ghost use Rattle.spk_ingress.specs.Passes.{PutsInto};
+ghost use Rattle.spk_rings.specs.Ring.{SameInlet, ahead, popped};
+ghost use Rattle.spk_edge_body.specs.At.{Goes, IsAt, IsOf, IsReadAs, Origin, Stands, input_in};
+ghost use Rattle.spk_edge_body.specs.Frames as frames;
+ghost use Rattle.spk_edge_body.specs.Log.{Asks, MayMove, Move, asked_at, inputs_of};
+ghost use Rattle.spk_edge_body.specs.Script.{Asked, is_refused};
+ghost use Rattle.spk_edge_body.specs.Told.{told_act, told_view};
+
+use crate::laws::stepping;
+use crate::sending::Sender;
+use crate::told::{Told, ToldAct};
+use spk_edge::{Act, EdgeFault, EdgeNode, Input, Out, Phase, Plan, Published, Taken};
+use spk_ingress::{Ingress, PutPass};
+use spk_packets::{Packet, PacketFault, decode};
+use spk_plan::{Gate, PlantFault};
+use spk_rings::{Inlet, Item};
+use spk_state::{State, StateFault};
+use std::alloc::Global;
+use std::sync::Wait;
+
+/// The moment of the first input.
+const BEGIN: u64 = 1_000_000;
+
+/// An edge node, its ring and its sender, what it was told and what it published.
+#[derive(Drop)]
+pub(crate) struct Desk {
+    pub(crate) alloc: Global,
+    pub(crate) node: EdgeNode,
+    pub(crate) inputs: Vec<Told>,
+    pub(crate) published: Vec<Published>,
+    pub(crate) sender: Sender,
+    pub(crate) inlet: Inlet,
+    /// Whether the last STATE since the connection was opened was offline, or was refused.
+    pub(crate) in_vain: bool,
+}
+
+/// Whether the connection is gone by this act.
+fn is_cut(act: &Act<'_>) -> bool
+    ensures { result ≡ frames.is_cut (act_view act.now) }
+{
+    match act {
+        Act::Cut => true,
+        _ => false,
+    }
+}
+
+/// Whether the connection was gone by this act.
+fn was_cut(act: &ToldAct) -> bool
+    ensures { result ≡ frames.is_cut (told_act act.now) }
+{
+    match act {
+        ToldAct::Cut => true,
+        _ => false,
+    }
+}
+
+/// Whether the connection is over by this act and what the node answered.
+fn is_over(act: &ToldAct, out: &Out) -> bool
+    ensures { result ≡ (frames.is_cut (told_act act.now) || out.now.close) }
+{
+    was_cut(act) || out.close
+}
+
+/// No packet, unless memory was refused.
+fn unread(fault: PacketFault) -> Result<Option<Packet>, PlantFault>
+    ensures none { IfOk result (λ p. (p ≡ None) × (fault ≡ PacketFault.NoMemory → ⊥)) }
+    ensures fault { IfErr result (λ e. e ≡ PlantFault.NoMemory) }
+{
+    match fault {
+        PacketFault::NoMemory => Err(PlantFault::NoMemory),
+        _ => Ok(None),
+    }
+}
+
+/// Want of memory is a fault; any other refusal of a node is not.
+fn unless_memory(fault: EdgeFault) -> Result<(), PlantFault>
+    ensures other { OnOk result (fault ≡ EdgeFault.NoMemory → ⊥) }
+    ensures fault { IfErr result (λ e. e ≡ PlantFault.NoMemory) }
+{
+    match fault {
+        EdgeFault::NoMemory => Err(PlantFault::NoMemory),
+        _ => Ok(()),
+    }
+}
+
+/// The packet that these bytes are, if they are one.
+fn packet_of(alloc: Global, bytes: &[u8]) -> Result<Option<Packet>, PlantFault>
+    ensures read { IfOk result (λ p. IsReadAs bytes.now p) }
+    ensures fault { IfErr result (λ e. e ≡ PlantFault.NoMemory) }
+{
+    let (packet, count) = match decode(alloc, bytes) {
+        Ok(front) => front,
+        Err(fault) => return unread(fault),
+    };
+    if count < bytes.len() {
+        return Ok(None);
+    }
+    Ok(Some(packet))
+}
+
+/// Whether a STATE says that its host is offline, or can't be read.
+fn is_offline(alloc: Global, payload: &[u8]) -> Result<bool, PlantFault>
+    ensures { IfErr result (λ e. e ≡ PlantFault.NoMemory) }
+{
+    match State::decode(alloc, payload) {
+        Ok(state) => Ok(!state.online),
+        Err(StateFault::NoMemory) => Err(PlantFault::NoMemory),
+        Err(StateFault::BadState) => Ok(true),
+    }
+}
+
+impl Desk {
+    /// A node that was told nothing.
+    pub(crate) fn new(
+        alloc: Global,
+        node: EdgeNode,
+        pass: PutPass,
+        place: usize,
+        inlet: Inlet,
+    ) -> Desk
+        ensures begun { (s : Setup) → node ≡ node_of s []
+            → IsAt (record { setup = s; pass = pass; inlet = inlet }) [] result }
+        ensures pass { result.sender.pass ≡ pass }
+    {
+        Desk {
+            alloc,
+            node,
+            inputs: Vec::new(alloc),
+            published: Vec::new(alloc),
+            sender: Sender {
+                pass,
+                place,
+                count: 0,
+                cuts: 0,
+            },
+            inlet,
+            in_vain: false,
+        }
+    }
+
+    /// The moment of the next input.
+    fn now(&self) -> u64
+        ensures { result ≡ 1000000 + length self.now.inputs.items }
+    {
+        BEGIN + self.inputs.len() as u64
+    }
+
+    /// The moment of an act of the script: a cut has the moment 0.
+    fn moment_of(&self, act: &Act<'_>) -> u64
+        ensures { result ≡ (if frames.is_cut (act_view act.now) then 0
+            else 1000000 + length self.now.inputs.items) }
+    {
+        if is_cut(act) {
+            return 0;
+        }
+        self.now()
+    }
+
+    /// The input that a packet is; bytes that are none ask for nothing.
+    fn input_for<'a>(&self, now: u64, packet: &'a Option<Packet>) -> Input<'a>
+        ensures { input_view result ≡ input_in self.now.node.config now packet.now }
+    {
+        match packet {
+            Some(packet) => self.node.input_of(now, packet),
+            None => Input {
+                now,
+                ack: None,
+                act: Act::Pass,
+            },
+        }
+    }
+
+    /// Takes a plan up, and puts what it gives: its packets, then Cut where the connection is gone or closed by it.
+    fn take_up<R: Wait, G: Gate>(
+        &mut self,
+        rt: &R,
+        gate: &G,
+        ingress: &Ingress,
+        told: Told,
+        plan: Plan,
+    ) -> Result<(), PlantFault>
+        requires { PutsInto ingress.now self.old.sender.pass }
+        ensures pass { PutsInto ingress.now self.new.sender.pass
+            × (self.new.sender.pass.sender ≡ self.old.sender.pass.sender) }
+        ensures taken { OnOk result ((o : Origin) (is : List inputs.Input) → Stands o is self.old
+            → IsPlan self.old.node (told_view told) plan → Stands o (told_view told ∷ is) self.new) }
+        ensures inlet { self.new.inlet ≡ self.old.inlet }
+        ensures fault { IfErr result (λ e. (e ≡ PlantFault.NoMemory) ⊎ (e ≡ PlantFault.Closed)) }
+    {
+        stepping();
+        let Taken { out, mut messages } = self.node.take_up(plan);
+        let is_over = is_over(&told.act, &out);
+        self.inputs.push(told)?;
+        self.published.append(&mut messages)?;
+        self.sender
+            .put_answer(rt, gate, ingress, self.alloc, out.packets, is_over)?;
+        Ok(())
+    }
+
+    /// Tells the node an input, and puts what it answers. Answers whether the node refused it; want of memory is a fault.
+    fn tell<R: Wait, G: Gate>(
+        &mut self,
+        rt: &R,
+        gate: &G,
+        ingress: &Ingress,
+        input: Input<'_>,
+    ) -> Result<bool, PlantFault>
+        requires { PutsInto ingress.now self.old.sender.pass }
+        ensures pass { PutsInto ingress.now self.new.sender.pass
+            × (self.new.sender.pass.sender ≡ self.old.sender.pass.sender) }
+        ensures told { IfOk result (λ refused. (o : Origin) (is : List inputs.Input) → Stands o is self.old
+            → Stands o (input_view input.entry ∷ is) self.new
+            × (refused ≡ is_err (right_at o.setup (run_of o.setup is) (input_view input.entry)))) }
+        ensures inlet { self.new.inlet ≡ self.old.inlet }
+        ensures fault { IfErr result (λ e. (e ≡ PlantFault.NoMemory) ⊎ (e ≡ PlantFault.Closed)) }
+    {
+        stepping();
+        let told = Told::of(self.alloc, input)?;
+        let plan = match self.node.plan(input) {
+            Ok(plan) => plan,
+            Err(fault) => {
+                unless_memory(fault)?;
+                self.inputs.push(told)?;
+                return Ok(true);
+            }
+        };
+        self.take_up(rt, gate, ingress, told, plan)?;
+        Ok(false)
+    }
+
+    /// Asks the node to do an act of the script. Answers whether the node refused it.
+    pub(crate) fn ask<R: Wait, G: Gate>(
+        &mut self,
+        rt: &R,
+        gate: &G,
+        ingress: &Ingress,
+        act: Act<'_>,
+    ) -> Result<bool, PlantFault>
+        requires { PutsInto ingress.now self.old.sender.pass }
+        ensures pass { PutsInto ingress.now self.new.sender.pass
+            × (self.new.sender.pass.sender ≡ self.old.sender.pass.sender) }
+        ensures asked { IfOk result (λ refused. Goes (λ s before after.
+            (after ≡ Asks (asked_at before (act_view act.entry)) ∷ before)
+            × (refused ≡ is_refused s before (asked_at before (act_view act.entry)))) self.old self.new) }
+        ensures inlet { self.new.inlet ≡ self.old.inlet }
+        ensures fault { IfErr result (λ e. (e ≡ PlantFault.NoMemory) ⊎ (e ≡ PlantFault.Closed)) }
+    {
+        let now = self.moment_of(&act);
+        let input = Input {
+            now,
+            ack: None,
+            act,
+        };
+        let refused = self.tell(rt, gate, ingress, input)?;
+        Ok(refused)
+    }
+
+    /// Notes what a STATE means for a node that waits for its births.
+    fn note_state(&mut self, act: Act<'_>, refused: bool) -> Result<(), PlantFault>
+        ensures same { (o : Origin) (is : List inputs.Input) → Stands o is self.old → Stands o is self.new }
+        ensures rest { (self.new.inlet ≡ self.old.inlet) × (self.new.sender ≡ self.old.sender) }
+        ensures fault { IfErr result (λ e. e ≡ PlantFault.NoMemory) }
+    {
+        if let Act::State(payload) = act {
+            self.in_vain = refused || is_offline(self.alloc, payload)?;
+        }
+        Ok(())
+    }
+
+    /// The node hears a packet, or bytes that are none, which ask for nothing.
+    fn hear_packet<R: Wait, G: Gate>(
+        &mut self,
+        rt: &R,
+        gate: &G,
+        ingress: &Ingress,
+        packet: &Option<Packet>,
+    ) -> Result<(), PlantFault>
+        requires { PutsInto ingress.now self.old.sender.pass }
+        ensures pass { PutsInto ingress.now self.new.sender.pass
+            × (self.new.sender.pass.sender ≡ self.old.sender.pass.sender) }
+        ensures heard { OnOk result ((o : Origin) (is : List inputs.Input) → Stands o is self.old
+            → Stands o (input_in o.setup.config (1000000 + length is) packet.now ∷ is) self.new) }
+        ensures inlet { self.new.inlet ≡ self.old.inlet }
+        ensures fault { IfErr result (λ e. (e ≡ PlantFault.NoMemory) ⊎ (e ≡ PlantFault.Closed)) }
+    {
+        let input = self.input_for(self.now(), packet);
+        let refused = self.tell(rt, gate, ingress, input)?;
+        self.note_state(input.act, refused)?;
+        Ok(())
+    }
+
+    /// The node hears an item, unless it is of a connection that was ended since.
+    fn hear<R: Wait, G: Gate>(
+        &mut self,
+        rt: &R,
+        gate: &G,
+        ingress: &Ingress,
+        item: Item,
+    ) -> Result<(), PlantFault>
+        requires { PutsInto ingress.now self.old.sender.pass }
+        ensures pass { PutsInto ingress.now self.new.sender.pass
+            × (self.new.sender.pass.sender ≡ self.old.sender.pass.sender) }
+        ensures heard { OnOk result ((o : Origin) (log : List Move) → Stands o (inputs_of log) self.old
+            → (move : Move) × Stands o (inputs_of (move ∷ log)) self.new × MayMove o.setup log move
+            × IsOf item move) }
+        ensures inlet { self.new.inlet ≡ self.old.inlet }
+        ensures fault { IfErr result (λ e. (e ≡ PlantFault.NoMemory) ⊎ (e ≡ PlantFault.Closed)) }
+    {
+        if item.cuts < self.sender.cuts {
+            return Ok(());
+        }
+        let packet = packet_of(self.alloc, item.bytes.as_slice())?;
+        self.hear_packet(rt, gate, ingress, &packet)?;
+        Ok(())
+    }
+
+    /// Takes one item out of the ring, if there is one, and hears it. Answers whether there was one.
+    fn read_one<R: Wait, G: Gate>(
+        &mut self,
+        rt: &R,
+        gate: &G,
+        ingress: &Ingress,
+    ) -> Result<bool, PlantFault>
+        requires { PutsInto ingress.now self.old.sender.pass }
+        ensures pass { PutsInto ingress.now self.new.sender.pass
+            × (self.new.sender.pass.sender ≡ self.old.sender.pass.sender) }
+        ensures read { OnOk result (Goes (λ s before after. Asked [] before after) self.old self.new) }
+        ensures none { result ≡ Ok false → ahead self.new.inlet ≡ [] }
+        ensures fault { IfErr result (λ e. (e ≡ PlantFault.NoMemory) ⊎ (e ≡ PlantFault.Closed)) }
+    {
+        let Some(item) = self.inlet.next() else {
+            return Ok(false);
+        };
+        self.hear(rt, gate, ingress, item)?;
+        Ok(true)
+    }
+
+    /// Reads the ring until nothing is in it.
+    pub(crate) fn read<R: Wait, G: Gate>(
+        &mut self,
+        rt: &R,
+        gate: &G,
+        ingress: &Ingress,
+    ) -> Result<(), PlantFault>
+        requires { PutsInto ingress.now self.old.sender.pass }
+        ensures pass { PutsInto ingress.now self.new.sender.pass
+            × (self.new.sender.pass.sender ≡ self.old.sender.pass.sender) }
+        ensures read { OnOk result (Goes (λ s before after. Asked [] before after) self.old self.new) }
+        ensures emptied { OnOk result (ahead self.new.inlet ≡ []) }
+        ensures fault { IfErr result (λ e. (e ≡ PlantFault.NoMemory) ⊎ (e ≡ PlantFault.Closed)) }
+    {
+        for _ in rt.forever() {
+            if !self.read_one(rt, gate, ingress)? {
+                return Ok(());
+            }
+        }
+        unreachable!()
+    }
+
+    /// Whether the ring's other end was dropped.
+    pub(crate) fn is_ring_gone(&mut self) -> bool
+        ensures same { (o : Origin) (log : List Move) → IsAt o log self.old → IsAt o log self.new }
+        ensures rest { self.new.sender ≡ self.old.sender }
+    {
+        self.inlet.gone()
+    }
+
+    /// Whether there is nothing to wait for: the node is born or idle, or its host is offline.
+    pub(crate) fn is_settled(&self) -> bool {
+        self.in_vain || self.node.phase() == Phase::Born || self.node.phase() == Phase::Idle
+    }
+
+    /// Whether kept changes can be sent.
+    pub(crate) fn may_drain(&self) -> bool
+        ensures { result ≡ (is_born self.now.node.standing.asked.phase
+            && nat_lt 0 (length self.now.node.standing.asked.store.items)) }
+    {
+        self.node.phase() == Phase::Born && self.node.kept() > 0
+    }
+}

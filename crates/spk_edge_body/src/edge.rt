@@ -1,0 +1,109 @@
+//! An edge node's thread, from its start to its end.
+ghost use Rattle.std.specs.Prelude.{◌≡◌, [], IfOk, IfErr};
+ghost use Rattle.spk_edge.specs.Along.{node_of};
+ghost use Rattle.spk_edge_rules.specs.Config.{Setup};
+ghost use Rattle.spk_ingress.specs.Passes.{PutsInto};
+ghost use Rattle.spk_edge_body.specs.Done.{EdgeDone, EdgeFailed};
+
+use crate::desk::Desk;
+use crate::told::Told;
+use spk_edge::{EdgeNode, Published};
+use spk_ingress::{Frame, Ingress, PutPass};
+use spk_plan::{Gate, PlantFault, Step};
+use spk_rings::Inlet;
+use std::alloc::Global;
+use std::sync::Wait;
+
+/// What an edge node's thread begins with.
+#[derive(Drop)]
+pub struct EdgeStart {
+    /// The node, as it was made.
+    pub node: EdgeNode,
+    /// What it does, in order; then it stops.
+    pub script: Vec<Step>,
+    /// Its pass to the broker.
+    pub pass: PutPass,
+    /// Its place among the senders, for the gate.
+    pub place: usize,
+    /// The ring from the broker.
+    pub inlet: Inlet,
+}
+
+/// What it has done at its end.
+#[derive(Drop)]
+pub struct EdgeEnd {
+    /// What the node was told, oldest first; refused inputs too.
+    pub inputs: Vec<Told>,
+    /// What it published, oldest first.
+    pub published: Vec<Published>,
+    pub node: EdgeNode,
+    pub pass: PutPass,
+    pub inlet: Inlet,
+}
+
+/// Why it couldn't go on.
+#[derive(Drop)]
+pub struct EdgeFailure {
+    pub fault: PlantFault,
+    pub pass: PutPass,
+}
+
+/// Runs an edge node's script: it reads its ring before each step and does the step, each at the moment 1,000,000 and the number of its
+/// inputs so far; then it stops, and puts End. What the node answers is put packet by packet, and Cut where its connection is
+/// gone, or closed by it. A step that the node refuses is passed over, and so are items of a connection that was ended since
+/// (own rules).
+///
+/// Refused for want of memory, with End put all the same; and with Closed (90), where the frames' taker is gone. The pass must be of this
+/// ingress.
+pub fn run_edge<R: Wait, G: Gate>(
+    rt: &R,
+    alloc: Global,
+    ingress: &Ingress,
+    gate: &G,
+    start: EdgeStart,
+) -> Result<EdgeEnd, EdgeFailure>
+    requires { PutsInto ingress.now start.pass }
+    // whatever the node was made with
+    ensures done { (s : Setup) → start.node ≡ node_of s [] → IfOk result (EdgeDone s start) }
+    ensures pass { IfOk result (λ e. PutsInto ingress.now e.pass
+        × (e.pass.sender ≡ start.pass.sender)) }
+    ensures failed { IfErr result EdgeFailed }
+    ensures failed_pass { IfErr result (λ e. PutsInto ingress.now e.pass
+        × (e.pass.sender ≡ start.pass.sender)) }
+{
+    let EdgeStart {
+        node,
+        script,
+        pass,
+        place,
+        inlet,
+    } = start;
+    let mut desk = Desk::new(alloc, node, pass, place, inlet);
+    let ran = desk.run(rt, gate, ingress, &script);
+    let put = desk.sender.put(rt, gate, ingress, Frame::End);
+    let Desk {
+        node,
+        inputs,
+        published,
+        sender,
+        inlet,
+        ..
+    } = desk;
+    let pass = sender.pass;
+    let Ok(()) = put else {
+        return Err(EdgeFailure {
+            fault: PlantFault::Closed,
+            pass,
+        });
+    };
+    if let Err(fault) = ran {
+        return Err(EdgeFailure { fault, pass });
+    }
+    Ok(EdgeEnd {
+        inputs,
+        published,
+        node,
+        pass,
+        inlet,
+    })
+}
