@@ -14,9 +14,11 @@ use Rattle.spk_host.specs.Inputs.{Call, Heard, Ticked, Connected, host_with}
 use Rattle.spk_host.specs.Step.{nothing, said_by}
 use Rattle.spk_host.specs.View.{out_view}
 use Rattle.spk_host.specs.declared.out.Out.{Out}
+use Rattle.spk_plan.specs.declared.fault.PlantFault.{PlantFault}
 use Rattle.spk_plan.specs.declared.fault.PlantFault.TheVariants as fault
 use Rattle.spk_host_body.specs.Calls.{answer_at, host_asked, is_done, out_at}
-use Rattle.spk_host_body.specs.Steps.{Answers, answered, handed}
+use Rattle.spk_host_body.specs.Ends.{IsCause}
+use Rattle.spk_host_body.specs.Steps.{FailsAt, Answers, answered, handed}
 
 abbrev due : OutData → Result OutData HostFault
 due out = Ok out
@@ -27,16 +29,16 @@ never out f h = cc
 same_out : (a b : OutData) → due a ≡ due b → a ≡ b
 same_out a b h = cc
 
-asked_yes : (call : Call) (h : HostData) → is_done h call ≡ true → host_asked h call ≡ host_with h call
+pub asked_yes : (call : Call) (h : HostData) → is_done h call ≡ true → host_asked h call ≡ host_with h call
 asked_yes call h e = rw e refl
 
-answer_yes : (call : Call) (h : HostData) → is_done h call ≡ true → answer_at h call ≡ out_at h call
+pub answer_yes : (call : Call) (h : HostData) → is_done h call ≡ true → answer_at h call ≡ out_at h call
 answer_yes call h e = rw e refl
 
-asked_no : (call : Call) (h : HostData) → is_done h call ≡ false → host_asked h call ≡ h
+pub asked_no : (call : Call) (h : HostData) → is_done h call ≡ false → host_asked h call ≡ h
 asked_no call h e = rw e refl
 
-answer_no : (call : Call) (h : HostData) → is_done h call ≡ false → answer_at h call ≡ nothing
+pub answer_no : (call : Call) (h : HostData) → is_done h call ≡ false → answer_at h call ≡ nothing
 answer_no call h e = rw e refl
 
 not_true : (b : Bool) → (b ≡ true → ⊥) → b ≡ false
@@ -130,3 +132,9 @@ memory_alone (Err NoSeq) = tt
 memory_alone (Err NoStamp) = tt
 memory_alone (Err NoBdSeq) = tt
 memory_alone (Err WrongPhase) = tt
+
+-- why its packets weren't put
+pub fails : {X : Type 0} (call : Call) (h new : HostData) (out : Option Out) (r : Result X PlantFault) → Answers call h new out →
+    IfErr r (λ e. IsCause (handed out).packets e) → IfErr r (λ e. FailsAt h e)
+fails call h new out (Ok x) a c = tt
+fails call h new out (Err e) a c = (call, subst (λ (o : OutData). IsCause o.packets e) a.hands_out c)

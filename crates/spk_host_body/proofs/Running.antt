@@ -3,16 +3,19 @@ use Rattle.std.proofs.Common.{◌≡◌, ◌∙◌, ap, sym, subst, refl, ℕ, �
 use Rattle.std.proofs.lemmas.List.{append_assoc, append-nil, length-map, length-reverse, map-append, reverse-append}
 use Rattle.spk_ingress.specs.declared.frame.Frame.{Frame}
 use Rattle.spk_ingress.specs.declared.frame.Frame.TheVariants as frame
+use Rattle.spk_rings.specs.Ring.{SameInlet, popped}
+use Rattle.spk_rings.specs.declared.inlet.Inlet.{Inlet}
 use Rattle.spk_rings.specs.declared.item.Item.{Item}
 use Rattle.spk_plan.specs.declared.fault.PlantFault.{PlantFault}
+use Rattle.spk_plan.specs.declared.fault.PlantFault.TheVariants as fault
 use Rattle.spk_reading.specs.Data.{HeardData, NumberedData}
 use Rattle.spk_host_session.specs.Data.{Config}
 use Rattle.spk_host.specs.Data.{HostData}
-use Rattle.spk_host.specs.Inputs.{Call, Heard, Ticked, Connected, host_after, host_with, new_host}
+use Rattle.spk_host.specs.Inputs.{Call, Heard, Ticked, Connected, Ended, host_after, host_with, new_host}
 use Rattle.spk_host.specs.Step.{nothing}
 use Rattle.spk_host_body.specs.Calls.{answer_at, done, host_asked, is_done, out_at, packets_of}
 use Rattle.spk_host_body.specs.Ends.{Fails, IsCause}
-use Rattle.spk_host_body.specs.Steps.{FailsAt, IsAfter, IsAlong, Took, TookTold}
+use Rattle.spk_host_body.specs.Steps.{FailsAt, HasRun, IsAfter, IsAlong, Took, TookTold}
 use Rattle.spk_host_body.specs.Told.{AreToldBy, IsToldBy, asked, consumed_at, consumed_by, consumed_in, consumptions, heard_in, told_in}
 use Rattle.spk_host_body.specs.declared.ends.Given.{Given}
 use Rattle.spk_host_body.proofs.Answering.{answer_no, answer_yes, asked_no, asked_yes}
@@ -108,7 +111,7 @@ consumed_more : (given : List Given) (g : Given) → consumed_by (given ++ g ∷
 consumed_more given g = ap reverse (map-append consumed_in given (g ∷ [])) ∙ reverse-append (map consumed_in given) (consumed_in g ∷ [])
 
 told_length : (given : List Given) → length (told_in given) ≡ length given
-told_length given = length-reverse (map heard_in given) ∙ length-map heard_in given
+told_length given = length-reverse (map heard_in given) ∙ length-map given heard_in
 
 told_by_more : (items : List Item) (told : List (Option HeardData)) (item : Item) (t : Option HeardData) → AreToldBy items told → IsToldBy item t →
     AreToldBy (items ++ item ∷ []) (told ++ t ∷ [])
@@ -168,3 +171,30 @@ fails_mid config p items given g now h mid q r f e a t x =
     let m = mid_after config p (told_in given) (heard_in g) now h mid q r (consumed_in g)
     (e ∙ ap (λ n. n + 1) (sym (told_length given))) a.after t in
     fails_after config p m.0 mid r f m.1 x
+
+pub fails_begin : (config : Config) (h : HostData) (f : PlantFault) → h ≡ new_host config → FailsAt h f → Fails config f
+fails_begin config h f e x = ([], x.0, subst (λ g. IsCause (answer_at g x.0).packets f) e x.1)
+
+pub no_memory : (config : Config) → Fails config fault.NoMemory
+no_memory config = ([], Ended, tt)
+
+pub closed : (config : Config) → Fails config fault.Closed
+closed config = ([], Ended, tt)
+
+-- ---- items of a ring
+
+pub same_inlet : (a : Inlet) → SameInlet a a
+same_inlet a = (refl, refl, refl, refl)
+
+pub same_then : (a b c : Inlet) → SameInlet a b → SameInlet b c → SameInlet a c
+same_then a b c s t = (t.0 ∙ s.0, t.1 ∙ s.1, t.2 ∙ s.2, t.3 ∙ s.3)
+
+pub ran_more : (config : Config) (p : List Frame) (first before between after : Inlet) (given later : List Given) (item : Item) (h new : HostData) (q r : List Frame) →
+    HasRun config p first before given h q → popped between ≡ popped before → popped after ≡ popped between ++ item ∷ [] →
+    ((items : List Item) → IsAlong config p items given h q → IsAlong config p (items ++ item ∷ []) later new r) →
+    HasRun config p first after later new r
+ran_more config p first before between after given later item h new q r ran same one more = record {
+  items = ran.items ++ item ∷ [];
+  taken = one ∙ ap (λ l. l ++ item ∷ []) (same ∙ ran.taken) ∙ append_assoc (popped first) ran.items (item ∷ []);
+  along = more ran.items ran.along;
+}
