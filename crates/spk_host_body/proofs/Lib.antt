@@ -1,3 +1,4 @@
 pub mod Answering
 pub mod Frames
 pub mod Running
+pub mod Items

@@ -22,7 +22,7 @@ use Rattle.spk_host_body.proofs.Answering.{answer_no, answer_yes, asked_no, aske
 
 -- ---- one call more
 
-done_yes : (config : Config) (before : List Call) (call : Call) → is_done (host_after config (done config before)) call ≡ true →
+pub done_yes : (config : Config) (before : List Call) (call : Call) → is_done (host_after config (done config before)) call ≡ true →
     done config (call ∷ before) ≡ call ∷ done config before
 unfolding done
 done_yes config before call e = rw e refl

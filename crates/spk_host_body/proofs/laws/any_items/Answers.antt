@@ -1,0 +1,8 @@
+use Rattle.spk_host_body.proofs.Items.{all_done, all_of_node}
+use Rattle.spk_host_body.proofs.laws.any_items.Goals as goal
+
+pub returns-clause-done : goal.returns-clause-done
+returns-clause-done c = all_done
+
+pub returns-clause-consumed : goal.returns-clause-consumed
+returns-clause-consumed c = all_of_node c.any_list.ensures.order c.any_list.ensures.config
