@@ -1,8 +1,10 @@
 -- Of a host that no CONNACK turns away: each call is done, and of a node is consumed what the node's order hands out.
-use Rattle.std.proofs.Common.{◌≡◌, ◌∙◌, ap, sym, subst, refl, ℕ, zero, suc, ◌+◌, Bool, true, false, cond, is_some, List, [], ◌∷◌, ◌++◌, length, Option, Some, None}
+use Rattle.std.proofs.Common.{◌≡◌, ◌∙◌, ap, sym, subst, refl, ℕ, zero, suc, ◌+◌, Bool, true, false, cond, is_some, List, [], ◌∷◌, ◌++◌, length, map, reverse, Option, Some, None}
+use Rattle.std.specs.List.{flat_map}
 use Rattle.std.specs.Prelude.{◌==◌, ◌&&◌, nat_eq}
 use Rattle.std.specs.Str.{bytes_eq}
-use Rattle.std.proofs.lemmas.List.{append-nil}
+use Rattle.std.proofs.lemmas.List.{append-nil, map-append, reverse-append, reverse-reverse}
+use Rattle.std.proofs.lemmas.Grind.{flat_map-append}
 use Rattle.std.proofs.lemmas.Slice.Eq.{bytes_eq-Decides}
 use Rattle.spk_sequence.specs.Step as sequence
 use Rattle.spk_order.specs.Ordered.{Ordered}
@@ -21,7 +23,8 @@ use Rattle.spk_host.specs.Nodes.{node_or}
 use Rattle.spk_host.specs.Step.{after_packet, fresh}
 use Rattle.spk_heard.specs.Read.{all_taken}
 use Rattle.spk_host_body.specs.Calls.{answer_at, done, is_done}
-use Rattle.spk_host_body.specs.Told.{AreWelcome, IsWelcome, asked, calls_of, consumed_at, consumed_of, of_node}
+use Rattle.spk_host_body.specs.Told.{AreWelcome, IsWelcome, asked, calls_of, consumed_at, consumed_by, consumed_for, consumed_in, consumed_of, consumptions, heard_in, of_node, told_in}
+use Rattle.spk_host_body.specs.declared.ends.Given.{Given}
 use Rattle.spk_host_body.proofs.Answering.{answer_yes}
 use Rattle.spk_host_body.proofs.Running.{done_yes}
 
@@ -174,3 +177,34 @@ all_of_node orders stays config (Some heard ∷ before) group name w =
     heard_taken orders stays config before heard group name (consumed_of config group name before) w
     (all_of_node orders stays config before group name w.1)
     ∙ sym (append-nil (all_taken config.wait config.width (with_heard heard (length before + 1) group name (node_calls (asked before) group name))))
+
+-- ---- what was kept of items
+
+map_reverse : {X Y : Type 0} (f : X → Y) (xs : List X) → map f (reverse xs) ≡ reverse (map f xs)
+map_reverse f [] = refl
+map_reverse f (x ∷ xs) =
+    ap (map f) (reverse-append (x ∷ []) xs) ∙ map-append f (reverse xs) (x ∷ []) ∙ ap (λ l. l ++ f x ∷ []) (map_reverse f xs)
+    ∙ sym (reverse-append (f x ∷ []) (map f xs))
+
+-- newest first
+from_newest : (config : Config) (group name : List ℕ) (given : List Given) → map consumed_in given ≡ consumptions config (map heard_in given) →
+    flat_map (consumed_for group name) (reverse given) ≡ consumed_of config group name (map heard_in given)
+from_newest config group name [] e = refl
+from_newest config group name (g ∷ before) e =
+    let h = same_cons (consumed_in g) (consumed_at config (map heard_in before) (heard_in g)) (map consumed_in before) (consumptions config (map heard_in before)) e in
+    ap (flat_map (consumed_for group name)) (reverse-append (g ∷ []) before)
+    ∙ flat_map-append (consumed_for group name) (reverse before) (g ∷ [])
+    ∙ ap (λ l. flat_map (consumed_for group name) (reverse before) ++ l) (append-nil (consumed_for group name g))
+    ∙ ap (λ l. l ++ consumed_for group name g) (from_newest config group name before h.1)
+    ∙ ap (λ l. consumed_of config group name (map heard_in before) ++ of_node group name (heard_in g) l) h.0
+  where
+    same_cons : (a b : List NumberedData) (xs ys : List (List NumberedData)) → a ∷ xs ≡ b ∷ ys → (a ≡ b) × (xs ≡ ys)
+    same_cons a b xs ys e = (cc, cc)
+
+pub kept_of_node : (config : Config) (given : List Given) (group name : List ℕ) → consumed_by given ≡ consumptions config (told_in given) →
+    flat_map (consumed_for group name) given ≡ consumed_of config group name (told_in given)
+kept_of_node config given group name e =
+    ap (flat_map (consumed_for group name)) (sym (reverse-reverse given))
+    ∙ from_newest config group name (reverse given)
+    (map_reverse consumed_in given ∙ e ∙ ap (consumptions config) (sym (map_reverse heard_in given)))
+    ∙ ap (consumed_of config group name) (map_reverse heard_in given)

@@ -2,3 +2,4 @@ pub mod Answering
 pub mod Frames
 pub mod Running
 pub mod Items
+mod Rows

@@ -1,6 +1,9 @@
 -- Calls that a new host is asked to do, one after the other, and items that come one after the other.
 use Rattle.std.proofs.Common.{◌≡◌, ◌∙◌, ap, sym, subst, refl, ℕ, ◌+◌, Bool, true, false, List, [], ◌∷◌, ◌++◌, map, length, reverse, Option, Some, None}
 use Rattle.std.proofs.lemmas.List.{append_assoc, append-nil, length-map, length-reverse, map-append, reverse-append}
+use Rattle.spk_ingress.specs.Passes.{AllPutInto, PutsInto}
+use Rattle.spk_ingress.specs.declared.channel.Ingress.{Ingress}
+use Rattle.spk_ingress.specs.declared.channel.PutPass.{PutPass}
 use Rattle.spk_ingress.specs.declared.frame.Frame.{Frame}
 use Rattle.spk_ingress.specs.declared.frame.Frame.TheVariants as frame
 use Rattle.spk_rings.specs.Ring.{SameInlet, popped}
@@ -198,3 +201,12 @@ ran_more config p first before between after given later item h new q r ran same
   taken = one ∙ ap (λ l. l ++ item ∷ []) (same ∙ ran.taken) ∙ append_assoc (popped first) ran.items (item ∷ []);
   along = more ran.items ran.along;
 }
+
+-- ---- a host and a pass that were made
+
+pub new_is_new : (h : HostData) (config : Config) → h ≡ new_host config → h ≡ new_host h.session.config
+new_is_new h config e = e ∙ ap new_host (sym (ap (λ (x : HostData). x.session.config) e))
+
+pub last_puts_into : (n : Ingress) (ps : List PutPass) (p : PutPass) → AllPutInto n (ps ++ p ∷ []) → PutsInto n p
+last_puts_into n [] p all = all.0
+last_puts_into n (q ∷ ps) p all = last_puts_into n ps p all.1

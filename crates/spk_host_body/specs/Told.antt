@@ -79,6 +79,10 @@ consumed_of config group name [] = []
 consumed_of config group name (told ∷ before) =
     consumed_of config group name before ++ of_node group name told (consumed_at config before told)
 
+-- what the host consumed of the node at an item that was kept
+abbrev pub consumed_for : (group name : List ℕ) → Given → List NumberedData
+consumed_for group name g = of_node group name (heard_in g) (consumed_in g)
+
 -- no CONNACK turns the host away: each of them has code 0
 abbrev pub IsWelcome : Option HeardData → Type 0
 IsWelcome (Some (said.Answered code)) = (code == 0) ≡ true

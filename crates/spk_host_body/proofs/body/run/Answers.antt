@@ -42,7 +42,6 @@ loop-preserved-in-Ok-take_in g c = record {
       (c.in-Ok-take_in.ensures.along c.args.desk.now.host.session.config (frames_put c.args.desk.now.line.pass));
 }
 
-
 pub loop-preserved : goal.loop-preserved
 loop-preserved g c = record {
   pass = record {
@@ -56,4 +55,3 @@ loop-preserved g c = record {
       (frames_put c.loop.desk.line.pass) (frames_put c.take_in.new.desk.line.pass) c.loop.invariant.ran c.gone-gone.ensures.same c.in-Some-next.ensures.some
       (c.in-Ok-take_in.ensures.along c.args.desk.now.host.session.config (frames_put c.args.desk.now.line.pass));
 }
-
