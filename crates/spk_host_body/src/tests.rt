@@ -72,6 +72,15 @@ fn last_of(ingress: &Ingress, mut passes: Vec<PutPass>) -> Option<PutPass>
     passes.pop()
 }
 
+/// An ingress of one sender, its pass and the taker's.
+fn opened<R: AllocGlobal + Wait>(rt: &R) -> Option<(Ingress, PutPass, TakePass)>
+    ensures { IfSome result (λ r. PutsInto r.0 r.1 × TakesFrom r.0 r.2) }
+{
+    let (ingress, passes, taker) = Ingress::open(rt, rt.alloc(), 16, 1).ok()?;
+    let pass = last_of(&ingress, passes)?;
+    Some((ingress, pass, taker))
+}
+
 /// The bytes of the packets that were put, up to End, which is last.
 fn taken_of<R: AllocGlobal + Wait>(
     rt: &R,
@@ -98,13 +107,13 @@ fn played<R: AllocGlobal + Wait>(
     items: &[&[u8]],
 ) -> Option<(HostEnd, Vec<Vec<u8>>)> {
     let alloc = rt.alloc();
-    let (ingress, passes, mut taker) = Ingress::open(rt, alloc, 16, 1).ok()?;
+    let (ingress, pass, mut taker) = opened(rt)?;
     let mut nodes = Vec::new(alloc);
     nodes.push(String::from_str(alloc, "N").ok()?).ok()?;
     let start = HostStart {
         host: host_of(alloc)?,
         nodes,
-        pass: last_of(&ingress, passes)?,
+        pass,
         inlet: ring_of(alloc, items)?,
     };
     let end = run_host(rt, alloc, &ingress, gate, start).ok()?;
