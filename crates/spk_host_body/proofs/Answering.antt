@@ -1,8 +1,7 @@
 -- What a host's answer says of the call that it was asked to do.
-use Rattle.std.proofs.Common.{◌≡◌, ◌≢◌, ◌∙◌, ap, sym, subst, refl, ℕ, Bool, true, false, not, is_some, List, [], ◌∷◌, map, Option, Some, None, Result, Ok, Err, OnOk, OnErr, IfOk, IfErr}
+use Rattle.std.proofs.Common.{◌≡◌, ◌∙◌, ap, sym, subst, refl, ℕ, Bool, true, false, not, is_some, List, [], ◌∷◌, map, Option, Some, None, Result, Ok, Err, OnOk, OnErr, IfOk, IfErr}
 use Rattle.spk_packets.specs.Message.{Message}
 use Rattle.spk_packets.specs.Spelling.{spelling}
-use Rattle.spk_reading.specs.Data.{HeardData}
 use Rattle.spk_host_session.specs.Answer.{Fails, Gives, spelled}
 use Rattle.spk_host_session.specs.Packets.{connect_of}
 use Rattle.spk_host_session.specs.Step as session
@@ -10,7 +9,7 @@ use Rattle.spk_host_session.specs.Step.{outside}
 use Rattle.spk_host_session.specs.declared.fault.HostFault.{HostFault}
 use Rattle.spk_host_session.specs.declared.fault.HostFault.TheVariants.{NoMemory, NotSparkplug, BadPayload, NoSeq, NoStamp, NoBdSeq, WrongPhase}
 use Rattle.spk_host.specs.Data.{HostData, OutData}
-use Rattle.spk_host.specs.Inputs.{Call, Heard, Ticked, Connected, host_with}
+use Rattle.spk_host.specs.Inputs.{Call, Connected, host_with}
 use Rattle.spk_host.specs.Step.{nothing, said_by}
 use Rattle.spk_host.specs.View.{out_view}
 use Rattle.spk_host.specs.declared.out.Out.{Out}

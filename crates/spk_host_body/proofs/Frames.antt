@@ -1,5 +1,5 @@
 -- Packets that are put as frames, in order.
-use Rattle.std.proofs.Common.{◌≡◌, ◌∙◌, ap, sym, subst, refl, ℕ, List, [], ◌∷◌, ◌++◌, map}
+use Rattle.std.proofs.Common.{◌≡◌, ◌∙◌, ap, sym, refl, ℕ, List, [], ◌∷◌, ◌++◌, map}
 use Rattle.std.proofs.lemmas.List.{append_assoc, append-nil, map-append}
 use Rattle.spk_packets.specs.declared.fault.PacketFault.TheVariants as packet
 use Rattle.spk_ingress.specs.Frame.{IsOnePacket}

@@ -1,26 +1,24 @@
 -- Of a host that no CONNACK turns away: each call is done, and of a node is consumed what the node's order hands out.
-use Rattle.std.proofs.Common.{◌≡◌, ◌∙◌, ap, sym, subst, refl, ℕ, zero, suc, ◌+◌, Bool, true, false, cond, is_some, List, [], ◌∷◌, ◌++◌, length, map, reverse, Option, Some, None}
+use Rattle.std.proofs.Common.{◌≡◌, ◌∙◌, ap, sym, subst, refl, ℕ, ◌+◌, Bool, true, false, cond, is_some, List, [], ◌∷◌, ◌++◌, length, map, reverse, Option, Some, None}
 use Rattle.std.specs.List.{flat_map}
-use Rattle.std.specs.Prelude.{◌==◌, ◌&&◌, nat_eq}
+use Rattle.std.specs.Prelude.{◌==◌, ◌&&◌}
 use Rattle.std.specs.Str.{bytes_eq}
 use Rattle.std.proofs.lemmas.List.{append-nil, map-append, reverse-append, reverse-reverse}
 use Rattle.std.proofs.lemmas.Grind.{flat_map-append}
 use Rattle.std.proofs.lemmas.Slice.Eq.{bytes_eq-Decides}
-use Rattle.spk_sequence.specs.Step as sequence
-use Rattle.spk_order.specs.Ordered.{Ordered}
 use Rattle.spk_reading.specs.Data as said
 use Rattle.spk_reading.specs.Data.{HeardData, NumberedData}
 use Rattle.spk_host_session.specs.Data.{Config}
 use Rattle.spk_host_session.specs.Step as session
 use Rattle.spk_host_session.specs.Step.{began_after}
-use Rattle.spk_host_node.specs.Data.{NodeData, fresh_node}
+use Rattle.spk_host_node.specs.Data.{fresh_node}
 use Rattle.spk_host_node.specs.Inputs as node
 use Rattle.spk_host_node.specs.Inputs.{order_after, since_end}
 use Rattle.spk_host_node.specs.Step.{taken_of}
 use Rattle.spk_host.specs.Data.{HostData, OutData}
 use Rattle.spk_host.specs.Inputs.{Call, Heard, Ticked, Connected, host_after, is_same, node_calls, with_heard}
 use Rattle.spk_host.specs.Nodes.{node_or}
-use Rattle.spk_host.specs.Step.{after_packet, fresh}
+use Rattle.spk_host.specs.Step.{after_packet}
 use Rattle.spk_heard.specs.Read.{all_taken}
 use Rattle.spk_host_body.specs.Calls.{answer_at, done, is_done}
 use Rattle.spk_host_body.specs.Told.{AreWelcome, IsWelcome, asked, calls_of, consumed_at, consumed_by, consumed_for, consumed_in, consumed_of, consumptions, heard_in, of_node, told_in}

@@ -1,11 +1,11 @@
--- Worked rows.
-use Rattle.std.proofs.Common.{◌≡◌, refl, ℕ, List, [], ◌∷◌, Some, None}
+-- Lists of items, computed by hand.
+use Rattle.std.proofs.Common.{◌≡◌, refl, [], ◌∷◌, Some, None}
 use Rattle.spk_packets.specs.Message.{PubAck}
 use Rattle.spk_packets.specs.Spelling.{spelling}
 use Rattle.spk_reading.specs.Data.{Answered, Granted, Nothing, Published}
 use Rattle.spk_host_session.specs.Data.{Config}
 use Rattle.spk_host_session.specs.Packets.{connect_of, online_of, subscribe_of}
-use Rattle.spk_host.specs.Inputs.{Call, Connected, Heard, Ticked}
+use Rattle.spk_host.specs.Inputs.{Connected, Heard, Ticked}
 use Rattle.spk_host_body.specs.Calls.{done, packets_of}
 use Rattle.spk_host_body.specs.Told.{asked, calls_of}
 

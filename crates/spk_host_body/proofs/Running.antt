@@ -14,9 +14,8 @@ use Rattle.spk_plan.specs.declared.fault.PlantFault.TheVariants as fault
 use Rattle.spk_reading.specs.Data.{HeardData, NumberedData}
 use Rattle.spk_host_session.specs.Data.{Config}
 use Rattle.spk_host.specs.Data.{HostData}
-use Rattle.spk_host.specs.Inputs.{Call, Heard, Ticked, Connected, Ended, host_after, host_with, new_host}
-use Rattle.spk_host.specs.Step.{nothing}
-use Rattle.spk_host_body.specs.Calls.{answer_at, done, host_asked, is_done, out_at, packets_of}
+use Rattle.spk_host.specs.Inputs.{Call, Heard, Ticked, Connected, Ended, host_after, new_host}
+use Rattle.spk_host_body.specs.Calls.{answer_at, done, is_done, out_at, packets_of}
 use Rattle.spk_host_body.specs.Ends.{Fails, IsCause}
 use Rattle.spk_host_body.specs.Steps.{FailsAt, HasRun, IsAfter, IsAlong, Took, TookTold}
 use Rattle.spk_host_body.specs.Told.{AreToldBy, IsToldBy, asked, consumed_at, consumed_by, consumed_in, consumptions, heard_in, told_in}

@@ -1,5 +1,5 @@
 -- What the parts of the host's thread promise one another.
-use Rattle.std.specs.Prelude.{◌≡◌, ◌≢◌, ℕ, List, [], ◌∷◌, ◌++◌, map, Option, Some, None, Result, Ok, Err}
+use Rattle.std.specs.Prelude.{◌≡◌, ℕ, List, [], ◌++◌, map, Option, Some, None, Result, Ok, Err}
 use Rattle.spk_packets.specs.declared.fault.PacketFault.TheVariants as packet
 use Rattle.spk_ingress.specs.Frame.{IsOnePacket}
 use Rattle.spk_ingress.specs.Passes.{PutsInto}
@@ -9,7 +9,7 @@ use Rattle.spk_ingress.specs.declared.fault.FrameFault.{FrameFault}
 use Rattle.spk_ingress.specs.declared.fault.FrameFault.TheVariants as framed
 use Rattle.spk_ingress.specs.declared.frame.Frame.{Frame}
 use Rattle.spk_ingress.specs.declared.frame.Frame.TheVariants as frame
-use Rattle.spk_rings.specs.Ring.{ahead, popped}
+use Rattle.spk_rings.specs.Ring.{popped}
 use Rattle.spk_rings.specs.declared.inlet.Inlet.{Inlet}
 use Rattle.spk_rings.specs.declared.item.Item.{Item}
 use Rattle.spk_plan.specs.declared.fault.PlantFault.{PlantFault}
@@ -24,7 +24,7 @@ use Rattle.spk_host.specs.Step.{nothing}
 use Rattle.spk_host.specs.View.{out_view}
 use Rattle.spk_host.specs.declared.out.Out.{Out}
 use Rattle.spk_host_body.specs.Calls.{answer_at, done, host_asked, packets_of}
-use Rattle.spk_host_body.specs.Ends.{Fails, IsCause}
+use Rattle.spk_host_body.specs.Ends.{IsCause}
 use Rattle.spk_host_body.specs.Told.{AreToldBy, asked, consumed_by, consumptions, heard_in, told_in}
 use Rattle.spk_host_body.specs.declared.ends.Given.{Given}
 

@@ -1,10 +1,9 @@
-use Rattle.std.proofs.Common.{◌≡◌, ◌∙◌, ◌∷◌, [], ◌++◌, List, ap, sym, subst, map}
-use Rattle.std.proofs.lemmas.List.{append-nil, append_assoc}
+use Rattle.std.proofs.Common.{◌∙◌, [], sym, subst, map}
+use Rattle.std.proofs.lemmas.List.{append-nil}
 use Rattle.spk_ingress.specs.Passes.{frames_put}
-use Rattle.spk_rings.specs.Ring.{SameInlet, popped}
+use Rattle.spk_rings.specs.Ring.{popped}
 use Rattle.spk_reading.specs.View.{numbered_view}
-use Rattle.spk_host_body.specs.Ends.{Fails}
-use Rattle.spk_host_body.specs.Steps.{HasRun, IsAlong, SamePass}
+use Rattle.spk_host_body.specs.Steps.{IsAlong}
 use Rattle.spk_host_body.proofs.Running.{after_begin, fails_begin, no_memory, ran_more, same_inlet, same_then}
 use Rattle.spk_host_body.proofs.body.run.Goals as goal
 

@@ -1,4 +1,3 @@
-use Rattle.std.proofs.Common.{◌≡◌}
 use Rattle.spk_ingress.specs.Passes.{frames_put}
 use Rattle.spk_rings.specs.Ring.{SameInlet}
 use Rattle.spk_host_body.specs.Steps.{HasRun, SamePass}

@@ -1,9 +1,7 @@
-use Rattle.std.proofs.Common.{◌≡◌, ◌∙◌, ◌+◌, ◌∷◌, [], ◌++◌, List, ap, sym, subst, length, map}
+use Rattle.std.proofs.Common.{◌∙◌, ◌+◌, ◌∷◌, [], ◌++◌, ap, sym, subst, map}
 use Rattle.spk_ingress.specs.Passes.{frames_put}
-use Rattle.spk_rings.specs.declared.item.Item.{Item}
 use Rattle.spk_reading.specs.View.{numbered_view}
 use Rattle.spk_host_body.specs.Steps.{IsAlong}
-use Rattle.spk_host_body.specs.declared.ends.Given.{Given}
 use Rattle.spk_host_body.proofs.Running.{along_more, fails_after, fails_mid, no_memory}
 use Rattle.spk_host_body.proofs.body.take_in.Goals as goal
 

@@ -1,8 +1,8 @@
-use Rattle.std.proofs.Common.{◌≡◌, ◌∙◌, List, ℕ, ◌∷◌, map, subst}
+use Rattle.std.proofs.Common.{◌∙◌, map, subst}
 use Rattle.std.specs.Vec.Iter.{into_iter_items}
 use Rattle.spk_ingress.specs.Passes.{frames_put}
 use Rattle.spk_host_body.specs.Steps.{Puts}
-use Rattle.spk_host_body.proofs.Frames.{puts_all, puts_cause, puts_one}
+use Rattle.spk_host_body.proofs.Frames.{puts_one}
 use Rattle.spk_host_body.proofs.line.Line.put_all.Goals as goal
 
 pub loop-bytes-preserved : goal.loop-bytes-preserved
