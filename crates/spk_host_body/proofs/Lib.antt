@@ -1,0 +1,5 @@
+pub mod Answering
+pub mod Frames
+pub mod Running
+pub mod Items
+mod Rows

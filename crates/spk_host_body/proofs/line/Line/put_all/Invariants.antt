@@ -1,0 +1,12 @@
+use Rattle.std.proofs.Common.{map}
+use Rattle.std.specs.Vec.Iter.{into_iter_items}
+use Rattle.spk_ingress.specs.Passes.{frames_put}
+use Rattle.spk_host_body.specs.Steps.{Puts, SamePass}
+use Rattle.spk_host_body.proofs.line.Line.put_all.Given as goal
+
+-- all but the packets that are left were put
+abbrev pub invariant-loop-bytes : goal.invariant-loop-bytes
+invariant-loop-bytes g l = record {
+  pass : SamePass l.ingress l.fn.self.pass l.self.pass;
+  puts : Puts (map (λ b. b.items) l.fn.packets.items) (map (λ b. b.items) (into_iter_items l.bytes-iterator)) (frames_put l.fn.self.pass) (frames_put l.self.pass);
+}

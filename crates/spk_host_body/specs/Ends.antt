@@ -1,0 +1,79 @@
+-- What the host's thread begins with, and what its end hands on: facts about its own lists alone.
+use Rattle.std.specs.Prelude.{◌≡◌, ℕ, List, [], ◌∷◌, ◌++◌, map}
+use Rattle.spk_ingress.specs.Frame.{IsOnePacket}
+use Rattle.spk_ingress.specs.Passes.{PutsInto, frames_put}
+use Rattle.spk_ingress.specs.declared.channel.Ingress.{Ingress}
+use Rattle.spk_ingress.specs.declared.frame.Frame.{Frame}
+use Rattle.spk_ingress.specs.declared.frame.Frame.TheVariants as frame
+use Rattle.spk_rings.specs.Ring.{SameInlet, ahead, popped}
+use Rattle.spk_rings.specs.declared.item.Item.{Item}
+use Rattle.spk_plan.specs.declared.fault.PlantFault.{PlantFault}
+use Rattle.spk_plan.specs.declared.fault.PlantFault.TheVariants as fault
+use Rattle.spk_host_session.specs.Data.{Config}
+use Rattle.spk_host.specs.Inputs.{Call, host_after, new_host}
+use Rattle.spk_host_body.specs.Calls.{answer_at, packets_of}
+use Rattle.spk_host_body.specs.Told.{AreToldBy, calls_of, consumed_by, consumptions, heard_in, told_in}
+use Rattle.spk_host_body.specs.declared.ends.HostStart.{HostStart}
+use Rattle.spk_host_body.specs.declared.ends.HostEnd.{HostEnd}
+use Rattle.spk_host_body.specs.declared.ends.HostFailed.{HostFailed}
+
+-- The pass is of this ingress, and the host is new.
+pub record HostReady (n : Ingress) (s : HostStart) : Type 0 where
+  pub puts_into : PutsInto n s.pass
+  pub fresh : s.host ≡ new_host s.host.session.config
+
+abbrev pub config_of : HostStart → Config
+config_of s = s.host.session.config
+
+-- the calls that the host did, newest first
+abbrev pub calls_done : HostStart → HostEnd → List Call
+calls_done s e = calls_of (config_of s) (told_in e.given.items)
+
+pub record HostDone (n : Ingress) (s : HostStart) (e : HostEnd) : Type 0 where
+  -- the same ends, and the ring was empty when it was looked into last
+  pub puts_into : PutsInto n e.pass
+  pub sender : e.pass.sender ≡ s.pass.sender
+  pub inlet : SameInlet s.inlet e.inlet
+  pub emptied : ahead e.inlet ≡ []
+  -- these items were taken out; of each of them there is what it says
+  pub items : List Item
+  pub taken : popped e.inlet ≡ popped s.inlet ++ items
+  pub told : AreToldBy items (map heard_in e.given.items)
+  -- the host is as its calls leave it; their packets were put, in order, and last the end; and what each item made it consume
+  pub host : e.host ≡ host_after (config_of s) (calls_done s e)
+  pub put : frames_put e.pass ≡ frames_put s.pass ++ (map frame.Packet (packets_of (config_of s) (calls_done s e)) ++ frame.End ∷ [])
+  pub consumed : consumed_by e.given.items ≡ consumptions (config_of s) (told_in e.given.items)
+
+-- ---- a run that failed
+
+-- some of these bytes aren't one packet
+pub record HasNoPacket (packets : List (List ℕ)) : Type 0 where
+  pub before : List (List ℕ)
+  pub bytes : List ℕ
+  pub after : List (List ℕ)
+  pub parts : packets ≡ before ++ bytes ∷ after
+  pub none : IsOnePacket bytes → ⊥
+
+-- Why packets aren't put: a growth was refused, the taker is gone, or one of them isn't a packet.
+abbrev pub IsCause : List (List ℕ) → PlantFault → Type 0
+IsCause packets fault.NoMemory = Unit {0}
+IsCause packets fault.Closed = Unit {0}
+IsCause packets fault.Unsettled = HasNoPacket packets
+IsCause packets fault.BadPlan = ⊥
+
+-- why a host fails: for the packets of a call, after some calls that were done
+abbrev pub Fails : Config → PlantFault → Type 0
+Fails config f = (before : List Call) × (call : Call) × IsCause (answer_at (host_after config before) call).packets f
+
+-- The end is put last, unless the taker is gone.
+abbrev pub IsLast : PlantFault → List Frame → Type 0
+IsLast fault.Closed put = Unit {0}
+IsLast fault.NoMemory put = (before : List Frame) × (put ≡ before ++ frame.End ∷ [])
+IsLast fault.Unsettled put = (before : List Frame) × (put ≡ before ++ frame.End ∷ [])
+IsLast fault.BadPlan put = ⊥
+
+pub record HostBroke (n : Ingress) (s : HostStart) (f : HostFailed) : Type 0 where
+  pub puts_into : PutsInto n f.pass
+  pub sender : f.pass.sender ≡ s.pass.sender
+  pub last : IsLast f.fault (frames_put f.pass)
+  pub cause : Fails (config_of s) f.fault

@@ -1,0 +1,191 @@
+//! The body of the host's thread.
+ghost use Rattle.std.specs.Prelude.{◌≡◌, ◌+◌, ◌∷◌, [], ◌++◌, List, ℕ, IfErr, IfOk, OnOk, vec_len};
+ghost use Rattle.spk_ingress.specs.Passes.{PutsInto, frames_put};
+ghost use Rattle.spk_ingress.specs.declared.frame.Frame.{Frame};
+ghost use Rattle.spk_rings.specs.Ring.{SameInlet, ahead, popped};
+ghost use Rattle.spk_rings.specs.declared.item.Item as plain;
+ghost use Rattle.spk_host_session.specs.Data.{Config};
+ghost use Rattle.spk_host.specs.Inputs.{new_host};
+ghost use Rattle.spk_host_body.specs.Ends.{Fails, HostBroke, HostDone, HostReady};
+ghost use Rattle.spk_host_body.specs.Steps.{FailsAt, HasRun, IsAlong, SamePass, TookTold};
+ghost use Rattle.spk_host_body.specs.Told.{IsToldBy, consumed_in, heard_in};
+
+use crate::desk::Desk;
+use crate::ends::{Given, HostEnd, HostFailed, HostStart};
+use crate::line::Line;
+use crate::watch::Watch;
+use spk_ingress::{Frame, Ingress};
+use spk_plan::{Gate, PlantFault};
+use spk_reading::{ReadFault, read};
+use spk_rings::{Inlet, Item};
+use std::alloc::Global;
+use std::sync::Wait;
+use std::thread::yield_now;
+
+/// What an item says is told to the host, unless it would refuse it.
+fn tell<R: Wait, G: Gate>(
+    rt: &R,
+    ingress: &Ingress,
+    gate: &G,
+    desk: &mut Desk,
+    item: &Item,
+    now: u64,
+) -> Result<Given, PlantFault>
+    requires { PutsInto ingress.now desk.old.line.pass }
+    ensures pass { SamePass ingress.now desk.old.line.pass desk.new.line.pass }
+    ensures told { IfOk result (λ g. IsToldBy item.now (heard_in g)) }
+    ensures took { IfOk result (λ g. TookTold (heard_in g) now desk.old.host desk.new.host
+        (frames_put desk.old.line.pass) (frames_put desk.new.line.pass) (consumed_in g)) }
+    ensures cause { IfErr result (λ e. FailsAt desk.old.host e) }
+{
+    let bytes = item.bytes.as_slice();
+    let heard = match read(desk.alloc, bytes) {
+        Ok(heard) => heard,
+        Err(ReadFault::NoMemory) => return Err(PlantFault::NoMemory),
+        Err(_) => {
+            return Ok(Given {
+                heard: None,
+                consumed: Vec::new(desk.alloc),
+            });
+        }
+    };
+    let consumed = match desk.hear(rt, ingress, gate, bytes, now) {
+        Ok(consumed) => consumed,
+        Err(fault) => return Err(fault),
+    };
+    Ok(Given {
+        heard: Some(heard),
+        consumed,
+    })
+}
+
+/// An item came out of the ring: what it says is told to the host, and then that a moment passed. The moment is the number of items.
+fn take_in<R: Wait, G: Gate>(
+    rt: &R,
+    ingress: &Ingress,
+    gate: &G,
+    desk: &mut Desk,
+    given: &mut Vec<Given>,
+    item: &Item,
+) -> Result<(), PlantFault>
+    requires { PutsInto ingress.now desk.old.line.pass }
+    ensures pass { SamePass ingress.now desk.old.line.pass desk.new.line.pass }
+    ensures along { (config : Config) (put : List Frame) (items : List plain.Item) →
+        IsAlong config put items given.old.items desk.old.host (frames_put desk.old.line.pass) →
+        OnOk result (IsAlong config put (items ++ item.now ∷ []) given.new.items desk.new.host
+        (frames_put desk.new.line.pass)) }
+    ensures cause { (config : Config) (put : List Frame) (items : List plain.Item) →
+        IsAlong config put items given.old.items desk.old.host (frames_put desk.old.line.pass) →
+        IfErr result (λ e. Fails config e) }
+{
+    let Ok(()) = given.reserve(1) else {
+        return Err(PlantFault::NoMemory);
+    };
+    let _room = given.capacity();
+    let now = (given.len() + 1) as u64;
+    let told = match tell(rt, ingress, gate, desk, item, now) {
+        Ok(told) => told,
+        Err(fault) => return Err(fault),
+    };
+    match desk.tick(rt, ingress, gate, now) {
+        Ok(_consumed) => {}
+        Err(fault) => return Err(fault),
+    }
+    given.push_reserved(told);
+    Ok(())
+}
+
+/// The host's session: it begins at moment 0, and goes on until the ring's other end is gone and the ring is empty.
+fn run<R: Wait, G: Gate>(
+    rt: &R,
+    ingress: &Ingress,
+    gate: &G,
+    desk: &mut Desk,
+    inlet: &mut Inlet,
+) -> Result<Vec<Given>, PlantFault>
+    requires into { PutsInto ingress.now desk.old.line.pass }
+    requires fresh { desk.old.host ≡ new_host desk.old.host.session.config }
+    ensures pass { SamePass ingress.now desk.old.line.pass desk.new.line.pass }
+    ensures inlet { SameInlet inlet.old inlet.new }
+    ensures emptied { OnOk result (ahead inlet.new ≡ []) }
+    ensures ran { IfOk result (λ v. HasRun desk.old.host.session.config (frames_put desk.old.line.pass)
+        inlet.old inlet.new v.items desk.new.host (frames_put desk.new.line.pass)) }
+    ensures cause { IfErr result (λ e. Fails desk.old.host.session.config e) }
+{
+    let Ok(()) = desk.watch.start() else {
+        return Err(PlantFault::NoMemory);
+    };
+    let mut given = Vec::new(desk.alloc);
+    match desk.begin(rt, ingress, gate, 0) {
+        Ok(_consumed) => {}
+        Err(fault) => return Err(fault),
+    }
+    for _ in rt.forever() {
+        let gone = inlet.gone();
+        let Some(item) = inlet.next() else {
+            if gone {
+                return Ok(given);
+            }
+            yield_now();
+            continue;
+        };
+        match take_in(rt, ingress, gate, desk, &mut given, &item) {
+            Ok(()) => {}
+            Err(fault) => return Err(fault),
+        }
+    }
+    unreachable!()
+}
+
+/// The body of the host's thread. The host begins its session at moment 0. Then each item of its ring is told to it, and after each
+/// that a moment passed, which is the number of items so far; a call that the host refuses (70 to 75) hands out nothing. The packets
+/// that it answers are put, and the gate is told of what it consumed. It ends once the ring's other end is gone and the ring is empty,
+/// and puts End last. The pass must be of this ingress, and the host new.
+///
+/// It fails with NoMemory (1) where a growth was refused, with Closed (90) where the taker is gone, and with Unsettled (93) where the
+/// host answers bytes that aren't one packet. End is put all the same, unless the taker is gone.
+pub fn run_host<R: Wait, G: Gate>(
+    rt: &R,
+    alloc: Global,
+    ingress: &Ingress,
+    gate: &G,
+    start: HostStart,
+) -> Result<HostEnd, HostFailed>
+    requires { HostReady ingress.now start }
+    ensures done { IfOk result (λ e. HostDone ingress.now start e) }
+    ensures broke { IfErr result (λ f. HostBroke ingress.now start f) }
+{
+    let HostStart {
+        host,
+        nodes,
+        pass,
+        mut inlet,
+    } = start;
+    let line = Line::new(pass, nodes.len());
+    let mut desk = Desk {
+        alloc,
+        host,
+        line,
+        watch: Watch::new(alloc, nodes),
+    };
+    let ran = run(rt, ingress, gate, &mut desk, &mut inlet);
+    let ended = desk.line.put(rt, ingress, gate, Frame::End);
+    let Desk { host, line, .. } = desk;
+    let pass = line.pass;
+    let Ok(()) = ended else {
+        return Err(HostFailed {
+            fault: PlantFault::Closed,
+            pass,
+        });
+    };
+    let given = match ran {
+        Ok(given) => given,
+        Err(fault) => return Err(HostFailed { fault, pass }),
+    };
+    Ok(HostEnd {
+        given,
+        host,
+        pass,
+        inlet,
+    })
+}

@@ -1,0 +1,50 @@
+//! What the host's thread begins with, and what it hands on.
+use spk_host::{Host, Taken};
+use spk_ingress::PutPass;
+use spk_plan::PlantFault;
+use spk_reading::Heard;
+use spk_rings::Inlet;
+
+/// What the host's thread begins with.
+#[derive(Drop)]
+pub struct HostStart {
+    /// A new host, outside a session.
+    pub host: Host,
+    /// The names of the edge nodes, in their order. A gate is told of a node by its place.
+    pub nodes: Vec<String>,
+    /// The host's pass, the last sender's.
+    pub pass: PutPass,
+    /// Where the host's packets come from.
+    pub inlet: Inlet,
+}
+
+/// One item of the host's ring. The first is at moment 1, the next at moment 2, and so on.
+#[derive(Debug, Drop)]
+pub struct Given {
+    /// What it said to the host; None where the host refuses it.
+    pub heard: Option<Heard>,
+    /// The messages that the host consumed at it, in the order of their numbers.
+    pub consumed: Vec<Taken>,
+}
+
+/// What the host's thread hands on.
+#[derive(Drop)]
+pub struct HostEnd {
+    /// The items of the ring, oldest first.
+    pub given: Vec<Given>,
+    /// The host at its end.
+    pub host: Host,
+    /// All that was put: the host's packets, and then End.
+    pub pass: PutPass,
+    /// The ring, empty.
+    pub inlet: Inlet,
+}
+
+/// What a host's thread that failed hands on.
+#[derive(Drop)]
+pub struct HostFailed {
+    /// Why it failed.
+    pub fault: PlantFault,
+    /// What was put until then, and then End, unless the taker is gone.
+    pub pass: PutPass,
+}

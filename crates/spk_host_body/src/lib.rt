@@ -1,0 +1,16 @@
+//! The thread of a host application in a plant (Sparkplug 3.0.0, chapter 5, over MQTT 3.1.1): what comes out of its ring is told to the
+//! host, and what the host answers is put. No standard speaks of the plant (own rule).
+#![tactic(auto)]
+
+mod asking;
+mod body;
+mod desk;
+mod ends;
+pub mod laws;
+mod line;
+#[cfg(test)]
+mod tests;
+mod watch;
+
+pub use body::run_host;
+pub use ends::{Given, HostEnd, HostFailed, HostStart};

@@ -1,0 +1,110 @@
+//! What the host's thread puts.
+ghost use Rattle.std.specs.Prelude.{◌≡◌, ◌∷◌, [], ◌++◌, map, IfErr, OnOk};
+ghost use Rattle.spk_ingress.specs.Passes.{PutsInto, frames_put};
+ghost use Rattle.spk_host_body.specs.Ends.{IsCause};
+ghost use Rattle.spk_host_body.specs.Steps as step;
+ghost use Rattle.spk_host_body.specs.Steps.{IsCauseOf, SamePass};
+
+use spk_ingress::{Frame, FrameFault, Ingress, PutPass};
+use spk_packets::PacketFault;
+use spk_plan::{Gate, PlantFault};
+use std::alloc::Global;
+use std::sync::Wait;
+
+/// The host's way to the broker.
+#[derive(Drop)]
+pub(crate) struct Line {
+    pub(crate) pass: PutPass,
+    /// The host's place among the senders, and how many frames it put: for the gate alone.
+    sender: usize,
+    puts: u64,
+}
+
+/// Why bytes make no frame.
+fn unframed(fault: FrameFault) -> PlantFault
+    ensures { result ≡ step.unframed fault }
+{
+    match fault {
+        FrameFault::Packet(PacketFault::NoMemory) => PlantFault::NoMemory,
+        _ => PlantFault::Unsettled,
+    }
+}
+
+impl Line {
+    pub(crate) fn new(pass: PutPass, sender: usize) -> Line
+        ensures { result.pass ≡ pass }
+    {
+        Line {
+            pass,
+            sender,
+            puts: 0,
+        }
+    }
+
+    /// Puts a frame, and waits while there is no room.
+    pub(crate) fn put<R: Wait, G: Gate>(
+        &mut self,
+        rt: &R,
+        ingress: &Ingress,
+        gate: &G,
+        frame: Frame,
+    ) -> Result<(), PlantFault>
+        requires { PutsInto ingress.now self.old.pass }
+        ensures pass { SamePass ingress.now self.old.pass self.new.pass }
+        ensures ok { OnOk result (frames_put self.new.pass ≡ frames_put self.old.pass ++ frame ∷ []) }
+        ensures fault { IfErr result (λ e. e ≡ PlantFault.Closed) }
+    {
+        gate.before_put(self.sender, self.puts);
+        let Ok(()) = ingress.put(rt, &mut self.pass, frame) else {
+            return Err(PlantFault::Closed);
+        };
+        self.puts = self.puts.saturating_add(1);
+        Ok(())
+    }
+
+    /// Puts a packet.
+    fn put_packet<R: Wait, G: Gate>(
+        &mut self,
+        rt: &R,
+        alloc: Global,
+        ingress: &Ingress,
+        gate: &G,
+        bytes: Vec<u8>,
+    ) -> Result<(), PlantFault>
+        requires { PutsInto ingress.now self.old.pass }
+        ensures pass { SamePass ingress.now self.old.pass self.new.pass }
+        ensures ok { OnOk result
+            (frames_put self.new.pass ≡ frames_put self.old.pass ++ Frame.Packet bytes.items ∷ []) }
+        ensures fault { IfErr result (λ e. IsCauseOf bytes.items e) }
+    {
+        let frame = match Frame::packet(alloc, bytes) {
+            Ok(frame) => frame,
+            Err(refused) => return Err(unframed(refused.fault)),
+        };
+        self.put(rt, ingress, gate, frame)
+    }
+
+    /// Puts packets, in order.
+    pub(crate) fn put_all<R: Wait, G: Gate>(
+        &mut self,
+        rt: &R,
+        alloc: Global,
+        ingress: &Ingress,
+        gate: &G,
+        packets: Vec<Vec<u8>>,
+    ) -> Result<(), PlantFault>
+        requires { PutsInto ingress.now self.old.pass }
+        ensures pass { SamePass ingress.now self.old.pass self.new.pass }
+        ensures ok { OnOk result (frames_put self.new.pass ≡
+            frames_put self.old.pass ++ map Frame.Packet (map (λ b. b.items) packets.items)) }
+        ensures fault { IfErr result (λ e. IsCause (map (λ b. b.items) packets.items) e) }
+    {
+        for bytes in packets {
+            match self.put_packet(rt, alloc, ingress, gate, bytes) {
+                Ok(()) => {}
+                Err(fault) => return Err(fault),
+            }
+        }
+        Ok(())
+    }
+}
