@@ -1,5 +1,6 @@
 -- What the broker's thread is given, and what it hands on when it is joined.
-use Rattle.std.specs.Prelude.{◌≡◌, ℕ, ◌+◌, ◌-◌, ◌*◌, ◌<◌, ◌==◌, Bool, true, List, [], ◌∷◌, length, Option, Some, None, slice_index_or, count_by}
+use Rattle.std.specs.Prelude.{◌≡◌, ℕ, ◌+◌, ◌-◌, ◌*◌, ◌<◌, ◌==◌, Bool, true, List, [], ◌∷◌, length, Option, Some, None, count_by}
+use Rattle.std.specs.List.{slice_get}
 use Rattle.spk_ingress.specs.Passes.{TakesFrom, frames_taken}
 use Rattle.spk_ingress.specs.declared.channel.Ingress.{Ingress}
 use Rattle.spk_ingress.specs.declared.channel.TakePass.{TakePass}
@@ -19,7 +20,7 @@ use Rattle.spk_broker_body.specs.Log.{IsLog, accepted_of, got_of, refusals_of, r
 
 -- nothing was offered so far
 abbrev pub AreFresh : List Outlet → Type 0
-AreFresh os = (k : ℕ) (o : Outlet) → k < length os → offered (slice_index_or os k o) ≡ []
+AreFresh os = (k : ℕ) (o : Outlet) → slice_get os k ≡ Some o → offered o ≡ []
 
 -- A pass of this ingress through which nothing was taken, and a new ring for each sender.
 pub record BrokerReady (n : Ingress) (start : BrokerStart) : Type 0 where
@@ -38,8 +39,12 @@ abbrev pub IsTokenOf : Outlet → Option Token → List Item → Type 0
 IsTokenOf o None got = Unit {0}
 IsTokenOf o (Some t) got = FinishedFrom o t × (all_offered t ≡ got)
 
+-- the token of one client's ring
+abbrev pub IsTokenAt : List Outlet → (ℕ → List Item) → ℕ → Option Token → Type 0
+IsTokenAt os got k t = (o : Outlet) × (slice_get os k ≡ Some o) × IsTokenOf o t (got k)
+
 abbrev pub AreTokens : List Outlet → (ℕ → List Item) → List (Option Token) → Type 0
-AreTokens os got ts = (k : ℕ) (o : Outlet) (t : Option Token) → k < length ts → IsTokenOf (slice_index_or os k o) (slice_index_or ts k t) (got k)
+AreTokens os got ts = (k : ℕ) (t : Option Token) → slice_get ts k ≡ Some t → IsTokenAt os got k t
 
 -- There is a log of all that was done, by which everything handed on is read. Edge nodes are the first senders, the host is the last.
 pub record BrokerDone (n : Ingress) (start : BrokerStart) (end : BrokerEnd) : Type 0 where

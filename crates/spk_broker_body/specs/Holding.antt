@@ -1,5 +1,6 @@
 -- What the broker's thread holds beside a log.
 use Rattle.std.specs.Prelude.{◌≡◌, ℕ, ◌-◌, ◌<◌, ◌==◌, Bool, true, false, ◌||◌, List, [], ◌∷◌, ◌++◌, map, length, Option, Some, None, if◌then◌else◌, slice_index_or}
+use Rattle.std.specs.List.{slice_get}
 use Rattle.std.specs.Option.{IfSome}
 use Rattle.spk_ingress.specs.declared.rule.Message.{Message}
 use Rattle.spk_session.specs.declared.answer.Sort.{Sort}
@@ -65,9 +66,13 @@ pub record FitsLine (first : Outlet) (dropped : Bool) (got : List Item) (cuts : 
   pub count : l.cuts ≡ cuts
   pub over : l.ended ≡ ended
 
+-- the line of one client: its ring is the one that it was given
+abbrev pub FitLine : List Outlet → (ℕ → Bool) → (ℕ → List Item) → List Message → ℕ → Line → Type 0
+FitLine firsts dropped got taken k l = (first : Outlet) × (slice_get firsts k ≡ Some first)
+    × FitsLine first (dropped k) (got k) (cuts_in k taken) (has_ended k taken) l
+
 abbrev pub FitLines : List Outlet → (ℕ → Bool) → (ℕ → List Item) → List Message → List Line → Type 0
-FitLines firsts dropped got taken ls = (k : ℕ) (d : Line) (o : Outlet) → k < length ls →
-    FitsLine (slice_index_or firsts k o) (dropped k) (got k) (cuts_in k taken) (has_ended k taken) (slice_index_or ls k d)
+FitLines firsts dropped got taken ls = (k : ℕ) (l : Line) → slice_get ls k ≡ Some l → FitLine firsts dropped got taken k l
 
 -- what an offer of these bytes makes of a client's line
 abbrev pub OfferGives : Outlet → Bool → List Item → ℕ → Bool → List ℕ → Line → Option Bool → Type 0
