@@ -1,3 +1,4 @@
 pub mod Desks
 pub mod Each
+pub mod Hubs
 pub mod Lines

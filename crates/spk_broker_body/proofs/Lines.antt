@@ -1,13 +1,20 @@
 -- The lines of all clients.
-use Rattle.std.proofs.Common.{◌≡◌, ◌≢◌, ℕ, zero, suc, ◌+◌, ◌<◌, ◌==◌, nat_lt, ◌&&◌, ◌||◌, if◌then◌else◌, Bool, true, false, List, [], ◌∷◌, ◌++◌, length, Option, Some, None, set, get_or, refl, sym, ◌∙◌, ap, subst, arith, eq-eqb, add-one, inl, inr}
+use Rattle.std.proofs.Common.{◌≡◌, ◌≢◌, ℕ, zero, suc, ◌+◌, ◌<◌, ◌==◌, nat_lt, ◌&&◌, ◌||◌, if◌then◌else◌, Bool, true, false, List, [], ◌∷◌, ◌++◌, length, Option, Some, None, set, get_or, refl, sym, ◌∙◌, ap, subst, arith, eq-eqb, add-one, inl, inr, true≢false}
+use Rattle.std.proofs.Math.Bool.{or-true}
+use Rattle.std.proofs.lemmas.List.Folds.{list_any-append}
+use Rattle.std.specs.Option.{IfSome}
+use Rattle.spk_ingress.specs.declared.frame.Frame.TheVariants as frame
+use Rattle.spk_rings.specs.Ring.{FinishedFrom, all_offered}
+use Rattle.spk_rings.specs.declared.token.Token.{Token}
+use Rattle.spk_broker_body.specs.Done.{IsTokenOf}
 use Rattle.std.proofs.lemmas.Bool.{eqb-true}
 use Rattle.std.specs.List.{slice_get}
 use Rattle.spk_ingress.specs.declared.rule.Message.{Message}
 use Rattle.spk_rings.specs.declared.item.Item.{Item}
 use Rattle.spk_rings.specs.declared.outlet.Outlet.{Outlet}
 use Rattle.spk_broker_body.specs.declared.line.Line.{Line}
-use Rattle.spk_broker_body.specs.Holding.{FitLine, FitLines, FitsLine, LinesGive, OfferGives}
-use Rattle.spk_broker_body.specs.Step.{cuts_in, has_ended, have_ended}
+use Rattle.spk_broker_body.specs.Holding.{FitLine, FitLines, FitsLine, LinesGive, IsRing, OfferGives}
+use Rattle.spk_broker_body.specs.Step.{cuts_in, has_ended, have_ended, is_cut, is_end}
 use Rattle.spk_broker_body.proofs.Each.{each_set, read_at, same_or_not}
 
 pub and_false : (a b : Bool) → b ≡ false → (a && b) ≡ false
@@ -53,3 +60,80 @@ one_has_not (suc n) i taken below h = elim (same_or_not i n) [
 
 pub one_more_has : (n : ℕ) (taken : List Message) → have_ended n taken ≡ true → has_ended n taken ≡ true → have_ended (n + 1) taken ≡ true
 one_more_has n taken h e = ap (λ m. have_ended m taken) (add-one n) ∙ (ap (λ b. b && have_ended n taken) e ∙ h)
+
+-- ---- dropped rings
+
+pub token_is : (first : Outlet) (got : List Item) (cuts : ℕ) (ended : Bool) (l : Line) → FitsLine first true got cuts ended l → IsTokenOf first l.token got
+token_is first got cuts ended l f = go l.outlet l.token f.ring
+  where
+    some : (t : Option Token) → IfSome t (λ t. FinishedFrom first t × (all_offered t ≡ got)) → IsTokenOf first t got
+    some None h = tt
+    some (Some t) h = h
+    go : (o : Option Outlet) (t : Option Token) → IsRing first o t true got → IsTokenOf first t got
+    go (Some o) t h = absurd (true≢false h.0)
+    go None t h = some t h.1
+
+-- ---- one frame more
+
+pub cuts_push : (k : ℕ) (ms : List Message) (m : Message) → cuts_in k (ms ++ m ∷ []) ≡ cuts_in k ms + (if (m.sender == k) && is_cut m.frame then 1 else 0)
+cuts_push k [] m = omega arith
+cuts_push k (n ∷ ms) m = let h : cuts_in k (ms ++ m ∷ []) ≡ cuts_in k ms + (if (m.sender == k) && is_cut m.frame then 1 else 0) = cuts_push k ms m in omega (arith, h)
+
+pub or_none : (b : Bool) → (b || false) ≡ b
+or_none true = refl
+or_none false = refl
+
+pub ended_push : (k : ℕ) (ms : List Message) (m : Message) → has_ended k (ms ++ m ∷ []) ≡ (has_ended k ms || ((m.sender == k) && is_end m.frame))
+ended_push k ms m = list_any-append (λ (n : Message). (n.sender == k) && is_end n.frame) ms (m ∷ []) ∙ ap (λ b. has_ended k ms || b) (or_none ((m.sender == k) && is_end m.frame))
+
+-- of a frame that is neither Cut nor End
+pub lines_noted : (firsts : List Outlet) (dropped : ℕ → Bool) (got : ℕ → List Item) (taken : List Message) (m : Message) (ls : List Line) → is_cut m.frame ≡ false → is_end m.frame ≡ false →
+    FitLines firsts dropped got taken ls → FitLines firsts dropped got (taken ++ m ∷ []) ls
+lines_noted firsts dropped got taken m ls no_cut no_end fits k l is =
+    let f : FitLine firsts dropped got taken k l = fits k l is in
+    (f.0, f.1, record {
+      ring = f.2.ring;
+      count = f.2.count ∙ sym (cuts_push k taken m ∙ (ap (λ b. cuts_in k taken + (if b then 1 else 0)) (and_false (m.sender == k) (is_cut m.frame) no_cut) ∙ (let z : cuts_in k taken + 0 ≡ cuts_in k taken = omega arith in z)));
+      over = f.2.over ∙ sym (ended_push k taken m ∙ (ap (λ b. has_ended k taken || b) (and_false (m.sender == k) (is_end m.frame) no_end) ∙ or_none (has_ended k taken)));
+    })
+
+-- of another sender nothing changes
+pub line_other : (firsts : List Outlet) (dropped : ℕ → Bool) (got : ℕ → List Item) (taken : List Message) (m : Message) (k : ℕ) (l : Line) → k ≢ m.sender →
+    FitLine firsts dropped got taken k l → FitLine firsts dropped got (taken ++ m ∷ []) k l
+line_other firsts dropped got taken m k l ne f = (f.0, f.1, record {
+      ring = f.2.ring;
+      count = f.2.count ∙ sym (cuts_push k taken m ∙ (ap (λ b. cuts_in k taken + (if b && is_cut m.frame then 1 else 0)) (differ k m.sender ne) ∙ (let z : cuts_in k taken + 0 ≡ cuts_in k taken = omega arith in z)));
+      over = f.2.over ∙ sym (ended_push k taken m ∙ (ap (λ b. has_ended k taken || (b && is_end m.frame)) (differ k m.sender ne) ∙ or_none (has_ended k taken)));
+    })
+
+-- a Cut of this sender
+pub lines_cut : (firsts : List Outlet) (dropped : ℕ → Bool) (got : ℕ → List Item) (taken : List Message) (k : ℕ) (ls : List Line) (old new : Line) →
+    FitLines firsts dropped got taken ls → k < length ls → old ≡ get_or ls k old →
+    ((first : Outlet) (d : Bool) (g : List Item) (cuts : ℕ) (ended : Bool) → FitsLine first d g cuts ended old → FitsLine first d g (cuts + 1) ended new) →
+    FitLines firsts dropped got (taken ++ (record { sender = k; frame = frame.Cut }) ∷ []) (set ls k new)
+lines_cut firsts dropped got taken k ls old new fits below is cut =
+    let m : Message = record { sender = k; frame = frame.Cut } in
+    let f : FitLine firsts dropped got taken k old = fits k old (read_at ls k old below is) in
+    let g : FitsLine f.0 (dropped k) (got k) (cuts_in k taken + 1) (has_ended k taken) new = cut f.0 (dropped k) (got k) (cuts_in k taken) (has_ended k taken) f.2 in
+    each_set (FitLine firsts dropped got taken) (FitLine firsts dropped got (taken ++ m ∷ [])) ls k new fits
+    (f.0, f.1, record {
+      ring = g.ring;
+      count = g.count ∙ sym (cuts_push k taken m ∙ ap (λ b. cuts_in k taken + (if b && true then 1 else 0)) (eq-eqb k k refl));
+      over = g.over ∙ sym (ended_push k taken m ∙ (ap (λ b. has_ended k taken || (b && false)) (eq-eqb k k refl) ∙ or_none (has_ended k taken)));
+    })
+    (λ j y ne p. line_other firsts dropped got taken m j y ne p)
+
+-- the End of this sender
+pub lines_ended : (firsts : List Outlet) (dropped : ℕ → Bool) (got : ℕ → List Item) (taken : List Message) (k : ℕ) (ls : List Line) (old : Line) →
+    FitLines firsts dropped got taken ls → k < length ls → old ≡ get_or ls k old →
+    FitLines firsts dropped got (taken ++ (record { sender = k; frame = frame.End }) ∷ []) (set ls k (record old { ended = true }))
+lines_ended firsts dropped got taken k ls old fits below is =
+    let m : Message = record { sender = k; frame = frame.End } in
+    let f : FitLine firsts dropped got taken k old = fits k old (read_at ls k old below is) in
+    each_set (FitLine firsts dropped got taken) (FitLine firsts dropped got (taken ++ m ∷ [])) ls k (record old { ended = true }) fits
+    (f.0, f.1, record {
+      ring = f.2.ring;
+      count = f.2.count ∙ sym (cuts_push k taken m ∙ (ap (λ b. cuts_in k taken + (if b && false then 1 else 0)) (eq-eqb k k refl) ∙ (let z : cuts_in k taken + 0 ≡ cuts_in k taken = omega arith in z)));
+      over = sym (ended_push k taken m ∙ (ap (λ b. has_ended k taken || (b && true)) (eq-eqb k k refl) ∙ or-true (has_ended k taken)));
+    })
+    (λ j y ne p. line_other firsts dropped got taken m j y ne p)

@@ -71,14 +71,45 @@ fn offer_to(lines: &mut Vec<Line>, client: usize, bytes: Bytes) -> Result<Option
     Ok(lines[client].offer(bytes))
 }
 
+/// A client's Cut was taken.
+fn note_cut(lines: &mut Vec<Line>, client: usize) -> Result<(), PlantFault>
+    requires { client < length lines.old.items }
+    ensures fits { OnOk result ((firsts : List Outlet) (dropped : ℕ → Bool) (got : ℕ → List Item) (taken : List Message) → FitLines firsts dropped got taken lines.old.items
+        → FitLines firsts dropped got (taken ++ (record { sender = client; frame = Frame.Cut }) ∷ []) lines.new.items) }
+    ensures sized { length lines.new.items ≡ length lines.old.items }
+{
+    lines[client].cut()
+}
+
+/// A client's End was taken.
+fn note_end(lines: &mut Vec<Line>, client: usize)
+    requires { client < length lines.old.items }
+    ensures fits { (firsts : List Outlet) (dropped : ℕ → Bool) (got : ℕ → List Item) (taken : List Message) → FitLines firsts dropped got taken lines.old.items
+        → FitLines firsts dropped got (taken ++ (record { sender = client; frame = Frame.End }) ∷ []) lines.new.items }
+    ensures sized { length lines.new.items ≡ length lines.old.items }
+{
+    lines[client].ended = true;
+}
+
+/// Drops a client's ring.
+fn finish_at(lines: &mut Vec<Line>, client: usize)
+    ensures fits { (firsts : List Outlet) (dropped : ℕ → Bool) (got : ℕ → List Item) (taken : List Message) → FitLines firsts dropped got taken lines.old.items
+        → FitLines firsts (λ k. dropped k || is_client k (Some client)) got taken lines.new.items }
+    ensures sized { length lines.new.items ≡ length lines.old.items }
+{
+    if client < lines.len() {
+        lines[client].finish();
+    }
+}
+
 /// Drops all rings.
 fn finish_all(lines: &mut Vec<Line>)
     ensures fits { (firsts : List Outlet) (dropped : ℕ → Bool) (got : ℕ → List Item) (taken : List Message) → FitLines firsts dropped got taken lines.old.items
         → FitLines firsts (λ k. true) got taken lines.new.items }
     ensures sized { length lines.new.items ≡ length lines.old.items }
 {
-    for i in 0..lines.len() {
-        lines[i].finish();
+    for client in 0..lines.len() {
+        finish_at(lines, client);
     }
 }
 
@@ -182,9 +213,7 @@ impl Hub {
             return;
         };
         self.desk.shut(client);
-        if client < self.lines.len() {
-            self.lines[client].finish();
-        }
+        finish_at(&mut self.lines, client);
     }
 
     /// The broker closed these connections.
@@ -275,7 +304,7 @@ impl Hub {
         ensures { IfOk result (λ out. IsTaken (record { sender = sender; frame = Frame.Cut }) self.old self.new out) }
     {
         let now = self.note(sender, Frame::Cut)?;
-        self.lines[sender].cut()?;
+        note_cut(&mut self.lines, sender)?;
         self.desk.cut(sender, now)
     }
 
@@ -285,7 +314,7 @@ impl Hub {
         ensures { IfOk result (λ out. IsTaken (record { sender = sender; frame = Frame.End }) self.old self.new out) }
     {
         self.note(sender, Frame::End)?;
-        self.lines[sender].ended = true;
+        note_end(&mut self.lines, sender);
         if !self.over && have_ended(&self.lines, self.edges) {
             self.over = true;
             finish_all(&mut self.lines);
