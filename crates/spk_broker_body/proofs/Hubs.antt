@@ -1,5 +1,7 @@
 -- One entry more in the log of what a hub holds.
-use Rattle.std.proofs.Common.{◌≡◌, ◌≢◌, ℕ, ◌+◌, ◌<◌, ◌==◌, ◌&&◌, ◌||◌, if◌then◌else◌, Bool, true, false, List, [], ◌∷◌, ◌++◌, map, length, Option, Some, None, refl, sym, ◌∙◌, ap, subst, arith}
+use Rattle.std.proofs.Common.{◌≡◌, ◌≢◌, ℕ, ◌+◌, ◌<◌, ◌==◌, ◌&&◌, ◌||◌, if◌then◌else◌, Bool, true, false, List, [], ◌∷◌, ◌++◌, map, length, Option, Some, None, refl, sym, ◌∙◌, ap, subst, arith, ◌⊎◌, inl, inr, take, get_or}
+use Rattle.std.proofs.lemmas.List.Folds.{list_any_more}
+use Rattle.std.proofs.Math.Bool.{or-true}
 use Rattle.std.proofs.lemmas.List.{map-append}
 use Rattle.spk_ingress.specs.declared.rule.Message.{Message}
 use Rattle.spk_ingress.specs.declared.frame.Frame.TheVariants as frame
@@ -18,7 +20,9 @@ use Rattle.spk_broker_body.specs.Data.{Entry, Input, Offer, Room, Took, Accepted
 use Rattle.spk_broker_body.specs.Holding.{Awaits, FitClients, FitLine, FitLines, FitsDesk, Gives, Holds, IsIdle, IsNoted, IsTaken, Offers, Rests, Setting, untold_of}
 use Rattle.spk_broker_body.specs.Log.{IsFirst, IsLog, MayMove, Means, accepted_of, got_of, refusals_of, room_of, taken_of}
 use Rattle.spk_broker_body.specs.Step.{behind, called_on, client_of, cuts_in, have_ended, holds_client, is_client, is_cut, is_dropped, is_end, known, moved, offer_of, ring_of, took}
-use Rattle.spk_broker_body.proofs.Lines.{lines_noted}
+use Rattle.spk_broker_body.specs.declared.line.Line.{Line}
+use Rattle.spk_broker_body.proofs.Desks.{or_false}
+use Rattle.spk_broker_body.proofs.Lines.{lines_ext, lines_noted}
 
 abbrev room : Setting → List Entry → Room
 room s log = room_of s.limit s.edges log
@@ -58,6 +62,7 @@ passed_offers s closed log h k send sends closes f same untold refusals accepted
         sized = same.sized ∙ f.holds.sized;
         untold = untold ∙ f.holds.untold;
         edges = same.edges ∙ f.holds.edges;
+        few = f.holds.few;
         taken = same.taken ∙ f.holds.taken;
         refusals = refusals ∙ f.holds.refusals;
         accepted = accepted ∙ f.holds.accepted;
@@ -91,6 +96,7 @@ accepted_offers s closed log h k send sends closes client f same untold refusals
         sized = same.sized ∙ f.holds.sized;
         untold = untold ∙ f.holds.untold;
         edges = same.edges ∙ f.holds.edges;
+        few = f.holds.few;
         taken = same.taken ∙ f.holds.taken;
         refusals = refusals ∙ f.holds.refusals;
         accepted = accepted ∙ (ap (λ e. if client == e then h.accepted.items ++ length h.taken.items ∷ [] else h.accepted.items) f.holds.edges
@@ -121,6 +127,7 @@ refused_offers s closed log h k send sends closes client f same untold refusals 
         sized = same.sized ∙ f.holds.sized;
         untold = untold ∙ (ap (λ us. us ++ untold_of o ∷ []) f.holds.untold ∙ sym (map-append untold_of r.untold (o ∷ [])));
         edges = same.edges ∙ f.holds.edges;
+        few = f.holds.few;
         taken = same.taken ∙ f.holds.taken;
         refusals = refusals ∙ (ap (λ rs. rs ++ (record { client = client; sort = send.sort; taken = length h.taken.items }) ∷ []) f.holds.refusals
           ∙ ap (λ ms. refusals_of log ++ (record { client = client; sort = send.sort; taken = length ms }) ∷ []) f.holds.taken);
@@ -166,6 +173,7 @@ told_offers s log h k u now out f untold gives clients moment edges over lines t
             sized = ap length lines ∙ f.holds.sized;
             untold = front.1 ∙ (ap (λ x. map untold_of (behind x)) (sym is) ∙ ap (map untold_of) (sym g.untold));
             edges = edges ∙ f.holds.edges;
+            few = f.holds.few;
             taken = taken ∙ f.holds.taken;
             refusals = refusals ∙ f.holds.refusals;
             accepted = accepted ∙ f.holds.accepted;
@@ -193,6 +201,7 @@ took_offers s log h k m i out f means taken g lines clients sized edges over unt
         sized = sized ∙ held.sized;
         untold = untold ∙ (held.untold ∙ ap (map untold_of) (sym g.untold));
         edges = edges ∙ held.edges;
+        few = held.few;
         taken = taken ∙ ap (λ ms. ms ++ m ∷ []) held.taken;
         refusals = refusals ∙ held.refusals;
         accepted = accepted ∙ held.accepted;
@@ -242,4 +251,172 @@ cut_taken old mid k sender now out next n tied gives lines clients sized edges o
       (clients ∙ ap (λ (x : Hub). length x.desk.clients.items) n.same) (sized ∙ ap (λ (x : Hub). length x.lines.items) n.same) (edges ∙ ap (λ (x : Hub). x.edges) n.same) (over ∙ ap (λ (x : Hub). x.over) n.same)
       (ap (λ v. v.items) untold ∙ ap (λ (x : Hub). x.untold.items) n.same) (ap (λ v. v.items) refusals ∙ ap (λ (x : Hub). x.refusals.items) n.same) (ap (λ v. v.items) accepted ∙ ap (λ (x : Hub). x.accepted.items) n.same);
   taken = ap (λ v. v.items) taken ∙ n.taken;
+}
+
+-- ---- an End
+
+-- what of a hub is as it was at a frame, but for its lines and whether all is over
+pub record SameBut (h k : Hub) : Type 0 where
+  pub desk : k.desk ≡ h.desk
+  pub edges : k.edges ≡ h.edges
+  pub untold : k.untold ≡ h.untold
+  pub taken : k.taken ≡ h.taken
+  pub refusals : k.refusals ≡ h.refusals
+  pub accepted : k.accepted ≡ h.accepted
+  pub sized : length k.lines.items ≡ length h.lines.items
+
+pub end_offers : (s : Setting) (log : List Entry) (old mid k : Hub) (sender now : ℕ) (out : Out) → IsIdle s old log → IsNoted (record { sender = sender; frame = frame.End }) now old mid → SameBut mid k
+    → k.over ≡ ((room s log).over || have_ended s.edges (taken_of log ++ (record { sender = sender; frame = frame.End }) ∷ []))
+    → FitLines s.outlets (is_dropped ((room s log).over || have_ended s.edges (taken_of log ++ (record { sender = sender; frame = frame.End }) ∷ [])) (room s log).closed) (λ j. got_of j log) (taken_of log ++ (record { sender = sender; frame = frame.End }) ∷ []) k.lines.items
+    → (out.sends.items ≡ []) × (out.closes.items ≡ [])
+    → (e : Entry) × Offers s (room s log).closed k (e ∷ log) (map sent_view out.sends.items) out.closes.items
+end_offers s log old mid k sender now out f n same over lines empty =
+    let held : Holds s (room s log).closed old log = f.rests.holds in
+    let r : Room = room s log in
+    let m : Message = record { sender = sender; frame = frame.End } in
+    let fits : FitsDesk s.limit r.closed k.desk r = subst (λ (d : Desk). FitsDesk s.limit r.closed d r) (sym (same.desk ∙ ap (λ (x : Hub). x.desk) n.same)) held.desk in
+    (Took m Ends, record {
+      holds = record {
+        log_is = (held.log_is, (tt, f.rests.pending, f.untold));
+        desk = record { broker = fits.broker; openers = fits.openers; clients = fits.clients };
+        clients = ap (λ (d : Desk). length d.clients.items) (same.desk ∙ ap (λ (x : Hub). x.desk) n.same) ∙ held.clients;
+        over = over;
+        lines = lines;
+        sized = same.sized ∙ (ap (λ (x : Hub). length x.lines.items) n.same ∙ held.sized);
+        untold = ap (λ v. v.items) (same.untold ∙ ap (λ (x : Hub). x.untold) n.same) ∙ held.untold;
+        edges = same.edges ∙ (ap (λ (x : Hub). x.edges) n.same ∙ held.edges);
+        few = held.few;
+        taken = ap (λ v. v.items) same.taken ∙ (n.taken ∙ ap (λ ms. ms ++ m ∷ []) held.taken);
+        refusals = ap (λ v. v.items) (same.refusals ∙ ap (λ (x : Hub). x.refusals) n.same) ∙ held.refusals;
+        accepted = ap (λ v. v.items) (same.accepted ∙ ap (λ (x : Hub). x.accepted) n.same) ∙ held.accepted;
+      };
+      awaits = record {
+        pending = f.rests.pending ∙ ap (λ ss. map (offer_of r.openers (is_dropped (r.over || have_ended s.edges (taken_of log ++ m ∷ [])) r.closed)) (map sent_view ss)) (sym empty.0);
+        shut = λ j. or_false (r.closed j) ∙ ap (λ cs. r.closed j || holds_client r.openers j cs) (sym empty.1);
+      };
+    })
+
+-- what a line of an End makes of the lines
+abbrev EndsLine : ℕ → Hub → Hub → Type 0
+EndsLine sender mid k = (firsts : List Outlet) (dropped : ℕ → Bool) (got : ℕ → List Item) (taken : List Message) → FitLines firsts dropped got taken mid.lines.items
+    → FitLines firsts dropped got (taken ++ (record { sender = sender; frame = frame.End }) ∷ []) k.lines.items
+
+pub end_lines : (s : Setting) (log : List Entry) (old mid k : Hub) (sender now : ℕ) → IsIdle s old log → IsNoted (record { sender = sender; frame = frame.End }) now old mid → EndsLine sender mid k
+    → FitLines s.outlets (drops s (room s log).closed log) (λ j. got_of j log) (taken_of log ++ (record { sender = sender; frame = frame.End }) ∷ []) k.lines.items
+end_lines s log old mid k sender now f n lines = lines s.outlets (drops s (room s log).closed log) (λ j. got_of j log) (taken_of log)
+    (subst (λ (x : Hub). FitLines s.outlets (drops s (room s log).closed log) (λ j. got_of j log) (taken_of log) x.lines.items) (sym n.same) f.rests.holds.lines)
+
+-- all was over before, or not all edge nodes have ended
+pub end_kept : (old mid k : Hub) (sender now : ℕ) (out : Out) → IsNoted (record { sender = sender; frame = frame.End }) now old mid → SameBut mid k → k.over ≡ mid.over → EndsLine sender mid k
+    → (k.over ≡ true) ⊎ ((firsts : List Outlet) (dropped : ℕ → Bool) (got : ℕ → List Item) (taken : List Message) → FitLines firsts dropped got taken k.lines.items → have_ended k.edges taken ≡ false)
+    → (out.sends.items ≡ []) × (out.closes.items ≡ []) → IsTaken (record { sender = sender; frame = frame.End }) old k out
+end_kept old mid k sender now out n same same_over lines why empty = record {
+  offers = λ s log f.
+      let all : List Message = taken_of log ++ (record { sender = sender; frame = frame.End }) ∷ [] in
+      let was : k.over ≡ (room s log).over = same_over ∙ (ap (λ (x : Hub). x.over) n.same ∙ f.rests.holds.over) in
+      let fits = end_lines s log old mid k sender now f n lines in
+      let stays : ((room s log).over || have_ended s.edges all) ≡ (room s log).over = elim why [
+        inl over ↦ ap (λ b. b || have_ended s.edges all) (sym was ∙ over) ∙ (sym over ∙ was)
+        | inr none ↦ ap (λ b. (room s log).over || b) (ap (λ e. have_ended e all) (sym (same.edges ∙ (ap (λ (x : Hub). x.edges) n.same ∙ f.rests.holds.edges))) ∙ none s.outlets (drops s (room s log).closed log) (λ j. got_of j log) all fits) ∙ sym (or_false (room s log).over)
+      ] in
+      end_offers s log old mid k sender now out f n same (was ∙ sym stays)
+      (subst (λ b. FitLines s.outlets (is_dropped b (room s log).closed) (λ j. got_of j log) all k.lines.items) (sym stays) fits) empty;
+  taken = ap (λ v. v.items) same.taken ∙ n.taken;
+}
+
+-- all edge nodes have ended
+pub end_over : (old mid k : Hub) (ls : List Line) (sender now : ℕ) (out : Out) → IsNoted (record { sender = sender; frame = frame.End }) now old mid → SameBut mid k → k.over ≡ true
+    → ((firsts : List Outlet) (dropped : ℕ → Bool) (got : ℕ → List Item) (taken : List Message) → FitLines firsts dropped got taken mid.lines.items
+        → FitLines firsts dropped got (taken ++ (record { sender = sender; frame = frame.End }) ∷ []) ls)
+    → ((firsts : List Outlet) (dropped : ℕ → Bool) (got : ℕ → List Item) (taken : List Message) → FitLines firsts dropped got taken ls → have_ended k.edges taken ≡ true)
+    → ((firsts : List Outlet) (dropped : ℕ → Bool) (got : ℕ → List Item) (taken : List Message) → FitLines firsts dropped got taken ls → FitLines firsts (λ j. true) got taken k.lines.items)
+    → (out.sends.items ≡ []) × (out.closes.items ≡ []) → IsTaken (record { sender = sender; frame = frame.End }) old k out
+end_over old mid k ls sender now out n same over lines all_have finish empty = record {
+  offers = λ s log f.
+      let all : List Message = taken_of log ++ (record { sender = sender; frame = frame.End }) ∷ [] in
+      let fits : FitLines s.outlets (drops s (room s log).closed log) (λ j. got_of j log) all ls = lines s.outlets (drops s (room s log).closed log) (λ j. got_of j log) (taken_of log)
+          (subst (λ (x : Hub). FitLines s.outlets (drops s (room s log).closed log) (λ j. got_of j log) (taken_of log) x.lines.items) (sym n.same) f.rests.holds.lines) in
+      let becomes : ((room s log).over || have_ended s.edges all) ≡ true =
+      ap (λ b. (room s log).over || b) (ap (λ e. have_ended e all) (sym (same.edges ∙ (ap (λ (x : Hub). x.edges) n.same ∙ f.rests.holds.edges))) ∙ all_have s.outlets (drops s (room s log).closed log) (λ j. got_of j log) all fits) ∙ or-true (room s log).over in
+      end_offers s log old mid k sender now out f n same (over ∙ sym becomes)
+      (subst (λ b. FitLines s.outlets (is_dropped b (room s log).closed) (λ j. got_of j log) all k.lines.items) (sym becomes)
+        (finish s.outlets (drops s (room s log).closed log) (λ j. got_of j log) all fits)) empty;
+  taken = ap (λ v. v.items) same.taken ∙ n.taken;
+}
+
+-- ---- closing
+
+pub holds_ext : (s : Setting) (c d : ℕ → Bool) (h : Hub) (log : List Entry) → ((k : ℕ) → c k ≡ d k) → Holds s c h log → Holds s d h log
+holds_ext s c d h log same f = record {
+  log_is = f.log_is;
+  desk = record {
+    broker = f.desk.broker;
+    openers = f.desk.openers;
+    clients = λ k x below. record { conn = (f.desk.clients k x below).conn; shut = (f.desk.clients k x below).shut ∙ same k };
+  };
+  clients = f.clients;
+  over = f.over;
+  lines = lines_ext s.outlets (is_dropped (room s log).over c) (is_dropped (room s log).over d) (λ j. got_of j log) (taken_of log) h.lines.items (λ k below. ap (λ b. (room s log).over || b) (same k)) f.lines;
+  sized = f.sized;
+  untold = f.untold;
+  edges = f.edges;
+  few = f.few;
+  taken = f.taken;
+  refusals = f.refusals;
+  accepted = f.accepted;
+}
+
+pub or_assoc : (a b c : Bool) → ((a || b) || c) ≡ (a || (b || c))
+or_assoc true b c = refl
+or_assoc false b c = refl
+
+-- a client is closed
+pub closed_holds : (s : Setting) (closed : ℕ → Bool) (log : List Entry) (h k : Hub) (client conn : ℕ) → Holds s closed h log → Some client ≡ client_of h.desk.openers.items conn
+    → ((limit : ℕ) (c : ℕ → Bool) (r : Room) → FitsDesk limit c h.desk r → FitsDesk limit (λ j. c j || is_client j (Some client)) k.desk r) → length k.desk.clients.items ≡ length h.desk.clients.items
+    → ((firsts : List Outlet) (dropped : ℕ → Bool) (got : ℕ → List Item) (taken : List Message) → FitLines firsts dropped got taken h.lines.items → FitLines firsts (λ j. dropped j || is_client j (Some client)) got taken k.lines.items)
+    → length k.lines.items ≡ length h.lines.items → k.edges ≡ h.edges → k.over ≡ h.over → k.untold ≡ h.untold → k.taken ≡ h.taken → k.refusals ≡ h.refusals → k.accepted ≡ h.accepted
+    → Holds s (λ j. closed j || is_client j (client_of (room s log).openers conn)) k log
+closed_holds s closed log h k client conn f is desk clients lines sized edges over untold taken refusals accepted =
+    let who : Some client ≡ client_of (room s log).openers conn = is ∙ ap (λ os. client_of os conn) f.desk.openers in
+    holds_ext s (λ j. closed j || is_client j (Some client)) (λ j. closed j || is_client j (client_of (room s log).openers conn)) k log (λ j. ap (λ o. closed j || is_client j o) who)
+    (record {
+      log_is = f.log_is;
+      desk = desk s.limit closed (room s log) f.desk;
+      clients = clients ∙ f.clients;
+      over = over ∙ f.over;
+      lines = lines_ext s.outlets (λ j. drops s closed log j || is_client j (Some client)) (is_dropped (room s log).over (λ j. closed j || is_client j (Some client))) (λ j. got_of j log) (taken_of log) k.lines.items
+          (λ j below. or_assoc (room s log).over (closed j) (is_client j (Some client)))
+          (lines s.outlets (drops s closed log) (λ j. got_of j log) (taken_of log) f.lines);
+      sized = sized ∙ f.sized;
+      untold = ap (λ v. v.items) untold ∙ f.untold;
+      edges = edges ∙ f.edges;
+      few = f.few;
+      taken = ap (λ v. v.items) taken ∙ f.taken;
+      refusals = ap (λ v. v.items) refusals ∙ f.refusals;
+      accepted = ap (λ v. v.items) accepted ∙ f.accepted;
+    })
+
+-- nobody opened the connection
+pub closed_none : (s : Setting) (closed : ℕ → Bool) (log : List Entry) (h : Hub) (conn : ℕ) → Holds s closed h log → None ≡ client_of h.desk.openers.items conn
+    → Holds s (λ j. closed j || is_client j (client_of (room s log).openers conn)) h log
+closed_none s closed log h conn f is =
+    holds_ext s closed (λ j. closed j || is_client j (client_of (room s log).openers conn)) h log
+    (λ j. or_false (closed j) ∙ ap (λ o. closed j || is_client j o) (is ∙ ap (λ os. client_of os conn) f.desk.openers)) f
+
+-- one connection more
+pub one_more_closed : (s : Setting) (closed : ℕ → Bool) (log : List Entry) (h : Hub) (conns : List ℕ) (i conn : ℕ) → i < length conns → conn ≡ get_or conns i conn
+    → Holds s (λ k. (closed k || holds_client (room s log).openers k (take i conns)) || is_client k (client_of (room s log).openers conn)) h log
+    → Holds s (λ k. closed k || holds_client (room s log).openers k (take (i + 1) conns)) h log
+one_more_closed s closed log h conns i conn below is f =
+    holds_ext s (λ k. (closed k || holds_client (room s log).openers k (take i conns)) || is_client k (client_of (room s log).openers conn)) (λ k. closed k || holds_client (room s log).openers k (take (i + 1) conns)) h log
+    (λ k. or_assoc (closed k) (holds_client (room s log).openers k (take i conns)) (is_client k (client_of (room s log).openers conn))
+      ∙ ap (λ b. closed k || b) (ap (λ c. holds_client (room s log).openers k (take i conns) || is_client k (client_of (room s log).openers c)) is
+        ∙ sym (list_any_more (λ c. is_client k (client_of (room s log).openers c)) conns i conn below))) f
+
+-- all is handed out
+pub hands_out : (s : Setting) (closed : ℕ → Bool) (log : List Entry) (h k : Hub) (closes : List ℕ) → Offers s closed h log [] closes
+    → Holds s (λ j. closed j || holds_client (room s log).openers j closes) k log → Rests s k log
+hands_out s closed log h k closes f holds = record {
+  holds = holds_ext s (λ j. closed j || holds_client (room s log).openers j closes) (room s log).closed k log (λ j. sym (f.awaits.shut j)) holds;
+  pending = f.awaits.pending;
 }

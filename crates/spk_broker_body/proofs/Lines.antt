@@ -1,6 +1,7 @@
 -- The lines of all clients.
-use Rattle.std.proofs.Common.{◌≡◌, ◌≢◌, ℕ, zero, suc, ◌+◌, ◌<◌, ◌==◌, nat_lt, ◌&&◌, ◌||◌, if◌then◌else◌, Bool, true, false, List, [], ◌∷◌, ◌++◌, length, Option, Some, None, set, get_or, refl, sym, ◌∙◌, ap, subst, arith, eq-eqb, add-one, inl, inr, true≢false}
+use Rattle.std.proofs.Common.{◌≡◌, ◌≢◌, ℕ, zero, suc, ◌+◌, ◌<◌, ◌≤◌, ◌==◌, nat_lt, ◌&&◌, ◌||◌, if◌then◌else◌, Bool, true, false, List, [], ◌∷◌, ◌++◌, length, Option, Some, None, set, get_or, refl, sym, ◌∙◌, ap, subst, arith, eq-eqb, add-one, inl, inr, true≢false}
 use Rattle.std.proofs.Math.Bool.{or-true}
+use Rattle.std.proofs.lemmas.Option.{slice_get_within}
 use Rattle.std.proofs.lemmas.List.Folds.{list_any-append}
 use Rattle.std.specs.Option.{IfSome}
 use Rattle.spk_ingress.specs.declared.frame.Frame.TheVariants as frame
@@ -14,7 +15,7 @@ use Rattle.spk_rings.specs.declared.item.Item.{Item}
 use Rattle.spk_rings.specs.declared.outlet.Outlet.{Outlet}
 use Rattle.spk_broker_body.specs.declared.line.Line.{Line}
 use Rattle.spk_broker_body.specs.Holding.{FitLine, FitLines, FitsLine, LinesGive, IsRing, OfferGives}
-use Rattle.spk_broker_body.specs.Step.{cuts_in, has_ended, have_ended, is_cut, is_end}
+use Rattle.spk_broker_body.specs.Step.{cuts_in, has_ended, have_ended, is_client, is_cut, is_end}
 use Rattle.spk_broker_body.proofs.Each.{each_set, read_at, same_or_not}
 
 pub and_false : (a b : Bool) → b ≡ false → (a && b) ≡ false
@@ -137,3 +138,32 @@ lines_ended firsts dropped got taken k ls old fits below is =
       over = sym (ended_push k taken m ∙ (ap (λ b. has_ended k taken || (b && true)) (eq-eqb k k refl) ∙ or-true (has_ended k taken)));
     })
     (λ j y ne p. line_other firsts dropped got taken m j y ne p)
+
+-- ---- rings are dropped
+
+pub lines_ext : (firsts : List Outlet) (d e : ℕ → Bool) (got : ℕ → List Item) (taken : List Message) (ls : List Line) → ((k : ℕ) → k < length ls → d k ≡ e k) → FitLines firsts d got taken ls → FitLines firsts e got taken ls
+lines_ext firsts d e got taken ls same fits k l is =
+    let f : FitLine firsts d got taken k l = fits k l is in
+    (f.0, f.1, subst (λ b. FitsLine f.0 b (got k) (cuts_in k taken) (has_ended k taken) l) (same k (slice_get_within ls k l is)) f.2)
+
+pub finished_at : (firsts : List Outlet) (d : ℕ → Bool) (got : ℕ → List Item) (taken : List Message) (ls : List Line) (k : ℕ) (old new : Line) →
+    FitLines firsts d got taken ls → k < length ls → old ≡ get_or ls k old →
+    ((first : Outlet) (b : Bool) (g : List Item) (cuts : ℕ) (ended : Bool) → FitsLine first b g cuts ended old → FitsLine first true g cuts ended new) →
+    FitLines firsts (λ j. d j || is_client j (Some k)) got taken (set ls k new)
+finished_at firsts d got taken ls k old new fits below is finish =
+    let f : FitLine firsts d got taken k old = fits k old (read_at ls k old below is) in
+    each_set (FitLine firsts d got taken) (FitLine firsts (λ j. d j || is_client j (Some k)) got taken) ls k new fits
+    (f.0, f.1, subst (λ b. FitsLine f.0 b (got k) (cuts_in k taken) (has_ended k taken) new) (sym (ap (λ b. d k || b) (eq-eqb k k refl) ∙ or-true (d k))) (finish f.0 (d k) (got k) (cuts_in k taken) (has_ended k taken) f.2))
+    (λ j y ne p. (p.0, p.1, subst (λ b. FitsLine p.0 b (got j) (cuts_in j taken) (has_ended j taken) y) (sym (ap (λ b. d j || b) (differ j k ne) ∙ or_none (d j))) p.2))
+
+-- there is no such client
+pub finished_past : (firsts : List Outlet) (d : ℕ → Bool) (got : ℕ → List Item) (taken : List Message) (ls : List Line) (k : ℕ) → length ls ≤ k → FitLines firsts d got taken ls → FitLines firsts (λ j. d j || is_client j (Some k)) got taken ls
+finished_past firsts d got taken ls k past fits =
+    lines_ext firsts d (λ j. d j || is_client j (Some k)) got taken ls (λ j below. sym (ap (λ b. d j || b) (differ j k (omega (arith, below, past))) ∙ or_none (d j))) fits
+
+-- all of those before a place
+pub one_more_finished : (d : ℕ → Bool) (i : ℕ) → ((k : ℕ) → k < i → d k ≡ true) → (k : ℕ) → k < i + 1 → (d k || is_client k (Some i)) ≡ true
+one_more_finished d i before k below = elim (same_or_not k i) [
+  inl same ↦ ap (λ b. d k || b) (eq-eqb i k (sym same)) ∙ or-true (d k)
+  | inr other ↦ ap (λ b. b || is_client k (Some i)) (before k (omega (arith, below, other)))
+]

@@ -1,5 +1,5 @@
 -- What the broker's thread holds beside a log.
-use Rattle.std.specs.Prelude.{◌≡◌, ℕ, ◌-◌, ◌<◌, ◌==◌, Bool, true, false, ◌||◌, List, [], ◌∷◌, ◌++◌, map, length, Option, Some, None, if◌then◌else◌, slice_index_or}
+use Rattle.std.specs.Prelude.{◌≡◌, ℕ, ◌+◌, ◌-◌, ◌<◌, ◌==◌, Bool, true, false, ◌||◌, List, [], ◌∷◌, ◌++◌, map, length, Option, Some, None, if◌then◌else◌, slice_index_or}
 use Rattle.std.specs.List.{slice_get}
 use Rattle.std.specs.Option.{IfSome}
 use Rattle.spk_ingress.specs.declared.rule.Message.{Message}
@@ -109,6 +109,7 @@ pub record Holds (s : Setting) (closed : ℕ → Bool) (h : Hub) (log : List Ent
   pub sized : length h.lines.items ≡ s.count
   pub untold : h.untold.items ≡ map untold_of (room_of s.limit s.edges log).untold
   pub edges : h.edges ≡ s.edges
+  pub few : s.edges < s.count + 1
   pub taken : h.taken.items ≡ taken_of log
   pub refusals : h.refusals.items ≡ refusals_of log
   pub accepted : h.accepted.items ≡ accepted_of s.edges log

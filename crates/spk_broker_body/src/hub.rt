@@ -310,15 +310,20 @@ impl Hub {
 
     /// A client's own end. When all edge nodes have ended all rings are dropped.
     fn end(&mut self, sender: usize) -> Result<Out, PlantFault>
-        requires { sender < length self.old.lines.items }
+        requires lines { sender < length self.old.lines.items }
+        requires edges { self.old.edges < length self.old.lines.items + 1 }
         ensures { IfOk result (λ out. IsTaken (record { sender = sender; frame = Frame.End }) self.old self.new out) }
     {
         self.note(sender, Frame::End)?;
         note_end(&mut self.lines, sender);
-        if !self.over && have_ended(&self.lines, self.edges) {
-            self.over = true;
-            finish_all(&mut self.lines);
+        if self.over {
+            return Ok(self.desk.nothing());
         }
+        if !have_ended(&self.lines, self.edges) {
+            return Ok(self.desk.nothing());
+        }
+        self.over = true;
+        finish_all(&mut self.lines);
         Ok(self.desk.nothing())
     }
 
@@ -326,6 +331,7 @@ impl Hub {
     fn frame(&mut self, sender: usize, frame: Frame) -> Result<Out, PlantFault>
         requires clients { sender < length self.old.desk.clients.items }
         requires lines { sender < length self.old.lines.items }
+        requires edges { self.old.edges < length self.old.lines.items + 1 }
         ensures { IfOk result (λ out. IsTaken (record { sender = sender; frame = frame }) self.old self.new out) }
     {
         match frame {
@@ -346,6 +352,7 @@ impl Hub {
     ) -> Result<(), PlantFault>
         requires clients { sender < length self.old.desk.clients.items }
         requires lines { sender < length self.old.lines.items }
+        requires edges { self.old.edges < length self.old.lines.items + 1 }
         ensures idle { OnOk result ((s : Setting) (log : List Entry) → IsIdle s self.old log → (l : List Entry) × IsIdle s self.new l) }
         ensures taken { OnOk result (self.new.taken.items ≡ self.old.taken.items ++ (record { sender = sender; frame = frame }) ∷ []) }
     {

@@ -1,0 +1,19 @@
+use Rattle.std.proofs.Common.{◌≡◌, ◌<◌, ◌||◌, ℕ, refl, sym, ap, ◌∙◌, length, take, arith, false}
+use Rattle.spk_broker_body.specs.Log.{room_of}
+use Rattle.spk_broker_body.specs.Step.{holds_client}
+use Rattle.spk_broker_body.proofs.Desks.{or_false}
+use Rattle.spk_broker_body.proofs.Hubs.{holds_ext, one_more_closed}
+use Rattle.spk_broker_body.proofs.hub.Hub.close_all.Goals as goal
+
+pub loop-conn-init : goal.loop-conn-init
+loop-conn-init c = record {
+  holds = λ s closed log f. holds_ext s closed _ c.args.self.now log (λ k. ?) f;
+  taken = refl;
+}
+
+pub loop-conn-preserved : goal.loop-conn-preserved
+loop-conn-preserved c = record {
+  holds = λ s closed log f. one_more_closed s closed log c.close.new.self c.args.conns.now c.loop-conn.conn-index _ ? ?
+      (c.close.ensures.holds s (λ k. closed k || holds_client (room_of s.limit s.edges log).openers k (take c.loop-conn.conn-index c.args.conns.now)) log (c.loop-conn.invariant.holds s closed log f));
+  taken = c.close.ensures.taken ∙ c.loop-conn.invariant.taken;
+}
