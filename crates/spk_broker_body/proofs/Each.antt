@@ -41,3 +41,8 @@ each_push P xs x old new j y is =
       inl same ↦ subst (λ i. P i y) (sym same) (subst (P (length xs)) (sym (get_or-append_seam xs x [] y) ∙ (ap (λ i. get_or (xs ++ x ∷ []) i y) (sym same) ∙ here)) new)
       | inr other ↦ (let low : j < length xs = omega (arith, below, sized, other) in old j y (read_at xs j y low (sym here ∙ get_or_append_left xs (x ∷ []) y j low)))
     ]
+
+-- a list without elements
+pub nothing_left : {X : Type 0} (xs : List X) → length xs ≡ 0 → xs ≡ []
+nothing_left [] e = refl
+nothing_left (x ∷ xs) e = absurd (omega (arith, e))

@@ -1,8 +1,11 @@
 -- One entry more in the log of what a hub holds.
-use Rattle.std.proofs.Common.{◌≡◌, ◌≢◌, ℕ, ◌+◌, ◌<◌, ◌==◌, ◌&&◌, ◌||◌, if◌then◌else◌, Bool, true, false, List, [], ◌∷◌, ◌++◌, map, length, Option, Some, None, refl, sym, ◌∙◌, ap, subst, arith, ◌⊎◌, inl, inr, take, get_or}
+use Rattle.std.proofs.Common.{◌≡◌, ◌≢◌, ℕ, ◌+◌, ◌<◌, ◌==◌, ◌&&◌, ◌||◌, if◌then◌else◌, Bool, true, false, List, [], ◌∷◌, ◌++◌, map, length, Option, Some, None, refl, sym, ◌∙◌, ap, subst, arith, ◌⊎◌, inl, inr, take, get_or, zero, suc, ◌-◌, ◌*◌, true≢false}
 use Rattle.std.proofs.lemmas.List.Folds.{list_any_more}
 use Rattle.std.proofs.Math.Bool.{or-true}
 use Rattle.std.proofs.lemmas.List.{map-append}
+use Rattle.spk_ingress.specs.Passes.{TakesFrom, frames_taken}
+use Rattle.spk_ingress.specs.declared.channel.Ingress.{Ingress}
+use Rattle.spk_ingress.specs.declared.channel.TakePass.{TakePass}
 use Rattle.spk_ingress.specs.declared.rule.Message.{Message}
 use Rattle.spk_ingress.specs.declared.frame.Frame.TheVariants as frame
 use Rattle.spk_rings.specs.declared.item.Item.{Item}
@@ -15,13 +18,17 @@ use Rattle.spk_broker_rules.specs.Step.{after}
 use Rattle.spk_broker_body.specs.declared.desk.Desk.{Desk}
 use Rattle.spk_broker_body.specs.declared.hub.Hub.{Hub}
 use Rattle.spk_broker_body.specs.declared.hub.Untold.{Untold}
+use Rattle.spk_broker_body.specs.declared.part.BrokerStart.{BrokerStart}
+use Rattle.spk_broker_body.specs.declared.part.BrokerEnd.{BrokerEnd}
 use Rattle.spk_broker_body.specs.declared.part.Refusal.{Refusal}
+use Rattle.spk_broker_body.specs.Done.{BrokerDone, BrokerReady, IsEndOf, refused_to}
 use Rattle.spk_broker_body.specs.Data.{Entry, Input, Offer, Room, Took, Accepted, Refused, Passed, Told, Says, Breaks, Cuts, Ends}
-use Rattle.spk_broker_body.specs.Holding.{Awaits, FitClients, FitLine, FitLines, FitsDesk, Gives, Holds, IsIdle, IsNoted, IsTaken, Offers, Rests, Setting, untold_of}
+use Rattle.spk_broker_body.specs.Holding.{Awaits, FitClients, FitLine, FitLines, FitsDesk, Gives, Holds, HasAllEnded, IsIdle, IsNoted, IsTaken, Offers, Rests, Setting, setting_of, untold_of}
 use Rattle.spk_broker_body.specs.Log.{IsFirst, IsLog, MayMove, Means, accepted_of, got_of, refusals_of, room_of, taken_of}
-use Rattle.spk_broker_body.specs.Step.{behind, called_on, client_of, cuts_in, have_ended, holds_client, is_client, is_cut, is_dropped, is_end, known, moved, offer_of, ring_of, took}
+use Rattle.spk_broker_body.specs.Step.{behind, called_on, client_of, cuts_in, fresh_room, has_ended, have_ended, holds_client, is_client, is_cut, is_dropped, is_end, known, moved, offer_of, ring_of, took}
 use Rattle.spk_broker_body.specs.declared.line.Line.{Line}
 use Rattle.spk_broker_body.proofs.Desks.{or_false}
+use Rattle.spk_broker_body.proofs.Each.{same_or_not}
 use Rattle.spk_broker_body.proofs.Lines.{lines_ext, lines_noted}
 
 abbrev room : Setting → List Entry → Room
@@ -420,3 +427,67 @@ hands_out s closed log h k closes f holds = record {
   holds = holds_ext s (λ j. closed j || holds_client (room s log).openers j closes) (room s log).closed k log (λ j. sym (f.awaits.shut j)) holds;
   pending = f.awaits.pending;
 }
+
+-- ---- the whole run
+
+pub new_idle : (limit : ℕ) (outlets : List Outlet) (h : Hub) → FitsDesk limit (λ k. false) h.desk fresh_room → length h.desk.clients.items ≡ length outlets → h.over ≡ false
+    → FitLines outlets (λ k. false) (λ k. []) [] h.lines.items → length h.lines.items ≡ length outlets → h.untold.items ≡ [] → h.edges ≡ length outlets - 1 → h.taken.items ≡ [] → h.refusals.items ≡ [] → h.accepted.items ≡ []
+    → IsIdle (setting_of limit outlets) h []
+new_idle limit outlets h desk clients over lines sized untold edges taken refusals accepted = record {
+  rests = record {
+    holds = record {
+      log_is = tt;
+      desk = desk;
+      clients = clients;
+      over = over;
+      lines = lines;
+      sized = sized;
+      untold = untold;
+      edges = edges;
+      few = omega arith;
+      taken = taken;
+      refusals = refusals;
+      accepted = accepted;
+    };
+    pending = refl;
+  };
+  untold = refl;
+}
+
+pub both_true : (a b : Bool) → (a && b) ≡ true → (a ≡ true) × (b ≡ true)
+both_true true true e = (refl, refl)
+both_true true false e = absurd (true≢false (sym e))
+both_true false b e = absurd (true≢false (sym e))
+
+pub each_ended : (n : ℕ) (ms : List Message) → have_ended n ms ≡ true → (k : ℕ) → k < n → has_ended k ms ≡ true
+each_ended zero ms h k below = absurd (omega (arith, below))
+each_ended (suc n) ms h k below =
+    let both : (has_ended n ms ≡ true) × (have_ended n ms ≡ true) = both_true (has_ended n ms) (have_ended n ms) h in
+    elim (same_or_not k n) [
+      inl same ↦ ap (λ i. has_ended i ms) same ∙ both.0
+      | inr other ↦ each_ended n ms both.1 k (omega (arith, below, other))
+    ]
+
+pub run_done : (n : Ingress) (start : BrokerStart) (pass : TakePass) (hub : Hub) (end : BrokerEnd) → BrokerReady n start → HasAllEnded (setting_of (256 - 2 * start.width) start.outlets.items) hub
+    → TakesFrom n pass → frames_taken pass ≡ hub.taken.items → IsEndOf hub pass end → BrokerDone n start end
+run_done n start pass hub end ready all takes frames is =
+    let limit : ℕ = 256 - 2 * start.width in
+    let s : Setting = setting_of limit start.outlets.items in
+    let held : Holds s (room s all.log).closed hub all.log = all.idle.rests.holds in
+    let host : length start.outlets.items - 1 ≡ n.senders - 1 = ap (λ m. m - 1) ready.rings in
+    record {
+      log = all.log;
+      is_log = subst (λ e. IsLog limit e all.log) host held.log_is;
+      offered = subst (λ e. (room_of limit e all.log).pending ≡ []) host all.idle.rests.pending;
+      told = subst (λ e. (room_of limit e all.log).untold ≡ []) host all.idle.untold;
+      ended = λ k below. each_ended (length start.outlets.items) (taken_of all.log) all.ended k (subst (λ m. k < m) (sym ready.rings) below);
+      pass = subst (TakesFrom n) (sym is.pass_is) takes;
+      frames = ap frames_taken is.pass_is ∙ (frames ∙ held.taken);
+      taken = is.taken ∙ held.taken;
+      refusals = is.refusals ∙ held.refusals;
+      refused = is.refused ∙ (ap (λ e. refused_to e hub.refusals.items) (held.edges ∙ host) ∙ ap (refused_to (n.senders - 1)) held.refusals);
+      accepted = is.accepted ∙ (held.accepted ∙ ap (λ e. accepted_of e all.log) host);
+      is_cut = is.is_cut limit (room s all.log).closed (room s all.log) held.desk ∙ (ap (room s all.log).closed (held.edges ∙ host) ∙ ap (λ e. (room_of limit e all.log).closed (n.senders - 1)) host);
+      sized = is.sized ∙ (held.sized ∙ ready.rings);
+      tokens = is.tokens start.outlets.items (drops s (room s all.log).closed all.log) (λ k. got_of k all.log) (taken_of all.log) held.lines;
+    }

@@ -5,9 +5,9 @@ use Rattle.std.proofs.lemmas.Option.{slice_get_within}
 use Rattle.std.proofs.lemmas.List.Folds.{list_any-append}
 use Rattle.std.specs.Option.{IfSome}
 use Rattle.spk_ingress.specs.declared.frame.Frame.TheVariants as frame
-use Rattle.spk_rings.specs.Ring.{FinishedFrom, all_offered}
+use Rattle.spk_rings.specs.Ring.{FinishedFrom, all_offered, offered}
 use Rattle.spk_rings.specs.declared.token.Token.{Token}
-use Rattle.spk_broker_body.specs.Done.{IsTokenOf}
+use Rattle.spk_broker_body.specs.Done.{AreFresh, AreTokens, IsTokenAt, IsTokenOf}
 use Rattle.std.proofs.lemmas.Bool.{eqb-true}
 use Rattle.std.specs.List.{slice_get}
 use Rattle.spk_ingress.specs.declared.rule.Message.{Message}
@@ -16,7 +16,7 @@ use Rattle.spk_rings.specs.declared.outlet.Outlet.{Outlet}
 use Rattle.spk_broker_body.specs.declared.line.Line.{Line}
 use Rattle.spk_broker_body.specs.Holding.{FitLine, FitLines, FitsLine, LinesGive, IsRing, OfferGives}
 use Rattle.spk_broker_body.specs.Step.{cuts_in, has_ended, have_ended, is_client, is_cut, is_end}
-use Rattle.spk_broker_body.proofs.Each.{each_set, read_at, same_or_not}
+use Rattle.spk_broker_body.proofs.Each.{each_push, each_set, read_at, same_or_not}
 
 pub and_false : (a b : Bool) → b ≡ false → (a && b) ≡ false
 and_false true b e = e
@@ -167,3 +167,32 @@ one_more_finished d i before k below = elim (same_or_not k i) [
   inl same ↦ ap (λ b. d k || b) (eq-eqb i k (sym same)) ∙ or-true (d k)
   | inr other ↦ ap (λ b. b || is_client k (Some i)) (before k (omega (arith, below, other)))
 ]
+
+-- ---- new lines
+
+pub lines_none : (firsts : List Outlet) (ls : List Line) → ls ≡ [] → FitLines firsts (λ k. false) (λ k. []) [] ls
+lines_none firsts ls none = subst (λ xs. FitLines firsts (λ k. false) (λ k. []) [] xs) (sym none) (λ k l is. absurd cc)
+
+pub seam_get : {X : Type 0} (front : List X) (x : X) (rest : List X) → slice_get (front ++ x ∷ rest) (length front) ≡ Some x
+seam_get [] x rest = refl
+seam_get (y ∷ front) x rest = seam_get front x rest
+
+pub lines_push : (firsts front rest : List Outlet) (ls more : List Line) (o : Outlet) (l : Line) → firsts ≡ front ++ o ∷ rest → length ls ≡ length front → more ≡ ls ++ l ∷ [] → AreFresh firsts
+    → (offered o ≡ [] → FitsLine o false [] 0 false l) → FitLines firsts (λ k. false) (λ k. []) [] ls → FitLines firsts (λ k. false) (λ k. []) [] more
+lines_push firsts front rest ls more o l split sized is_more fresh fits old =
+    let here : slice_get firsts (length ls) ≡ Some o = ap (λ os. slice_get os (length ls)) split ∙ (ap (slice_get (front ++ o ∷ rest)) sized ∙ seam_get front o rest) in
+    subst (λ xs. FitLines firsts (λ k. false) (λ k. []) [] xs) (sym is_more)
+    (each_push (FitLine firsts (λ k. false) (λ k. []) []) ls l old (o, here, fits (fresh (length ls) o here)))
+
+-- ---- tokens
+
+pub tokens_none : (firsts : List Outlet) (got : ℕ → List Item) (ts : List (Option Token)) → ts ≡ [] → AreTokens firsts got ts
+tokens_none firsts got ts none = subst (λ xs. AreTokens firsts got xs) (sym none) (λ k t is. absurd cc)
+
+pub tokens_push : (firsts : List Outlet) (dropped : ℕ → Bool) (got : ℕ → List Item) (taken : List Message) (lines front rest : List Line) (ts more : List (Option Token)) (l : Line) (t : Option Token) → lines ≡ front ++ l ∷ rest → length ts ≡ length front → more ≡ ts ++ t ∷ []
+    → ((first : Outlet) (d : Bool) (g : List Item) (cuts : ℕ) (ended : Bool) → FitsLine first d g cuts ended l → IsTokenOf first t g) → FitLines firsts dropped got taken lines → AreTokens firsts got ts → AreTokens firsts got more
+tokens_push firsts dropped got taken lines front rest ts more l t split sized is_more token fits old =
+    let here : slice_get lines (length ts) ≡ Some l = ap (λ ls. slice_get ls (length ts)) split ∙ (ap (slice_get (front ++ l ∷ rest)) sized ∙ seam_get front l rest) in
+    let f : FitLine firsts dropped got taken (length ts) l = fits (length ts) l here in
+    subst (λ xs. AreTokens firsts got xs) (sym is_more)
+    (each_push (IsTokenAt firsts got) ts t old (f.0, f.1, token f.0 (dropped (length ts)) (got (length ts)) (cuts_in (length ts) taken) (has_ended (length ts) taken) f.2))

@@ -1,7 +1,8 @@
-use Rattle.std.proofs.Common.{◌≡◌, refl, sym, ap, subst, ◌∙◌, map, List, [], ◌∷◌}
+use Rattle.std.proofs.Common.{◌≡◌, refl, sym, ap, subst, ◌∙◌, map, List, [], ◌∷◌, arith}
 use Rattle.std.specs.Vec.Iter.{into_iter_items}
 use Rattle.spk_broker.specs.Sent.{sent_view}
 use Rattle.spk_broker_body.specs.Holding.{Offers}
+use Rattle.spk_broker_body.proofs.Each.{nothing_left}
 use Rattle.spk_broker_body.proofs.hub.Hub.offer_all.Goals as goal
 
 pub loop-send-init : goal.loop-send-init
@@ -22,5 +23,5 @@ loop-send-preserved g c = record {
 pub returns-clause-offers : goal.returns-clause-offers
 returns-clause-offers g c s closed log closes f =
     let h = c.loop-send.invariant.offers s closed log closes f in
-    let done : into_iter_items c.loop-send.send-iterator ≡ [] = c.in-None.ensures.steps.0 in
+    let done : into_iter_items c.loop-send.send-iterator ≡ [] = nothing_left (into_iter_items c.loop-send.send-iterator) (omega (arith, c.in-None.ensures.steps.0, c.loop-send.send-iterator.rest.ok.0)) in
     (h.0, subst (λ ss. Offers s closed c.loop-send.self h.0 (map sent_view ss) closes) done h.1)
