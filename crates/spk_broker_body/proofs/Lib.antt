@@ -2,3 +2,4 @@ pub mod Desks
 pub mod Each
 pub mod Hubs
 pub mod Lines
+pub mod Rows

@@ -9,8 +9,6 @@ mod hub;
 mod line;
 mod part;
 mod run;
-#[cfg(test)]
-mod tests;
 
 pub use part::{BrokerEnd, BrokerStart, Refusal};
 pub use run::run_broker;
