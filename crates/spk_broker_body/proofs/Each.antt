@@ -26,7 +26,7 @@ each_set P Q xs k x old new others j y is =
     let sized : length (set xs k x) ≡ length xs = length-set xs k x in
     let here : get_or (set xs k x) j y ≡ y = get_or_from_slice_get (set xs k x) j y y is in
     elim (same_or_not j k) [
-      inl same ↦ subst (λ i. Q i y) (sym same) (subst (Q k) (sym (get_or-set_at xs k j x y same (let z : k < length xs = omega (arith, same, below, sized) in z)) ∙ here) new)
+      | inl same ↦ subst (λ i. Q i y) (sym same) (subst (Q k) (sym (get_or-set_at xs k j x y same (let z : k < length xs = omega (arith, same, below, sized) in z)) ∙ here) new)
       | inr other ↦ others j y other (old j y (read_at xs j y (omega (arith, below, sized)) (sym here ∙ get_or-set_other xs k j x y other)))
     ]
 
@@ -38,7 +38,7 @@ each_push P xs x old new j y is =
     let sized : length (xs ++ x ∷ []) ≡ length xs + 1 = length-append xs (x ∷ []) in
     let here : get_or (xs ++ x ∷ []) j y ≡ y = get_or_from_slice_get (xs ++ x ∷ []) j y y is in
     elim (same_or_not j (length xs)) [
-      inl same ↦ subst (λ i. P i y) (sym same) (subst (P (length xs)) (sym (get_or-append_seam xs x [] y) ∙ (ap (λ i. get_or (xs ++ x ∷ []) i y) (sym same) ∙ here)) new)
+      | inl same ↦ subst (λ i. P i y) (sym same) (subst (P (length xs)) (sym (get_or-append_seam xs x [] y) ∙ (ap (λ i. get_or (xs ++ x ∷ []) i y) (sym same) ∙ here)) new)
       | inr other ↦ (let low : j < length xs = omega (arith, below, sized, other) in old j y (read_at xs j y low (sym here ∙ get_or_append_left xs (x ∷ []) y j low)))
     ]
 

@@ -57,25 +57,32 @@ pub passed_offers : (s : Setting) (closed : ℕ → Bool) (log : List Entry) (h 
     → (e : Entry) × Offers s closed k (e ∷ log) sends closes
 passed_offers s closed log h k send sends closes f same untold refusals accepted none lines =
     let r : Room = room s log in
-    let o : Offer = offer_of r.openers (drops s closed log) send in
-    (Passed o, record {
-      holds = record {
-        log_is = (f.holds.log_is, ((map (offer_of r.openers (drops s closed log)) sends, f.awaits.pending),
-          ap (λ os. ring_of (drops s closed log) (client_of os send.conn)) (sym f.holds.desk.openers) ∙ none));
-        desk = desk_kept s.limit closed h.desk k.desk r (behind r.pending) r.untold f.holds.desk same.desk;
-        clients = ap (λ d. length d.clients.items) same.desk ∙ f.holds.clients;
-        over = same.over ∙ f.holds.over;
-        lines = lines;
-        sized = same.sized ∙ f.holds.sized;
-        untold = untold ∙ f.holds.untold;
-        edges = same.edges ∙ f.holds.edges;
-        few = f.holds.few;
-        taken = same.taken ∙ f.holds.taken;
-        refusals = refusals ∙ f.holds.refusals;
-        accepted = accepted ∙ f.holds.accepted;
-      };
-      awaits = record { pending = ap behind f.awaits.pending; shut = f.awaits.shut };
-    })
+    let o : Offer = offer_of r.openers (drops s closed log) send in (
+      Passed o,
+      record {
+        holds = record {
+          log_is = (
+            f.holds.log_is,
+            (
+              (map (offer_of r.openers (drops s closed log)) sends, f.awaits.pending),
+              ap (λ os. ring_of (drops s closed log) (client_of os send.conn)) (sym f.holds.desk.openers) ∙ none,
+            ),
+          );
+          desk = desk_kept s.limit closed h.desk k.desk r (behind r.pending) r.untold f.holds.desk same.desk;
+          clients = ap (λ d. length d.clients.items) same.desk ∙ f.holds.clients;
+          over = same.over ∙ f.holds.over;
+          lines = lines;
+          sized = same.sized ∙ f.holds.sized;
+          untold = untold ∙ f.holds.untold;
+          edges = same.edges ∙ f.holds.edges;
+          few = f.holds.few;
+          taken = same.taken ∙ f.holds.taken;
+          refusals = refusals ∙ f.holds.refusals;
+          accepted = accepted ∙ f.holds.accepted;
+        };
+        awaits = record { pending = ap behind f.awaits.pending; shut = f.awaits.shut };
+      },
+    )
 
 -- where a send goes
 pub goes_to : (s : Setting) (closed : ℕ → Bool) (log : List Entry) (h : Hub) (send : Sent) (client : ℕ) → Holds s closed h log → Some client ≡ client_of h.desk.openers.items send.conn → drops s closed log client ≡ false
@@ -92,26 +99,28 @@ pub accepted_offers : (s : Setting) (closed : ℕ → Bool) (log : List Entry) (
     → (e : Entry) × Offers s closed k (e ∷ log) sends closes
 accepted_offers s closed log h k send sends closes client f same untold refusals accepted is stands lines =
     let r : Room = room s log in
-    let o : Offer = offer_of r.openers (drops s closed log) send in
-    (Accepted client o, record {
-      holds = record {
-        log_is = (f.holds.log_is, ((map (offer_of r.openers (drops s closed log)) sends, f.awaits.pending), goes_to s closed log h send client f.holds is stands));
-        desk = desk_kept s.limit closed h.desk k.desk r (behind r.pending) r.untold f.holds.desk same.desk;
-        clients = ap (λ d. length d.clients.items) same.desk ∙ f.holds.clients;
-        over = same.over ∙ f.holds.over;
-        lines = lines;
-        sized = same.sized ∙ f.holds.sized;
-        untold = untold ∙ f.holds.untold;
-        edges = same.edges ∙ f.holds.edges;
-        few = f.holds.few;
-        taken = same.taken ∙ f.holds.taken;
-        refusals = refusals ∙ f.holds.refusals;
-        accepted = accepted ∙ (ap (λ e. if client == e then h.accepted.items ++ length h.taken.items ∷ [] else h.accepted.items) f.holds.edges
-          ∙ (ap (λ xs. if client == s.edges then xs ++ length h.taken.items ∷ [] else xs) f.holds.accepted
-          ∙ ap (λ ms. if client == s.edges then accepted_of s.edges log ++ length ms ∷ [] else accepted_of s.edges log) f.holds.taken));
-      };
-      awaits = record { pending = ap behind f.awaits.pending; shut = f.awaits.shut };
-    })
+    let o : Offer = offer_of r.openers (drops s closed log) send in (
+      Accepted client o,
+      record {
+        holds = record {
+          log_is = (f.holds.log_is, ((map (offer_of r.openers (drops s closed log)) sends, f.awaits.pending), goes_to s closed log h send client f.holds is stands));
+          desk = desk_kept s.limit closed h.desk k.desk r (behind r.pending) r.untold f.holds.desk same.desk;
+          clients = ap (λ d. length d.clients.items) same.desk ∙ f.holds.clients;
+          over = same.over ∙ f.holds.over;
+          lines = lines;
+          sized = same.sized ∙ f.holds.sized;
+          untold = untold ∙ f.holds.untold;
+          edges = same.edges ∙ f.holds.edges;
+          few = f.holds.few;
+          taken = same.taken ∙ f.holds.taken;
+          refusals = refusals ∙ f.holds.refusals;
+          accepted = accepted ∙ (ap (λ e. if client == e then h.accepted.items ++ length h.taken.items ∷ [] else h.accepted.items) f.holds.edges
+              ∙ (ap (λ xs. if client == s.edges then xs ++ length h.taken.items ∷ [] else xs) f.holds.accepted
+              ∙ ap (λ ms. if client == s.edges then accepted_of s.edges log ++ length ms ∷ [] else accepted_of s.edges log) f.holds.taken));
+        };
+        awaits = record { pending = ap behind f.awaits.pending; shut = f.awaits.shut };
+      },
+    )
 
 -- a ring is full
 pub refused_offers : (s : Setting) (closed : ℕ → Bool) (log : List Entry) (h k : Hub) (send : Sent) (sends : List Sent) (closes : List ℕ) (client : ℕ) → Offers s closed h log (send ∷ sends) closes → Same h k
@@ -123,25 +132,27 @@ pub refused_offers : (s : Setting) (closed : ℕ → Bool) (log : List Entry) (h
     → (e : Entry) × Offers s closed k (e ∷ log) sends closes
 refused_offers s closed log h k send sends closes client f same untold refusals accepted is stands lines =
     let r : Room = room s log in
-    let o : Offer = offer_of r.openers (drops s closed log) send in
-    (Refused client o, record {
-      holds = record {
-        log_is = (f.holds.log_is, ((map (offer_of r.openers (drops s closed log)) sends, f.awaits.pending), goes_to s closed log h send client f.holds is stands));
-        desk = desk_kept s.limit closed h.desk k.desk r (behind r.pending) (r.untold ++ o ∷ []) f.holds.desk same.desk;
-        clients = ap (λ d. length d.clients.items) same.desk ∙ f.holds.clients;
-        over = same.over ∙ f.holds.over;
-        lines = lines;
-        sized = same.sized ∙ f.holds.sized;
-        untold = untold ∙ (ap (λ us. us ++ untold_of o ∷ []) f.holds.untold ∙ sym (map-append untold_of r.untold (o ∷ [])));
-        edges = same.edges ∙ f.holds.edges;
-        few = f.holds.few;
-        taken = same.taken ∙ f.holds.taken;
-        refusals = refusals ∙ (ap (λ rs. rs ++ (record { client = client; sort = send.sort; taken = length h.taken.items }) ∷ []) f.holds.refusals
-          ∙ ap (λ ms. refusals_of log ++ (record { client = client; sort = send.sort; taken = length ms }) ∷ []) f.holds.taken);
-        accepted = accepted ∙ f.holds.accepted;
-      };
-      awaits = record { pending = ap behind f.awaits.pending; shut = f.awaits.shut };
-    })
+    let o : Offer = offer_of r.openers (drops s closed log) send in (
+      Refused client o,
+      record {
+        holds = record {
+          log_is = (f.holds.log_is, ((map (offer_of r.openers (drops s closed log)) sends, f.awaits.pending), goes_to s closed log h send client f.holds is stands));
+          desk = desk_kept s.limit closed h.desk k.desk r (behind r.pending) (r.untold ++ o ∷ []) f.holds.desk same.desk;
+          clients = ap (λ d. length d.clients.items) same.desk ∙ f.holds.clients;
+          over = same.over ∙ f.holds.over;
+          lines = lines;
+          sized = same.sized ∙ f.holds.sized;
+          untold = untold ∙ (ap (λ us. us ++ untold_of o ∷ []) f.holds.untold ∙ sym (map-append untold_of r.untold (o ∷ [])));
+          edges = same.edges ∙ f.holds.edges;
+          few = f.holds.few;
+          taken = same.taken ∙ f.holds.taken;
+          refusals = refusals ∙ (ap (λ rs. rs ++ (record { client = client; sort = send.sort; taken = length h.taken.items }) ∷ []) f.holds.refusals
+              ∙ ap (λ ms. refusals_of log ++ (record { client = client; sort = send.sort; taken = length ms }) ∷ []) f.holds.taken);
+          accepted = accepted ∙ f.holds.accepted;
+        };
+        awaits = record { pending = ap behind f.awaits.pending; shut = f.awaits.shut };
+      },
+    )
 
 -- ---- telling
 
@@ -150,7 +161,7 @@ front_is o os u rest e = (cc, cc)
 
 pub told_offers : (s : Setting) (log : List Entry) (h k : Hub) (u : Untold) (now : ℕ) (out : Out) → Rests s h log → h.untold.items ≡ u ∷ k.untold.items
     → ((limit : ℕ) (r : Room) → FitsDesk limit r.closed h.desk r → r.pending ≡ []
-        → Gives limit r (called_on limit r (λ c. event.Refused c u.sort now) (known (after limit r.events) (Some u.conn))) k.desk out)
+    → Gives limit r (called_on limit r (λ c. event.Refused c u.sort now) (known (after limit r.events) (Some u.conn))) k.desk out)
     → length k.desk.clients.items ≡ length h.desk.clients.items → now ≡ length h.taken.items → k.edges ≡ h.edges → k.over ≡ h.over → k.lines.items ≡ h.lines.items
     → k.taken.items ≡ h.taken.items → k.refusals.items ≡ h.refusals.items → k.accepted.items ≡ h.accepted.items
     → (e : Entry) × Offers s (room s log).closed k (e ∷ log) (map sent_view out.sends.items) out.closes.items
@@ -159,6 +170,7 @@ told_offers s log h k u now out f untold gives clients moment edges over lines t
   where
     r : Room
     r = room s log
+
     go : (os : List Offer) → (room s log).untold ≡ os → (u ∷ k.untold.items) ≡ map untold_of os → (e : Entry) × Offers s (room s log).closed k (e ∷ log) (map sent_view out.sends.items) out.closes.items
     go [] is e = absurd cc
     go (o ∷ os) is e =
@@ -168,25 +180,27 @@ told_offers s log h k u now out f untold gives clients moment edges over lines t
         let g : Gives s.limit q (room s (Told o ∷ log)) k.desk out =
         subst (λ n. Gives s.limit q (called_on s.limit q (λ c. event.Refused c o.sort n) (known (after s.limit q.events) (Some o.conn))) k.desk out) (moment ∙ ap length f.holds.taken)
         (subst (λ (v : Untold). Gives s.limit q (called_on s.limit q (λ c. event.Refused c v.sort now) (known (after s.limit q.events) (Some v.conn))) k.desk out) (sym front.0)
-          (gives s.limit q fits f.pending)) in
-        (Told o, record {
-          holds = record {
-            log_is = (f.holds.log_is, (f.pending, (os, is)));
-            desk = g.desk;
-            clients = clients ∙ f.holds.clients;
-            over = over ∙ (f.holds.over ∙ sym g.over);
-            lines = subst (λ ls. FitLines s.outlets (is_dropped (room s (Told o ∷ log)).over (room s log).closed) (λ j. got_of j log) (taken_of log) ls) (sym lines)
-                (subst (λ b. FitLines s.outlets (is_dropped b (room s log).closed) (λ j. got_of j log) (taken_of log) h.lines.items) (sym g.over) f.holds.lines);
-            sized = ap length lines ∙ f.holds.sized;
-            untold = front.1 ∙ (ap (λ x. map untold_of (behind x)) (sym is) ∙ ap (map untold_of) (sym g.untold));
-            edges = edges ∙ f.holds.edges;
-            few = f.holds.few;
-            taken = taken ∙ f.holds.taken;
-            refusals = refusals ∙ f.holds.refusals;
-            accepted = accepted ∙ f.holds.accepted;
-          };
-          awaits = g.awaits;
-        })
+        (gives s.limit q fits f.pending)) in (
+          Told o,
+          record {
+            holds = record {
+              log_is = (f.holds.log_is, (f.pending, (os, is)));
+              desk = g.desk;
+              clients = clients ∙ f.holds.clients;
+              over = over ∙ (f.holds.over ∙ sym g.over);
+              lines = subst (λ ls. FitLines s.outlets (is_dropped (room s (Told o ∷ log)).over (room s log).closed) (λ j. got_of j log) (taken_of log) ls) (sym lines)
+                  (subst (λ b. FitLines s.outlets (is_dropped b (room s log).closed) (λ j. got_of j log) (taken_of log) h.lines.items) (sym g.over) f.holds.lines);
+              sized = ap length lines ∙ f.holds.sized;
+              untold = front.1 ∙ (ap (λ x. map untold_of (behind x)) (sym is) ∙ ap (map untold_of) (sym g.untold));
+              edges = edges ∙ f.holds.edges;
+              few = f.holds.few;
+              taken = taken ∙ f.holds.taken;
+              refusals = refusals ∙ f.holds.refusals;
+              accepted = accepted ∙ f.holds.accepted;
+            };
+            awaits = g.awaits;
+          },
+        )
 
 -- ---- frames
 
@@ -197,24 +211,26 @@ pub took_offers : (s : Setting) (log : List Entry) (h k : Hub) (m : Message) (i 
     → k.untold.items ≡ h.untold.items → k.refusals.items ≡ h.refusals.items → k.accepted.items ≡ h.accepted.items
     → (e : Entry) × Offers s (room s log).closed k (e ∷ log) (map sent_view out.sends.items) out.closes.items
 took_offers s log h k m i out f means taken g lines clients sized edges over untold refusals accepted =
-    let held : Holds s (room s log).closed h log = f.rests.holds in
-    (Took m i, record {
-      holds = record {
-        log_is = (held.log_is, (means, f.rests.pending, f.untold));
-        desk = g.desk;
-        clients = clients ∙ held.clients;
-        over = over ∙ (held.over ∙ sym g.over);
-        lines = subst (λ b. FitLines s.outlets (is_dropped b (room s log).closed) (λ j. got_of j log) (taken_of log ++ m ∷ []) k.lines.items) (sym g.over) lines;
-        sized = sized ∙ held.sized;
-        untold = untold ∙ (held.untold ∙ ap (map untold_of) (sym g.untold));
-        edges = edges ∙ held.edges;
-        few = held.few;
-        taken = taken ∙ ap (λ ms. ms ++ m ∷ []) held.taken;
-        refusals = refusals ∙ held.refusals;
-        accepted = accepted ∙ held.accepted;
-      };
-      awaits = g.awaits;
-    })
+    let held : Holds s (room s log).closed h log = f.rests.holds in (
+      Took m i,
+      record {
+        holds = record {
+          log_is = (held.log_is, (means, f.rests.pending, f.untold));
+          desk = g.desk;
+          clients = clients ∙ held.clients;
+          over = over ∙ (held.over ∙ sym g.over);
+          lines = subst (λ b. FitLines s.outlets (is_dropped b (room s log).closed) (λ j. got_of j log) (taken_of log ++ m ∷ []) k.lines.items) (sym g.over) lines;
+          sized = sized ∙ held.sized;
+          untold = untold ∙ (held.untold ∙ ap (map untold_of) (sym g.untold));
+          edges = edges ∙ held.edges;
+          few = held.few;
+          taken = taken ∙ ap (λ ms. ms ++ m ∷ []) held.taken;
+          refusals = refusals ∙ held.refusals;
+          accepted = accepted ∙ held.accepted;
+        };
+        awaits = g.awaits;
+      },
+    )
 
 pub noted_gives : (s : Setting) (log : List Entry) (old mid : Hub) (m : Message) (now : ℕ) (d : Desk) (out : Out) (next : ℕ → ℕ → Room → Room) → IsIdle s old log → IsNoted m now old mid
     → ((limit : ℕ) (r : Room) → FitsDesk limit r.closed mid.desk r → r.pending ≡ [] → Gives limit r (next limit now r) d out)
@@ -233,7 +249,7 @@ frame_taken old mid d m i now out next means no_cut no_end n tied gives clients 
       took_offers s log old (record mid { desk = d }) m i out f means n.taken
       (subst (λ q. Gives s.limit (room s log) q d out) (tied s.limit s.edges (taken_of log ++ m ∷ []) (room s log)) (noted_gives s log old mid m now d out next f n gives))
       (lines_noted s.outlets (drops s (room s log).closed log) (λ j. got_of j log) (taken_of log) m mid.lines.items no_cut no_end
-        (subst (λ (x : Hub). FitLines s.outlets (drops s (room s log).closed log) (λ j. got_of j log) (taken_of log) x.lines.items) (sym n.same) f.rests.holds.lines))
+      (subst (λ (x : Hub). FitLines s.outlets (drops s (room s log).closed log) (λ j. got_of j log) (taken_of log) x.lines.items) (sym n.same) f.rests.holds.lines))
       (clients ∙ ap (λ (x : Hub). length x.desk.clients.items) n.same) (ap (λ (x : Hub). length x.lines.items) n.same) (ap (λ (x : Hub). x.edges) n.same) (ap (λ (x : Hub). x.over) n.same)
       (ap (λ (x : Hub). x.untold.items) n.same) (ap (λ (x : Hub). x.refusals.items) n.same) (ap (λ (x : Hub). x.accepted.items) n.same);
   taken = n.taken;
@@ -244,7 +260,7 @@ pub cut_taken : (old mid k : Hub) (sender now : ℕ) (out : Out) (next : ℕ →
     → ((limit edges : ℕ) (taken : List Message) (r : Room) → next limit (length taken) r ≡ took limit edges taken r sender Cuts)
     → ((limit : ℕ) (r : Room) → FitsDesk limit r.closed mid.desk r → r.pending ≡ [] → Gives limit r (next limit now r) k.desk out)
     → ((firsts : List Outlet) (dropped : ℕ → Bool) (got : ℕ → List Item) (taken : List Message) → FitLines firsts dropped got taken mid.lines.items
-        → FitLines firsts dropped got (taken ++ (record { sender = sender; frame = frame.Cut }) ∷ []) k.lines.items)
+    → FitLines firsts dropped got (taken ++ (record { sender = sender; frame = frame.Cut }) ∷ []) k.lines.items)
     → length k.desk.clients.items ≡ length mid.desk.clients.items → length k.lines.items ≡ length mid.lines.items
     → k.edges ≡ mid.edges → k.over ≡ mid.over → k.untold ≡ mid.untold → k.taken ≡ mid.taken → k.refusals ≡ mid.refusals → k.accepted ≡ mid.accepted
     → IsTaken (record { sender = sender; frame = frame.Cut }) old k out
@@ -254,7 +270,7 @@ cut_taken old mid k sender now out next n tied gives lines clients sized edges o
       took_offers s log old k m Cuts out f tt (ap (λ v. v.items) taken ∙ n.taken)
       (subst (λ q. Gives s.limit (room s log) q k.desk out) (tied s.limit s.edges (taken_of log ++ m ∷ []) (room s log)) (noted_gives s log old mid m now k.desk out next f n gives))
       (lines s.outlets (drops s (room s log).closed log) (λ j. got_of j log) (taken_of log)
-        (subst (λ (x : Hub). FitLines s.outlets (drops s (room s log).closed log) (λ j. got_of j log) (taken_of log) x.lines.items) (sym n.same) f.rests.holds.lines))
+      (subst (λ (x : Hub). FitLines s.outlets (drops s (room s log).closed log) (λ j. got_of j log) (taken_of log) x.lines.items) (sym n.same) f.rests.holds.lines))
       (clients ∙ ap (λ (x : Hub). length x.desk.clients.items) n.same) (sized ∙ ap (λ (x : Hub). length x.lines.items) n.same) (edges ∙ ap (λ (x : Hub). x.edges) n.same) (over ∙ ap (λ (x : Hub). x.over) n.same)
       (ap (λ v. v.items) untold ∙ ap (λ (x : Hub). x.untold.items) n.same) (ap (λ v. v.items) refusals ∙ ap (λ (x : Hub). x.refusals.items) n.same) (ap (λ v. v.items) accepted ∙ ap (λ (x : Hub). x.accepted.items) n.same);
   taken = ap (λ v. v.items) taken ∙ n.taken;
@@ -281,27 +297,29 @@ end_offers s log old mid k sender now out f n same over lines empty =
     let held : Holds s (room s log).closed old log = f.rests.holds in
     let r : Room = room s log in
     let m : Message = record { sender = sender; frame = frame.End } in
-    let fits : FitsDesk s.limit r.closed k.desk r = subst (λ (d : Desk). FitsDesk s.limit r.closed d r) (sym (same.desk ∙ ap (λ (x : Hub). x.desk) n.same)) held.desk in
-    (Took m Ends, record {
-      holds = record {
-        log_is = (held.log_is, (tt, f.rests.pending, f.untold));
-        desk = record { broker = fits.broker; openers = fits.openers; clients = fits.clients };
-        clients = ap (λ (d : Desk). length d.clients.items) (same.desk ∙ ap (λ (x : Hub). x.desk) n.same) ∙ held.clients;
-        over = over;
-        lines = lines;
-        sized = same.sized ∙ (ap (λ (x : Hub). length x.lines.items) n.same ∙ held.sized);
-        untold = ap (λ v. v.items) (same.untold ∙ ap (λ (x : Hub). x.untold) n.same) ∙ held.untold;
-        edges = same.edges ∙ (ap (λ (x : Hub). x.edges) n.same ∙ held.edges);
-        few = held.few;
-        taken = ap (λ v. v.items) same.taken ∙ (n.taken ∙ ap (λ ms. ms ++ m ∷ []) held.taken);
-        refusals = ap (λ v. v.items) (same.refusals ∙ ap (λ (x : Hub). x.refusals) n.same) ∙ held.refusals;
-        accepted = ap (λ v. v.items) (same.accepted ∙ ap (λ (x : Hub). x.accepted) n.same) ∙ held.accepted;
-      };
-      awaits = record {
-        pending = f.rests.pending ∙ ap (λ ss. map (offer_of r.openers (is_dropped (r.over || have_ended s.edges (taken_of log ++ m ∷ [])) r.closed)) (map sent_view ss)) (sym empty.0);
-        shut = λ j. or_false (r.closed j) ∙ ap (λ cs. r.closed j || holds_client r.openers j cs) (sym empty.1);
-      };
-    })
+    let fits : FitsDesk s.limit r.closed k.desk r = subst (λ (d : Desk). FitsDesk s.limit r.closed d r) (sym (same.desk ∙ ap (λ (x : Hub). x.desk) n.same)) held.desk in (
+      Took m Ends,
+      record {
+        holds = record {
+          log_is = (held.log_is, (tt, f.rests.pending, f.untold));
+          desk = record { broker = fits.broker; openers = fits.openers; clients = fits.clients };
+          clients = ap (λ (d : Desk). length d.clients.items) (same.desk ∙ ap (λ (x : Hub). x.desk) n.same) ∙ held.clients;
+          over = over;
+          lines = lines;
+          sized = same.sized ∙ (ap (λ (x : Hub). length x.lines.items) n.same ∙ held.sized);
+          untold = ap (λ v. v.items) (same.untold ∙ ap (λ (x : Hub). x.untold) n.same) ∙ held.untold;
+          edges = same.edges ∙ (ap (λ (x : Hub). x.edges) n.same ∙ held.edges);
+          few = held.few;
+          taken = ap (λ v. v.items) same.taken ∙ (n.taken ∙ ap (λ ms. ms ++ m ∷ []) held.taken);
+          refusals = ap (λ v. v.items) (same.refusals ∙ ap (λ (x : Hub). x.refusals) n.same) ∙ held.refusals;
+          accepted = ap (λ v. v.items) (same.accepted ∙ ap (λ (x : Hub). x.accepted) n.same) ∙ held.accepted;
+        };
+        awaits = record {
+          pending = f.rests.pending ∙ ap (λ ss. map (offer_of r.openers (is_dropped (r.over || have_ended s.edges (taken_of log ++ m ∷ [])) r.closed)) (map sent_view ss)) (sym empty.0);
+          shut = λ j. or_false (r.closed j) ∙ ap (λ cs. r.closed j || holds_client r.openers j cs) (sym empty.1);
+        };
+      },
+    )
 
 -- what a line of an End makes of the lines
 abbrev EndsLine : ℕ → Hub → Hub → Type 0
@@ -323,7 +341,7 @@ end_kept old mid k sender now out n same same_over lines why empty = record {
       let was : k.over ≡ (room s log).over = same_over ∙ (ap (λ (x : Hub). x.over) n.same ∙ f.rests.holds.over) in
       let fits = end_lines s log old mid k sender now f n lines in
       let stays : ((room s log).over || have_ended s.edges all) ≡ (room s log).over = elim why [
-        inl over ↦ ap (λ b. b || have_ended s.edges all) (sym was ∙ over) ∙ (sym over ∙ was)
+        | inl over ↦ ap (λ b. b || have_ended s.edges all) (sym was ∙ over) ∙ (sym over ∙ was)
         | inr none ↦ ap (λ b. (room s log).over || b) (ap (λ e. have_ended e all) (sym (same.edges ∙ (ap (λ (x : Hub). x.edges) n.same ∙ f.rests.holds.edges))) ∙ none s.outlets (drops s (room s log).closed log) (λ j. got_of j log) all fits) ∙ sym (or_false (room s log).over)
       ] in
       end_offers s log old mid k sender now out f n same (was ∙ sym stays)
@@ -334,7 +352,7 @@ end_kept old mid k sender now out n same same_over lines why empty = record {
 -- all edge nodes have ended
 pub end_over : (old mid k : Hub) (ls : List Line) (sender now : ℕ) (out : Out) → IsNoted (record { sender = sender; frame = frame.End }) now old mid → SameBut mid k → k.over ≡ true
     → ((firsts : List Outlet) (dropped : ℕ → Bool) (got : ℕ → List Item) (taken : List Message) → FitLines firsts dropped got taken mid.lines.items
-        → FitLines firsts dropped got (taken ++ (record { sender = sender; frame = frame.End }) ∷ []) ls)
+    → FitLines firsts dropped got (taken ++ (record { sender = sender; frame = frame.End }) ∷ []) ls)
     → ((firsts : List Outlet) (dropped : ℕ → Bool) (got : ℕ → List Item) (taken : List Message) → FitLines firsts dropped got taken ls → have_ended k.edges taken ≡ true)
     → ((firsts : List Outlet) (dropped : ℕ → Bool) (got : ℕ → List Item) (taken : List Message) → FitLines firsts dropped got taken ls → FitLines firsts (λ j. true) got taken k.lines.items)
     → (out.sends.items ≡ []) × (out.closes.items ≡ []) → IsTaken (record { sender = sender; frame = frame.End }) old k out
@@ -342,12 +360,12 @@ end_over old mid k ls sender now out n same over lines all_have finish empty = r
   offers = λ s log f.
       let all : List Message = taken_of log ++ (record { sender = sender; frame = frame.End }) ∷ [] in
       let fits : FitLines s.outlets (drops s (room s log).closed log) (λ j. got_of j log) all ls = lines s.outlets (drops s (room s log).closed log) (λ j. got_of j log) (taken_of log)
-          (subst (λ (x : Hub). FitLines s.outlets (drops s (room s log).closed log) (λ j. got_of j log) (taken_of log) x.lines.items) (sym n.same) f.rests.holds.lines) in
+      (subst (λ (x : Hub). FitLines s.outlets (drops s (room s log).closed log) (λ j. got_of j log) (taken_of log) x.lines.items) (sym n.same) f.rests.holds.lines) in
       let becomes : ((room s log).over || have_ended s.edges all) ≡ true =
       ap (λ b. (room s log).over || b) (ap (λ e. have_ended e all) (sym (same.edges ∙ (ap (λ (x : Hub). x.edges) n.same ∙ f.rests.holds.edges))) ∙ all_have s.outlets (drops s (room s log).closed log) (λ j. got_of j log) all fits) ∙ or-true (room s log).over in
       end_offers s log old mid k sender now out f n same (over ∙ sym becomes)
       (subst (λ b. FitLines s.outlets (is_dropped b (room s log).closed) (λ j. got_of j log) all k.lines.items) (sym becomes)
-        (finish s.outlets (drops s (room s log).closed log) (λ j. got_of j log) all fits)) empty;
+      (finish s.outlets (drops s (room s log).closed log) (λ j. got_of j log) all fits)) empty;
   taken = ap (λ v. v.items) same.taken ∙ n.taken;
 }
 
@@ -417,8 +435,8 @@ pub one_more_closed : (s : Setting) (closed : ℕ → Bool) (log : List Entry) (
 one_more_closed s closed log h conns i conn below is f =
     holds_ext s (λ k. (closed k || holds_client (room s log).openers k (take i conns)) || is_client k (client_of (room s log).openers conn)) (λ k. closed k || holds_client (room s log).openers k (take (i + 1) conns)) h log
     (λ k. or_assoc (closed k) (holds_client (room s log).openers k (take i conns)) (is_client k (client_of (room s log).openers conn))
-      ∙ ap (λ b. closed k || b) (ap (λ c. holds_client (room s log).openers k (take i conns) || is_client k (client_of (room s log).openers c)) is
-        ∙ sym (list_any_more (λ c. is_client k (client_of (room s log).openers c)) conns i conn below))) f
+    ∙ ap (λ b. closed k || b) (ap (λ c. holds_client (room s log).openers k (take i conns) || is_client k (client_of (room s log).openers c)) is
+    ∙ sym (list_any_more (λ c. is_client k (client_of (room s log).openers c)) conns i conn below))) f
 
 -- all is handed out
 pub hands_out : (s : Setting) (closed : ℕ → Bool) (log : List Entry) (h k : Hub) (closes : List ℕ) → Offers s closed h log [] closes
@@ -464,7 +482,7 @@ each_ended zero ms h k below = absurd (omega (arith, below))
 each_ended (suc n) ms h k below =
     let both : (has_ended n ms ≡ true) × (have_ended n ms ≡ true) = both_true (has_ended n ms) (have_ended n ms) h in
     elim (same_or_not k n) [
-      inl same ↦ ap (λ i. has_ended i ms) same ∙ both.0
+      | inl same ↦ ap (λ i. has_ended i ms) same ∙ both.0
       | inr other ↦ each_ended n ms both.1 k (omega (arith, below, other))
     ]
 

@@ -39,12 +39,15 @@ offers_line firsts dropped got taken ls k bytes old new r fits below is offers =
   where
     f : FitLine firsts dropped got taken k old
     f = fits k old (read_at ls k old below is)
+
     go : (r : Option Bool) → OfferGives f.0 (dropped k) (got k) (cuts_in k taken) (has_ended k taken) bytes new r → LinesGive firsts dropped got taken k bytes (set ls k new) r
     go None g = (g.0, each_set (FitLine firsts dropped got taken) (FitLine firsts dropped got taken) ls k new fits (f.0, f.1, g.1) (λ j y ne p. p))
-    go (Some true) g = (g.0,
+    go (Some true) g = (
+      g.0,
       each_set (FitLine firsts dropped got taken) (FitLine firsts dropped (λ j. if k == j then got j ++ (record { bytes = bytes; cuts = cuts_in j taken }) ∷ [] else got j) taken) ls k new fits
-      (f.0, f.1, subst (λ b. FitsLine f.0 (dropped k) (if b then got k ++ (record { bytes = bytes; cuts = cuts_in k taken }) ∷ [] else got k) (cuts_in k taken) (has_ended k taken) new) (sym (eq-eqb k k refl)) g.1)
-      (λ j y ne p. (p.0, p.1, subst (λ b. FitsLine p.0 (dropped j) (if b then got j ++ (record { bytes = bytes; cuts = cuts_in j taken }) ∷ [] else got j) (cuts_in j taken) (has_ended j taken) y) (sym (differ j k ne)) p.2)))
+          (f.0, f.1, subst (λ b. FitsLine f.0 (dropped k) (if b then got k ++ (record { bytes = bytes; cuts = cuts_in k taken }) ∷ [] else got k) (cuts_in k taken) (has_ended k taken) new) (sym (eq-eqb k k refl)) g.1)
+          (λ j y ne p. (p.0, p.1, subst (λ b. FitsLine p.0 (dropped j) (if b then got j ++ (record { bytes = bytes; cuts = cuts_in j taken }) ∷ [] else got j) (cuts_in j taken) (has_ended j taken) y) (sym (differ j k ne)) p.2)),
+    )
     go (Some false) g = (g.0, each_set (FitLine firsts dropped got taken) (FitLine firsts dropped got taken) ls k new fits (f.0, f.1, g.1) (λ j y ne p. p))
 
 -- ---- which of them have ended
@@ -55,7 +58,7 @@ ended_at firsts dropped got taken ls k l fits below is = (fits k l (read_at ls k
 pub one_has_not : (n i : ℕ) (taken : List Message) → i < n → has_ended i taken ≡ false → have_ended n taken ≡ false
 one_has_not zero i taken below h = absurd (omega (arith, below))
 one_has_not (suc n) i taken below h = elim (same_or_not i n) [
-  inl same ↦ ap (λ b. b && have_ended n taken) (ap (λ j. has_ended j taken) (sym same) ∙ h)
+  | inl same ↦ ap (λ b. b && have_ended n taken) (ap (λ j. has_ended j taken) (sym same) ∙ h)
   | inr other ↦ and_false (has_ended n taken) (have_ended n taken) (one_has_not n i taken (omega (arith, below, other)) h)
 ]
 
@@ -70,6 +73,7 @@ token_is first got cuts ended l f = go l.outlet l.token f.ring
     some : (t : Option Token) → IfSome t (λ t. FinishedFrom first t × (all_offered t ≡ got)) → IsTokenOf first t got
     some None h = tt
     some (Some t) h = h
+
     go : (o : Option Outlet) (t : Option Token) → IsRing first o t true got → IsTokenOf first t got
     go (Some o) t h = absurd (true≢false h.0)
     go None t h = some t h.1
@@ -91,21 +95,28 @@ ended_push k ms m = list_any-append (λ (n : Message). (n.sender == k) && is_end
 pub lines_noted : (firsts : List Outlet) (dropped : ℕ → Bool) (got : ℕ → List Item) (taken : List Message) (m : Message) (ls : List Line) → is_cut m.frame ≡ false → is_end m.frame ≡ false →
     FitLines firsts dropped got taken ls → FitLines firsts dropped got (taken ++ m ∷ []) ls
 lines_noted firsts dropped got taken m ls no_cut no_end fits k l is =
-    let f : FitLine firsts dropped got taken k l = fits k l is in
-    (f.0, f.1, record {
-      ring = f.2.ring;
-      count = f.2.count ∙ sym (cuts_push k taken m ∙ (ap (λ b. cuts_in k taken + (if b then 1 else 0)) (and_false (m.sender == k) (is_cut m.frame) no_cut) ∙ (let z : cuts_in k taken + 0 ≡ cuts_in k taken = omega arith in z)));
-      over = f.2.over ∙ sym (ended_push k taken m ∙ (ap (λ b. has_ended k taken || b) (and_false (m.sender == k) (is_end m.frame) no_end) ∙ or_none (has_ended k taken)));
-    })
+    let f : FitLine firsts dropped got taken k l = fits k l is in (
+      f.0,
+      f.1,
+      record {
+        ring = f.2.ring;
+        count = f.2.count ∙ sym (cuts_push k taken m ∙ (ap (λ b. cuts_in k taken + (if b then 1 else 0)) (and_false (m.sender == k) (is_cut m.frame) no_cut) ∙ (let z : cuts_in k taken + 0 ≡ cuts_in k taken = omega arith in z)));
+        over = f.2.over ∙ sym (ended_push k taken m ∙ (ap (λ b. has_ended k taken || b) (and_false (m.sender == k) (is_end m.frame) no_end) ∙ or_none (has_ended k taken)));
+      },
+    )
 
 -- of another sender nothing changes
 pub line_other : (firsts : List Outlet) (dropped : ℕ → Bool) (got : ℕ → List Item) (taken : List Message) (m : Message) (k : ℕ) (l : Line) → k ≢ m.sender →
     FitLine firsts dropped got taken k l → FitLine firsts dropped got (taken ++ m ∷ []) k l
-line_other firsts dropped got taken m k l ne f = (f.0, f.1, record {
-      ring = f.2.ring;
-      count = f.2.count ∙ sym (cuts_push k taken m ∙ (ap (λ b. cuts_in k taken + (if b && is_cut m.frame then 1 else 0)) (differ k m.sender ne) ∙ (let z : cuts_in k taken + 0 ≡ cuts_in k taken = omega arith in z)));
-      over = f.2.over ∙ sym (ended_push k taken m ∙ (ap (λ b. has_ended k taken || (b && is_end m.frame)) (differ k m.sender ne) ∙ or_none (has_ended k taken)));
-    })
+line_other firsts dropped got taken m k l ne f = (
+  f.0,
+  f.1,
+  record {
+    ring = f.2.ring;
+    count = f.2.count ∙ sym (cuts_push k taken m ∙ (ap (λ b. cuts_in k taken + (if b && is_cut m.frame then 1 else 0)) (differ k m.sender ne) ∙ (let z : cuts_in k taken + 0 ≡ cuts_in k taken = omega arith in z)));
+    over = f.2.over ∙ sym (ended_push k taken m ∙ (ap (λ b. has_ended k taken || (b && is_end m.frame)) (differ k m.sender ne) ∙ or_none (has_ended k taken)));
+  },
+)
 
 -- a Cut of this sender
 pub lines_cut : (firsts : List Outlet) (dropped : ℕ → Bool) (got : ℕ → List Item) (taken : List Message) (k : ℕ) (ls : List Line) (old new : Line) →
@@ -116,12 +127,15 @@ lines_cut firsts dropped got taken k ls old new fits below is cut =
     let m : Message = record { sender = k; frame = frame.Cut } in
     let f : FitLine firsts dropped got taken k old = fits k old (read_at ls k old below is) in
     let g : FitsLine f.0 (dropped k) (got k) (cuts_in k taken + 1) (has_ended k taken) new = cut f.0 (dropped k) (got k) (cuts_in k taken) (has_ended k taken) f.2 in
-    each_set (FitLine firsts dropped got taken) (FitLine firsts dropped got (taken ++ m ∷ [])) ls k new fits
-    (f.0, f.1, record {
-      ring = g.ring;
-      count = g.count ∙ sym (cuts_push k taken m ∙ ap (λ b. cuts_in k taken + (if b && true then 1 else 0)) (eq-eqb k k refl));
-      over = g.over ∙ sym (ended_push k taken m ∙ (ap (λ b. has_ended k taken || (b && false)) (eq-eqb k k refl) ∙ or_none (has_ended k taken)));
-    })
+    each_set (FitLine firsts dropped got taken) (FitLine firsts dropped got (taken ++ m ∷ [])) ls k new fits (
+      f.0,
+      f.1,
+      record {
+        ring = g.ring;
+        count = g.count ∙ sym (cuts_push k taken m ∙ ap (λ b. cuts_in k taken + (if b && true then 1 else 0)) (eq-eqb k k refl));
+        over = g.over ∙ sym (ended_push k taken m ∙ (ap (λ b. has_ended k taken || (b && false)) (eq-eqb k k refl) ∙ or_none (has_ended k taken)));
+      },
+    )
     (λ j y ne p. line_other firsts dropped got taken m j y ne p)
 
 -- the End of this sender
@@ -131,12 +145,15 @@ pub lines_ended : (firsts : List Outlet) (dropped : ℕ → Bool) (got : ℕ →
 lines_ended firsts dropped got taken k ls old fits below is =
     let m : Message = record { sender = k; frame = frame.End } in
     let f : FitLine firsts dropped got taken k old = fits k old (read_at ls k old below is) in
-    each_set (FitLine firsts dropped got taken) (FitLine firsts dropped got (taken ++ m ∷ [])) ls k (record old { ended = true }) fits
-    (f.0, f.1, record {
-      ring = f.2.ring;
-      count = f.2.count ∙ sym (cuts_push k taken m ∙ (ap (λ b. cuts_in k taken + (if b && false then 1 else 0)) (eq-eqb k k refl) ∙ (let z : cuts_in k taken + 0 ≡ cuts_in k taken = omega arith in z)));
-      over = sym (ended_push k taken m ∙ (ap (λ b. has_ended k taken || (b && true)) (eq-eqb k k refl) ∙ or-true (has_ended k taken)));
-    })
+    each_set (FitLine firsts dropped got taken) (FitLine firsts dropped got (taken ++ m ∷ [])) ls k (record old { ended = true }) fits (
+      f.0,
+      f.1,
+      record {
+        ring = f.2.ring;
+        count = f.2.count ∙ sym (cuts_push k taken m ∙ (ap (λ b. cuts_in k taken + (if b && false then 1 else 0)) (eq-eqb k k refl) ∙ (let z : cuts_in k taken + 0 ≡ cuts_in k taken = omega arith in z)));
+        over = sym (ended_push k taken m ∙ (ap (λ b. has_ended k taken || (b && true)) (eq-eqb k k refl) ∙ or-true (has_ended k taken)));
+      },
+    )
     (λ j y ne p. line_other firsts dropped got taken m j y ne p)
 
 -- ---- rings are dropped
@@ -164,7 +181,7 @@ finished_past firsts d got taken ls k past fits =
 -- all of those before a place
 pub one_more_finished : (d : ℕ → Bool) (i : ℕ) → ((k : ℕ) → k < i → d k ≡ true) → (k : ℕ) → k < i + 1 → (d k || is_client k (Some i)) ≡ true
 one_more_finished d i before k below = elim (same_or_not k i) [
-  inl same ↦ ap (λ b. d k || b) (eq-eqb i k (sym same)) ∙ or-true (d k)
+  | inl same ↦ ap (λ b. d k || b) (eq-eqb i k (sym same)) ∙ or-true (d k)
   | inr other ↦ ap (λ b. b || is_client k (Some i)) (before k (omega (arith, below, other)))
 ]
 

@@ -7,7 +7,7 @@ pub returns-then-not-index : goal.returns-then-not-index
 returns-then-not-index c firsts dropped got taken fits =
     let below : c.loop-i.i < length c.args.lines.now.items = omega (arith, c.requires, c.loop-i-test.true) in
     sym (one_has_not c.args.count c.loop-i.i taken c.loop-i-test.true
-      (sym (ended_at firsts dropped got taken c.args.lines.now.items c.loop-i.i c.index.result.now fits below c.index.ensures) ∙ c.if-not-index.true))
+    (sym (ended_at firsts dropped got taken c.args.lines.now.items c.loop-i.i c.index.result.now fits below c.index.ensures) ∙ c.if-not-index.true))
 
 pub loop-i-preserved : goal.loop-i-preserved
 loop-i-preserved c firsts dropped got taken fits =

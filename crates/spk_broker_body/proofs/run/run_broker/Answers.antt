@@ -21,6 +21,6 @@ returns g c =
     let all : HasAllEnded (setting_of c.budget.result c.args.start.outlets.items) c.take_all.new.hub = c.in_ok-take_all.ensures.idle _ [] start c.requires.rings in
     IfOk-weaker c.end_of.result _ _
     (λ end is. run_done c.args.ingress.now c.args.start c.take_all.new.pass c.take_all.new.hub end c.requires
-      (subst (λ n. HasAllEnded (setting_of n c.args.start.outlets.items) c.take_all.new.hub) c.budget.ensures.value all)
-      c.in_ok-take_all.ensures.pass c.in_ok-take_all.ensures.taken is)
+    (subst (λ n. HasAllEnded (setting_of n c.args.start.outlets.items) c.take_all.new.hub) c.budget.ensures.value all)
+    c.in_ok-take_all.ensures.pass c.in_ok-take_all.ensures.taken is)
     c.end_of.ensures

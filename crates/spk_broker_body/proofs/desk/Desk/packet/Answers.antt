@@ -11,9 +11,9 @@ returns-in_default-clause-done c =
     let h = rw c.in_default.is at c.in_ok-out.ensures.none in
     IfOk-weaker c.first_packet.result _ _
     (λ out g limit r f none.
-      at_known limit r c.args.self.now.broker (packet_on limit c.args.now r c.args.client (view c.args.packet.now)) (r.last c.args.client) c.conn_of-conn.result None _ out
-      f.broker (c.conn_of-conn.ensures limit r.closed r f) h.1
-      (g limit r (same_fits limit r.closed r c.args.self.now _ f h.0 refl refl) none))
+    at_known limit r c.args.self.now.broker (packet_on limit c.args.now r c.args.client (view c.args.packet.now)) (r.last c.args.client) c.conn_of-conn.result None _ out
+    f.broker (c.conn_of-conn.ensures limit r.closed r f) h.1
+    (g limit r (same_fits limit r.closed r c.args.self.now _ f h.0 refl refl) none))
     c.first_packet.ensures.done
 
 pub returns-clause-done : goal.returns-clause-done

@@ -12,6 +12,6 @@ pub returns : goal.returns
 returns c =
     IfOk-weaker c.cut.result _ _
     (λ out g. cut_taken c.args.self.now c.note.new.self _ c.args.sender c.in_ok-now.now out
-      (λ limit now r. called_on limit r (λ conn. event.Closed conn now) (conn_at limit r c.args.sender)) c.in_ok-now.ensures (λ limit edges taken r. refl) g
-      c.in_ok-note_cut.ensures.fits c.cut.ensures.sized c.note_cut.ensures.sized refl refl refl refl refl refl)
+    (λ limit now r. called_on limit r (λ conn. event.Closed conn now) (conn_at limit r c.args.sender)) c.in_ok-now.ensures (λ limit edges taken r. refl) g
+    c.in_ok-note_cut.ensures.fits c.cut.ensures.sized c.note_cut.ensures.sized refl refl refl refl refl refl)
     c.cut.ensures.done

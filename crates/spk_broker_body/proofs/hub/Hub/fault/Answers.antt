@@ -12,5 +12,5 @@ pub returns : goal.returns
 returns c =
     IfOk-weaker c.fault.result _ _
     (λ out g. frame_taken c.args.self.now c.note.new.self c.fault.new.self (record { sender = c.args.sender; frame = frame.Fault c.args.fault }) (Breaks c.args.fault) c.in_ok-now.now out
-      (λ limit now r. called_on limit r (λ conn. event.Fault conn c.args.fault now) (conn_at limit r c.args.sender)) refl refl refl c.in_ok-now.ensures (λ limit edges taken r. refl) g c.fault.ensures.sized)
+    (λ limit now r. called_on limit r (λ conn. event.Fault conn c.args.fault now) (conn_at limit r c.args.sender)) refl refl refl c.in_ok-now.ensures (λ limit edges taken r. refl) g c.fault.ensures.sized)
     c.fault.ensures.done

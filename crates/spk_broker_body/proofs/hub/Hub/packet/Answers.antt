@@ -12,5 +12,5 @@ pub returns : goal.returns
 returns c =
     IfOk-weaker c.packet.result _ _
     (λ out g. frame_taken c.args.self.now c.note.new.self c.packet.new.self (record { sender = c.args.sender; frame = frame.Packet c.args.whole }) (Says (view c.in-Ok.packet)) c.in_ok-now.now out
-      (λ limit now r. packet_on limit now r c.args.sender (view c.in-Ok.packet) (conn_at limit r c.args.sender)) c.in-Ok.ensures.packet refl refl c.in_ok-now.ensures (λ limit edges taken r. refl) g c.packet.ensures.sized)
+    (λ limit now r. packet_on limit now r c.args.sender (view c.in-Ok.packet) (conn_at limit r c.args.sender)) c.in-Ok.ensures.packet refl refl c.in_ok-now.ensures (λ limit edges taken r. refl) g c.packet.ensures.sized)
     c.packet.ensures.done
