@@ -1,0 +1,5 @@
+pub mod Desks
+pub mod Each
+pub mod Hubs
+pub mod Lines
+pub mod Rows

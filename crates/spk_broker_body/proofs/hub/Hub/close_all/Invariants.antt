@@ -1,0 +1,14 @@
+use Rattle.std.proofs.Common.{◌≡◌, ℕ, ◌||◌, Bool, List, take}
+use Rattle.spk_broker_body.specs.Data.{Entry}
+use Rattle.spk_broker_body.specs.Holding.{Holds, Setting}
+use Rattle.spk_broker_body.specs.Log.{room_of}
+use Rattle.spk_broker_body.specs.Step.{holds_client}
+use Rattle.spk_broker_body.proofs.hub.Hub.close_all.Given as goal
+
+-- those before are closed
+abbrev pub invariant-loop-conn : goal.invariant-loop-conn
+invariant-loop-conn l = record {
+  holds : (s : Setting) (closed : ℕ → Bool) (log : List Entry) → Holds s closed l.fn.self log →
+      Holds s (λ k. closed k || holds_client (room_of s.limit s.edges log).openers k (take l.conn-index l.conns)) l.self log;
+  taken : l.self.taken ≡ l.fn.self.taken;
+}

@@ -1,0 +1,15 @@
+use Rattle.std.proofs.Common.{◌||◌, List, ℕ, subst}
+use Rattle.spk_broker_body.specs.Holding.{Holds}
+use Rattle.spk_broker_body.specs.Log.{room_of}
+use Rattle.spk_broker_body.specs.Step.{holds_client}
+use Rattle.spk_broker_body.proofs.Hubs.{hands_out}
+use Rattle.spk_broker_body.proofs.hub.Hub.hand_out.Goals as goal
+
+pub returns-clause-rests : goal.returns-clause-rests
+returns-clause-rests g c s closed log f =
+    let o = c.in_ok-offer_all.ensures.offers s closed log c.args.out.closes.items f in (
+      o.0,
+      hands_out s closed o.0 c.offer_all.new.self c.close_all.new.self c.args.out.closes.items o.1
+          (subst (λ (cs : List ℕ). Holds s (λ k. closed k || holds_client (room_of s.limit s.edges o.0).openers k cs) c.close_all.new.self o.0) c.as_slice.ensures.value
+          (c.close_all.ensures.holds s closed o.0 o.1.holds)),
+    )

@@ -1,0 +1,16 @@
+use Rattle.std.proofs.Common.{refl, ◌∙◌}
+use Rattle.std.proofs.lemmas.Result.{IfOk-weaker}
+use Rattle.spk_packets.specs.View.{view}
+use Rattle.spk_ingress.specs.declared.frame.Frame.TheVariants as frame
+use Rattle.spk_broker_rules.specs.Plan as event
+use Rattle.spk_broker_body.specs.Data.{Says, Breaks, Cuts}
+use Rattle.spk_broker_body.specs.Step.{called_on, conn_at, packet_on}
+use Rattle.spk_broker_body.proofs.Hubs.{cut_taken, frame_taken}
+use Rattle.spk_broker_body.proofs.hub.Hub.packet.Goals as goal
+
+pub returns : goal.returns
+returns c =
+    IfOk-weaker c.packet.result _ _
+    (λ out g. frame_taken c.args.self.now c.note.new.self c.packet.new.self (record { sender = c.args.sender; frame = frame.Packet c.args.whole }) (Says (view c.in-Ok.packet)) c.in_ok-now.now out
+    (λ limit now r. packet_on limit now r c.args.sender (view c.in-Ok.packet) (conn_at limit r c.args.sender)) c.in-Ok.ensures.packet refl refl c.in_ok-now.ensures (λ limit edges taken r. refl) g c.packet.ensures.sized)
+    c.packet.ensures.done

@@ -1,0 +1,9 @@
+use Rattle.std.proofs.Common.{◌≡◌, length, arith, refl}
+use Rattle.spk_broker_body.proofs.Hubs.{told_offers}
+use Rattle.spk_broker_body.proofs.hub.Hub.tell.Goals as goal
+
+pub returns-clause-some : goal.returns-clause-some
+returns-clause-some c s log f =
+    let moment : c.len-now.result ≡ length c.args.self.now.taken.items = omega (arith, c.len-now.ensures, c.args.self.now.taken.ok.0) in
+    told_offers s log c.args.self.now _ c.in-Some.untold c.len-now.result c.in_ok-out.out f c.in-Some.ensures.items
+    c.in_ok-out.ensures.done c.refused.ensures.sized moment refl refl refl refl refl refl

@@ -1,0 +1,13 @@
+use Rattle.std.proofs.Common.{◌≡◌, List}
+use Rattle.spk_ingress.specs.Passes.{TakesFrom, frames_taken}
+use Rattle.spk_broker_body.specs.Data.{Entry}
+use Rattle.spk_broker_body.specs.Holding.{IsIdle, Setting}
+use Rattle.spk_broker_body.proofs.run.take_all.Given as goal
+
+-- what was taken so far was offered and told
+abbrev pub invariant-loop : goal.invariant-loop
+invariant-loop g l = record {
+  pass : TakesFrom l.ingress l.pass;
+  taken : frames_taken l.pass ≡ l.hub.taken.items;
+  idle : (s : Setting) (log : List Entry) → IsIdle s l.fn.hub log → (m : List Entry) × IsIdle s l.hub m;
+}

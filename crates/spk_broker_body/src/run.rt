@@ -1,0 +1,67 @@
+//! The broker's thread.
+ghost use Rattle.std.specs.Prelude.{◌≡◌, ◌<◌, ℕ, List, length, IfOk, OnOk, true};
+ghost use Rattle.spk_ingress.specs.Passes.{TakesFrom, frames_taken};
+ghost use Rattle.spk_broker_body.specs.Data.{Entry};
+ghost use Rattle.spk_broker_body.specs.Done.{BrokerDone, BrokerReady};
+ghost use Rattle.spk_broker_body.specs.Holding.{HasAllEnded, IsIdle, Setting};
+
+use crate::done::end_of;
+use crate::hub::{Hub, have_ended};
+use crate::part::{BrokerEnd, BrokerStart};
+use spk_ingress::{Ingress, TakePass, Taken};
+use spk_plan::{Gate, PlantFault};
+use std::alloc::Global;
+use std::sync::Wait;
+
+/// Takes frames until each sender has ended.
+fn take_all<R: Wait, G: Gate>(
+    rt: &R,
+    ingress: &Ingress,
+    gate: &G,
+    pass: &mut TakePass,
+    hub: &mut Hub,
+) -> Result<(), PlantFault>
+    requires pass { TakesFrom ingress.now pass.old }
+    requires known { (s : Setting) × (log : List Entry) × IsIdle s hub.old log × (s.count ≡ ingress.now.senders) }
+    requires taken { frames_taken pass.old ≡ hub.old.taken.items }
+    ensures pass { TakesFrom ingress.now pass.new }
+    ensures taken { OnOk result (frames_taken pass.new ≡ hub.new.taken.items) }
+    ensures idle { OnOk result ((s : Setting) (log : List Entry) → IsIdle s hub.old log → s.count ≡ ingress.now.senders → HasAllEnded s hub.new) }
+{
+    for _ in rt.forever() {
+        let Ok(Taken { sender, frame, .. }) = ingress.take(rt, pass) else {
+            return Err(PlantFault::Closed);
+        };
+        hub.take(rt, gate, sender, frame)?;
+        if have_ended(&hub.lines, hub.lines.len()) {
+            return Ok(());
+        }
+    }
+    unreachable!()
+}
+
+/// The body of a plant's broker thread (own rules). It takes frames until each sender's End was taken. A packet of a client
+/// without a connection opens one, unless the broker closed that client; every other frame without a connection is passed
+/// over. The sends of one call of the broker are offered to the clients' rings, in order, before the next call, and then each
+/// refused one is told to it, in order. A ring is dropped when the broker has closed its client, or all edge nodes have ended.
+/// The broker's moments are the frames taken. Closed (90) where no more frames come, or a count is full. The pass must be of
+/// this ingress, with nothing taken, and the rings be new, one for each sender.
+pub fn run_broker<R: Wait, G: Gate>(
+    rt: &R,
+    alloc: Global,
+    ingress: &Ingress,
+    gate: &G,
+    start: BrokerStart,
+) -> Result<BrokerEnd, PlantFault>
+    requires { BrokerReady ingress.now start }
+    ensures { IfOk result (λ end. BrokerDone ingress.now start end) }
+{
+    let BrokerStart {
+        width,
+        mut pass,
+        outlets,
+    } = start;
+    let mut hub = Hub::new(alloc, width.budget(), outlets)?;
+    take_all(rt, ingress, gate, &mut pass, &mut hub)?;
+    end_of(alloc, hub, pass)
+}
