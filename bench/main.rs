@@ -1,5 +1,5 @@
 //! Measures the proved crates beside peers: `bench table` by the clock, `bench counts` by instructions under valgrind,
-//! and `bench profile` says where the instructions of ours are.
+//! `bench profile` says where the instructions of ours are, and `bench worlds` what an event of a world costs, few or many.
 mod inputs;
 #[path = "peers/order.rs"]
 mod order;
@@ -27,6 +27,7 @@ extern "C" {
     fn spk_bench_edge_change(rounds: u64) -> u64;
     fn spk_bench_edge_births(rounds: u64) -> u64;
     fn spk_bench_edge_drain(rounds: u64) -> u64;
+    fn spk_bench_world(nodes: u8, hosts: u8, events: u64) -> u64;
     fn cpp_payload_decode(bytes: *const u8, length: usize, rounds: u64) -> u64;
     fn cpp_payload_encode(bytes: *const u8, length: usize, rounds: u64) -> u64;
 }
@@ -292,6 +293,27 @@ fn profile(word: &str) {
     }
 }
 
+/// How many messages are consumed in such a world: each is, so these are the hands among so many events.
+fn hands(nodes: u64, hosts: u64, events: u64) -> u64 {
+    let after_opens = events.saturating_sub(nodes);
+    let whole = after_opens / (hosts + 1) * hosts;
+    whole + (after_opens % (hosts + 1)).saturating_sub(1)
+}
+
+/// Worlds of few and many nodes, hosts and events: linear in the events, if an event costs the same in each line of a pair.
+fn worlds() {
+    println!("| Nodes | Hosts | Events | seconds | ns an event |");
+    println!("|---|---|---|---|---|");
+    for (nodes, hosts) in [(1u8, 1u8), (16, 1), (1, 4), (16, 4)] {
+        for events in [10_000u64, 100_000] {
+            let body = || unsafe { spk_bench_world(nodes, hosts, events) };
+            assert_eq!(body(), hands(nodes.into(), hosts.into(), events), "messages consumed");
+            let taken = median((0..7).map(|_| { let start = Instant::now(); std::hint::black_box(body()); start.elapsed().as_secs_f64() }).collect());
+            println!("| {nodes} | {hosts} | {events} | {taken:.3} | {:.0} |", taken * 1e9 / events as f64);
+        }
+    }
+}
+
 fn main() {
     let words: Vec<String> = std::env::args().skip(1).collect();
     let number = |n: usize| words.get(n).and_then(|w| w.parse::<u64>().ok());
@@ -300,9 +322,10 @@ fn main() {
         (Some("table"), ..) => table(word),
         (Some("counts"), ..) => counts(word),
         (Some("profile"), ..) => profile(word),
+        (Some("worlds"), ..) => worlds(),
         (Some("one"), Some(row), Some(who), Some(rounds)) => {
             println!("{}", body_of(&rows()[row as usize], who as usize)(rounds));
         }
-        _ => eprintln!("usage: bench table [WORD] | counts [WORD] | profile [WORD] | one ROW WHO ROUNDS"),
+        _ => eprintln!("usage: bench table [WORD] | counts [WORD] | profile [WORD] | worlds | one ROW WHO ROUNDS"),
     }
 }

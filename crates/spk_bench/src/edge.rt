@@ -8,7 +8,7 @@ use std::alloc::{AllocError, Global};
 const REBIRTH: &[u8] = b"\x08\x09\x12\x1c\x0a\x14Node Control/Rebirth\x18\x09\x20\x0b\x70\x01";
 
 // The name of a place, of three digits.
-fn name(alloc: Global, front: &str, place: u8) -> Result<String, AllocError> {
+pub(crate) fn name(alloc: Global, front: &str, place: u8) -> Result<String, AllocError> {
     let mut name = String::from_str(alloc, front)?;
     for digit in [place / 100, place / 10 % 10, place % 10] {
         name.push(char::from(b'0' + digit))?;

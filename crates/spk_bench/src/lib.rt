@@ -7,9 +7,11 @@ mod order;
 mod packets;
 mod payloads;
 mod topics;
+mod world;
 
 pub use edge::{spk_bench_edge_births, spk_bench_edge_change, spk_bench_edge_drain};
 pub use order::{spk_bench_hand_births, spk_bench_hand_in_line, spk_bench_hand_with_holes};
 pub use packets::{spk_bench_feed, spk_bench_packet_decode, spk_bench_packet_encode};
 pub use payloads::{spk_bench_payload_decode, spk_bench_payload_encode};
 pub use topics::spk_bench_find;
+pub use world::spk_bench_world;
