@@ -2,33 +2,26 @@
 //! command line.
 #![tactic(auto)]
 
-mod broker;
-mod fault;
-mod files;
-mod packets;
-mod places;
-mod run;
-mod show;
-mod texts;
-mod words;
-mod world;
-
-use broker::serve_clients;
-use files::MachineFiles;
-use run::{NOT_TEXT, Outcome, run_with_notes};
+use spk_commands::{Files, NOT_TEXT, Outcome, run_with_notes, serve_clients};
 use std::alloc::{AllocError, Global};
+use std::fs::File;
 use std::net::{TcpListener, TcpStream};
 use std::process::ExitCode;
 use std::{env, io};
 
-#[cfg(test)]
-mod fixtures;
-#[cfg(test)]
-mod packets_tests;
-#[cfg(test)]
-mod tests;
-#[cfg(test)]
-mod world_tests;
+/// The machine's files.
+#[derive(Drop)]
+struct MachineFiles<'a> {
+    rt: &'a HostRuntime,
+}
+
+impl Files for MachineFiles<'_> {
+    type Reader = File;
+
+    fn open(&mut self, name: &str) -> Option<File> {
+        File::open(self.rt, name).ok()
+    }
+}
 
 /// The words that the program was called with, or None where one isn't text.
 fn given_words(rt: &HostRuntime) -> io::Result<Option<Vec<String>>> {

@@ -1,7 +1,6 @@
 //! What the tests run the program on: files in memory, and a writer that fails.
 
-use crate::files::Files;
-use crate::run::{Outcome, run, run_with_notes};
+use spk_commands::{Files, Outcome, run, run_with_notes};
 use std::io::{self, Read, Write};
 use std::process::Abort;
 

@@ -71,8 +71,7 @@ fn refusal(alloc: Global, error: &clap::Error) -> Result<Stop, Stop> {
 }
 
 /// What is said of words that aren't UTF-8, like what clap says of others that it refuses.
-pub(crate) const NOT_TEXT: &str =
-    "error: a word isn't UTF-8\n\nFor more information, try '--help'.\n";
+pub const NOT_TEXT: &str = "error: a word isn't UTF-8\n\nFor more information, try '--help'.\n";
 
 /// A writer that keeps nothing.
 #[derive(Drop)]
@@ -184,7 +183,7 @@ pub fn run<R: AllocGlobal, F: Files, W: Write>(
 
 /// The same. The notes get a line for people where a fault has a place: at which byte it stands. What becomes of the
 /// notes changes nothing else.
-pub(crate) fn run_with_notes<R: AllocGlobal, F: Files, W: Write, N: Write>(
+pub fn run_with_notes<R: AllocGlobal, F: Files, W: Write, N: Write>(
     rt: &R,
     words: &[&str],
     files: &mut F,

@@ -2,7 +2,6 @@
 
 use crate::fault::{Fault, Stop};
 use std::alloc::Global;
-use std::fs::File;
 use std::io::{self, Read};
 
 /// The longest file that is read, in bytes.
@@ -14,20 +13,6 @@ pub trait Files {
 
     /// The file of this name, or `None` where it can't be opened.
     fn open(&mut self, name: &str) -> Option<Self::Reader>;
-}
-
-/// The machine's files.
-#[derive(Drop)]
-pub struct MachineFiles<'a> {
-    pub rt: &'a HostRuntime,
-}
-
-impl Files for MachineFiles<'_> {
-    type Reader = File;
-
-    fn open(&mut self, name: &str) -> Option<File> {
-        File::open(self.rt, name).ok()
-    }
 }
 
 /// What the reader gives up to its end. More bytes than the limit are BadPlan. A reader that fails is BadFile, and so

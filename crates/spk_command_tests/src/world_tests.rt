@@ -1,6 +1,5 @@
-use crate::files::Files;
 use crate::fixtures::{REFUSED, expect, noted, printed};
-use crate::run::{Outcome, run_with_notes};
+use spk_commands::{Files, Outcome, run_with_notes};
 use spk_files::{FileFault, read_world};
 use std::io::Write;
 use std::process::Abort;

@@ -1,5 +1,5 @@
-use crate::broker::said;
 use crate::fixtures::{expect, noted, printed, printed_into, served};
+use spk_commands::said;
 use spk_runtime::ServeFault;
 use std::process::Abort;
 use std::test::Fail;

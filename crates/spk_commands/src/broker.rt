@@ -8,8 +8,8 @@ use std::sync::Wait;
 use std::thread::Threads;
 use std::time::Clock;
 
-/// Says how serving went, and answers the status.
-pub(crate) fn said<W: Write>(out: &mut W, answer: Result<u32, ServeFault>) -> io::Result<u8> {
+/// Says how serving went, and answers the status: 0, or 1 for a fault.
+pub fn said<W: Write>(out: &mut W, answer: Result<u32, ServeFault>) -> io::Result<u8> {
     let status = match answer {
         Ok(served) => {
             writeln!(out, "served {served}")?;
@@ -26,7 +26,7 @@ pub(crate) fn said<W: Write>(out: &mut W, answer: Result<u32, ServeFault>) -> io
 }
 
 /// Serves so many clients on this port, and answers the status. All texts go to the writer.
-pub(crate) fn serve_clients<R, W: Write>(rt: &R, port: u16, clients: u16, out: &mut W) -> u8
+pub fn serve_clients<R, W: Write>(rt: &R, port: u16, clients: u16, out: &mut W) -> u8
 where
     R: AllocGlobal + Threads + Wait + Clock + Sync,
     R: Net<Listener = TcpListener, Stream = TcpStream>,
