@@ -229,6 +229,8 @@ fn words_that_are_no_command_have_status_2(rt: HostRuntime) {
         assert_eq!(rt; status, 2, "of {words:?}");
         assert!(rt; !held.is_empty(), "of {words:?}");
     }
+    let (held, _status) = printed(&rt, &["sparkplug", "show"]);
+    assert!(rt; str::from_utf8(&held).is_ok_and(|text| text.contains("--file")));
 }
 
 #[test]

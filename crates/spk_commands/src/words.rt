@@ -1,6 +1,6 @@
 //! The command line.
 
-use clap::{Arg, ArgAction, Command, value_parser};
+use clap::{Arg, ArgAction, ArgGroup, Command, value_parser};
 use std::alloc::{AllocError, Global};
 
 const ABOUT: &str = "Sparkplug B: what payloads and packets say, over decoders that are proved";
@@ -84,7 +84,6 @@ fn on_digits<'a>(alloc: Global, name: &'a str, digits: &'a str) -> Result<Comman
     let hex = Arg::new(alloc, "hex")
         .value_name("HEX")
         .help(digits)
-        .required_unless_present("file")?
         .action(ArgAction::Set);
     let file = Arg::new(alloc, "file")
         .long("file")
@@ -92,9 +91,12 @@ fn on_digits<'a>(alloc: Global, name: &'a str, digits: &'a str) -> Result<Comman
         .help(
             "Reads HEX from a file of at most 1,048,576 bytes; white space at its end is passed over",
         )
-        .conflicts_with("hex")?
         .action(ArgAction::Set);
-    Command::new(alloc, name).arg(hex)?.arg(file)
+    // one of both, and not both
+    let either = ArgGroup::new(alloc, "digits")
+        .args(&["hex", "file"])?
+        .required(true);
+    Command::new(alloc, name).arg(hex)?.arg(file)?.group(either)
 }
 
 fn show<'a>(alloc: Global) -> Result<Command<'a>, AllocError> {
