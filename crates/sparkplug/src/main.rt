@@ -1,4 +1,4 @@
-//! The program `sparkplug`: Sparkplug B payloads, MQTT packets, a broker, and worlds of edge nodes and hosts, on the
+//! The program `sparkplug`: Sparkplug B payloads, MQTT packets, a broker, and worlds and plants of edge nodes and hosts, on the
 //! command line.
 #![tactic(auto)]
 
@@ -7,6 +7,7 @@ mod fault;
 mod files;
 mod packets;
 mod places;
+mod plant;
 mod run;
 mod show;
 mod texts;
@@ -25,6 +26,8 @@ use std::{env, io};
 mod fixtures;
 #[cfg(test)]
 mod packets_tests;
+#[cfg(test)]
+mod plant_tests;
 #[cfg(test)]
 mod tests;
 #[cfg(test)]
@@ -78,6 +81,7 @@ fn main(rt: HostRuntime) -> io::Result<ExitCode> {
     let status = match run_with_notes(&rt, words, &mut files, &mut writer, &mut notes) {
         Outcome::Over(status) => status,
         Outcome::Serve { port, clients } => serve_clients(&rt, port, clients, &mut writer),
+        Outcome::Plant(plan) => plant::plant(&rt, plan, &mut writer),
     };
     Ok(ExitCode::from(status))
 }
