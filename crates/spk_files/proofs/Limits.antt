@@ -9,9 +9,10 @@ use Rattle.std.proofs.lemmas.List.Folds.{list_all-append, list_any-append}
 use Rattle.std.proofs.lemmas.List.Sums.{sum_by-append}
 use Rattle.spk_topics.specs.Spark.{is_name}
 use Rattle.spk_host_session.specs.Data.{is_short_name}
+use Rattle.spk_plan.specs.declared.plan.Plan.{Plan}
 use Rattle.spk_plan.specs.declared.plan.PlanNode.{PlanNode}
 use Rattle.spk_plan.specs.declared.script.Step.{Step}
-use Rattle.spk_files.specs.Plan.{AreEdges, are_distinct, changes_at, changes_in, fits, is_edge, is_open, is_well_made}
+use Rattle.spk_files.specs.Plan.{AreEdges, CanRun, are_distinct, changes_at, changes_in, fits, is_edge, is_open, is_well_made}
 
 -- ---- scripts
 
@@ -93,5 +94,20 @@ are_edges group host (m ∷ ns) g h all (suc k) n at =
     let parts = and_parts (is_well_made m) (list_all is_well_made ns) all in
     are_edges group host ns g h parts.1 k n at
 
-pub host_is_good : (group host : List ℕ) → is_short_name group ≡ true → is_short_name host ≡ true → is_short_name host && is_short_name group ≡ true
-host_is_good group host g h = and_from (is_short_name host) (is_short_name group) h g
+pub can_run : (p : Plan) → is_short_name (string_bytes p.group) ≡ true → is_short_name (string_bytes p.host) ≡ true → 4 ≤ p.ring → p.ring ≤ 65536 → 1 ≤ p.ingress
+    → p.ingress ≤ 65536 → 1 ≤ length p.nodes.items → length p.nodes.items ≤ 16 → list_all fits p.nodes.items ≡ true → list_all is_well_made p.nodes.items ≡ true
+    → are_distinct p.nodes.items ≡ true → CanRun p
+can_run p group host ring_from ring_to ingress_from ingress_to some most scripts made distinct = record {
+  within = record {
+    some = some;
+    most = most;
+    ring_from = ring_from;
+    ring_to = ring_to;
+    ingress_from = ingress_from;
+    ingress_to = ingress_to;
+    scripts = scripts;
+    distinct = distinct;
+  };
+  edges = are_edges (string_bytes p.group) (string_bytes p.host) p.nodes.items group host made;
+  host = and_from (is_short_name (string_bytes p.host)) (is_short_name (string_bytes p.group)) host group;
+}

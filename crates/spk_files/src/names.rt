@@ -40,6 +40,7 @@ pub(crate) fn name_of(alloc: Global, part: Part<'_>) -> Result<String, Misfit>
 }
 
 /// The name of a host, or of the group that it follows: one of at most 60,000 bytes.
+#[tactic(auto, using(crate::proofs::Limits::is_short))]
 pub(crate) fn short_name_of(alloc: Global, part: Part<'_>) -> Result<String, Misfit>
     ensures { IfOk result (λ name. is_short_name (string_bytes name) ≡ true) }
 {

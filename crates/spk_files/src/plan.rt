@@ -24,13 +24,12 @@ const LEAST_RING: u64 = 4;
 /// The greatest capacity of a ring, and of the channel to the broker.
 const MOST_ROOM: u64 = 65_536;
 
-const PLAN: [&str; 7] = [
-    "group", "host", "ring", "ingress", "wait", "width", "nodes",
-];
+const PLAN: [&str; 7] = ["group", "host", "ring", "ingress", "wait", "width", "nodes"];
 
 const NODE: [&str; 5] = ["node", "capacity", "devices", "metrics", "script"];
 
 /// A node.
+#[tactic(auto, using(crate::proofs::Limits::fits_both, crate::proofs::Limits::made_well))]
 fn node_of(alloc: Global, part: Part<'_>) -> Result<PlanNode, Misfit>
     ensures fits { IfOk result (λ n. fits n ≡ true) }
     ensures made { IfOk result (λ n. is_well_made n ≡ true) }
@@ -82,20 +81,28 @@ fn nodes_of(alloc: Global, part: Part<'_>) -> Result<Vec<PlanNode>, Misfit>
 /// The plan that a text says, or what is wrong with it, and where. `run_plant` refuses no such plan: it is within the limits (own rules:
 /// 1 to 16 nodes, no two of one name; rings of 4 to 65,536 and a channel of 1 to 65,536; of each node at most 200 open steps and
 /// 100,000 changes), and of its names and capacities edge nodes and a host can be made.
+#[tactic(auto, using(crate::proofs::Limits::can_run))]
 pub fn plan_of(alloc: Global, text: &str) -> Result<Plan, Misfit>
     ensures { IfOk result CanRun }
 {
     let json = json_of(alloc, text)?;
     let file = Part::file(&json);
     file.only(alloc, &PLAN)?;
+    let group = short_name_of(alloc, file.member("group")?)?;
+    let host = short_name_of(alloc, file.member("host")?)?;
+    let ring = file.member("ring")?.number(LEAST_RING, MOST_ROOM)? as usize;
+    let ingress = file.member("ingress")?.number(1, MOST_ROOM)? as usize;
+    let wait = file.member("wait")?.any_number()?;
+    let width = width_of(file)?;
+    let nodes = nodes_of(alloc, file.member("nodes")?)?;
     Ok(Plan {
-        group: short_name_of(alloc, file.member("group")?)?,
-        host: short_name_of(alloc, file.member("host")?)?,
-        ring: file.member("ring")?.number(LEAST_RING, MOST_ROOM)? as usize,
-        ingress: file.member("ingress")?.number(1, MOST_ROOM)? as usize,
-        wait: file.member("wait")?.any_number()?,
-        width: width_of(file)?,
-        nodes: nodes_of(alloc, file.member("nodes")?)?,
+        group,
+        host,
+        ring,
+        ingress,
+        wait,
+        width,
+        nodes,
     })
 }
 

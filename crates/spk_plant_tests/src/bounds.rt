@@ -36,7 +36,11 @@ where
 fn plans_at_their_limits_are_run(rt: HostRuntime) {
     runs(&rt, WIDE, &opens(&rt, 200));
     runs(&rt, WIDE, br#"["ramp",1,100000]"#);
-    runs(&rt, WIDE, br#"["set",1,5],["ramp",1,60000],["ramp",1,39999],["born"]"#);
+    runs(
+        &rt,
+        WIDE,
+        br#"["set",1,5],["ramp",1,60000],["ramp",1,39999],["born"]"#,
+    );
     runs(&rt, r#""ring":4,"ingress":1,"wait":0,"width":1"#, b"");
     runs(
         &rt,

@@ -42,16 +42,34 @@ fn is_bad(rt: &(impl Abort + AllocGlobal), pieces: &[&str], wanted: &[&str]) {
     let text = str::from_utf8(&text).expect(rt, "text");
     let wanted = joined(rt, wanted);
     let words = said(rt, text);
-    assert_eq!(rt; str::from_utf8(&words), str::from_utf8(&wanted), "of {text}");
+    assert_eq!(rt;
+        str::from_utf8(&words),
+        str::from_utf8(&wanted),
+        "of {text}"
+    );
 }
 
 #[test]
 fn a_file_of_a_plan_is_read(rt: HostRuntime) {
     let table: [&[&str]; 4] = [
         &[FRONT, ",\"nodes\":[", NODE, ",\"script\":[]}]}"],
-        &[FRONT, ",\"width\":1,\"nodes\":[", NODE, ",\"script\":[[\"open\"]]}]}"],
-        &[FRONT, ",\"width\":96,\"nodes\":[", NODE, ",\"script\":[[\"ramp\",1,0]]}]}"],
-        &["\n{\"nodes\" : [", NODE, ",\"script\":[]}],\"wait\":0,\"ingress\":65536,\"ring\":65536,\"host\":\"G\",\"group\":\"G\"}\n"],
+        &[
+            FRONT,
+            ",\"width\":1,\"nodes\":[",
+            NODE,
+            ",\"script\":[[\"open\"]]}]}",
+        ],
+        &[
+            FRONT,
+            ",\"width\":96,\"nodes\":[",
+            NODE,
+            ",\"script\":[[\"ramp\",1,0]]}]}",
+        ],
+        &[
+            "\n{\"nodes\" : [",
+            NODE,
+            ",\"script\":[]}],\"wait\":0,\"ingress\":65536,\"ring\":65536,\"host\":\"G\",\"group\":\"G\"}\n",
+        ],
     ];
     for pieces in table {
         is_bad(&rt, pieces, &[]);
@@ -95,10 +113,26 @@ fn wrong_members_of_a_plan_have_their_place(rt: HostRuntime) {
             "ring ",
             "isn't a whole number from 4 to 65536",
         ),
-        (r#"{"group":"G","host":"H","ring":4}"#, "ingress ", "is missing"),
-        (r#"{"group":"G","host":"H","ring":4,"ingress":0}"#, "ingress ", room),
-        (r#"{"group":"G","host":"H","ring":4,"ingress":65537}"#, "ingress ", room),
-        (r#"{"group":"G","host":"H","ring":4,"ingress":1}"#, "wait ", "is missing"),
+        (
+            r#"{"group":"G","host":"H","ring":4}"#,
+            "ingress ",
+            "is missing",
+        ),
+        (
+            r#"{"group":"G","host":"H","ring":4,"ingress":0}"#,
+            "ingress ",
+            room,
+        ),
+        (
+            r#"{"group":"G","host":"H","ring":4,"ingress":65537}"#,
+            "ingress ",
+            room,
+        ),
+        (
+            r#"{"group":"G","host":"H","ring":4,"ingress":1}"#,
+            "wait ",
+            "is missing",
+        ),
         (
             r#"{"group":"G","host":"H","ring":4,"ingress":1,"wait":-1}"#,
             "wait ",
@@ -119,7 +153,11 @@ fn wrong_members_of_a_plan_have_their_place(rt: HostRuntime) {
             "width ",
             "isn't a whole number from 1 to 96",
         ),
-        (r#"{"group":"G","host":"H","ring":4,"ingress":1,"wait":0}"#, "nodes ", "is missing"),
+        (
+            r#"{"group":"G","host":"H","ring":4,"ingress":1,"wait":0}"#,
+            "nodes ",
+            "is missing",
+        ),
         (
             r#"{"group":"G","host":"H","ring":4,"ingress":1,"wait":0,"nodes":[]}"#,
             "nodes ",
@@ -159,8 +197,16 @@ fn wrong_nodes_of_a_plan_have_their_place(rt: HostRuntime) {
         ("5", " ", "isn't an object"),
         ("{}", ".node ", "is missing"),
         (r#"{"node":"N#"}"#, ".node ", name),
-        (r#"{"node":"N","group":"G"}"#, " ", "has a member that isn't known: \"group\""),
-        (r#"{"node":"N","primary":null}"#, " ", "has a member that isn't known: \"primary\""),
+        (
+            r#"{"node":"N","group":"G"}"#,
+            " ",
+            "has a member that isn't known: \"group\"",
+        ),
+        (
+            r#"{"node":"N","primary":null}"#,
+            " ",
+            "has a member that isn't known: \"primary\"",
+        ),
         (
             r#"{"node":"N","numbering":"runs on"}"#,
             " ",
@@ -180,7 +226,11 @@ fn wrong_nodes_of_a_plan_have_their_place(rt: HostRuntime) {
             ".devices[0] ",
             "is refused: BadName (44)",
         ),
-        (r#"{"node":"N","capacity":1,"devices":[]}"#, ".metrics ", "is missing"),
+        (
+            r#"{"node":"N","capacity":1,"devices":[]}"#,
+            ".metrics ",
+            "is missing",
+        ),
         (
             r#"{"node":"N","capacity":1,"devices":[],"metrics":[{"device":"D"}]}"#,
             ".metrics[0].device ",
@@ -196,7 +246,11 @@ fn wrong_nodes_of_a_plan_have_their_place(rt: HostRuntime) {
             ".metrics[0] ",
             "is refused: WrongKind (42)",
         ),
-        (r#"{"node":"N","capacity":1,"devices":[],"metrics":[]}"#, ".script ", "is missing"),
+        (
+            r#"{"node":"N","capacity":1,"devices":[],"metrics":[]}"#,
+            ".script ",
+            "is missing",
+        ),
         (
             r#"{"node":"N","capacity":1,"devices":[],"metrics":[],"script":{}}"#,
             ".script ",
@@ -250,7 +304,11 @@ fn wrong_steps_of_a_plan_have_their_place(rt: HostRuntime) {
         (r#"["ramp",1.5,1]"#, "[1] ", number),
         (r#"["device",1,true]"#, "[1] ", "isn't a text"),
         (r#"["device","D",1]"#, "[2] ", "isn't true or false"),
-        (r#"["ramp",1,100000]"#, " ", "is past the 100000 changes of a script"),
+        (
+            r#"["ramp",1,100000]"#,
+            " ",
+            "is past the 100000 changes of a script",
+        ),
     ];
     for (step, place, cause) in table {
         let pieces = [
@@ -281,11 +339,21 @@ fn many(rt: &(impl Abort + AllocGlobal), piece: &[u8], count: usize) -> Vec<u8> 
 fn plans_have_their_limits(rt: HostRuntime) {
     for (count, wanted) in [
         (200, ""),
-        (201, "nodes[0].script[200] is past the 200 \"open\" steps of a script"),
+        (
+            201,
+            "nodes[0].script[200] is past the 200 \"open\" steps of a script",
+        ),
     ] {
         let opens = many(&rt, b"[\"open\"],", count);
         let opens = str::from_utf8(&opens).expect(&rt, "text");
-        let pieces = [FRONT, ",\"nodes\":[", NODE, ",\"script\":[", opens, "[\"cut\"]]}]}"];
+        let pieces = [
+            FRONT,
+            ",\"nodes\":[",
+            NODE,
+            ",\"script\":[",
+            opens,
+            "[\"cut\"]]}]}",
+        ];
         is_bad(&rt, &pieces, &[wanted]);
     }
     for (count, wanted) in [(60_000, ""), (60_001, "host has more than 60000 bytes")] {

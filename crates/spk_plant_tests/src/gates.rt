@@ -152,7 +152,9 @@ impl Chance {
 
     fn give_way(&self) {
         // an odd step, and the top bits of a product
-        let state = self.state.fetch_add(0x9e37_79b9_7f4a_7c15, Ordering::SeqCst);
+        let state = self
+            .state
+            .fetch_add(0x9e37_79b9_7f4a_7c15, Ordering::SeqCst);
         let turns = state.wrapping_mul(0xbf58_476d_1ce4_e5b9) >> 60;
         for _ in 0..turns {
             thread::yield_now();

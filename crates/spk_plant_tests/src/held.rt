@@ -43,7 +43,9 @@ fn the_narrowest_and_the_widest_window_will_do(rt: HostRuntime) {
     for width in ["1", "96"] {
         let mut front = crate::plans::room(&rt);
         for piece in [WIDE, ",\"width\":", width] {
-            front.extend_from_slice(piece.as_bytes()).expect(&rt, "room");
+            front
+                .extend_from_slice(piece.as_bytes())
+                .expect(&rt, "room");
         }
         all_is_consumed(&rt, str::from_utf8(&front).expect(&rt, "text"), 2);
     }
@@ -87,7 +89,10 @@ fn a_host_that_is_held_is_closed_before_numbers_come_round(rt: HostRuntime) {
         assert_eq!(rt; report.refused, refused, "of {front}");
         let (births, published, consumed) = counts(&report, 0);
         assert_eq!(rt; births, 1, "of {front}");
-        assert!(rt; least <= published && published <= 141, "of {front}: {published}");
+        assert!(rt;
+            least <= published && published <= 141,
+            "of {front}: {published}"
+        );
         assert!(rt; 3 <= consumed && consumed <= 5, "of {front}: {consumed}");
         assert_eq!(rt; counts(&report, 1), (0, 0, 0), "of {front}");
         assert_eq!(rt; complaint(rt.alloc(), &report), None, "of {front}");

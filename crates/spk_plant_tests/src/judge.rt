@@ -73,7 +73,7 @@ enum Brought {
 }
 
 /// What a frame brings: a numbered message has QoS 0, and comes from a node.
-fn brought(alloc: Global, nodes: usize, message: &Message) -> Option<Brought> {
+fn read_frame(alloc: Global, nodes: usize, message: &Message) -> Option<Brought> {
     let Frame::Packet(whole) = &message.frame else {
         return Some(Brought::Nothing);
     };
@@ -99,7 +99,7 @@ fn sent_of(alloc: Global, report: &Report) -> Option<(Vec<Sent>, usize)> {
     let mut sent = Vec::new(alloc);
     let mut before = usize::MAX;
     for message in &report.taken {
-        match brought(alloc, nodes, message)? {
+        match read_frame(alloc, nodes, message)? {
             Brought::Nothing => {}
             Brought::Subscribe => before = before.min(sent.len()),
             Brought::Numbered(one) => sent.push(one).ok()?,
@@ -129,10 +129,12 @@ fn are_taken(sent: &[Sent], sender: usize, published: &[Published]) -> bool {
 fn are_given(report: &Report, sent: &[Sent]) -> bool {
     let mut place = 0usize;
     for given in &report.given {
-        if let Some(Heard::Published {
-            content: Content::Message(heard),
-            ..
-        }) = &given.heard
+        if let Some(
+            Heard::Published {
+                content: Content::Message(heard),
+                ..
+            },
+        ) = &given.heard
         {
             let Some(one) = sent.get(place) else {
                 return false;

@@ -40,7 +40,13 @@ pub(crate) fn text_of(
     assert!(rt; write!(text, "{{\"group\":\"G\",\"host\":\"H\",{front},\"nodes\":[").is_ok());
     let mut comma = "";
     for (name, script) in nodes {
-        assert!(rt; write!(text, "{comma}{{\"node\":\"{name}\",\"capacity\":100,{BOOK},").is_ok());
+        assert!(rt;
+            write!(
+                text,
+                "{comma}{{\"node\":\"{name}\",\"capacity\":100,{BOOK},"
+            )
+            .is_ok()
+        );
         assert!(rt; write!(text, "\"script\":[{script}]}}").is_ok());
         comma = ",";
     }
@@ -86,10 +92,18 @@ pub(crate) fn counts(report: &Report, place: usize) -> (usize, usize, usize) {
         return (0, 0, 0);
     };
     let name = NAMES.get(place).copied().unwrap_or("");
-    let births = node.published.iter().filter(|message| message.opens).count();
+    let births = node
+        .published
+        .iter()
+        .filter(|message| message.opens)
+        .count();
     let mut consumed = 0usize;
     for given in &report.given {
-        let here = given.consumed.iter().filter(|message| message.node.as_str() == name).count();
+        let here = given
+            .consumed
+            .iter()
+            .filter(|message| message.node.as_str() == name)
+            .count();
         consumed = consumed.saturating_add(here);
     }
     (births, node.published.len(), consumed)

@@ -16,7 +16,11 @@ where
         Some(report) => report,
         None => ran(rt, &text, &Silent).expect(rt, "memory is there again"),
     };
-    assert_eq!(rt; counts(&report, 0), (births, messages, messages), "of {script}");
+    assert_eq!(rt;
+        counts(&report, 0),
+        (births, messages, messages),
+        "of {script}"
+    );
     assert!(rt; !report.is_cut, "of {script}");
     assert_eq!(rt; report.refused, 0, "of {script}");
     assert_eq!(rt; complaint(rt.alloc(), &report), None, "of {script}");
@@ -27,11 +31,19 @@ fn each_kind_of_step_does_its_work(rt: HostRuntime) {
     let table = [
         // nothing; changes of a node without a connection are kept
         ("", 0, 0),
-        (r#"["set",1,5],["ramp",1,1000],["drain"],["cut"],["stop"],["born"]"#, 0, 0),
+        (
+            r#"["set",1,5],["ramp",1,1000],["drain"],["cut"],["stop"],["born"]"#,
+            0,
+            0,
+        ),
         // a birth
         (r#"["open"],["born"]"#, 1, 1),
         // a value is told once; one of another kind, an unknown alias and an unknown device are passed over
-        (r#"["open"],["born"],["set",1,5],["set",1,5],["set",1,-6]"#, 1, 3),
+        (
+            r#"["open"],["born"],["set",1,5],["set",1,5],["set",1,-6]"#,
+            1,
+            3,
+        ),
         (
             r#"["open"],["born"],["set",1,true],["set",9,1],["ramp",9,3],["ramp",2,3],["device","E",true]"#,
             1,
@@ -46,15 +58,31 @@ fn each_kind_of_step_does_its_work(rt: HostRuntime) {
             1,
             4,
         ),
-        (r#"["device","D",true],["open"],["born"],["device","D",true]"#, 1, 2),
+        (
+            r#"["device","D",true],["open"],["born"],["device","D",true]"#,
+            1,
+            2,
+        ),
         // a second connection; an open one isn't opened again
         (r#"["open"],["open"],["born"],["open"]"#, 1, 1),
         (r#"["open"],["born"],["cut"],["open"],["born"]"#, 2, 2),
-        (r#"["open"],["born"],["stop"],["open"],["born"],["set",1,7]"#, 2, 3),
+        (
+            r#"["open"],["born"],["stop"],["open"],["born"],["set",1,7]"#,
+            2,
+            3,
+        ),
         (r#"["open"],["born"],["stop"],["stop"],["cut"]"#, 1, 1),
         // what is kept in an outage is sent then, 32 changes at most in one message
-        (r#"["open"],["born"],["cut"],["ramp",1,3],["open"],["born"],["drain"]"#, 2, 3),
-        (r#"["ramp",1,40],["open"],["born"],["drain"],["drain"]"#, 1, 3),
+        (
+            r#"["open"],["born"],["cut"],["ramp",1,3],["open"],["born"],["drain"]"#,
+            2,
+            3,
+        ),
+        (
+            r#"["ramp",1,40],["open"],["born"],["drain"],["drain"]"#,
+            1,
+            3,
+        ),
         (r#"["ramp",1,101],["open"],["born"],["drain"]"#, 1, 5),
     ];
     for (script, births, messages) in table {
