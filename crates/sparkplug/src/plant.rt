@@ -81,7 +81,10 @@ fn names_of(alloc: Global, plan: &Plan) -> Result<Vec<String>, AllocError> {
 
 /// How many births a node published.
 fn births_of(node: &NodeReport) -> usize {
-    node.published.iter().filter(|message| message.opens).count()
+    node.published
+        .iter()
+        .filter(|message| message.opens)
+        .count()
 }
 
 /// How many messages of a node the host consumed.
@@ -89,7 +92,11 @@ fn consumed_of(report: &Report, name: &str) -> usize {
     let mut count = 0usize;
     for given in &report.given {
         let taken = given.consumed.iter();
-        count = count.saturating_add(taken.filter(|message| message.node.as_str() == name).count());
+        count = count.saturating_add(
+            taken
+                .filter(|message| message.node.as_str() == name)
+                .count(),
+        );
     }
     count
 }
@@ -98,7 +105,9 @@ fn consumed_of(report: &Report, name: &str) -> usize {
 fn write_name(alloc: Global, lines: &mut String, name: &str) -> Result<(), AllocError> {
     let quoted = json_text(alloc, String::from_str(alloc, name)?)?;
     let quoted = quoted.as_str();
-    let inner = quoted.strip_prefix('"').and_then(|rest| rest.strip_suffix('"'));
+    let inner = quoted
+        .strip_prefix('"')
+        .and_then(|rest| rest.strip_suffix('"'));
     write!(lines, "{}", inner.unwrap_or(quoted))
 }
 
@@ -116,7 +125,10 @@ pub(crate) fn lines_of(
         let consumed = consumed_of(report, name.as_str());
         write!(lines, "node ")?;
         write_name(alloc, &mut lines, name.as_str())?;
-        writeln!(lines, " births {births} published {published} consumed {consumed}")?;
+        writeln!(
+            lines,
+            " births {births} published {published} consumed {consumed}"
+        )?;
     }
     let host = if report.is_cut { "cut" } else { "open" };
     let refused = report.refused;
@@ -135,10 +147,7 @@ where
 }
 
 /// Prints the lines of a plant, or its fault, and answers the status.
-pub(crate) fn printed<W: Write>(
-    out: &mut W,
-    answer: Result<String, PlantFault>,
-) -> io::Result<u8> {
+pub(crate) fn printed<W: Write>(out: &mut W, answer: Result<String, PlantFault>) -> io::Result<u8> {
     let status = match answer {
         Ok(lines) => {
             out.write_all(lines.as_bytes())?;

@@ -48,8 +48,7 @@ fn ran(rt: &(impl Abort + AllocGlobal), text: &[u8]) -> (Outcome, Vec<u8>, Vec<u
 }
 
 /// Two nodes, one of whose names has to be printed with care.
-const PLAN: &str =
-    r#"{"group":"G","host":"H","ring":64,"ingress":8,"wait":2000,"nodes":[
+const PLAN: &str = r#"{"group":"G","host":"H","ring":64,"ingress":8,"wait":2000,"nodes":[
     {"node":"A","capacity":3,"devices":[],"metrics":[{"device":null,"name":"x","type":3,"value":0}],
      "script":[["open"],["born"],["ramp",1,3],["stop"],["open"],["born"]]},
     {"node":"\n\"\u00e4 b\\","capacity":1,"devices":[],"metrics":[],"script":[]}]}"#;
@@ -71,13 +70,22 @@ fn a_plan_is_handed_on_to_be_run(rt: HostRuntime) {
 fn what_is_wrong_with_a_plan_is_noted(rt: HostRuntime) {
     let table = [
         ("[]", "the file isn't an object"),
-        (r#"{"group":"G","host":"H","ring":3}"#, "ring isn't a whole number from 4 to 65536"),
+        (
+            r#"{"group":"G","host":"H","ring":3}"#,
+            "ring isn't a whole number from 4 to 65536",
+        ),
     ];
     for (text, wanted) in table {
         let (outcome, held, notes) = ran(&rt, text.as_bytes());
         assert!(rt; matches!(outcome, Outcome::Over(1)), "of {text}");
-        assert_eq!(rt; held.as_slice(), b"fault BadPlan (92)\n".as_slice(), "of {text}");
-        let rest = notes.strip_prefix(b"sparkplug: BadPlan: ".as_slice()).unwrap_or(&[]);
+        assert_eq!(rt;
+            held.as_slice(),
+            b"fault BadPlan (92)\n".as_slice(),
+            "of {text}"
+        );
+        let rest = notes
+            .strip_prefix(b"sparkplug: BadPlan: ".as_slice())
+            .unwrap_or(&[]);
         assert!(rt; rest.starts_with(wanted.as_bytes()), "of {text}");
         assert!(rt; rest.ends_with(b"\n"), "of {text}");
     }
