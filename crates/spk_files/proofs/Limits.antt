@@ -1,11 +1,11 @@
 -- One step or one node more, and what the nodes' names and capacities come to.
-use Rattle.std.proofs.Common.{◌≡◌, ◌∙◌, sym, ap, refl, subst, ℕ, zero, suc, ◌+◌, ◌≤◌, Bool, true, false, not, ◌&&◌, ◌||◌, List, [], ◌∷◌, ◌++◌, length, Some, arith}
+use Rattle.std.proofs.Common.{◌≡◌, ◌∙◌, ap, refl, subst, ℕ, zero, suc, ◌+◌, ◌≤◌, Bool, true, false, not, ◌&&◌, ◌||◌, List, [], ◌∷◌, ◌++◌, length, Some, arith}
 use Rattle.std.specs.Prelude.{nat_le, count_by}
-use Rattle.std.specs.List.{list_all, list_any, slice_get}
+use Rattle.std.specs.List.{list_all, list_any}
 use Rattle.std.specs.Str.{bytes_eq}
 use Rattle.std.specs.String.{string_bytes}
 use Rattle.std.proofs.lemmas.Bool.{and_parts, and_from, le-leb}
-use Rattle.std.proofs.lemmas.List.Folds.{list_all-append, list_any-append}
+use Rattle.std.proofs.lemmas.List.Folds.{list_any-append}
 use Rattle.std.proofs.lemmas.List.Sums.{sum_by-append}
 use Rattle.spk_topics.specs.Spark.{is_name}
 use Rattle.spk_host_session.specs.Data.{is_short_name}
@@ -36,7 +36,7 @@ all_push p (y ∷ xs) x all one =
     let parts = and_parts (p y) (list_all p xs) all in
     and_from (p y) (list_all p (xs ++ x ∷ [])) parts.0 (all_push p xs x parts.1 one)
 
-not_none : (b c : Bool) → not b ≡ true → c ≡ false → not (b || c || false) ≡ true
+not_none : (b c : Bool) → not b ≡ true → c ≡ false → not (b || (c || false)) ≡ true
 not_none false c n e = ap (λ d. not (d || false)) e
 not_none true c n e = n
 
@@ -53,8 +53,9 @@ distinct_push (n ∷ ns) x distinct none =
     let is : PlanNode → Bool = λ (m : PlanNode). bytes_eq (string_bytes x.node) (string_bytes m.node) in
     let parts = and_parts (not (list_any same ns)) (are_distinct ns) distinct in
     let nones = or-none (is n) (list_any is ns) none in
+    let here : not (list_any same ns || list_any same (x ∷ [])) ≡ true = not_none (list_any same ns) (same x) parts.0 nones.0 in
     and_from (not (list_any same (ns ++ x ∷ []))) (are_distinct (ns ++ x ∷ []))
-    (ap not (list_any-append same ns (x ∷ [])) ∙ not_none (list_any same ns) (same x) parts.0 nones.0)
+    (ap not (list_any-append same ns (x ∷ [])) ∙ here)
     (distinct_push ns x parts.1 nones.1)
 
 pub made_well : (n : PlanNode) → is_name (string_bytes n.node) ≡ true → 1 ≤ n.capacity → n.capacity ≤ 4096 → is_well_made n ≡ true

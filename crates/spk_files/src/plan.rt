@@ -55,7 +55,6 @@ fn is_there(nodes: &[PlanNode], name: &str) -> bool
 }
 
 /// The nodes of a plan, 1 to 16, no two of one name.
-#[tactic(auto, using(crate::proofs::Limits::distinct_push, crate::proofs::Limits::all_push))]
 fn nodes_of(alloc: Global, part: Part<'_>) -> Result<Vec<PlanNode>, Misfit>
     ensures some { IfOk result (λ ns. 1 ≤ length ns.items) }
     ensures most { IfOk result (λ ns. length ns.items ≤ 16) }
@@ -81,7 +80,6 @@ fn nodes_of(alloc: Global, part: Part<'_>) -> Result<Vec<PlanNode>, Misfit>
 /// The plan that a text says, or what is wrong with it, and where. `run_plant` refuses no such plan: it is within the limits (own rules:
 /// 1 to 16 nodes, no two of one name; rings of 4 to 65,536 and a channel of 1 to 65,536; of each node at most 200 open steps and
 /// 100,000 changes), and of its names and capacities edge nodes and a host can be made.
-#[tactic(auto, using(crate::proofs::Limits::can_run))]
 pub fn plan_of(alloc: Global, text: &str) -> Result<Plan, Misfit>
     ensures { IfOk result CanRun }
 {

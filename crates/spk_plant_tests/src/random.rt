@@ -3,6 +3,8 @@ use crate::gates::Chance;
 use crate::judge::complaint;
 use crate::plans::{counts, ran, text_of};
 use spk_plant::Report;
+use std::env;
+use std::env::Env;
 use std::process::Abort;
 use std::sync::Wait;
 use std::thread::Threads;
@@ -36,12 +38,23 @@ where
     }
 }
 
+/// How many plans are run at each width: one, or as many as the environment's `PLANT_RUNS` says.
+fn runs(rt: &(impl Env + AllocGlobal)) -> u64 {
+    match env::var(rt, "PLANT_RUNS") {
+        Ok(text) => text.as_str().parse::<u64>().unwrap_or(1),
+        Err(_) => 1,
+    }
+}
+
 #[test]
 fn what_must_hold_holds_of_every_report(rt: HostRuntime) {
-    for (number, front) in FRONTS.iter().enumerate() {
-        let report = report_of(&rt, front, number as u64);
-        assert_eq!(rt; complaint(rt.alloc(), &report), None, "of {front}");
-        let (births, published, _consumed) = counts(&report, 0);
-        assert!(rt; births <= published, "of {front}");
+    for run in 0..runs(&rt) {
+        for (number, front) in FRONTS.iter().enumerate() {
+            let seed = run.wrapping_mul(4).wrapping_add(number as u64);
+            let report = report_of(&rt, front, seed);
+            assert_eq!(rt; complaint(rt.alloc(), &report), None, "of {front}, {seed}");
+            let (births, published, _consumed) = counts(&report, 0);
+            assert!(rt; births <= published, "of {front}, {seed}");
+        }
     }
 }
