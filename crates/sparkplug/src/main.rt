@@ -1,8 +1,8 @@
-//! The program `sparkplug`: Sparkplug B payloads, MQTT packets, a broker, and worlds of edge nodes and hosts, on the
+//! The program `sparkplug`: Sparkplug B payloads, MQTT packets, a broker, and worlds and plants of edge nodes and hosts, on the
 //! command line.
 #![tactic(auto)]
 
-use spk_commands::{Files, NOT_TEXT, Outcome, run_with_notes, serve_clients};
+use spk_commands::{Files, NOT_TEXT, Outcome, plant, run_with_notes, serve_clients};
 use std::alloc::{AllocError, Global};
 use std::fs::File;
 use std::net::{TcpListener, TcpStream};
@@ -71,6 +71,7 @@ fn main(rt: HostRuntime) -> io::Result<ExitCode> {
     let status = match run_with_notes(&rt, words, &mut files, &mut writer, &mut notes) {
         Outcome::Over(status) => status,
         Outcome::Serve { port, clients } => serve_clients(&rt, port, clients, &mut writer),
+        Outcome::Plant(plan) => plant(&rt, plan, &mut writer),
     };
     Ok(ExitCode::from(status))
 }

@@ -116,9 +116,14 @@ fn once(rt: &(impl Abort + AllocGlobal), words: &[&str], room: usize) -> (Vec<u8
     let mut narrow = Narrow { held, room };
     let outcome = run(rt, words, &mut Texts, &mut narrow);
     let Narrow { held, room: _ } = narrow;
+    (held, status_of(outcome))
+}
+
+/// The status of a run that is over; 255 for another.
+pub(crate) fn status_of(outcome: Outcome) -> u8 {
     match outcome {
-        Outcome::Over(status) => (held, status),
-        Outcome::Serve { .. } => (held, u8::MAX),
+        Outcome::Over(status) => status,
+        Outcome::Serve { .. } | Outcome::Plant(_) => u8::MAX,
     }
 }
 
@@ -187,6 +192,6 @@ pub(crate) fn served(rt: &(impl Abort + AllocGlobal), words: &[&str]) -> Option<
     }
     match outcome {
         Outcome::Serve { port, clients } => Some((port, clients)),
-        Outcome::Over(_) => None,
+        Outcome::Over(_) | Outcome::Plant(_) => None,
     }
 }

@@ -6,6 +6,8 @@ mod fixtures;
 #[cfg(test)]
 mod packets_tests;
 #[cfg(test)]
+mod plant_tests;
+#[cfg(test)]
 mod tests;
 #[cfg(test)]
 mod world_tests;

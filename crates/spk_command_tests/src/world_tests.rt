@@ -1,5 +1,5 @@
-use crate::fixtures::{REFUSED, expect, noted, printed};
-use spk_commands::{Files, Outcome, run_with_notes};
+use crate::fixtures::{REFUSED, expect, noted, printed, status_of};
+use spk_commands::{Files, run_with_notes};
 use spk_files::{FileFault, read_world};
 use std::io::Write;
 use std::process::Abort;
@@ -36,38 +36,38 @@ fn joined(rt: &(impl Abort + AllocGlobal), pieces: &[&str]) -> Vec<u8> {
 }
 
 /// What `world` prints of a file, what it notes, and its status. Where memory was refused the run is made again.
-fn ran(rt: &(impl Abort + AllocGlobal), text: &[u8]) -> (Vec<u8>, Vec<u8>, Outcome) {
+fn ran(rt: &(impl Abort + AllocGlobal), text: &[u8]) -> (Vec<u8>, Vec<u8>, u8) {
     let words = ["sparkplug", "world", "FILE"];
     let mut held = room(rt);
     let mut notes = room(rt);
     let mut files = OneFile { text };
-    let mut outcome = run_with_notes(rt, &words, &mut files, &mut held, &mut notes);
+    let mut status = status_of(run_with_notes(rt, &words, &mut files, &mut held, &mut notes));
     if held.ends_with(REFUSED) {
-        assert!(rt; outcome == Outcome::Over(1));
+        assert_eq!(rt; status, 1);
         held.clear();
         notes.clear();
-        outcome = run_with_notes(rt, &words, &mut files, &mut held, &mut notes);
+        status = status_of(run_with_notes(rt, &words, &mut files, &mut held, &mut notes));
     }
-    (held, notes, outcome)
+    (held, notes, status)
 }
 
 /// Checks what is printed of a file, and the status. Nothing is noted.
 fn prints(rt: &(impl Abort + AllocGlobal), text: &[u8], lines: &str, status: u8) {
-    let (held, notes, outcome) = ran(rt, text);
+    let (held, notes, found) = ran(rt, text);
     assert_eq!(rt; held.as_slice(), lines.as_bytes());
-    assert_eq!(rt; outcome, Outcome::Over(status), "of {lines}");
+    assert_eq!(rt; found, status, "of {lines}");
     assert!(rt; notes.is_empty(), "of {lines}");
 }
 
 /// Checks that a file is BadPlan, and that a note begins so, behind `sparkplug: BadPlan: `.
 fn is_bad(rt: &(impl Abort + AllocGlobal), text: &[u8], note: &str) {
-    let (held, notes, outcome) = ran(rt, text);
+    let (held, notes, status) = ran(rt, text);
     assert_eq!(rt;
         held.as_slice(),
         b"fault BadPlan (92)\n".as_slice(),
         "of {note}"
     );
-    assert_eq!(rt; outcome, Outcome::Over(1), "of {note}");
+    assert_eq!(rt; status, 1, "of {note}");
     let front = b"sparkplug: BadPlan: ";
     assert!(rt; notes.starts_with(front), "of {note}");
     let rest = &notes[front.len().min(notes.len())..];

@@ -1,5 +1,5 @@
-//! The commands of the program `sparkplug`: Sparkplug B payloads, MQTT packets, a broker, and worlds of edge nodes and hosts. Words,
-//! files and writers are the caller's.
+//! The commands of the program `sparkplug`: Sparkplug B payloads, MQTT packets, a broker, worlds and plants of edge nodes and hosts.
+//! Words, files and writers are the caller's.
 #![tactic(auto)]
 
 mod broker;
@@ -7,6 +7,7 @@ mod fault;
 mod files;
 mod packets;
 mod places;
+mod plant;
 mod run;
 mod show;
 mod texts;
@@ -15,4 +16,5 @@ mod world;
 
 pub use broker::{said, serve_clients};
 pub use files::Files;
+pub use plant::{plant, told};
 pub use run::{NOT_TEXT, Outcome, run, run_with_notes};

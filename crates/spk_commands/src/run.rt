@@ -3,11 +3,13 @@
 use crate::fault::{Fault, Stop};
 use crate::files::{Files, text_of};
 use crate::packets::packets;
+use crate::plant::plan_from;
 use crate::show::show;
 use crate::words::command_line;
 use crate::world::world;
 use clap::ArgMatches;
 use clap::error::ErrorKind;
+use spk_plan::Plan;
 use std::alloc::Global;
 use std::io::{self, BufWriter, Write};
 
@@ -45,8 +47,8 @@ fn birth_of<F: Files>(
     }
 }
 
-/// The text of a world's file. Of one that isn't a text, or is too long, a note says so.
-fn world_text_of<F: Files, N: Write>(
+/// The text of a world's or of a plan's file. Of one that isn't a text, or is too long, a note says so.
+fn noted_text_of<F: Files, N: Write>(
     alloc: Global,
     matches: &ArgMatches<'_>,
     files: &mut F,
@@ -88,12 +90,14 @@ impl Write for Silence {
 }
 
 /// What a run comes to.
-#[derive(Clone, Copy, Debug, PartialEq, Eq)]
+#[derive(Drop)]
 pub enum Outcome {
     /// It is over, with this status.
     Over(u8),
     /// So many clients are to be served on this port.
     Serve { port: u16, clients: u16 },
+    /// This plan is to be run.
+    Plant(Plan),
 }
 
 fn command<F: Files, W: Write, N: Write>(
@@ -123,9 +127,14 @@ fn command<F: Files, W: Write, N: Write>(
         packets(alloc, out, notes, digits.as_str())?;
     }
     if let Some(given) = matches.subcommand_matches("world") {
-        let text = world_text_of(alloc, given, files, notes)?;
+        let text = noted_text_of(alloc, given, files, notes)?;
         let status = world(alloc, out, notes, text.as_str())?;
         return Ok(Outcome::Over(status));
+    }
+    if let Some(given) = matches.subcommand_matches("plant") {
+        let text = noted_text_of(alloc, given, files, notes)?;
+        let plan = plan_from(alloc, notes, text.as_str())?;
+        return Ok(Outcome::Plant(plan));
     }
     if let Some(given) = matches.subcommand_matches("serve") {
         return Ok(Outcome::Serve {
@@ -171,7 +180,8 @@ fn buffered<F: Files, W: Write + Drop, N: Write>(
 /// Runs the program on its words, the first of which is its own name, and answers its status: 0 where the work was
 /// done or help was asked for, 1 at a fault, which is printed as `fault NAME (number)`, or where the writer failed,
 /// 2 where the words aren't a command. All texts go to the writer. Words that ask to serve clients are answered with
-/// the port and the number of clients: `broker::serve_clients` does that.
+/// the port and the number of clients: `serve_clients` does that. Words that ask to run a plant are answered with its plan:
+/// `plant` does that.
 pub fn run<R: AllocGlobal, F: Files, W: Write>(
     rt: &R,
     words: &[&str],

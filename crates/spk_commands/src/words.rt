@@ -79,6 +79,28 @@ Status: 0 is done; 1 is an event that was refused (`refused at I: NAME (number)`
 `fault NAME (number)`, or output that could not be written; 2 is a command line that isn't one.
 docs/FAULTS.md tells each fault by its number.";
 
+const PLANT: &str = "\
+Example:
+  sparkplug plant examples/plants/two_nodes.json
+The file has edge nodes with their scripts, as JSON; `x` is a metric of the datatype Int32 (3):
+  {\"group\":\"G\",\"host\":\"H\",\"ring\":2048,\"ingress\":64,\"wait\":2000,\"nodes\":[
+    {\"node\":\"A\",\"capacity\":1000,\"devices\":[],
+     \"metrics\":[{\"device\":null,\"name\":\"x\",\"type\":3,\"value\":0}],
+     \"script\":[[\"open\"],[\"born\"],[\"ramp\",1,300]]}]}
+prints
+  node A births 1 published 301 consumed 301
+  host open 0
+
+Each edge node, the broker and the host run on a thread of their own, over a channel to the broker and a ring from
+it to each of them. `host cut R` says that the broker closed the host, since its ring was full too often; R is how
+many sends to the host its ring refused.
+
+Steps: [\"open\"] [\"born\"] [\"set\",alias,value] [\"ramp\",alias,n] [\"device\",name,up] [\"drain\"] [\"cut\"] [\"stop\"]
+docs/PLANTS.md tells the rest. After each 100,000 frames and messages a line on standard error tells of them.
+
+Status: 0 is done; 1 is a fault, printed as `fault NAME (number)`, or output that could not be written;
+2 is a command line that isn't one. docs/FAULTS.md tells each fault by its number.";
+
 /// A command that takes hexadecimal digits, as a word or in a file.
 fn on_digits<'a>(alloc: Global, name: &'a str, digits: &'a str) -> Result<Command<'a>, AllocError> {
     let hex = Arg::new(alloc, "hex")
@@ -169,6 +191,20 @@ fn world<'a>(alloc: Global) -> Result<Command<'a>, AllocError> {
     )
 }
 
+fn plant<'a>(alloc: Global) -> Result<Command<'a>, AllocError> {
+    let file = Arg::new(alloc, "file")
+        .value_name("FILE")
+        .help("The plan: edge nodes with their scripts, as JSON of at most 1,048,576 bytes")
+        .required(true)
+        .action(ArgAction::Set);
+    let command = Command::new(alloc, "plant").arg(file)?;
+    Ok(
+        command
+            .about("Runs a plant of edge nodes, a broker and a host on threads, a line for each")
+            .after_help(PLANT),
+    )
+}
+
 /// The commands that there are.
 pub(crate) fn command_line<'a>(alloc: Global) -> Result<Command<'a>, AllocError> {
     let command = Command::new(alloc, "sparkplug")
@@ -181,5 +217,6 @@ pub(crate) fn command_line<'a>(alloc: Global) -> Result<Command<'a>, AllocError>
         .subcommand(show(alloc)?)?
         .subcommand(packets(alloc)?)?
         .subcommand(world(alloc)?)?
+        .subcommand(plant(alloc)?)?
         .subcommand(serve(alloc)?)
 }

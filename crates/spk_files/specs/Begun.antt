@@ -1,5 +1,5 @@
 -- What a world's file gives.
-use Rattle.std.specs.Prelude.{List, [], ℕ, ◌≤◌, length}
+use Rattle.std.specs.Prelude.{List, [], ◌≤◌, length}
 use Rattle.spk_device.specs.Book.{Book}
 use Rattle.spk_edge.specs.declared.config.EdgeConfig.{EdgeConfig}
 use Rattle.spk_host_session.specs.declared.config.HostConfig.{HostConfig}

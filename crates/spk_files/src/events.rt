@@ -1,6 +1,7 @@
 //! The events of a world's file.
 ghost use Rattle.std.specs.Prelude.{◌≤◌, IfOk, length};
 
+use crate::metrics::datatype_of;
 use crate::misfit::{Cause, Misfit};
 use crate::nodes::Setup;
 use crate::part::Part;
@@ -36,10 +37,7 @@ fn datatype_at(nodes: &[Setup], node: usize, alias: u64) -> u32 {
     let Some((_config, registry)) = nodes.get(node) else {
         return 0;
     };
-    match registry.metric(alias) {
-        Some(gauge) => gauge.datatype,
-        None => 0,
-    }
+    datatype_of(registry, alias)
 }
 
 /// A metric has a value, of the kind that its datatype asks for.

@@ -2,6 +2,7 @@
 ghost use Rattle.std.specs.Prelude.{◌≡◌};
 ghost use Rattle.spk_files.specs.Fault.{number_of};
 
+use crate::misfit::Misfit;
 use thiserror::Error;
 
 /// Why a file isn't read.
@@ -16,6 +17,14 @@ pub enum FileFault {
 }
 
 impl FileFault {
+    /// What is said of a file that isn't read.
+    pub(crate) fn of(misfit: &Misfit) -> FileFault {
+        match misfit {
+            Misfit::NoMemory => FileFault::NoMemory,
+            Misfit::Wrong(..) => FileFault::BadPlan,
+        }
+    }
+
     /// The fault's number.
     pub fn number(self) -> u32
         ensures { result ≡ number_of self }

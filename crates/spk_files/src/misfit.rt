@@ -88,6 +88,12 @@ pub enum Cause {
     Parts(usize),
     /// It has more than so many items.
     More(usize),
+    /// It has no items.
+    Empty,
+    /// It has more than so many bytes.
+    Longer(usize),
+    /// It is one past so many of these in a script.
+    Past(u64, &'static str),
     /// No device before it has that name.
     NoDevice,
     /// An earlier node has its group and name.
@@ -111,8 +117,12 @@ impl fmt::Display for Cause {
             Cause::Outside(least, most) => {
                 write!(f, "isn't a whole number from {least} to {most}")
             }
+            Cause::Parts(1) => write!(f, "hasn't 1 part"),
             Cause::Parts(count) => write!(f, "hasn't {count} parts"),
             Cause::More(most) => write!(f, "has more than {most} items"),
+            Cause::Empty => write!(f, "has no items"),
+            Cause::Longer(most) => write!(f, "has more than {most} bytes"),
+            Cause::Past(most, what) => write!(f, "is past the {most} {what} of a script"),
             Cause::NoDevice => write!(f, "isn't the name of a device of the node"),
             Cause::Namesake => write!(f, "has the group and name of an earlier node"),
             Cause::Registry(refusal) => {

@@ -1,21 +1,19 @@
 //! The edge nodes of a file.
 ghost use Rattle.std.specs.Prelude.{◌≤◌, IfOk, length};
 
+use crate::metrics::registry_of;
 use crate::misfit::{Cause, Misfit};
+use crate::names::name_of;
 use crate::part::Part;
-use crate::values::value_of;
 use serde_json::Value as Json;
-use spk_device::{Owner, Registry};
+use spk_device::Registry;
 use spk_edge::{EdgeConfig, Numbering};
 use std::alloc::Global;
 
 /// The most nodes of a file.
 pub const MOST_NODES: usize = 16;
 /// The most changes that a node may keep.
-const MOST_KEPT: u64 = 4_096;
-
-/// The greatest number of a datatype.
-const MOST_TYPE: u64 = 4_294_967_295;
+pub(crate) const MOST_KEPT: u64 = 4_096;
 
 const NODE: [&str; 7] = [
     "group",
@@ -27,22 +25,8 @@ const NODE: [&str; 7] = [
     "numbering",
 ];
 
-const METRIC: [&str; 4] = ["device", "name", "type", "value"];
-
 /// A node with its devices and metrics.
 pub(crate) type Setup = (EdgeConfig, Registry);
-
-/// A name that can stand in a topic.
-fn name_of(alloc: Global, part: Part<'_>) -> Result<String, Misfit> {
-    let text = part.text()?;
-    let is_barred = |byte: u8| matches!(byte, b'/' | b'+' | b'#' | 0);
-    if text.is_empty() || text.bytes().any(is_barred) {
-        return Err(part.wrong(Cause::Not(
-            "a name: not empty, and without `+`, `/`, `#` and U+0000",
-        )));
-    }
-    Ok(String::from_str(alloc, text)?)
-}
 
 /// The primary host, or null.
 fn primary_of(alloc: Global, part: Part<'_>) -> Result<Option<String>, Misfit> {
@@ -76,56 +60,11 @@ fn config_of(alloc: Global, part: Part<'_>) -> Result<EdgeConfig, Misfit> {
     })
 }
 
-/// Adds a node's devices, in order.
-fn add_devices(registry: &mut Registry, part: Part<'_>) -> Result<(), Misfit> {
-    for index in 0..part.items(usize::MAX)?.len() {
-        let device = part.item(index)?;
-        if let Err(fault) = registry.add_device(device.text()?) {
-            return Err(Misfit::of_registry(device.place, fault));
-        }
-    }
-    Ok(())
-}
-
-/// Whose a metric is: a device's, by its name, or the node's where it is null.
-fn owner_of(registry: &Registry, part: Part<'_>) -> Result<Owner, Misfit> {
-    if part.json.is_null() {
-        return Ok(Owner::Node);
-    }
-    match registry.device_number(part.text()?) {
-        Some(number) => Ok(Owner::Device(number)),
-        None => Err(part.wrong(Cause::NoDevice)),
-    }
-}
-
-/// Adds a metric.
-fn add_metric(alloc: Global, registry: &mut Registry, part: Part<'_>) -> Result<(), Misfit> {
-    part.only(alloc, &METRIC)?;
-    let owner = owner_of(registry, part.member("device")?)?;
-    let name = part.member("name")?.text()?;
-    let datatype = part.member("type")?.number(0, MOST_TYPE)? as u32;
-    let value = value_of(alloc, part.member("value")?, datatype)?;
-    match registry.add_metric(owner, name, datatype, value) {
-        Ok(_alias) => Ok(()),
-        Err(fault) => Err(Misfit::of_registry(part.place, fault)),
-    }
-}
-
-/// Adds a node's metrics, in order: their aliases count from 1.
-fn add_metrics(alloc: Global, registry: &mut Registry, part: Part<'_>) -> Result<(), Misfit> {
-    for index in 0..part.items(usize::MAX)?.len() {
-        add_metric(alloc, registry, part.item(index)?)?;
-    }
-    Ok(())
-}
-
 /// A node.
 fn node_of(alloc: Global, part: Part<'_>) -> Result<Setup, Misfit> {
     part.only(alloc, &NODE)?;
     let config = config_of(alloc, part)?;
-    let mut registry = Registry::new(alloc);
-    add_devices(&mut registry, part.member("devices")?)?;
-    add_metrics(alloc, &mut registry, part.member("metrics")?)?;
+    let registry = registry_of(alloc, part)?;
     Ok((config, registry))
 }
 

@@ -12,7 +12,7 @@ const VALUE: &str =
     "null, a whole number of 64 bits, true, false, a text, or bytes as {\"hex\":\"0a\"}";
 
 /// Whether the datatype of this number has signed values: Int8, Int16, Int32, Int64.
-fn is_signed(datatype: u32) -> bool {
+pub(crate) fn is_signed(datatype: u32) -> bool {
     matches!(datatype, 1..=4)
 }
 

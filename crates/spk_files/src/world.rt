@@ -7,8 +7,7 @@ use crate::fault::FileFault;
 use crate::misfit::{Cause, Misfit, Place};
 use crate::nodes::{Setup, nodes_of};
 use crate::part::Part;
-use crate::twice::refuse_twice;
-use serde_json::Value as Json;
+use crate::text::json_of;
 use spk_host::HostConfig;
 use spk_sequence::Width;
 use spk_world::{Event, World, WorldFault};
@@ -35,7 +34,7 @@ fn host_of(alloc: Global, number: u64, wait: u64, width: Width) -> Result<HostCo
 }
 
 /// The width of each host's window: 1 to 96.
-fn width_of(part: Part<'_>) -> Result<Width, Misfit> {
+pub(crate) fn width_of(part: Part<'_>) -> Result<Width, Misfit> {
     let places = match part.find("width") {
         Some(width) => width.number(1, WIDEST)?,
         None => WIDTH,
@@ -77,11 +76,7 @@ pub fn world_of(alloc: Global, text: &str) -> Result<(World, Vec<Event>), Misfit
     ensures begins { IfOk result (λ r. IsBegun r.0) }
     ensures events { IfOk result (λ r. length r.1.items ≤ 100000) }
 {
-    let json = match Json::from_str(alloc, text) {
-        Ok(json) => json,
-        Err(error) => return Err(Misfit::of_json(&error)),
-    };
-    refuse_twice(alloc, text)?;
+    let json = json_of(alloc, text)?;
     let file = Part::file(&json);
     file.only(alloc, &WORLD)?;
     let nodes = nodes_of(alloc, file.member("nodes")?)?;
@@ -97,7 +92,6 @@ pub fn read_world(alloc: Global, text: &str) -> Result<(World, Vec<Event>), File
 {
     match world_of(alloc, text) {
         Ok(read) => Ok(read),
-        Err(Misfit::NoMemory) => Err(FileFault::NoMemory),
-        Err(Misfit::Wrong(..)) => Err(FileFault::BadPlan),
+        Err(misfit) => Err(FileFault::of(&misfit)),
     }
 }

@@ -1,0 +1,173 @@
+//! The limits of a plan: its file is read exactly within them, and no other plan is run.
+use crate::gates::Silent;
+use crate::plans::{WIDE, alike, counts, plan_of, ran, room, text_of};
+use spk_plan::{Plan, PlantFault, Sort, Step};
+use spk_plant::run_plant;
+use std::io::Write;
+use std::process::Abort;
+use std::sync::Wait;
+use std::thread::Threads;
+
+/// A script that opens so many connections and leaves each again.
+fn opens(rt: &(impl Abort + AllocGlobal), count: usize) -> Vec<u8> {
+    let mut script = room(rt);
+    for _ in 0..count {
+        assert!(rt; script.write_all(b"[\"open\"],[\"cut\"],").is_ok());
+    }
+    assert!(rt; script.write_all(b"[\"set\",1,1]").is_ok());
+    script
+}
+
+/// A plan of one node and this script is run, and publishes nothing.
+fn runs<R>(rt: &R, front: &str, script: &[u8])
+where
+    R: AllocGlobal + Threads + Wait + Abort + Sync,
+{
+    let script = str::from_utf8(script).expect(rt, "text");
+    let text = text_of(rt, front, &[("A", script)]);
+    let report = match ran(rt, &text, &Silent) {
+        Some(report) => report,
+        None => ran(rt, &text, &Silent).expect(rt, "memory is there again"),
+    };
+    assert_eq!(rt; counts(&report, 0).0, 0, "of {front}");
+}
+
+#[test]
+fn plans_at_their_limits_are_run(rt: HostRuntime) {
+    runs(&rt, WIDE, &opens(&rt, 200));
+    runs(&rt, WIDE, br#"["ramp",1,100000]"#);
+    runs(
+        &rt,
+        WIDE,
+        br#"["set",1,5],["ramp",1,60000],["ramp",1,39999],["born"]"#,
+    );
+    runs(&rt, r#""ring":4,"ingress":1,"wait":0,"width":1"#, b"");
+    runs(
+        &rt,
+        r#""ring":65536,"ingress":65536,"wait":18446744073709551615,"width":96"#,
+        b"",
+    );
+}
+
+/// What is changed in a plan of one node to make it one that can't run.
+#[derive(Clone, Copy, Debug)]
+enum Change {
+    NoNode,
+    SeventeenNodes,
+    Namesake,
+    OneOpenMore,
+    OneChangeMore,
+    Ring(usize),
+    Ingress(usize),
+    Capacity(usize),
+    NodeName(&'static str),
+    HostName(&'static str),
+    GroupName(&'static str),
+}
+
+const CHANGES: [Change; 16] = [
+    Change::NoNode,
+    Change::SeventeenNodes,
+    Change::Namesake,
+    Change::OneOpenMore,
+    Change::OneChangeMore,
+    Change::Ring(3),
+    Change::Ring(65_537),
+    Change::Ingress(0),
+    Change::Ingress(65_537),
+    Change::Capacity(0),
+    Change::Capacity(4_097),
+    Change::NodeName("a/b"),
+    Change::NodeName(""),
+    Change::HostName("#"),
+    Change::GroupName("+"),
+    Change::GroupName(""),
+];
+
+/// A copy of a text. Where memory was refused it is made again.
+fn words(rt: &(impl Abort + AllocGlobal), text: &str) -> String {
+    match String::from_str(rt.alloc(), text) {
+        Ok(words) => words,
+        Err(_) => String::from_str(rt.alloc(), text).expect(rt, "memory is there again"),
+    }
+}
+
+/// The step that a script has one too many of.
+fn step_of(change: Change) -> Step {
+    match change {
+        Change::OneOpenMore => Step::Open,
+        _ => Step::Ramp {
+            alias: 1,
+            sort: Sort::Signed,
+            changes: 1,
+        },
+    }
+}
+
+/// A step more of each node.
+fn add_step(rt: &impl Abort, plan: &mut Plan, change: Change) {
+    for node in plan.nodes.iter_mut() {
+        if node.script.push(step_of(change)).is_err() {
+            assert!(rt; node.script.push(step_of(change)).is_ok());
+        }
+    }
+}
+
+/// A node more.
+fn add_node(rt: &(impl Abort + AllocGlobal), plan: &mut Plan) {
+    let mut other = plan_of(rt, &text_of(rt, WIDE, &[("Z", "")]));
+    if plan.nodes.reserve(1).is_err() {
+        assert!(rt; plan.nodes.reserve(1).is_ok());
+    }
+    if let Some(node) = other.nodes.pop() {
+        assert!(rt; plan.nodes.push(node).is_ok());
+    }
+}
+
+/// Each node has this name.
+fn rename(rt: &(impl Abort + AllocGlobal), plan: &mut Plan, name: &str) {
+    for node in plan.nodes.iter_mut() {
+        node.node = words(rt, name);
+    }
+}
+
+/// A plan with this change.
+fn changed(rt: &(impl Abort + AllocGlobal), change: Change) -> Plan {
+    let script = opens(rt, 200);
+    let script = str::from_utf8(&script).expect(rt, "text");
+    let mut plan = match change {
+        Change::SeventeenNodes => plan_of(rt, &alike(rt, WIDE, 16, "")),
+        Change::Namesake => plan_of(rt, &alike(rt, WIDE, 2, "")),
+        Change::OneChangeMore => plan_of(rt, &text_of(rt, WIDE, &[("A", r#"["ramp",1,100000]"#)])),
+        _ => plan_of(rt, &text_of(rt, WIDE, &[("A", script)])),
+    };
+    match change {
+        Change::NoNode => plan.nodes.clear(),
+        Change::SeventeenNodes => add_node(rt, &mut plan),
+        Change::Namesake => rename(rt, &mut plan, "A"),
+        Change::OneOpenMore | Change::OneChangeMore => add_step(rt, &mut plan, change),
+        Change::Ring(capacity) => plan.ring = capacity,
+        Change::Ingress(capacity) => plan.ingress = capacity,
+        Change::Capacity(capacity) => {
+            for node in plan.nodes.iter_mut() {
+                node.capacity = capacity;
+            }
+        }
+        Change::NodeName(name) => rename(rt, &mut plan, name),
+        Change::HostName(name) => plan.host = words(rt, name),
+        Change::GroupName(name) => plan.group = words(rt, name),
+    }
+    plan
+}
+
+#[test]
+fn no_other_plan_is_run(rt: HostRuntime) {
+    for change in CHANGES {
+        let mut answer = run_plant(&rt, rt.alloc(), changed(&rt, change), &Silent).err();
+        if answer == Some(PlantFault::NoMemory) {
+            answer = run_plant(&rt, rt.alloc(), changed(&rt, change), &Silent).err();
+        }
+        assert_eq!(rt; answer, Some(PlantFault::BadPlan), "of {change:?}");
+    }
+    assert_eq!(rt; PlantFault::BadPlan.number(), 92);
+}
