@@ -1,5 +1,4 @@
 pub mod Places
-pub mod Limits
 pub mod Starts
 pub mod Ends
 pub mod Faults
