@@ -1,5 +1,5 @@
 -- What the threads hand on, one edge after another, and what is tied after the joins.
-use Rattle.std.proofs.Common.{◌≡◌, ◌∙◌, ◌⊎◌, inl, inr, ℕ, zero, suc, ◌+◌, ◌<◌, List, [], ◌∷◌, ◌++◌, length, Option, Some, refl, sym, ap, subst, arith, length-append, append-nil}
+use Rattle.std.proofs.Common.{◌≡◌, ◌∙◌, ◌⊎◌, inl, inr, ℕ, zero, suc, ◌+◌, ◌<◌, List, [], ◌∷◌, ◌++◌, length, Option, Some, None, IfSome, option_to_list, refl, sym, ap, subst, arith, length-append, append-nil}
 use Rattle.std.specs.List.{slice_get}
 use Rattle.spk_ingress.specs.Lanes.{share_of}
 use Rattle.spk_ingress.specs.Passes.{AllPutInto, AllTaken, PutsInto, frames_put, frames_taken}
@@ -27,9 +27,27 @@ ready_front n ss ts s all is k x at = all k x (subst (λ xs. slice_get xs k ≡ 
 pub ready_last : (n : Ingress) (ss ts : List EdgeStart) (s : EdgeStart) → AreReady n ts → ts ≡ ss ++ s ∷ [] → PutsInto n s.pass
 ready_last n ss ts s all is = all (length ss) s (subst (λ xs. slice_get xs (length ss) ≡ Some s) (sym is) (get_last ss s))
 
-pub done_none : (n : Ingress) (ss : List EdgeStart) (es : List EdgeEnd) → ss ≡ [] → es ≡ [] → AreDone n ss es
+-- the last one of a list, where there is one
+
+pub next_ready : (n : Ingress) (o : Option EdgeStart) (ss ts : List EdgeStart) → AreReady n ts → ts ≡ ss ++ option_to_list o → IfSome o (λ s. PutsInto n s.pass)
+next_ready n None ss ts all is = tt
+next_ready n (Some s) ss ts all is = ready_last n ss ts s all is
+
+pub next_others : (n : Ingress) (o : Option EdgeStart) (ss ts : List EdgeStart) → AreReady n ts → ts ≡ ss ++ option_to_list o → IfSome o (λ s. AreReady n ss)
+next_others n None ss ts all is = tt
+next_others n (Some s) ss ts all is = ready_front n ss ts s all is
+
+pub next_items : (o : Option EdgeStart) (ss ts : List EdgeStart) → ts ≡ ss ++ option_to_list o → IfSome o (λ s. ts ≡ ss ++ s ∷ [])
+next_items None ss ts is = tt
+next_items (Some s) ss ts is = is
+
+pub next_fewer : (o : Option EdgeStart) (ss ts : List EdgeStart) → ts ≡ ss ++ option_to_list o → IfSome o (λ s. length ts ≡ length ss + 1)
+next_fewer None ss ts is = tt
+next_fewer (Some s) ss ts is = ap length is ∙ length-append ss (s ∷ [])
+
+pub done_none : (n : Ingress) (ss : List EdgeStart) (es : List EdgeEnd) → length ss ≡ 0 → es ≡ [] → AreDone n ss es
 done_none n ss es none ended = record {
-  sized = ap length ended ∙ sym (ap length none);
+  sized = ap length ended ∙ sym none;
   each = λ k e at. absurd (none_at es k e ended at);
 }
 
@@ -55,31 +73,15 @@ done_push n ss ts es fs s e all one starts ends =
 
 -- ---- taken apart
 
-pub theirs_front : (es fs : List EdgeEnd) (ts us : List (Option Token)) (e : EdgeEnd) (t : Option Token) → fs ≡ es ++ e ∷ [] → us ≡ ts ++ t ∷ []
-    → AreTheirs fs us → AreTheirs es ts
-theirs_front es fs ts us e t ends tokens all k x token there got =
-    all k x token (subst (λ xs. slice_get xs k ≡ Some x) (sym ends) (get_more es (e ∷ []) k x there))
-    (subst (λ xs. slice_get xs k ≡ Some (Some token)) (sym tokens) (get_more ts (t ∷ []) k (Some token) got))
+pub theirs_less : (es : List EdgeEnd) (ts us : List (Option Token)) (t : Option Token) → us ≡ ts ++ t ∷ [] → AreTheirs es us → AreTheirs es ts
+theirs_less es ts us t tokens all k x token there got =
+    all k x token there (subst (λ xs. slice_get xs k ≡ Some (Some token)) (sym tokens) (get_more ts (t ∷ []) k (Some token) got))
 
-pub theirs_last : (es fs : List EdgeEnd) (ts us : List (Option Token)) (e : EdgeEnd) (t : Token) → fs ≡ es ++ e ∷ [] → us ≡ ts ++ Some t ∷ []
-    → length us ≡ length fs → AreTheirs fs us → IsTokenOf t e.inlet
-theirs_last es fs ts us e t ends tokens sized all =
-    let longer : length fs ≡ length es + 1 = ap length ends ∙ length-append es (e ∷ []) in
-    let more : length us ≡ length ts + 1 = ap length tokens ∙ length-append ts (Some t ∷ []) in
-    let place : length ts ≡ length es = omega arith in
-    all (length es) e t (subst (λ xs. slice_get xs (length es) ≡ Some e) (sym ends) (get_last es e))
-    (subst (λ xs. slice_get xs (length es) ≡ Some (Some t)) (sym tokens) (subst (λ j. slice_get (ts ++ Some t ∷ []) j ≡ Some (Some t)) place (get_last ts (Some t))))
-
-pub apart_none : (es : List EdgeEnd) (ts : List (Option Token)) (rs : List NodeReport) (ps : List PutPass) → es ≡ [] → rs ≡ [] → ps ≡ []
-    → AreApart es ts rs ps
-apart_none es ts rs ps none reports passes = record {
-  sized = ap length reports ∙ sym (ap length none);
-  same = ap length passes ∙ sym (ap length none);
-  reports = λ k r at. absurd (none_at rs k r reports at);
-  passes = λ k e at. absurd (none_at es k e none at);
-  owners = λ k p at. absurd (none_at ps k p passes at);
-  fronts = λ k e at. absurd (none_at es k e none at);
-}
+pub token_at : (us ts : List (Option Token)) (t : Token) (k : ℕ) → us ≡ ts ++ Some t ∷ [] → length us ≡ k + 1 → slice_get us k ≡ Some (Some t)
+token_at us ts t k is sized =
+    let more : length us ≡ length ts + 1 = ap length is ∙ length-append ts (Some t ∷ []) in
+    let place : length ts ≡ k = omega arith in
+    subst (λ xs. slice_get xs k ≡ Some (Some t)) (sym is) (subst (λ j. slice_get (ts ++ Some t ∷ []) j ≡ Some (Some t)) place (get_last ts (Some t)))
 
 apart_snoc : (es : List EdgeEnd) (ts : List (Option Token)) (rs : List NodeReport) (ps : List PutPass) (e : EdgeEnd) (t : Option Token) (r : NodeReport) (p : PutPass)
     → length ts ≡ length es → e.pass ≡ p → IsReportOf e r → IsFrontOf e t → AreApart es ts rs ps

@@ -1,5 +1,5 @@
 //! The threads of a plant, started and joined.
-ghost use Rattle.std.specs.Prelude.{◌≡◌, ◌≢◌, IfOk, IfErr};
+ghost use Rattle.std.specs.Prelude.{◌≡◌, ◌≢◌, ◌+◌, [], ◌∷◌, ◌++◌, length, IfOk, IfErr, IfSome, None};
 ghost use Rattle.std.specs.Thread.{IsSync};
 ghost use Rattle.spk_ingress.specs.Passes.{PutsInto};
 ghost use Rattle.spk_broker_body.specs.Done.{BrokerDone, BrokerReady};
@@ -88,6 +88,18 @@ fn the_host<R: Wait, G: Gate>(
     }
 }
 
+/// The last of these, if there is one.
+fn next_of(ingress: &Ingress, starts: &mut Vec<EdgeStart>) -> Option<EdgeStart>
+    requires { AreReady ingress.now starts.old.items }
+    ensures ready { IfSome result (λ s. PutsInto ingress.now s.pass) }
+    ensures others { IfSome result (λ _. AreReady ingress.now starts.new.items) }
+    ensures items { IfSome result (λ s. starts.old.items ≡ starts.new.items ++ s ∷ []) }
+    ensures fewer { IfSome result (λ _. length starts.old.items ≡ length starts.new.items + 1) }
+    ensures none { result ≡ None → length starts.old.items ≡ 0 }
+{
+    starts.pop()
+}
+
 /// The edges' threads: the last one's beside all others, which are run likewise.
 fn run_edges<R: Threads + Wait + Sync, G: Gate + Sync>(
     rt: &R,
@@ -100,7 +112,7 @@ fn run_edges<R: Threads + Wait + Sync, G: Gate + Sync>(
     ensures done { IfOk result (λ es. AreDone ingress.now starts.items es.items) }
     ensures fault { IfErr result (λ e. e ≢ PlantFault.BadPlan) }
 {
-    let Some(start) = starts.pop() else {
+    let Some(start) = next_of(ingress, &mut starts) else {
         return Ok(Vec::new(alloc));
     };
     let (last, others) = join(
