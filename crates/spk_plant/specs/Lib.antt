@@ -1,0 +1,4 @@
+pub mod Plan
+pub mod Start
+pub mod Done
+pub mod Report

@@ -1,0 +1,34 @@
+//! What a plant did.
+use spk_broker_body::Refusal;
+use spk_edge::Published;
+use spk_edge_body::Told;
+use spk_host_body::Given;
+use spk_ingress::Message;
+
+/// What an edge node did.
+#[derive(Drop)]
+pub struct NodeReport {
+    /// What it was told, oldest first; refused inputs too.
+    pub inputs: Vec<Told>,
+    /// What it published, oldest first.
+    pub published: Vec<Published>,
+}
+
+/// What a plant did, from its start to its end.
+#[derive(Drop)]
+pub struct Report {
+    /// The frames that the broker took with their senders, oldest first. Sender i is edge node i, the last one is the host.
+    pub taken: Vec<Message>,
+    /// The sends that a full ring refused, oldest first.
+    pub refusals: Vec<Refusal>,
+    /// The edge nodes, in the plan's order.
+    pub nodes: Vec<NodeReport>,
+    /// Of each item that the host's ring brought: what it said to the host, and what the host consumed at it. Oldest first.
+    pub given: Vec<Given>,
+    /// Of each of these items: how many frames the broker had taken when the ring took it.
+    pub accepted: Vec<usize>,
+    /// How many of the refusals were the host's.
+    pub refused: usize,
+    /// Whether the broker closed the host.
+    pub is_cut: bool,
+}

@@ -1,0 +1,220 @@
+//! The threads of a plant, started and joined.
+ghost use Rattle.std.specs.Prelude.{◌≡◌, ◌≢◌, ◌+◌, [], ◌∷◌, ◌++◌, length, IfOk, IfErr, IfSome, None};
+ghost use Rattle.std.specs.Thread.{IsSync};
+ghost use Rattle.spk_ingress.specs.Passes.{PutsInto};
+ghost use Rattle.spk_broker_body.specs.Done.{BrokerDone, BrokerReady};
+ghost use Rattle.spk_host_body.specs.Ends.{HostDone, HostReady};
+ghost use Rattle.spk_plant.specs.Done.{AllDone, AreDone, AreReady, IsEdgeDone};
+
+use spk_broker_body::{BrokerEnd, BrokerStart, run_broker};
+use spk_edge_body::{EdgeEnd, EdgeStart, run_edge};
+use spk_host_body::{HostEnd, HostStart, run_host};
+use spk_ingress::Ingress;
+use spk_plan::{Gate, PlantFault};
+use std::alloc::Global;
+use std::sync::Wait;
+use std::thread::{Threads, join};
+
+/// What the threads hand on at their ends.
+#[derive(Drop)]
+pub(crate) struct Ends {
+    pub(crate) edges: Vec<EdgeEnd>,
+    pub(crate) broker: BrokerEnd,
+    pub(crate) host: HostEnd,
+}
+
+/// The fault of a thread. It is never that the plan is none.
+fn fault_of(fault: PlantFault) -> PlantFault
+    ensures { result ≢ PlantFault.BadPlan }
+{
+    match fault {
+        PlantFault::NoMemory => PlantFault::NoMemory,
+        PlantFault::Closed => PlantFault::Closed,
+        PlantFault::BadPlan | PlantFault::Unsettled => PlantFault::Unsettled,
+    }
+}
+
+/// One edge's thread.
+fn one_edge<R: Wait, G: Gate>(
+    rt: &R,
+    alloc: Global,
+    ingress: &Ingress,
+    gate: &G,
+    start: EdgeStart,
+) -> Result<EdgeEnd, PlantFault>
+    requires { PutsInto ingress.now start.pass }
+    ensures done { IfOk result (λ e. IsEdgeDone ingress.now start e) }
+    ensures fault { IfErr result (λ e. e ≢ PlantFault.BadPlan) }
+{
+    match run_edge(rt, alloc, ingress, gate, start) {
+        Ok(end) => Ok(end),
+        Err(failure) => Err(fault_of(failure.fault)),
+    }
+}
+
+/// The broker's thread.
+fn the_broker<R: Wait, G: Gate>(
+    rt: &R,
+    alloc: Global,
+    ingress: &Ingress,
+    gate: &G,
+    start: BrokerStart,
+) -> Result<BrokerEnd, PlantFault>
+    requires { BrokerReady ingress.now start }
+    ensures done { IfOk result (λ e. BrokerDone ingress.now start e) }
+    ensures fault { IfErr result (λ e. e ≢ PlantFault.BadPlan) }
+{
+    match run_broker(rt, alloc, ingress, gate, start) {
+        Ok(end) => Ok(end),
+        Err(fault) => Err(fault_of(fault)),
+    }
+}
+
+/// The host's thread.
+fn the_host<R: Wait, G: Gate>(
+    rt: &R,
+    alloc: Global,
+    ingress: &Ingress,
+    gate: &G,
+    start: HostStart,
+) -> Result<HostEnd, PlantFault>
+    requires { HostReady ingress.now start }
+    ensures done { IfOk result (λ e. HostDone ingress.now start e) }
+    ensures fault { IfErr result (λ e. e ≢ PlantFault.BadPlan) }
+{
+    match run_host(rt, alloc, ingress, gate, start) {
+        Ok(end) => Ok(end),
+        Err(failed) => Err(fault_of(failed.fault)),
+    }
+}
+
+/// The last of these, if there is one.
+fn next_of(ingress: &Ingress, starts: &mut Vec<EdgeStart>) -> Option<EdgeStart>
+    requires { AreReady ingress.now starts.old.items }
+    ensures ready { IfSome result (λ s. PutsInto ingress.now s.pass) }
+    ensures others { IfSome result (λ _. AreReady ingress.now starts.new.items) }
+    ensures items { IfSome result (λ s. starts.old.items ≡ starts.new.items ++ s ∷ []) }
+    ensures fewer { IfSome result (λ _. length starts.old.items ≡ length starts.new.items + 1) }
+    ensures none { result ≡ None → length starts.old.items ≡ 0 }
+{
+    starts.pop()
+}
+
+/// The edges' threads: the last one's beside all others, which are run likewise.
+fn run_edges<R: Threads + Wait + Sync, G: Gate + Sync>(
+    rt: &R,
+    alloc: Global,
+    ingress: &Ingress,
+    gate: &G,
+    mut starts: Vec<EdgeStart>,
+) -> Result<Vec<EdgeEnd>, PlantFault>
+    requires { AreReady ingress.now starts.items }
+    ensures done { IfOk result (λ es. AreDone ingress.now starts.items es.items) }
+    ensures fault { IfErr result (λ e. e ≢ PlantFault.BadPlan) }
+{
+    let Some(start) = next_of(ingress, &mut starts) else {
+        return Ok(Vec::new(alloc));
+    };
+    let (last, others) = join(
+        rt,
+        move || -> Result<EdgeEnd, PlantFault>
+            requires { PutsInto ingress.now start.pass }
+            ensures done { IfOk result (λ e. IsEdgeDone ingress.entry.now start e) }
+            ensures fault { IfErr result (λ e. e ≢ PlantFault.BadPlan) }
+        { one_edge(rt, alloc, ingress, gate, start) },
+        move || -> Result<Vec<EdgeEnd>, PlantFault>
+            requires { IsSync R.row × IsSync G.row × AreReady ingress.now starts.items }
+            ensures done { IfOk result (λ es. AreDone ingress.entry.now starts.items es.items) }
+            ensures fault { IfErr result (λ e. e ≢ PlantFault.BadPlan) }
+        { run_edges(rt, alloc, ingress, gate, starts) },
+    );
+    let last = match last {
+        Ok(last) => last,
+        Err(fault) => return Err(fault),
+    };
+    let mut ends = match others {
+        Ok(ends) => ends,
+        Err(fault) => return Err(fault),
+    };
+    ends.push(last)?;
+    Ok(ends)
+}
+
+/// All threads: the edges' beside the broker's and the host's. Of several faults the broker's is answered, else an edge's.
+pub(crate) fn run_all<R: Threads + Wait + Sync, G: Gate + Sync>(
+    rt: &R,
+    alloc: Global,
+    ingress: &Ingress,
+    gate: &G,
+    edges: Vec<EdgeStart>,
+    broker: BrokerStart,
+    host: HostStart,
+) -> Result<Ends, PlantFault>
+    requires edges { AreReady ingress.now edges.items }
+    requires broker { BrokerReady ingress.now broker }
+    requires host { HostReady ingress.now host }
+    ensures done { IfOk result (λ e. AllDone ingress.now edges.items broker host e) }
+    ensures fault { IfErr result (λ e. e ≢ PlantFault.BadPlan) }
+{
+    let (edges, (broker, host)) = join(
+        rt,
+        move || -> Result<Vec<EdgeEnd>, PlantFault>
+            requires { IsSync R.row × IsSync G.row × AreReady ingress.now edges.items }
+            ensures done { IfOk result (λ es. AreDone ingress.entry.now edges.items es.items) }
+            ensures fault { IfErr result (λ e. e ≢ PlantFault.BadPlan) }
+        { run_edges(rt, alloc, ingress, gate, edges) },
+        move || -> (Result<BrokerEnd, PlantFault>, Result<HostEnd, PlantFault>)
+            requires { IsSync R.row × IsSync G.row × BrokerReady ingress.now broker × HostReady ingress.now host }
+            ensures broker { IfOk result.0 (λ e. BrokerDone ingress.entry.now broker e) }
+            ensures host { IfOk result.1 (λ e. HostDone ingress.entry.now host e) }
+            ensures faults { IfErr result.0 (λ e. e ≢ PlantFault.BadPlan) × IfErr result.1 (λ e. e ≢ PlantFault.BadPlan) }
+        { run_two(rt, alloc, ingress, gate, broker, host) },
+    );
+    let broker = match broker {
+        Ok(broker) => broker,
+        Err(fault) => return Err(fault),
+    };
+    let edges = match edges {
+        Ok(edges) => edges,
+        Err(fault) => return Err(fault),
+    };
+    let host = match host {
+        Ok(host) => host,
+        Err(fault) => return Err(fault),
+    };
+    Ok(Ends {
+        edges,
+        broker,
+        host,
+    })
+}
+
+/// The broker's thread beside the host's.
+fn run_two<R: Threads + Wait + Sync, G: Gate + Sync>(
+    rt: &R,
+    alloc: Global,
+    ingress: &Ingress,
+    gate: &G,
+    broker: BrokerStart,
+    host: HostStart,
+) -> (Result<BrokerEnd, PlantFault>, Result<HostEnd, PlantFault>)
+    requires broker { BrokerReady ingress.now broker }
+    requires host { HostReady ingress.now host }
+    ensures broker { IfOk result.0 (λ e. BrokerDone ingress.now broker e) }
+    ensures host { IfOk result.1 (λ e. HostDone ingress.now host e) }
+    ensures faults { IfErr result.0 (λ e. e ≢ PlantFault.BadPlan) × IfErr result.1 (λ e. e ≢ PlantFault.BadPlan) }
+{
+    join(
+        rt,
+        move || -> Result<BrokerEnd, PlantFault>
+            requires { BrokerReady ingress.now broker }
+            ensures done { IfOk result (λ e. BrokerDone ingress.entry.now broker e) }
+            ensures fault { IfErr result (λ e. e ≢ PlantFault.BadPlan) }
+        { the_broker(rt, alloc, ingress, gate, broker) },
+        move || -> Result<HostEnd, PlantFault>
+            requires { HostReady ingress.now host }
+            ensures done { IfOk result (λ e. HostDone ingress.entry.now host e) }
+            ensures fault { IfErr result (λ e. e ≢ PlantFault.BadPlan) }
+        { the_host(rt, alloc, ingress, gate, host) },
+    )
+}

@@ -1,0 +1,114 @@
+//! What is tied once all threads are joined.
+ghost use Rattle.std.specs.Prelude.{◌≡◌, ◌≢◌, [], ◌∷◌, ◌++◌, length, IfOk, IfErr, IfSome, Some};
+ghost use Rattle.spk_plant.specs.Done.{AreApart, AreTheirs, AreTied, IsTied};
+
+use crate::report::{NodeReport, Report};
+use crate::threads::Ends;
+use spk_broker_body::BrokerEnd;
+use spk_edge_body::EdgeEnd;
+use spk_host_body::HostEnd;
+use spk_ingress::{Ingress, PutPass, SettleFault};
+use spk_plan::PlantFault;
+use spk_rings::Token;
+use std::alloc::Global;
+use std::sync::Wait;
+
+/// The last token, if the ring's inlet was there.
+fn last_of(tokens: &mut Vec<Option<Token>>) -> Option<Token>
+    ensures { IfSome result (λ t. tokens.old.items ≡ tokens.new.items ++ Some t ∷ []) }
+{
+    tokens.pop()?
+}
+
+/// The edges' reports and passes, in order. What is left on each ring is counted with its token.
+fn apart(
+    alloc: Global,
+    mut ends: Vec<EdgeEnd>,
+    mut tokens: Vec<Option<Token>>,
+) -> Result<(Vec<NodeReport>, Vec<PutPass>), PlantFault>
+    requires sized { length tokens.items ≡ length ends.items }
+    requires theirs { AreTheirs ends.items tokens.items }
+    ensures apart { IfOk result (λ r. AreApart ends.items tokens.items r.0.items r.1.items) }
+    ensures fault { IfErr result (λ e. e ≢ PlantFault.BadPlan) }
+{
+    let Some(end) = ends.pop() else {
+        return Ok((Vec::new(alloc), Vec::new(alloc)));
+    };
+    let Some(mut token) = last_of(&mut tokens) else {
+        return Err(PlantFault::Unsettled);
+    };
+    let EdgeEnd {
+        inputs,
+        published,
+        pass,
+        mut inlet,
+        ..
+    } = end;
+    let _left = inlet.left_after(&mut token);
+    let (mut reports, mut passes) = match apart(alloc, ends, tokens) {
+        Ok(others) => others,
+        Err(fault) => return Err(fault),
+    };
+    reports.push(NodeReport { inputs, published })?;
+    passes.push(pass)?;
+    Ok((reports, passes))
+}
+
+/// The report of a plant whose threads have ended. Unsettled (93) where a ring's token isn't there, the host's ring isn't
+/// empty, or frames are left.
+pub(crate) fn report_of<R: Wait>(
+    rt: &R,
+    alloc: Global,
+    ingress: Ingress,
+    ends: Ends,
+) -> Result<Report, PlantFault>
+    requires { AreTied ingress ends }
+    ensures tied { IfOk result (IsTied ends) }
+    ensures fault { IfErr result (λ e. e ≢ PlantFault.BadPlan) }
+{
+    let Ends {
+        edges,
+        broker,
+        host,
+    } = ends;
+    let BrokerEnd {
+        pass: taker,
+        taken,
+        refusals,
+        refused,
+        accepted,
+        mut tokens,
+        is_cut,
+    } = broker;
+    let HostEnd {
+        given,
+        pass,
+        mut inlet,
+        ..
+    } = host;
+    let Some(mut token) = last_of(&mut tokens) else {
+        return Err(PlantFault::Unsettled);
+    };
+    if inlet.left_after(&mut token) != 0 {
+        return Err(PlantFault::Unsettled);
+    }
+    let (nodes, mut passes) = match apart(alloc, edges, tokens) {
+        Ok(parts) => parts,
+        Err(fault) => return Err(fault),
+    };
+    passes.push(pass)?;
+    match ingress.settle(rt, alloc, passes, taker) {
+        Ok(_counts) => {}
+        Err(SettleFault::NoMemory) => return Err(PlantFault::NoMemory),
+        Err(SettleFault::Unsettled) => return Err(PlantFault::Unsettled),
+    }
+    Ok(Report {
+        taken,
+        refusals,
+        nodes,
+        given,
+        accepted,
+        refused,
+        is_cut,
+    })
+}
