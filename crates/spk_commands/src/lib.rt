@@ -7,8 +7,8 @@ mod fault;
 mod files;
 mod packets;
 mod places;
-mod plant;
-mod run;
+mod plants;
+mod running;
 mod show;
 mod texts;
 mod words;
@@ -16,5 +16,5 @@ mod world;
 
 pub use broker::{said, serve_clients};
 pub use files::Files;
-pub use plant::{plant, told};
-pub use run::{NOT_TEXT, Outcome, run, run_with_notes};
+pub use plants::{plant, told};
+pub use running::{NOT_TEXT, Outcome, run, run_with_notes};

@@ -200,12 +200,3 @@ ran_more config p first before between after given later item h new q r ran same
   taken = one ∙ ap (λ l. l ++ item ∷ []) (same ∙ ran.taken) ∙ append_assoc (popped first) ran.items (item ∷ []);
   along = more ran.items ran.along;
 }
-
--- ---- a host and a pass that were made
-
-pub new_is_new : (h : HostData) (config : Config) → h ≡ new_host config → h ≡ new_host h.session.config
-new_is_new h config e = e ∙ ap new_host (sym (ap (λ (x : HostData). x.session.config) e))
-
-pub last_puts_into : (n : Ingress) (ps : List PutPass) (p : PutPass) → AllPutInto n (ps ++ p ∷ []) → PutsInto n p
-last_puts_into n [] p all = all.0
-last_puts_into n (q ∷ ps) p all = last_puts_into n ps p all.1

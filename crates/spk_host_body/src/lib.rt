@@ -8,8 +8,6 @@ mod desk;
 mod ends;
 pub mod laws;
 mod line;
-#[cfg(test)]
-mod tests;
 mod watch;
 
 pub use body::run_host;

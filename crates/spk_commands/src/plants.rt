@@ -113,11 +113,7 @@ fn write_name(alloc: Global, lines: &mut String, name: &str) -> Result<(), Alloc
 
 /// The lines of a report: of each node its births, the messages that it published, and those of them that the host consumed; last
 /// whether the broker closed the host, and how many sends to the host its ring refused.
-fn lines_of(
-    alloc: Global,
-    names: &[String],
-    report: &Report,
-) -> Result<String, AllocError> {
+fn lines_of(alloc: Global, names: &[String], report: &Report) -> Result<String, AllocError> {
     let mut lines = String::new(alloc);
     for (name, node) in names.iter().zip(report.nodes.iter()) {
         let births = births_of(node);

@@ -4,8 +4,8 @@ ghost use Rattle.std.specs.Prelude.{◌≡◌, IfSome};
 ghost use Rattle.spk_ingress.specs.Passes.{AllPutInto, PutsInto, TakesFrom};
 ghost use Rattle.spk_host.specs.Inputs.{new_host};
 
-use crate::{HostEnd, HostStart, run_host};
 use spk_host::{Host, HostConfig};
+use spk_host_body::{HostEnd, HostStart, run_host};
 use spk_ingress::{Frame, Ingress, PutPass, TakePass};
 use spk_plan::Gate;
 use spk_rings::{Bytes, Inlet, Item, ring};
@@ -35,7 +35,7 @@ impl Gate for Counts {
 }
 
 /// A host that waits one millisecond.
-#[tactic(auto, using(crate::proofs::Running::new_is_new))]
+#[tactic(auto, using(crate::proofs::Made::new_is_new))]
 fn host_of(alloc: Global) -> Option<Host>
     ensures { IfSome result (λ h. h ≡ new_host h.session.config) }
 {
@@ -64,7 +64,7 @@ fn ring_of(alloc: Global, items: &[&[u8]]) -> Option<Inlet> {
 }
 
 /// The last pass.
-#[tactic(auto, using(crate::proofs::Running::last_puts_into))]
+#[tactic(auto, using(crate::proofs::Made::last_puts_into))]
 fn last_of(ingress: &Ingress, mut passes: Vec<PutPass>) -> Option<PutPass>
     requires { AllPutInto ingress.now passes.items }
     ensures { IfSome result (λ p. PutsInto ingress.now p) }

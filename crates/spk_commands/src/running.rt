@@ -3,7 +3,7 @@
 use crate::fault::{Fault, Stop};
 use crate::files::{Files, text_of};
 use crate::packets::packets;
-use crate::plant::plan_from;
+use crate::plants::plan_from;
 use crate::show::show;
 use crate::words::command_line;
 use crate::world::world;
