@@ -1,23 +1,22 @@
 -- What the threads hand on, one edge after another, and what is tied after the joins.
-use Rattle.std.proofs.Common.{◌≡◌, ◌∙◌, ◌⊎◌, inl, inr, ℕ, zero, suc, ◌+◌, ◌<◌, List, [], ◌∷◌, ◌++◌, length, Option, Some, None, IfSome, option_to_list, refl, sym, ap, subst, arith, length-append, append-nil}
+use Rattle.std.proofs.Common.{◌≡◌, ◌∙◌, inl, inr, ℕ, zero, suc, ◌+◌, List, [], ◌∷◌, ◌++◌, length, Option, Some, None, IfSome, option_to_list, refl, sym, ap, subst, arith, length-append, append-nil}
 use Rattle.std.specs.List.{slice_get}
 use Rattle.spk_ingress.specs.Lanes.{share_of}
 use Rattle.spk_ingress.specs.Passes.{AllPutInto, AllTaken, PutsInto, frames_put, frames_taken}
 use Rattle.spk_ingress.specs.declared.channel.Ingress.{Ingress}
 use Rattle.spk_ingress.specs.declared.channel.PutPass.{PutPass}
 use Rattle.spk_ingress.specs.declared.rule.Message.{Message}
-use Rattle.spk_rings.specs.Ring.{IsShorterBy, IsTokenOf, all_offered, popped}
-use Rattle.spk_rings.specs.declared.inlet.Inlet.{Inlet}
+use Rattle.spk_rings.specs.Ring.{IsShorterBy, all_offered, popped}
 use Rattle.spk_rings.specs.declared.item.Item.{Item}
 use Rattle.spk_rings.specs.declared.token.Token.{Token}
 use Rattle.spk_edge_body.specs.declared.edge.EdgeStart.{EdgeStart}
 use Rattle.spk_edge_body.specs.declared.edge.EdgeEnd.{EdgeEnd}
-use Rattle.spk_plant.specs.Done.{AllInto, AreApart, AreDone, AreReady, AreTheirs, IsAllOf, IsEdgeDone, IsFront, IsFrontOf, IsReportOf, IsTied}
+use Rattle.spk_plant.specs.Done.{AllInto, AreApart, AreDone, AreReady, AreTheirs, IsAllOf, IsEdgeDone, IsFrontOf, IsReportOf, IsTied}
 use Rattle.spk_plant.specs.Start.{HasAt}
 use Rattle.spk_plant.specs.declared.report.NodeReport.{NodeReport}
 use Rattle.spk_plant.specs.declared.report.Report.{Report}
 use Rattle.spk_plant.specs.declared.threads.Ends.{Ends}
-use Rattle.spk_plant.proofs.Places.{get_last, get_more, get_parts, has_last, has_more, none_at}
+use Rattle.spk_plant.proofs.Places.{get_last, get_more, get_parts, has_last, has_more}
 
 -- ---- the edges' threads
 
@@ -27,8 +26,7 @@ ready_front n ss ts s all is k x at = all k x (subst (λ xs. slice_get xs k ≡ 
 pub ready_last : (n : Ingress) (ss ts : List EdgeStart) (s : EdgeStart) → AreReady n ts → ts ≡ ss ++ s ∷ [] → PutsInto n s.pass
 ready_last n ss ts s all is = all (length ss) s (subst (λ xs. slice_get xs (length ss) ≡ Some s) (sym is) (get_last ss s))
 
--- the last one of a list, where there is one
-
+-- the last one, where there is one
 pub next_ready : (n : Ingress) (o : Option EdgeStart) (ss ts : List EdgeStart) → AreReady n ts → ts ≡ ss ++ option_to_list o → IfSome o (λ s. PutsInto n s.pass)
 next_ready n None ss ts all is = tt
 next_ready n (Some s) ss ts all is = ready_last n ss ts s all is
@@ -44,12 +42,6 @@ next_items (Some s) ss ts is = is
 pub next_fewer : (o : Option EdgeStart) (ss ts : List EdgeStart) → ts ≡ ss ++ option_to_list o → IfSome o (λ s. length ts ≡ length ss + 1)
 next_fewer None ss ts is = tt
 next_fewer (Some s) ss ts is = ap length is ∙ length-append ss (s ∷ [])
-
-pub done_none : (n : Ingress) (ss : List EdgeStart) (es : List EdgeEnd) → length ss ≡ 0 → es ≡ [] → AreDone n ss es
-done_none n ss es none ended = record {
-  sized = ap length ended ∙ sym none;
-  each = λ k e at. absurd (none_at es k e ended at);
-}
 
 done_snoc : (n : Ingress) (ss : List EdgeStart) (es : List EdgeEnd) (s : EdgeStart) (e : EdgeEnd) → AreDone n ss es → IsEdgeDone n s e
     → AreDone n (ss ++ s ∷ []) (es ++ e ∷ [])

@@ -1,5 +1,4 @@
 pub mod Places
 pub mod Starts
 pub mod Ends
-pub mod Faults
 pub mod Runs

@@ -1,5 +1,5 @@
 -- What stands at a place of a list.
-use Rattle.std.proofs.Common.{◌≡◌, ◌⊎◌, inl, inr, ℕ, zero, suc, List, [], ◌∷◌, ◌++◌, length, Option, Some, refl, ap}
+use Rattle.std.proofs.Common.{◌≡◌, ◌⊎◌, inl, inr, ℕ, zero, suc, List, [], ◌∷◌, ◌++◌, length, Some, refl, ap}
 use Rattle.std.specs.List.{slice_get}
 use Rattle.spk_plant.specs.Start.{HasAt}
 

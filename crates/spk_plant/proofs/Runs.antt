@@ -1,10 +1,9 @@
 -- The threads' promises and what ties them are what the report says.
-use Rattle.std.proofs.Common.{◌≡◌, ◌∙◌, ℕ, ◌+◌, ◌-◌, ◌*◌, ◌<◌, List, [], ◌∷◌, ◌++◌, length, map, Option, Some, refl, sym, ap, subst, arith}
+use Rattle.std.proofs.Common.{◌≡◌, ◌∙◌, ℕ, ◌+◌, ◌-◌, ◌*◌, List, [], ◌∷◌, ◌++◌, length, map, Option, Some, sym, ap, subst, arith}
 use Rattle.std.specs.List.{slice_get}
 use Rattle.spk_ingress.specs.Lanes.{share_of}
-use Rattle.spk_ingress.specs.Passes.{frames_put, frames_taken}
+use Rattle.spk_ingress.specs.Passes.{frames_put}
 use Rattle.spk_ingress.specs.declared.channel.Ingress.{Ingress}
-use Rattle.spk_ingress.specs.declared.frame.Frame.{Frame}
 use Rattle.spk_rings.specs.Ring as rings
 use Rattle.spk_rings.specs.Ring.{FinishedFrom, SameInlet, all_offered, popped}
 use Rattle.spk_rings.specs.declared.inlet.Inlet.{Inlet}
@@ -24,18 +23,17 @@ use Rattle.spk_edge_body.specs.Done.{EdgeDone}
 use Rattle.spk_edge_body.specs.declared.edge.EdgeStart.{EdgeStart}
 use Rattle.spk_edge_body.specs.declared.edge.EdgeEnd.{EdgeEnd}
 use Rattle.spk_broker_body.specs.Data.{Entry}
-use Rattle.spk_broker_body.specs.Done.{AreTokens, BrokerDone, BrokerReady, IsTokenAt, IsTokenOf}
+use Rattle.spk_broker_body.specs.Done.{AreTokens, BrokerDone, IsTokenAt}
 use Rattle.spk_broker_body.specs.Log.{got_of, taken_of}
 use Rattle.spk_broker_body.specs.declared.part.BrokerStart.{BrokerStart}
 use Rattle.spk_host_body.specs.declared.ends.HostStart.{HostStart}
-use Rattle.spk_plant.specs.Done.{AllDone, AreReady, AreTheirs, AreTied, IsEdgeDone, IsFront, IsFrontOf, IsReportOf, IsTied}
+use Rattle.spk_plant.specs.Done.{AllDone, AreReady, AreTheirs, AreTied, IsEdgeDone, IsFront, IsReportOf, IsTied}
 use Rattle.spk_plant.specs.Plan.{host_in, setup_in}
 use Rattle.std.specs.String.{string_bytes}
 use Rattle.spk_host.specs.Data.{HostData}
-use Rattle.spk_host.specs.Inputs.{new_host}
 use Rattle.spk_ingress.specs.declared.frame.Frame.TheVariants as frame
 use Rattle.spk_host_body.specs.Calls.{packets_of}
-use Rattle.spk_host_body.specs.Ends.{HostReady, config_of}
+use Rattle.spk_host_body.specs.Ends.{config_of}
 use Rattle.spk_host_body.specs.Told.{AreToldBy, calls_of, heard_in, told_in}
 use Rattle.spk_plant.specs.Report.{IsHost, IsLogged, IsNode, IsNodeAt, RunsAs}
 use Rattle.spk_plant.specs.Start.{AreParts, HasAt, IsPass, IsRing, IsStart}
@@ -148,23 +146,6 @@ runs p n ss b h ends r parts d tied = record {
 
 pub ready_is : (p : Plan) (n : Ingress) (ss : List EdgeStart) (b : BrokerStart) (h : HostStart) → AreParts p n ss b h → AreReady n ss
 ready_is p n ss b h parts k s at = (parts.passes k s at).into
-
-pub broker_is : (p : Plan) (n : Ingress) (ss : List EdgeStart) (b : BrokerStart) (h : HostStart) → AreParts p n ss b h → BrokerReady n b
-broker_is p n ss b h parts =
-    let senders : n.senders ≡ length p.nodes.items + 1 = parts.senders in
-    record {
-      pass = parts.taker;
-      none = parts.none;
-      rings = parts.outlets;
-      fresh = parts.fresh;
-      some = omega arith;
-    }
-
-pub new_is : (p : Plan) (n : Ingress) (ss : List EdgeStart) (b : BrokerStart) (h : HostStart) → AreParts p n ss b h → HostReady n h
-new_is p n ss b h parts = record {
-  puts_into = parts.pass.into;
-  fresh = parts.host ∙ sym (ap (λ (x : HostData). new_host x.session.config) parts.host);
-}
 
 -- the token of a ring is of its other end, also after it was used
 token_is : (os : List Outlet) (got : ℕ → List Item) (ts : List (Option Token)) (k : ℕ) (t : Token) (i j : Inlet)

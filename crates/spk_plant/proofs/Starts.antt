@@ -1,8 +1,8 @@
 -- What the threads begin with is of the plan, of one ingress and of new rings.
-use Rattle.std.proofs.Common.{◌≡◌, ◌∙◌, ◌⊎◌, inl, inr, ℕ, zero, suc, ◌+◌, ◌<◌, true, List, [], ◌∷◌, ◌++◌, length, Option, Some, refl, sym, ap, subst, arith, length-append, string_bytes, add-zero, add-suc}
+use Rattle.std.proofs.Common.{◌≡◌, ◌∙◌, inl, inr, ℕ, zero, suc, ◌+◌, true, List, [], ◌∷◌, ◌++◌, length, Some, sym, ap, subst, arith, length-append, string_bytes, add-zero}
 use Rattle.std.specs.List.{slice_get}
 use Rattle.spk_host.specs.Inputs.{new_host}
-use Rattle.spk_ingress.specs.Passes.{AllFresh, AllPutInto, ArePasses, PutsInto, TakesFrom, frames_put, frames_taken}
+use Rattle.spk_ingress.specs.Passes.{AllFresh, AllPutInto, ArePasses, TakesFrom, frames_taken}
 use Rattle.spk_ingress.specs.declared.channel.Ingress.{Ingress}
 use Rattle.spk_ingress.specs.declared.channel.PutPass.{PutPass}
 use Rattle.spk_rings.specs.Ring.{offered}
@@ -15,17 +15,9 @@ use Rattle.spk_broker_body.specs.declared.part.BrokerStart.{BrokerStart}
 use Rattle.spk_host_body.specs.declared.ends.HostStart.{HostStart}
 use Rattle.spk_plant.specs.Plan.{AreEdges, host_in, is_edge}
 use Rattle.spk_plant.specs.Start.{AreParts, AreRings, AreStarts, HasAt, IsPass, IsRing, IsStart}
-use Rattle.spk_plant.proofs.Places.{get_last, get_more, get_parts, has_last, has_more, none_at}
+use Rattle.spk_plant.proofs.Places.{get_last, get_more, get_parts, has_last, has_more}
 
 -- ---- rings
-
-pub rings_none : (os : List Outlet) (is : List Inlet) → os ≡ [] → is ≡ [] → AreRings 0 os is
-rings_none os is none ends = record {
-  outlets = ap length none;
-  inlets = ap length ends;
-  each = λ k i at. absurd (none_at is k i ends at);
-  fresh = λ k o at. absurd (none_at os k o none at);
-}
 
 rings_snoc : (n : ℕ) (os : List Outlet) (is : List Inlet) (o : Outlet) (i : Inlet) → AreRings n os is → IsRing o i
     → AreRings (n + 1) (os ++ o ∷ []) (is ++ i ∷ [])
@@ -69,19 +61,7 @@ edges_snoc group host ns n all one k m at = elim (get_parts ns n k m at) [
 pub edges_push : (group host : List ℕ) (ns ms : List PlanNode) (n : PlanNode) → ms ≡ ns ++ n ∷ [] → AreEdges group host ns → is_edge group host n ≡ true → AreEdges group host ms
 edges_push group host ns ms n is all one = subst (λ xs. AreEdges group host xs) (sym is) (edges_snoc group host ns n all one)
 
-pub edges_none : (group host : List ℕ) (ns : List PlanNode) → ns ≡ [] → AreEdges group host ns
-edges_none group host ns none k m at = absurd (none_at ns k m none at)
-
 -- ---- what the edges' threads begin with
-
-pub starts_none : (group host : List ℕ) (ns : List PlanNode) (ps : List PutPass) (is : List Inlet) (ss : List EdgeStart) → ns ≡ [] → ss ≡ []
-    → AreStarts group host ns ps is ss
-starts_none group host ns ps is ss none begun = record {
-  sized = ap length begun ∙ sym (ap length none);
-  nodes = λ k s at. absurd (none_at ss k s begun at);
-  passes = λ k s at. absurd (none_at ss k s begun at);
-  inlets = λ k s at. absurd (none_at ss k s begun at);
-}
 
 starts_snoc : (group host : List ℕ) (ns : List PlanNode) (ps : List PutPass) (is : List Inlet) (ss : List EdgeStart) (n : PlanNode) (p : PutPass) (i : Inlet) (s : EdgeStart)
     → length ps ≡ length ns → length is ≡ length ns → s.pass ≡ p → s.inlet ≡ i → IsStart group host n s → AreStarts group host ns ps is ss
@@ -127,14 +107,6 @@ starts_push group host ns ms ps qs is js ss ts n p i s nodes passes inlets start
     (subst (λ xs. AreStarts group host (ns ++ n ∷ []) xs js ts) (sym passes)
     (subst (λ xs. AreStarts group host (ns ++ n ∷ []) (ps ++ p ∷ []) xs ts) (sym inlets)
     (subst (λ xs. AreStarts group host (ns ++ n ∷ []) (ps ++ p ∷ []) (is ++ i ∷ []) xs) (sym starts) snoc)))
-
--- the others are as many
-pub sized_front : {A B : Type 0} (xs ys : List A) (us vs : List B) (x : A) (u : B) → ys ≡ xs ++ x ∷ [] → vs ≡ us ++ u ∷ []
-    → length vs ≡ length ys → length us ≡ length xs
-sized_front xs ys us vs x u one other same =
-    let longer : length ys ≡ length xs + 1 = ap length one ∙ length-append xs (x ∷ []) in
-    let more : length vs ≡ length us + 1 = ap length other ∙ length-append us (u ∷ []) in
-    omega arith
 
 -- ---- all threads
 

@@ -1,5 +1,5 @@
 -- What the threads of a plant begin with.
-use Rattle.std.specs.Prelude.{◌≡◌, ℕ, ◌+◌, List, [], length, Option, Some}
+use Rattle.std.specs.Prelude.{◌≡◌, ℕ, ◌+◌, List, [], length, Some}
 use Rattle.std.specs.List.{slice_get}
 use Rattle.std.specs.String.{string_bytes}
 use Rattle.spk_edge.specs.Along.{node_of}

@@ -1,4 +1,4 @@
-use Rattle.std.proofs.Common.{◌≡◌, ◌⊎◌, inl, inr, length, arith, rules}
+use Rattle.std.proofs.Common.{◌≡◌, inl, inr, length, arith, rules}
 use Rattle.spk_plant.proofs.Starts.{edges_front, edges_last, edges_push, starts_push}
 use Rattle.spk_plant.proofs.start.+starts_of.Goals as goal
 
