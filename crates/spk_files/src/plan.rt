@@ -1,9 +1,8 @@
 //! A plan's file: edge nodes with their scripts, a broker and a host, as JSON.
-ghost use Rattle.std.specs.Prelude.{◌≡◌, ◌≤◌, true, false, length, IfOk};
+ghost use Rattle.std.specs.Prelude.{◌≡◌, ◌≤◌, true, length, IfOk};
 ghost use Rattle.std.specs.List.{list_all, list_any};
 ghost use Rattle.std.specs.Str.{bytes_eq};
 ghost use Rattle.std.specs.String.{string_bytes};
-ghost use Rattle.spk_topics.specs.Spark.{is_name};
 ghost use Rattle.spk_plan.specs.declared.plan.PlanNode.{PlanNode};
 ghost use Rattle.spk_files.specs.Plan.{CanRun, are_distinct, fits, is_well_made};
 
