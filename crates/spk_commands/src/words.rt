@@ -116,7 +116,8 @@ fn on_digits<'a>(alloc: Global, name: &'a str, digits: &'a str) -> Result<Comman
         .action(ArgAction::Set);
     // one of both, and not both
     let either = ArgGroup::new(alloc, "digits")
-        .args(&["hex", "file"])?
+        .arg("hex")?
+        .arg("file")?
         .required(true);
     Command::new(alloc, name).arg(hex)?.arg(file)?.group(either)
 }
