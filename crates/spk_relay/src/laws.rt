@@ -1,0 +1,70 @@
+//! Laws of the definitions alone: functions that do nothing, whose contracts speak of definitions.
+ghost use Rattle.std.specs.Prelude.{◌≡◌, ℕ, ◌≤◌, Bool, List, ◌∷◌, ◌++◌};
+ghost use Rattle.spk_sequence.specs.Claims.{AfterDeath, AfterGap, BirthPrefixes, HasCause, IsLawful, SameStep, TakesBirth};
+ghost use Rattle.spk_sequence.specs.HostRecord.{Input, MessageComes, consumed_of, done_at, record_of, standing_of};
+ghost use Rattle.spk_sequence.specs.NodeRecord.{Setting};
+ghost use Rattle.spk_sequence.specs.Window.{AllNearDeaths, IsNearBirth};
+ghost use Rattle.spk_broker_body.specs.Data.{Entry};
+ghost use Rattle.spk_broker_body.specs.Log.{IsLog};
+ghost use Rattle.spk_relay.specs.Relayed.{IsRelayed};
+ghost use Rattle.spk_relay.specs.Shown.{AllMaySay, HasPlaces, IsFew, count_numbered, shown};
+
+/// What comes in order, each once, with fewer than 256 - 2 * width missing between, is inside the window, for every width of 1 to 96:
+/// no window is asked for.
+pub fn relayed()
+    // so the law on positions holds
+    ensures lawful { (s : Setting) (inputs : List Input) → IsRelayed s inputs → IsLawful s inputs }
+
+    // with all of its clauses
+    ensures near_deaths { (s : Setting) (inputs : List Input) → IsRelayed s inputs → AllNearDeaths s inputs }
+    ensures near_birth { (s : Setting) (inputs : List Input) (input : Input) → IsRelayed s (input ∷ inputs) →
+        IsNearBirth s (record_of s inputs) input }
+
+    // and at every moment
+    ensures before { (s : Setting) (later inputs : List Input) → IsRelayed s (later ++ inputs) → IsRelayed s inputs }
+{}
+
+/// What a host consumes of a node whose messages come so, at every moment.
+pub fn headline()
+    // birth by birth in increasing order, a prefix of the messages that the node published under that birth, each once
+    ensures prefixes { (s : Setting) (inputs : List Input) → IsRelayed s inputs →
+        BirthPrefixes s.published (consumed_of (record_of s inputs)) }
+
+    // while the host doesn't follow the node, as after a gap, nothing is consumed but a newer birth
+    ensures after_gap { (s : Setting) (inputs : List Input) (input : Input) → IsRelayed s (input ∷ inputs) →
+        AfterGap s (record_of s inputs) (done_at s (record_of s inputs) (standing_of s inputs) input) }
+
+    // nothing is consumed of a session whose matching death came
+    ensures after_death { (s : Setting) (inputs : List Input) (input : Input) → IsRelayed s (input ∷ inputs) →
+        AfterDeath s (record_of s inputs) (done_at s (record_of s inputs) (standing_of s inputs) input) }
+
+    // an NBIRTH that comes is taken unless that birth or a later one was taken before, or the matching death of its session came
+    // and no birth was taken since
+    ensures births { (s : Setting) (inputs : List Input) (p now : ℕ) → IsRelayed s (MessageComes p now ∷ inputs) →
+        TakesBirth s (record_of s inputs) p (done_at s (record_of s inputs) (standing_of s inputs) (MessageComes p now)) }
+
+    // wherever consumption stands, it stands for a cause
+    ensures cause { (s : Setting) (inputs : List Input) → IsRelayed s inputs → HasCause s (record_of s inputs) }
+
+    // what is answered by numbers is what positions ask for
+    ensures steps { (s : Setting) (inputs : List Input) (input : Input) → IsRelayed s (input ∷ inputs) → SameStep s inputs input }
+{
+    spk_sequence::laws::positions();
+}
+
+/// Along every log of a plant's broker whose clients say no more than they may: the numbered messages of a node that the host's ring
+/// got are in the order of taking, each once, and from the first to the last fewer are missing than refusals close a connection.
+pub fn few()
+    ensures { (limit edges k : ℕ) (on : List ℕ → Bool) (log : List Entry) → limit ≤ 65535 → IsLog limit edges log →
+        AllMaySay on k edges log → HasPlaces limit edges log →
+        IsFew limit (count_numbered on k log) (shown on k edges log) }
+{
+    spk_broker_rules::laws::any_list();
+    spk_broker_rules::laws::routing();
+    spk_broker_rules::laws::plain_publish();
+    spk_broker_rules::laws::staying();
+    spk_broker_rules::laws::filters();
+    spk_broker_rules::laws::knowing();
+    spk_broker_rules::laws::joining();
+    spk_broker_rules::laws::drops();
+}
