@@ -1,7 +1,10 @@
 pub mod Base
+pub mod Due
 pub mod Facts
 pub mod Few
 pub mod Moves
 pub mod Offers
+pub mod Places
 pub mod State
+pub mod Topics
 pub mod Window

@@ -198,7 +198,7 @@ quiet-after limit on h k r later ps n busy none pass st = record {
 -- ---- a numbered message of a node that has joined
 
 -- the connection of a session is known
-sat-known : (b : Broker) (d : ℕ) → list_any (sits d) b.seats ≡ true → knows b d ≡ true
+pub sat-known : (b : Broker) (d : ℕ) → list_any (sits d) b.seats ≡ true → knows b d ≡ true
 sat-known b d e = joined-known b d (found b.seats e)
   where
     found : (xs : List Seat) → list_any (sits d) xs ≡ true → is_some (find (sits d) xs) ≡ true
@@ -209,7 +209,7 @@ sat-known b d e = joined-known b d (found b.seats e)
         by true e = refl
         by false e = found xs e
 
-listens-sat : (topic : List ℕ) (d : ℕ) (xs : List Seat) → list_any (λ (s : Seat). sits d s && is_listening topic s) xs ≡ true → list_any (sits d) xs ≡ true
+pub listens-sat : (topic : List ℕ) (d : ℕ) (xs : List Seat) → list_any (λ (s : Seat). sits d s && is_listening topic s) xs ≡ true → list_any (sits d) xs ≡ true
 listens-sat topic d [] e = e
 listens-sat topic d (s ∷ xs) e = by (sits d s) (is_listening topic s) e
   where
@@ -393,7 +393,7 @@ first-shut f b d now topic payload un = by (is_some (first_of (unwritable (plain
     by true = end
     by false = subst (λ (o : Option Seat). Shut d (acts (cond (is_some o) (event.next_packet d (plain_publish topic payload)) (shut d)) t)) (sym none) end
 
-open-joins-none : Facts → (limit : ℕ) (es : List Event) (now : ℕ) → is_joined (after limit (Open now ∷ es)) ((after limit es).given + 1) ≡ false
+pub open-joins-none : Facts → (limit : ℕ) (es : List Event) (now : ℕ) → is_joined (after limit (Open now ∷ es)) ((after limit es).given + 1) ≡ false
 open-joins-none f limit es now = same (after limit es) (f.fresh (after limit es) (f.lawful limit es))
   where
     same : (b : Broker) → knows b (b.given + 1) ≡ false → is_joined (step b (Open now)).broker (b.given + 1) ≡ false

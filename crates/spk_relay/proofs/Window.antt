@@ -1,5 +1,5 @@
 -- What is relayed so is inside the window.
-use Rattle.std.proofs.Common.{◌≡◌, sym, ap, refl, subst, inl, inr, ℕ, zero, suc, ◌+◌, ◌-◌, ◌*◌, ◌%◌, ◌<◌, ◌≤◌, max, Bool, true, false, not, ◌&&◌, ◌||◌, true≢false, List, [], ◌∷◌, ◌++◌, length, get_or, Option, Some, None, arith}
+use Rattle.std.proofs.Common.{◌≡◌, ◌∙◌, sym, ap, refl, subst, inl, inr, ℕ, zero, suc, ◌+◌, ◌-◌, ◌*◌, ◌%◌, ◌<◌, ◌≤◌, max, Bool, true, false, not, ◌&&◌, ◌||◌, true≢false, List, [], ◌∷◌, ◌++◌, length, get_or, Option, Some, None, arith}
 use Rattle.std.proofs.lemmas.Bool.{and_left, cases_lt}
 use Rattle.std.proofs.lemmas.List.{get_or_past}
 use Rattle.spk_sequence.specs.Claims.{AllPublished, IsLawful}

@@ -1,2 +1,5 @@
+pub mod Due
 pub mod Relayed
+pub mod Senders
 pub mod Shown
+pub mod Topics

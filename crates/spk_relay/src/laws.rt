@@ -1,12 +1,15 @@
 //! Laws of the definitions alone: functions that do nothing, whose contracts speak of definitions.
-ghost use Rattle.std.specs.Prelude.{◌≡◌, ℕ, ◌≤◌, Bool, List, ◌∷◌, ◌++◌};
+ghost use Rattle.std.specs.Prelude.{◌≡◌, ℕ, ◌≤◌, Bool, List, [], ◌∷◌, ◌++◌};
 ghost use Rattle.spk_sequence.specs.Claims.{AfterDeath, AfterGap, BirthPrefixes, HasCause, IsLawful, SameStep, TakesBirth};
 ghost use Rattle.spk_sequence.specs.HostRecord.{Input, MessageComes, consumed_of, done_at, record_of, standing_of};
 ghost use Rattle.spk_sequence.specs.NodeRecord.{Setting};
 ghost use Rattle.spk_sequence.specs.Window.{AllNearDeaths, IsNearBirth};
 ghost use Rattle.spk_broker_body.specs.Data.{Entry};
-ghost use Rattle.spk_broker_body.specs.Log.{IsLog};
+ghost use Rattle.spk_broker_body.specs.Done.{refused_to};
+ghost use Rattle.spk_broker_body.specs.Log.{IsLog, refusals_of, room_of, taken_of};
+ghost use Rattle.spk_relay.specs.Due.{due};
 ghost use Rattle.spk_relay.specs.Relayed.{IsRelayed};
+ghost use Rattle.spk_relay.specs.Senders.{AreSenders};
 ghost use Rattle.spk_relay.specs.Shown.{AllMaySay, HasPlaces, IsFew, count_numbered, shown};
 
 /// What comes in order, each once, with fewer than 256 - 2 * width missing between, is inside the window, for every width of 1 to 96:
@@ -52,12 +55,22 @@ pub fn headline()
     spk_sequence::laws::positions();
 }
 
-/// Along every log of a plant's broker whose clients say no more than they may: the numbered messages of a node that the host's ring
-/// got are in the order of taking, each once, and from the first to the last fewer are missing than refusals close a connection.
+/// Along every log of a plant's broker, of up to sixteen edge nodes and the host behind them, whose clients say no more than they may.
 pub fn few()
-    ensures { (limit edges k : ℕ) (on : List ℕ → Bool) (log : List Entry) → limit ≤ 65535 → IsLog limit edges log →
-        AllMaySay on k edges log → HasPlaces limit edges log →
+    // no client has two connections, so the broker may always have a further one
+    ensures places { (limit edges k : ℕ) (on : List ℕ → Bool) (log : List Entry) → limit ≤ 65535 → IsLog limit edges log →
+        AllMaySay on k edges log → AreSenders edges (taken_of log) → HasPlaces limit edges log }
+
+    // The numbered messages of a node that the host's ring got are in the order of taking, each once; and from the first to the last
+    // fewer are missing than refusals close a connection.
+    ensures few { (limit edges k : ℕ) (on : List ℕ → Bool) (log : List Entry) → limit ≤ 65535 → IsLog limit edges log →
+        AllMaySay on k edges log → AreSenders edges (taken_of log) →
         IsFew limit (count_numbered on k log) (shown on k edges log) }
+
+    // where none was refused and all was offered, these are all that were due
+    ensures complete { (limit edges k : ℕ) (on : List ℕ → Bool) (log : List Entry) → limit ≤ 65535 → IsLog limit edges log →
+        AllMaySay on k edges log → AreSenders edges (taken_of log) → refused_to edges (refusals_of log) ≡ 0 →
+        (room_of limit edges log).pending ≡ [] → due limit edges on k edges log ≡ shown on k edges log }
 {
     spk_broker_rules::laws::any_list();
     spk_broker_rules::laws::routing();
