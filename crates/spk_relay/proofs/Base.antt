@@ -95,11 +95,11 @@ line-low n c (Some l) low e = subst (λ (x : ℕ). x ≤ n) (eqb-true l.conn c e
 
 seats-low : (n c : ℕ) (ss : List Seat) → AllByRecursion (λ (s : Seat). IsLow n s.here) ss → is_some (find (sits c) ss) ≡ true → c ≤ n
 seats-low n c [] all e = absurd (no-yes e)
-seats-low n c (s ∷ ss) all e = by (sits c s) refl e
+seats-low n c (s ∷ ss) all e = by (sits c s) refl e (seats-low n c ss all.1)
   where
-    by : (b : Bool) → sits c s ≡ b → is_some (cond b (Some s) (find (sits c) ss)) ≡ true → c ≤ n
-    by true at f = line-low n c s.here all.0 at
-    by false at f = seats-low n c ss all.1 f
+    by : (b : Bool) → sits c s ≡ b → is_some (cond b (Some s) (find (sits c) ss)) ≡ true → (is_some (find (sits c) ss) ≡ true → c ≤ n) → c ≤ n
+    by true at f rest = line-low n c s.here all.0 at
+    by false at f rest = rest f
 
 pub known-low : (b : Broker) (c : ℕ) → IsLawful b → knows b c ≡ true → c ≤ b.given
 known-low b c l e = elim (or_cases (list_any (is_guest c) b.guests) (is_some (seat_at c b.seats)) e) [
@@ -118,9 +118,9 @@ kept-given f limit es e plain =
 
 pub known-before : Facts → (limit : ℕ) (es : List Event) (e : Event) (c : ℕ) → is_opening e ≡ false → knows (after limit (e ∷ es)) c ≡ true → knows (after limit es) c ≡ true
 known-before f limit es e c plain now = elim (cases_Bool (knows (after limit es) c)) [
-  | inl yes ↦ yes
-  | inr no ↦ (let low = known-low (after limit (e ∷ es)) c (f.lawful limit (e ∷ es)) now in let same = kept-given f limit es e plain in
-      absurd (true≢false (sym now ∙ f.gone (after limit es) c e (f.lawful limit es) (omega (arith, low, same)) no)))
+  | inl indeed ↦ indeed
+  | inr never ↦ (let low = known-low (after limit (e ∷ es)) c (f.lawful limit (e ∷ es)) now in let same = kept-given f limit es e plain in
+      absurd (true≢false (sym now ∙ f.gone (after limit es) c e (f.lawful limit es) (omega (arith, low, same)) never)))
 ]
 
 -- it isn't closed where it is known afterwards
@@ -131,7 +131,7 @@ pub stays-joined : Facts → (limit : ℕ) (es : List Event) (e : Event) (c : �
 stays-joined f limit es e c now old = elim (cases_Bool (lets_go c e)) [
   | inl goes ↦ absurd (true≢false (sym now ∙ f.ended (after limit es) c e (f.lawful limit es) goes))
   | inr stays ↦ elim (f.joined (after limit es) c e (f.lawful limit es) old stays) [
-    | inl yes ↦ yes
+    | inl indeed ↦ indeed
     | inr closed ↦ absurd (not-closed f limit es e c now closed)
   ]
 ]
@@ -148,11 +148,11 @@ joined-called f limit es e plain all = λ c now. stays-joined f limit es e c now
 
 pub joined-opened : Facts → (limit : ℕ) (es : List Event) (now : ℕ) → AllJoined (after limit es) → AllJoinedBut ((after limit es).given + 1) (after limit (Open now ∷ es))
 joined-opened f limit es now all = λ c there other. elim (cases_Bool (knows (after limit es) c)) [
-  | inl yes ↦ stays-joined f limit es (Open now) c there (all c yes)
-  | inr no ↦ (let low = known-low (after limit (Open now ∷ es)) c (f.lawful limit (Open now ∷ es)) there in
+  | inl indeed ↦ stays-joined f limit es (Open now) c there (all c indeed)
+  | inr never ↦ (let low = known-low (after limit (Open now ∷ es)) c (f.lawful limit (Open now ∷ es)) there in
       let given = f.given (after limit es) (Open now) (f.lawful limit es) in
       let within : c ≤ (after limit es).given = under c (after limit es).given (after limit (Open now ∷ es)).given low given other in
-      absurd (true≢false (sym there ∙ f.gone (after limit es) c (Open now) (f.lawful limit es) within no)))
+      absurd (true≢false (sym there ∙ f.gone (after limit es) c (Open now) (f.lawful limit es) within never)))
 ]
   where
     under : (c n m : ℕ) → c ≤ m → m ≡ n + 1 → (c ≡ n + 1 → ⊥) → c ≤ n
@@ -162,15 +162,15 @@ pub joined-first : Facts → (limit : ℕ) (es : List Event) (d : ℕ) (p : Pack
 joined-first f limit es d p now all = λ c there.
     let before = known-before f limit es (event.Packet d p now) c refl there in
     elim (cases_Bool (is_joined (after limit es) c)) [
-      | inl yes ↦ stays-joined f limit es (event.Packet d p now) c there yes
-      | inr no ↦ elim (cases_eq c d) [
-        | inl same ↦ (let at : is_joined (after limit es) d ≡ false = ap (is_joined (after limit es)) (sym same) ∙ no in
+      | inl indeed ↦ stays-joined f limit es (event.Packet d p now) c there indeed
+      | inr never ↦ elim (cases_eq c d) [
+        | inl same ↦ (let at : is_joined (after limit es) d ≡ false = ap (is_joined (after limit es)) (sym same) ∙ never in
             let known_d : knows (after limit es) d ≡ true = ap (knows (after limit es)) (sym same) ∙ before in
             elim (f.first (after limit es) d p now (f.lawful limit es) known_d at) [
-              | inl yes ↦ ap (is_joined (after limit (event.Packet d p now ∷ es))) same ∙ yes
+              | inl indeed ↦ ap (is_joined (after limit (event.Packet d p now ∷ es))) same ∙ indeed
               | inr closed ↦ absurd (not-closed f limit es (event.Packet d p now) d (ap (knows (after limit (event.Packet d p now ∷ es))) (sym same) ∙ there) closed)
             ])
-        | inr other ↦ absurd (true≢false (sym (all c before other) ∙ no))
+        | inr other ↦ absurd (true≢false (sym (all c before other) ∙ never))
       ]
     ]
 
@@ -289,8 +289,8 @@ base-opened f limit on now r k none b = record {
           let own = client-old r.openers k conn j low of in
           let s = b.sized in
           let before : knows (after limit r.events) conn ≡ true = elim (cases_Bool (knows (after limit r.events) conn)) [
-            | inl yes ↦ yes
-            | inr no ↦ absurd (true≢false (sym there ∙ f.gone (after limit r.events) conn (Open now) (f.lawful limit r.events) (omega (arith, low, s)) no))
+            | inl indeed ↦ indeed
+            | inr never ↦ absurd (true≢false (sym there ∙ f.gone (after limit r.events) conn (Open now) (f.lawful limit r.events) (omega (arith, low, s)) never))
           ] in
           let at : r.last j ≡ Some conn = b.newest j conn before own in
           by (eqb j k) refl at before)
@@ -327,12 +327,12 @@ pub hears-called : Facts → (limit : ℕ) (on : List ℕ → Bool) (r : Room) (
     (called limit r e).closed h ≡ false → Hears limit on r h c → Hears limit on (called limit r e) h c
 hears-called f limit on r e h c b stays keeps standing hears = record {
   last = hears.last;
-  joined = elim (f.joined (after limit r.events) c e (f.lawful limit r.events) hears.joined stays) [ inl yes ↦ yes | inr closed ↦ absurd (no closed) ];
-  listens_to = λ topic there. elim (f.listening (after limit r.events) c topic e (f.lawful limit r.events) (hears.listens_to topic there) stays keeps) [ inl yes ↦ yes | inr closed ↦ absurd (no closed) ];
+  joined = elim (f.joined (after limit r.events) c e (f.lawful limit r.events) hears.joined stays) [ inl indeed ↦ indeed | inr closed ↦ absurd (never closed) ];
+  listens_to = λ topic there. elim (f.listening (after limit r.events) c topic e (f.lawful limit r.events) (hears.listens_to topic there) stays keeps) [ inl indeed ↦ indeed | inr closed ↦ absurd (never closed) ];
 }
   where
-    no : is_closed_in c (step (after limit r.events) e) ≡ true → ⊥
-    no closed = true≢false (sym (closes-client f limit r e h c (b.owned h c hears.last) closed) ∙ standing)
+    never : is_closed_in c (step (after limit r.events) e) ≡ true → ⊥
+    never closed = true≢false (sym (closes-client f limit r e h c (b.owned h c hears.last) closed) ∙ standing)
 
 open-closes : (b : Broker) (now : ℕ) → (step b (Open now)).closes ≡ []
 unfolding step
@@ -341,12 +341,12 @@ open-closes b now = refl
 pub hears-opened : Facts → (limit : ℕ) (on : List ℕ → Bool) (now : ℕ) (r : Room) (k h c : ℕ) → conn_at limit r k ≡ None → Hears limit on r h c → Hears limit on (opened limit now r k) h c
 hears-opened f limit on now r k h c none hears = record {
   last = by (eqb h k) refl;
-  joined = elim (f.joined (after limit r.events) c (Open now) (f.lawful limit r.events) hears.joined refl) [ inl yes ↦ yes | inr closed ↦ absurd (no closed) ];
-  listens_to = λ topic there. elim (f.listening (after limit r.events) c topic (Open now) (f.lawful limit r.events) (hears.listens_to topic there) refl refl) [ inl yes ↦ yes | inr closed ↦ absurd (no closed) ];
+  joined = elim (f.joined (after limit r.events) c (Open now) (f.lawful limit r.events) hears.joined refl) [ inl indeed ↦ indeed | inr closed ↦ absurd (never closed) ];
+  listens_to = λ topic there. elim (f.listening (after limit r.events) c topic (Open now) (f.lawful limit r.events) (hears.listens_to topic there) refl refl) [ inl indeed ↦ indeed | inr closed ↦ absurd (never closed) ];
 }
   where
-    no : is_closed_in c (step (after limit r.events) (Open now)) ≡ true → ⊥
-    no closed = no-yes (sym (ap (list_any (λ d. eqb d c)) (open-closes (after limit r.events) now)) ∙ closed)
+    never : is_closed_in c (step (after limit r.events) (Open now)) ≡ true → ⊥
+    never closed = no-yes (sym (ap (list_any (λ d. eqb d c)) (open-closes (after limit r.events) now)) ∙ closed)
 
     by : (x : Bool) → eqb h k ≡ x → cond x (Some (next_conn limit r)) (r.last h) ≡ Some c
     by true same = absurd (some-none c (sym none ∙ ap (known (after limit r.events)) (ap r.last (sym (eqb-true h k same)) ∙ hears.last)

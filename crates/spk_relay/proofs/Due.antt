@@ -36,19 +36,17 @@ owes-none ds ps n same = record { none = λ e. same; some = λ low. absurd (omeg
 
 module _ (f : Facts) (limit : ℕ) (on : List ℕ → Bool) (h k : ℕ) (r : Room) (b : Base limit on r) (all : AllJoined (after limit r.events)) (conn now : ℕ) (topic payload : List ℕ)
   (plain : IsPlain topic payload) (there : conn_at limit r k ≡ Some conn) where
-  dropped : ℕ → Bool
+  abbrev dropped : ℕ → Bool
   dropped = is_dropped r.over r.closed
 
-  made : List Offer
+  abbrev made : List Offer
   made = (called limit r (event.Packet conn (plain_publish topic payload) now)).pending
 
   offered : made ≡ offers_of dropped r.openers topic payload (after limit r.events).seats
-  unfolding made dropped
   offered = ap (λ ss. map (offer_of r.openers (is_dropped r.over r.closed)) (map outgoing ss))
       (f.sends (after limit r.events) conn now topic payload plain (all conn (known-some (after limit r.events) (r.last k) conn there).1))
 
   heard-offered : is_heard limit k h r (Says (plain_publish topic payload)) ≡ true → 0 < aimed h made
-  unfolding dropped
   heard-offered e = subst (λ os. 0 < aimed h os) (sym offered) (by (conn_at limit r h) refl parts.1)
     where
       parts : (is_some (conn_at limit r k) ≡ true) × ((not (is_dropped r.over r.closed h) && hears_on (after limit r.events) (conn_at limit r h) (plain_publish topic payload)) ≡ true)
@@ -67,7 +65,6 @@ module _ (f : Facts) (limit : ℕ) (on : List ℕ → Bool) (h k : ℕ) (r : Roo
           at-least dropped r.openers topic payload h c (after limit r.events).seats two.1 (b.owned h c own.0) (stands (is_dropped r.over r.closed h) two.0)
 
   offered-heard : 0 < aimed h made → is_heard limit k h r (Says (plain_publish topic payload)) ≡ true
-  unfolding dropped
   offered-heard low =
       let d = who-listens dropped r.openers topic payload h (after limit r.events).seats (subst (λ os. 0 < aimed h os) offered low) in
       let there_d = sat-known (after limit r.events) d.0 (listens-sat topic d.0 (after limit r.events).seats d.3) in
@@ -139,7 +136,7 @@ packet-owes f limit on h k r ps ds n now busy j p true numbered says room none s
     without : conn_at limit r k ≡ None → (b : Bool) →
         Owes (cond (is_heard limit k h r (Says message)) (n ∷ ds) ds) ps (n + 1)
         (aimed h (cond b (called limit (opened limit now r k) (event.Packet (next_conn limit r) message now)) r).pending)
-    without at true = quiet at _ (ap (aimed h) shut)
+    without at true = quiet at (called limit (opened limit now r k) (event.Packet (next_conn limit r) message now)).pending (ap (aimed h) shut)
     without at false = quiet at r.pending (ap (aimed h) none)
 
     by : (o : Option ℕ) → conn_at limit r k ≡ o → Owes (cond (is_heard limit k h r (Says message)) (n ∷ ds) ds) ps (n + 1) (aimed h (packet_on limit now r k message o).pending)

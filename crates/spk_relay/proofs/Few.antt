@@ -134,13 +134,13 @@ all-ended limit on h k r ps n busy ended none st = quiet-after limit on h k r (r
 not-host : (limit : ℕ) (on : List ℕ → Bool) (r : Room) (h j conn c : ℕ) → Base limit on r → r.last j ≡ Some conn → r.last h ≡ Some c → (j ≡ h → ⊥) → eqb conn c ≡ false
 not-host limit on r h j conn c b own at other = elim (cases_Bool (eqb conn c)) [
   | inl same ↦ absurd (other (same-some j h (sym (b.owned j conn own) ∙ ap (client_of r.openers) (eqb-true conn c same) ∙ b.owned h c at)))
-  | inr no ↦ no
+  | inr never ↦ never
 ]
 
 harmless : (limit : ℕ) (on : List ℕ → Bool) (r : Room) (h j conn c : ℕ) (x : Bool) → Base limit on r → r.last j ≡ Some conn → r.last h ≡ Some c → (j ≡ h → x ≡ false) → (eqb conn c && x) ≡ false
 harmless limit on r h j conn c x b own at quiet = elim (cases_Bool (eqb j h)) [
   | inl same ↦ and_right _ _ (quiet (eqb-true j h same))
-  | inr no ↦ and_left _ _ (not-host limit on r h j conn c b own at (λ same. true≢false (sym (eq-eqb j h same) ∙ no)))
+  | inr never ↦ and_left _ _ (not-host limit on r h j conn c b own at (λ same. true≢false (sym (eq-eqb j h same) ∙ never)))
 ]
 
 packet-taken : Facts → (limit : ℕ) (on : List ℕ → Bool) (h k : ℕ) (r : Room) (ps : List ℕ) (n now : ℕ) (busy : Bool) (j : ℕ) (p : Packet) (x : Bool) → limit ≤ 65535 →
@@ -166,26 +166,26 @@ packet-taken f limit on h k r ps n now busy j p x small numbered says room none 
 
     first : conn_at limit r j ≡ None → r.closed j ≡ false → (y : Bool) → x ≡ y →
         State limit on h k (called limit (opened limit now r j) (event.Packet (next_conn limit r) p now)) ps (cond y (n + 1) n) y
-    first no standing true e =
+    first never standing true e =
         let plain = says-plain e in
         subst (λ q. State limit on h k (called limit (opened limit now r j) (event.Packet (next_conn limit r) q now)) ps (n + 1) true) (sym plain.1.2)
         (subst (λ i. State limit on h k (called limit (opened limit now r i) (event.Packet (next_conn limit r) (plain_publish plain.1.0 plain.1.1) now)) ps (n + 1) true) (sym plain.0)
-        (unjoined f limit on h k r ps n busy now plain.1.0 plain.1.1 small told (ap (conn_at limit r) (sym plain.0) ∙ no) (ap r.closed (sym plain.0) ∙ standing) st))
-    first no standing false e =
+        (unjoined f limit on h k r ps n busy now plain.1.0 plain.1.1 small told (ap (conn_at limit r) (sym plain.0) ∙ never) (ap r.closed (sym plain.0) ∙ standing) st))
+    first never standing false e =
         quiet-after limit on h k r (called limit (opened limit now r j) (event.Packet (next_conn limit r) p now)) ps n busy none
-        (passes-first f limit on h k r j now p small no standing says.1 st.base st.joined) st
+        (passes-first f limit on h k r j now p small never standing says.1 st.base st.joined) st
 
     over : conn_at limit r j ≡ None → r.closed j ≡ true → (y : Bool) → x ≡ y → State limit on h k r ps (cond y (n + 1) n) y
-    over no shut true e =
+    over never shut true e =
         let same = (says-plain e).0 in
-        lost limit on h k r ps n busy none told (ap r.closed (sym same) ∙ shut, ap (conn_at limit r) (sym same) ∙ no) st
-    over no shut false e = idle limit on h k r ps n busy none st
+        lost limit on h k r ps n busy none told (ap r.closed (sym same) ∙ shut, ap (conn_at limit r) (sym same) ∙ never) st
+    over never shut false e = idle limit on h k r ps n busy none st
 
     without : conn_at limit r j ≡ None → (c y : Bool) → r.closed j ≡ c → is_full (after limit r.events) ≡ y → y ≡ false →
         State limit on h k (cond (not c && not y) (called limit (opened limit now r j) (event.Packet (next_conn limit r) p now)) r) ps (cond x (n + 1) n) x
-    without no true y at full e = over no at x refl
-    without no false true at full e = absurd (true≢false e)
-    without no false false at full e = first no at x refl
+    without never true y at full e = over never at x refl
+    without never false true at full e = absurd (true≢false e)
+    without never false false at full e = first never at x refl
 
     by : (o : Option ℕ) → conn_at limit r j ≡ o → State limit on h k (packet_on limit now r j p o) ps (cond x (n + 1) n) x
     by (Some conn) at = there conn at x refl

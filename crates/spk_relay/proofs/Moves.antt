@@ -45,8 +45,8 @@ known-is b o conn is there = ap (known b) is ∙ ap (λ x. cond x (Some conn) No
 
 pub known-none : (b : Broker) (o : Option ℕ) (conn : ℕ) → known b o ≡ None → o ≡ Some conn → knows b conn ≡ false
 known-none b o conn none is = elim (cases_Bool (knows b conn)) [
-  | inl yes ↦ absurd (some-none conn (sym none ∙ known-is b o conn is yes))
-  | inr no ↦ no
+  | inl indeed ↦ absurd (some-none conn (sym none ∙ known-is b o conn is indeed))
+  | inr never ↦ never
 ]
 
 pub none-known : (b : Broker) (o : Option ℕ) → ((conn : ℕ) → o ≡ Some conn → knows b conn ≡ false) → known b o ≡ None
@@ -57,10 +57,10 @@ none-known b (Some conn) h = ap (λ x. cond x (Some conn) None) (h conn refl)
 
 gone-called : Facts → (limit : ℕ) (on : List ℕ → Bool) (r : Room) (e : Event) (k conn : ℕ) → Base limit on r → r.last k ≡ Some conn →
     knows (after limit r.events) conn ≡ false → knows (after limit (e ∷ r.events)) conn ≡ false
-gone-called f limit on r e k conn b at no =
+gone-called f limit on r e k conn b at never =
     let low = (client-within r.openers conn k (b.owned k conn at)).1 in
     let size = b.sized in
-    f.gone (after limit r.events) conn e (f.lawful limit r.events) (omega (arith, low, size)) no
+    f.gone (after limit r.events) conn e (f.lawful limit r.events) (omega (arith, low, size)) never
 
 pub finished-called : Facts → (limit : ℕ) (on : List ℕ → Bool) (k : ℕ) (r : Room) (e : Event) → Base limit on r → IsFinished limit k r → IsFinished limit k (called limit r e)
 finished-called f limit on k r e b done =
@@ -126,8 +126,8 @@ passes-first f limit on h k r j now p small none standing alike b all = record {
   };
   hears = λ c live hears. last c live.standing hears;
   drops = λ c live hears.
-      let a = drops-kept f limit r.events (Open now) c small (joined-known _ c hears.joined) (joined-known _ c (first c hears).joined) in
-      let z = drops-kept f limit (Open now ∷ r.events) e c small (joined-known _ c (first c hears).joined) (joined-known _ c (last c live.standing hears).joined) in
+      let a = drops-kept f limit r.events (Open now) c small (joined-known (after limit r.events) c hears.joined) (joined-known (after limit fresh.events) c (first c hears).joined) in
+      let z = drops-kept f limit (Open now ∷ r.events) e c small (joined-known (after limit fresh.events) c (first c hears).joined) (joined-known (after limit (e ∷ fresh.events)) c (last c live.standing hears).joined) in
       le-le a z;
   untold = refl;
 }
@@ -150,7 +150,7 @@ passes-first f limit on h k r j now p small none standing alike b all = record {
           let low = (client-within r.openers c h (b.owned h c hears.last)).1 in
           let size = b.sized in
           absurd (past c (length r.openers) (after limit r.events).given low size at))
-      | inr no ↦ no
+      | inr never ↦ never
     ]
       where
         past : (c n g : ℕ) → c ≤ n → n ≡ g → g + 1 ≡ c → ⊥
@@ -197,25 +197,26 @@ quiet-after limit on h k r later ps n busy none pass st = record {
 
 -- ---- a numbered message of a node that has joined
 
+pub sat-found : (d : ℕ) (xs : List Seat) → list_any (sits d) xs ≡ true → is_some (find (sits d) xs) ≡ true
+sat-found d [] e = e
+sat-found d (s ∷ xs) e = by (sits d s) e (sat-found d xs)
+  where
+    by : (x : Bool) → (x || list_any (sits d) xs) ≡ true → (list_any (sits d) xs ≡ true → is_some (find (sits d) xs) ≡ true) → is_some (cond x (Some s) (find (sits d) xs)) ≡ true
+    by true e rest = refl
+    by false e rest = rest e
+
 -- the connection of a session is known
 pub sat-known : (b : Broker) (d : ℕ) → list_any (sits d) b.seats ≡ true → knows b d ≡ true
-sat-known b d e = joined-known b d (found b.seats e)
-  where
-    found : (xs : List Seat) → list_any (sits d) xs ≡ true → is_some (find (sits d) xs) ≡ true
-    found [] e = e
-    found (s ∷ xs) e = by (sits d s) e
-      where
-        by : (x : Bool) → (x || list_any (sits d) xs) ≡ true → is_some (cond x (Some s) (find (sits d) xs)) ≡ true
-        by true e = refl
-        by false e = found xs e
+sat-known b d e = joined-known b d (sat-found d b.seats e)
 
 pub listens-sat : (topic : List ℕ) (d : ℕ) (xs : List Seat) → list_any (λ (s : Seat). sits d s && is_listening topic s) xs ≡ true → list_any (sits d) xs ≡ true
 listens-sat topic d [] e = e
-listens-sat topic d (s ∷ xs) e = by (sits d s) (is_listening topic s) e
+listens-sat topic d (s ∷ xs) e = by (sits d s) (is_listening topic s) e (listens-sat topic d xs)
   where
-    by : (a b : Bool) → (a && b || list_any (λ (x : Seat). sits d x && is_listening topic x) xs) ≡ true → (a || list_any (sits d) xs) ≡ true
-    by true b e = refl
-    by false b e = listens-sat topic d xs e
+    by : (a b : Bool) → (a && b || list_any (λ (x : Seat). sits d x && is_listening topic x) xs) ≡ true
+        → (list_any (λ (x : Seat). sits d x && is_listening topic x) xs ≡ true → list_any (sits d) xs ≡ true) → (a || list_any (sits d) xs) ≡ true
+    by true b e rest = refl
+    by false b e rest = rest e
 
 pub relayed : Facts → (limit : ℕ) (on : List ℕ → Bool) (h k : ℕ) (r : Room) (ps : List ℕ) (n : ℕ) (busy : Bool) (conn now : ℕ) (topic payload : List ℕ) → limit ≤ 65535 →
     IsPlain topic payload → on topic ≡ true → r.pending ≡ [] → r.untold ≡ [] → r.last k ≡ Some conn → knows (after limit r.events) conn ≡ true →
@@ -278,7 +279,7 @@ relayed f limit on h k r ps n busy conn now topic payload small plain is_on none
 
     still : knows (after limit (e ∷ r.events)) conn ≡ true
     still = elim (f.stands b0 conn e (f.lawful limit r.events) there (and_right _ _ refl)) [
-      | inl yes ↦ yes
+      | inl indeed ↦ indeed
       | inr closed ↦ absurd (no-yes (sym (ap (list_any (λ d. eqb d conn)) closes) ∙ closed))
     ]
 
@@ -327,6 +328,9 @@ relayed f limit on h k r ps n busy conn now topic payload small plain is_on none
           listens_to = λ other there. sym (f.alike b0 found.0 topic other (st.base.filters topic other is_on there)) ∙ found.3;
         }
 
+        no-list : (q : ℕ) (qs : List ℕ) → q ∷ qs ≡ [] → ⊥
+        no-list q qs e = cc
+
         by : (qs : List ℕ) → ps ≡ qs → Kept limit on h (called limit r e) ps (n + 1) true
         by [] at = record {
           conn = found.0;
@@ -334,9 +338,6 @@ relayed f limit on h k r ps n busy conn now topic payload small plain is_on none
           covers = subst (λ (qs : List ℕ). Covers qs (n + 1) (waiting h true (called limit r e).pending + aimed_at h found.0 r.untold + drops_in found.0 (after limit (e ∷ r.events)))) (sym at) tt;
         }
         by (q ∷ qs) at = goes-on live (λ empty. no-list q qs (sym at ∙ empty))
-
-        no-list : (q : ℕ) (qs : List ℕ) → q ∷ qs ≡ [] → ⊥
-        no-list q qs e = cc
 
 -- ---- a numbered message of a node without a connection
 
@@ -351,13 +352,15 @@ heard-conn d c clock (Some l) = by (eqb l.conn c)
 -- none sits there after what was noted
 unsat-heard : (d c clock : ℕ) (xs : List Seat) → is_some (find (sits d) xs) ≡ false → find (sits d) (map (λ (s : Seat). record s { here = option_map (line_heard c clock) s.here }) xs) ≡ None
 unsat-heard d c clock [] e = refl
-unsat-heard d c clock (s ∷ xs) e = by (sits d s) refl e
+unsat-heard d c clock (s ∷ xs) e = by (sits d s) refl e (unsat-heard d c clock xs)
   where
-    by : (x : Bool) → sits d s ≡ x → is_some (cond x (Some s) (find (sits d) xs)) ≡ false → find (sits d) (map (λ (s : Seat). record s { here = option_map (line_heard c clock) s.here }) (s ∷ xs)) ≡ None
-    by true at f = absurd (true≢false f)
-    by false at f =
+    by : (x : Bool) → sits d s ≡ x → is_some (cond x (Some s) (find (sits d) xs)) ≡ false
+        → (is_some (find (sits d) xs) ≡ false → find (sits d) (map (λ (s : Seat). record s { here = option_map (line_heard c clock) s.here }) xs) ≡ None)
+        → find (sits d) (map (λ (s : Seat). record s { here = option_map (line_heard c clock) s.here }) (s ∷ xs)) ≡ None
+    by true at f rest = absurd (true≢false f)
+    by false at f rest =
         ap (λ x. cond x (Some (record s { here = option_map (line_heard c clock) s.here })) (find (sits d) (map (λ (s : Seat). record s { here = option_map (line_heard c clock) s.here }) xs))) (heard-conn d c clock s.here ∙ at)
-        ∙ unsat-heard d c clock xs f
+        ∙ rest f
 
 abbrev Shut : ℕ → Turn → Type 0
 Shut d t = (t.sends ≡ []) × (t.closes ≡ d ∷ [])
@@ -393,12 +396,12 @@ first-shut f b d now topic payload un = by (is_some (first_of (unwritable (plain
     by true = end
     by false = subst (λ (o : Option Seat). Shut d (acts (cond (is_some o) (event.next_packet d (plain_publish topic payload)) (shut d)) t)) (sym none) end
 
+opens-none : (b : Broker) (now : ℕ) → knows b (b.given + 1) ≡ false → is_joined (step b (Open now)).broker (b.given + 1) ≡ false
+unfolding step
+opens-none b now none = (or_parts (list_any (is_guest (b.given + 1)) b.guests) (is_joined b (b.given + 1)) none).1
+
 pub open-joins-none : Facts → (limit : ℕ) (es : List Event) (now : ℕ) → is_joined (after limit (Open now ∷ es)) ((after limit es).given + 1) ≡ false
-open-joins-none f limit es now = same (after limit es) (f.fresh (after limit es) (f.lawful limit es))
-  where
-    same : (b : Broker) → knows b (b.given + 1) ≡ false → is_joined (step b (Open now)).broker (b.given + 1) ≡ false
-    unfolding step
-    same b no = (or_parts (list_any (is_guest (b.given + 1)) b.guests) (is_joined b (b.given + 1)) no).1
+open-joins-none f limit es now = opens-none (after limit es) now (f.fresh (after limit es) (f.lawful limit es))
 
 pub unjoined : Facts → (limit : ℕ) (on : List ℕ → Bool) (h k : ℕ) (r : Room) (ps : List ℕ) (n : ℕ) (busy : Bool) (now : ℕ) (topic payload : List ℕ) → limit ≤ 65535 →
     r.untold ≡ [] → conn_at limit r k ≡ None → r.closed k ≡ false →
@@ -565,7 +568,7 @@ refusal-passed f limit on h k r ps n busy o rest none gone st = record {
         let w = waits busy in
         let other : eqb o.conn c ≡ false = elim (cases_Bool (eqb o.conn c)) [
           | inl same ↦ absurd (true≢false (sym (joined-known (after limit r.events) c hears.joined) ∙ ap (knows (after limit r.events)) (sym (eqb-true o.conn c same)) ∙ gone))
-          | inr no ↦ no
+          | inr never ↦ never
         ] in
         let a : cond (is_client h o.to && eqb o.conn c) (aimed_at h c rest + 1) (aimed_at h c rest) ≡ aimed_at h c rest =
         ap (λ b. cond b (aimed_at h c rest + 1) (aimed_at h c rest)) (and_right _ _ other) in

@@ -1,8 +1,8 @@
--- In a plant the broker may always have a further connection: no client has two.
-use Rattle.std.proofs.Common.{◌≡◌, ◌⊎◌, inl, inr, sym, ap, refl, subst, ◌∙◌, ℕ, zero, suc, ◌+◌, ◌-◌, ◌<◌, ◌≤◌, ◌^◌, Bool, true, false, not, ◌&&◌, ◌||◌, cond, eqb, leb, List, [], ◌∷◌, ◌++◌, length, Option, Some, None, is_some, slice_get, arith, true≢false, eq-eqb, eqb-true, lt-leb}
+-- In a plant the broker may always have a further connection: never client has two.
+use Rattle.std.proofs.Common.{◌≡◌, ◌⊎◌, inl, inr, sym, ap, refl, subst, ◌∙◌, ℕ, zero, suc, ◌+◌, ◌-◌, ◌<◌, ◌≤◌, ◌^◌, Bool, true, false, not, ◌&&◌, ◌||◌, cond, eqb, leb, List, [], ◌∷◌, ◌++◌, length, Option, Some, None, is_some, slice_get, arith, true≢false, eq-eqb, eqb-true}
 use Rattle.std.specs.List.{filter, find, list_any, AllByRecursion}
 use Rattle.std.specs.Option.{option_map_or}
-use Rattle.std.proofs.lemmas.Bool.{and_left, cases_Bool, cases_eq, or_from, or_left, or_right}
+use Rattle.std.proofs.lemmas.Bool.{and_left, cases_Bool, cases_eq, lt-leb, or_from, or_left, or_right}
 use Rattle.spk_ingress.specs.declared.rule.Message.{Message}
 use Rattle.spk_broker_rules.specs.Data.{Broker, Guest, Line, Seat}
 use Rattle.spk_broker_rules.specs.Lawful.{places}
@@ -18,6 +18,7 @@ use Rattle.spk_relay.specs.Shown.{AllMaySay, HasPlaces}
 use Rattle.spk_relay.proofs.Base.{AllJoined, Base, joined-known, known-low}
 use Rattle.spk_relay.proofs.Facts.{Facts}
 use Rattle.spk_relay.proofs.Few.{state-of}
+use Rattle.spk_relay.proofs.Moves.{sat-found}
 use Rattle.spk_relay.proofs.Offers.{no-yes}
 
 some-none : {X : Type 0} (x : X) → None ≡ Some x → ⊥
@@ -43,20 +44,22 @@ line-conn s e = by s.here e
 
 any-kept : (c d : ℕ) (xs : List Seat) → list_any (sits d) (filter (elsewhere c) xs) ≡ true → list_any (sits d) xs ≡ true
 any-kept c d [] e = e
-any-kept c d (s ∷ xs) e = by (sits c s) (sits d s) refl e
+any-kept c d (s ∷ xs) e = by (sits c s) (sits d s) refl e (any-kept c d xs)
   where
-    by : (a b : Bool) → sits d s ≡ b → list_any (sits d) (cond (not a) (s ∷ filter (elsewhere c) xs) (filter (elsewhere c) xs)) ≡ true → (b || list_any (sits d) xs) ≡ true
-    by a true same e = refl
-    by true false same e = any-kept c d xs e
-    by false false same e = any-kept c d xs (ap (λ x. x || list_any (sits d) (filter (elsewhere c) xs)) (sym same) ∙ e)
+    by : (a b : Bool) → sits d s ≡ b → list_any (sits d) (cond (not a) (s ∷ filter (elsewhere c) xs) (filter (elsewhere c) xs)) ≡ true
+        → (list_any (sits d) (filter (elsewhere c) xs) ≡ true → list_any (sits d) xs ≡ true) → (b || list_any (sits d) xs) ≡ true
+    by true true same e rest = refl
+    by false true same e rest = refl
+    by true false same e rest = rest e
+    by false false same e rest = rest (ap (λ x. x || list_any (sits d) (filter (elsewhere c) xs)) (sym same) ∙ e)
 
 none-kept : (c : ℕ) (xs : List Seat) → list_any (sits c) (filter (elsewhere c) xs) ≡ false
 none-kept c [] = refl
-none-kept c (s ∷ xs) = by (sits c s) refl
+none-kept c (s ∷ xs) = by (sits c s) refl (none-kept c xs)
   where
-    by : (a : Bool) → sits c s ≡ a → list_any (sits c) (cond (not a) (s ∷ filter (elsewhere c) xs) (filter (elsewhere c) xs)) ≡ false
-    by true at = none-kept c xs
-    by false at = or_from _ _ at (none-kept c xs)
+    by : (a : Bool) → sits c s ≡ a → list_any (sits c) (filter (elsewhere c) xs) ≡ false → list_any (sits c) (cond (not a) (s ∷ filter (elsewhere c) xs) (filter (elsewhere c) xs)) ≡ false
+    by true at rest = rest
+    by false at rest = or_from _ _ at rest
 
 fewer-kept : (c d : ℕ) (xs : List Seat) → length (filter (sits d) (filter (elsewhere c) xs)) ≤ length (filter (sits d) xs)
 fewer-kept c d [] = omega arith
@@ -89,31 +92,31 @@ parted c (s ∷ xs) = by (sits c s) (has_line s) refl (parted c xs)
         same true = omega (arith, low)
         same false = low
 
--- a session with a connection, whose client is one of the first so many, which has no other
+-- a session with a connection, whose client is one of the first so many, which has never other
 abbrev pub HasClient : (ℕ → Option ℕ) → ℕ → List Seat → Type 0
 HasClient last m xs = (d : ℕ) → list_any (sits d) xs ≡ true → (j : ℕ) × (j < m) × (last j ≡ Some d)
 
 no-lines : (last : ℕ → Option ℕ) (xs : List Seat) → HasClient last 0 xs → length (filter has_line xs) ≤ 0
 no-lines last [] each = omega arith
-no-lines last (s ∷ xs) each = by (has_line s) refl
+no-lines last (s ∷ xs) each = by (has_line s) refl (no-lines last xs (λ d e. each d (or_right _ _ e)))
   where
-    by : (b : Bool) → has_line s ≡ b → length (cond b (s ∷ filter has_line xs) (filter has_line xs)) ≤ 0
-    by true at = let d = line-conn s at in let j = each d.0 (or_left _ _ d.1) in absurd (let low = j.1 in omega (arith, low))
-    by false at = no-lines last xs (λ d e. each d (or_right _ _ e))
+    by : (b : Bool) → has_line s ≡ b → length (filter has_line xs) ≤ 0 → length (cond b (s ∷ filter has_line xs) (filter has_line xs)) ≤ 0
+    by true at rest = let d = line-conn s at in let j = each d.0 (or_left _ _ d.1) in absurd (let low = j.1 in omega (arith, low))
+    by false at rest = rest
 
 few-lines : (last : ℕ → Option ℕ) (m : ℕ) (xs : List Seat) → HasClient last m xs → ((d : ℕ) → length (filter (sits d) xs) ≤ 1) → length (filter has_line xs) ≤ m
 few-lines last zero xs each once = no-lines last xs each
-few-lines last (suc m) xs each once = by (last m) refl
+few-lines last (suc m) xs each once = by (last m) refl (few-lines last m)
   where
-    by : (o : Option ℕ) → last m ≡ o → length (filter has_line xs) ≤ suc m
-    by None at =
-        let low = few-lines last m xs (λ d e. let j = each d e in (j.0, below j.0 j.1 (λ same. some-none d (sym at ∙ ap last (sym same) ∙ j.2)), j.2)) once in
+    by : (o : Option ℕ) → last m ≡ o → ((ys : List Seat) → HasClient last m ys → ((d : ℕ) → length (filter (sits d) ys) ≤ 1) → length (filter has_line ys) ≤ m) → length (filter has_line xs) ≤ suc m
+    by None at fewer =
+        let low = fewer xs (λ d e. let j = each d e in (j.0, below j.0 j.1 (λ same. some-none d (sym at ∙ ap last (sym same) ∙ j.2)), j.2)) once in
         omega (arith, low)
       where
         below : (j : ℕ) → j < suc m → (j ≡ m → ⊥) → j < m
         below j low other = omega (arith, low, other)
-    by (Some c) at =
-        let rest = few-lines last m (filter (elsewhere c) xs)
+    by (Some c) at fewer =
+        let rest = fewer (filter (elsewhere c) xs)
             (λ d e. let j = each d (any-kept c d xs e) in
                 (j.0, below j.0 j.1 (λ same. true≢false (sym e ∙ ap (λ x. list_any (sits x) (filter (elsewhere c) xs)) (same-some d c (sym j.2 ∙ ap last same ∙ at)) ∙ none-kept c xs)), j.2))
             (λ d. let a = fewer-kept c d xs in let z = once d in omega (arith, a, z)) in
@@ -146,6 +149,22 @@ none-zero : Facts → (limit : ℕ) (es : List Event) → knows (after limit es)
 none-zero f limit [] = refl
 none-zero f limit (e ∷ es) = f.gone (after limit es) 0 e (f.lawful limit es) (omega arith) (none-zero f limit es)
 
+count-waits : (c : ℕ) (gs : List Guest) → list_any (is_guest c) gs ≡ true → 1 ≤ length (filter (is_guest c) gs)
+count-waits c [] e = absurd (no-yes e)
+count-waits c (x ∷ xs) e = by (is_guest c x) refl (count-waits c xs)
+  where
+    by : (b : Bool) → is_guest c x ≡ b → (list_any (is_guest c) xs ≡ true → 1 ≤ length (filter (is_guest c) xs)) → 1 ≤ length (cond b (x ∷ filter (is_guest c) xs) (filter (is_guest c) xs))
+    by true at rest = omega arith
+    by false at rest = rest (sym (ap (λ b. b || list_any (is_guest c) xs) at) ∙ e)
+
+count-sits : (c : ℕ) (ss : List Seat) → is_some (find (sits c) ss) ≡ true → 1 ≤ length (filter (sits c) ss)
+count-sits c [] e = absurd (no-yes e)
+count-sits c (x ∷ xs) e = by (sits c x) refl (count-sits c xs)
+  where
+    by : (b : Bool) → sits c x ≡ b → (is_some (find (sits c) xs) ≡ true → 1 ≤ length (filter (sits c) xs)) → 1 ≤ length (cond b (x ∷ filter (sits c) xs) (filter (sits c) xs))
+    by true at rest = omega arith
+    by false at rest = rest (sym (ap (λ b. is_some (cond b (Some x) (find (sits c) xs))) at) ∙ e)
+
 -- nobody waits for its first packet
 no-guests : Facts → (limit : ℕ) (es : List Event) → AllJoined (after limit es) → length (after limit es).guests ≤ 0
 no-guests f limit es all = by (after limit es).guests refl
@@ -155,27 +174,10 @@ no-guests f limit es all = by (after limit es).guests refl
     by (g ∷ gs) at =
         let waits : list_any (is_guest g.conn) (after limit es).guests ≡ true = ap (list_any (is_guest g.conn)) at ∙ or_left _ _ (eq-eqb g.conn g.conn refl) in
         let sat = all g.conn (or_left _ _ waits) in
-        let a = counted (after limit es).guests waits in
-        let b = seated (after limit es).seats sat in
+        let a = count-waits g.conn (after limit es).guests waits in
+        let b = count-sits g.conn (after limit es).seats sat in
         let z = (f.lawful limit es).apart g.conn in
         absurd (omega (arith, a, b, z))
-      where
-        counted : (gs : List Guest) → list_any (is_guest g.conn) gs ≡ true → 1 ≤ length (filter (is_guest g.conn) gs)
-        counted [] e = absurd (no-yes e)
-        counted (x ∷ xs) e = one (is_guest g.conn x) refl
-          where
-            one : (b : Bool) → is_guest g.conn x ≡ b → 1 ≤ length (cond b (x ∷ filter (is_guest g.conn) xs) (filter (is_guest g.conn) xs))
-            one true at = omega arith
-            one false at = counted xs (sym (ap (λ b. b || list_any (is_guest g.conn) xs) at) ∙ e)
-
-        seated : (ss : List Seat) → is_some (find (sits g.conn) ss) ≡ true → 1 ≤ length (filter (sits g.conn) ss)
-        seated [] e = absurd (no-yes e)
-        seated (x ∷ xs) e = one (sits g.conn x) refl
-          where
-            one : (b : Bool) → sits g.conn x ≡ b → 1 ≤ length (cond b (x ∷ filter (sits g.conn) xs) (filter (sits g.conn) xs))
-            one true at = omega arith
-            one false at = seated xs (sym (ap (λ b. is_some (cond b (Some x) (find (sits g.conn) xs))) at) ∙ e)
-
 -- ---- clients along a log
 
 -- how many connections were opened, by whom
@@ -246,14 +248,6 @@ not-full f limit on m n r few counted openers b all =
     guests : length b0.guests ≤ 0
     guests = no-guests f limit r.events all
 
-    sat : (xs : List Seat) (d : ℕ) → list_any (sits d) xs ≡ true → is_some (find (sits d) xs) ≡ true
-    sat [] d e = e
-    sat (s ∷ xs) d e = by (sits d s) e
-      where
-        by : (x : Bool) → (x || list_any (sits d) xs) ≡ true → is_some (cond x (Some s) (find (sits d) xs)) ≡ true
-        by true e = refl
-        by false e = sat xs d e
-
     positive : (d : ℕ) → knows b0 d ≡ true → 0 < d
     positive d there = elim (cases_eq d 0) [
       | inl z ↦ absurd (true≢false (sym there ∙ ap (knows b0) z ∙ none-zero f limit r.events))
@@ -262,7 +256,7 @@ not-full f limit on m n r few counted openers b all =
 
     each : HasClient r.last m b0.seats
     each d e =
-        let there = joined-known b0 d (sat b0.seats d e) in
+        let there = joined-known b0 d (sat-found d b0.seats e) in
         let low = known-low b0 d (f.lawful limit r.events) there in
         let size = b.sized in
         let j = client-low m r.openers d openers.clients (positive d there) (omega (arith, low, size)) in
