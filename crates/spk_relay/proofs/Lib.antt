@@ -3,8 +3,11 @@ pub mod Due
 pub mod Facts
 pub mod Few
 pub mod Moves
+pub mod Nodes
 pub mod Offers
+pub mod Owns
 pub mod Places
 pub mod State
+pub mod Tells
 pub mod Topics
 pub mod Window

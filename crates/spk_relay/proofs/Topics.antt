@@ -59,10 +59,15 @@ four a b c d x y z w = and_from _ _ x (and_from _ _ y (and_from _ _ z (and_from 
 five : (a b c d e : Bool) → a ≡ true → b ≡ true → c ≡ true → d ≡ true → e ≡ true → (a && (b && (c && (d && (e && true))))) ≡ true
 five a b c d e x y z w v = and_from _ _ x (four b c d e y z w v)
 
+-- the levels of a filter on a node's device commands
+pub five-levels : (g m : List ℕ) → slashless g ≡ true → slashless m ≡ true →
+    (slashless (codes "spBv1.0") && (slashless g && (slashless (codes "DCMD") && (slashless m && (slashless (codes "+") && true))))) ≡ true
+five-levels g m x y = five _ _ _ _ _ refl x refl y refl
+
 names-two : (a b : Bool) → (a && b) ≡ true → (a ≡ true) × (b ≡ true)
 names-two a b e = and_parts a b e
 
-names-three : (a b c : Bool) → (a && b && c) ≡ true → (a ≡ true) × (b ≡ true) × (c ≡ true)
+pub names-three : (a b c : Bool) → (a && b && c) ≡ true → (a ≡ true) × (b ≡ true) × (c ≡ true)
 names-three true true true e = (refl, refl, refl)
 names-three true true false e = absurd (no-yes e)
 names-three true false c e = absurd (no-yes e)

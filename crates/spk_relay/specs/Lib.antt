@@ -2,4 +2,5 @@ pub mod Due
 pub mod Relayed
 pub mod Senders
 pub mod Shown
+pub mod Speech
 pub mod Topics

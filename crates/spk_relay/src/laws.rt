@@ -9,6 +9,10 @@ ghost use Rattle.spk_broker_body.specs.Done.{refused_to};
 ghost use Rattle.spk_broker_body.specs.Log.{IsLog, refusals_of, room_of, taken_of};
 ghost use Rattle.spk_relay.specs.Due.{due};
 ghost use Rattle.spk_relay.specs.Relayed.{IsRelayed};
+ghost use Rattle.spk_packets.specs.Spelling.{PacketFits};
+ghost use Rattle.spk_edge_rules.specs.Config.{Config};
+ghost use Rattle.spk_edge_rules.specs.Packets.{subscribe_of};
+ghost use Rattle.spk_relay.specs.Speech.{HasTexts};
 ghost use Rattle.spk_relay.specs.Senders.{AreSenders};
 ghost use Rattle.spk_relay.specs.Shown.{AllMaySay, HasPlaces, IsFew, count_numbered, shown};
 
@@ -81,3 +85,7 @@ pub fn few()
     spk_broker_rules::laws::joining();
     spk_broker_rules::laws::drops();
 }
+
+pub fn orderly()
+    ensures { (c : Config) (t : HasTexts c) → PacketFits (subscribe_of c) }
+{}
