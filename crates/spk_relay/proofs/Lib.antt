@@ -2,11 +2,13 @@ pub mod Base
 pub mod Due
 pub mod Facts
 pub mod Few
+pub mod Hosts
 pub mod Moves
 pub mod Nodes
 pub mod Offers
 pub mod Owns
 pub mod Places
+pub mod Plant
 pub mod State
 pub mod Tells
 pub mod Topics

@@ -149,7 +149,7 @@ below (b ∷ bs) e =
     let both = and_parts (nat_lt b 128) (list_all (λ x. nat_lt x 128) bs) e in
     All-cons (λ x. x < 128) b bs (ltb-true b 128 both.0) (below bs both.1)
 
-ascii : (bs : List ℕ) → list_all (λ b. nat_lt b 128) bs ≡ true → IsUtf8 bs
+pub ascii : (bs : List ℕ) → list_all (λ b. nat_lt b 128) bs ≡ true → IsUtf8 bs
 ascii bs e = IsUtf8-from_ascii bs (IsAscii-from_all bs (below bs e))
 
 pub joined-utf8 : (ls : List (List ℕ)) → AllByRecursion (λ l. IsUtf8 l) ls → IsUtf8 (joined ls)

@@ -21,7 +21,7 @@ pub record TopicFacts : Type 0 where
 
 -- ---- names and levels
 
-abbrev slashless : List ℕ → Bool
+abbrev pub slashless : List ℕ → Bool
 slashless l = not (holds 47 l)
 
 pub name-slashless : (text : List ℕ) → is_name text ≡ true → slashless text ≡ true
@@ -63,6 +63,10 @@ five a b c d e x y z w v = and_from _ _ x (four b c d e y z w v)
 pub five-levels : (g m : List ℕ) → slashless g ≡ true → slashless m ≡ true →
     (slashless (codes "spBv1.0") && (slashless g && (slashless (codes "DCMD") && (slashless m && (slashless (codes "+") && true))))) ≡ true
 five-levels g m x y = five _ _ _ _ _ refl x refl y refl
+
+-- the levels of a host's filter on a group
+pub three-levels : (g : List ℕ) → slashless g ≡ true → (slashless (codes "spBv1.0") && (slashless g && (slashless (35 ∷ []) && true))) ≡ true
+three-levels g x = and_from _ _ refl (and_from _ _ x (and_from _ _ refl refl))
 
 names-two : (a b : Bool) → (a && b) ≡ true → (a ≡ true) × (b ≡ true)
 names-two a b e = and_parts a b e
@@ -150,7 +154,7 @@ either true false = refl
 either false true = refl
 either false false = refl
 
-abbrev group-test : List ℕ → List ℕ → Bool
+abbrev pub group-test : List ℕ → List ℕ → Bool
 group-test g group = bytes_eq g (43 ∷ []) || bytes_eq g group
 
 in-group : (g group node h k : List ℕ) → (bytes_eq h group && bytes_eq k node) ≡ true → group-test g h ≡ group-test g group

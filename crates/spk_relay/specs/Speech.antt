@@ -40,10 +40,9 @@ pub record IsNodeSpeech (s : Setup) (inputs : List Input) (frames : List Frame) 
   pub whole : AllWhole s (published (run_of s inputs))
   pub put : frames ≡ frames_of s inputs ++ frame.End ∷ []
 
--- A host put the packets of the calls that it did, of what it was told, newest first, and last its end.
+-- A host with good names put the packets of the calls that it did, of what it was told, newest first, and last its end.
 pub record IsHostSpeech (c : host.Config) (told : List (Option HeardData)) (frames : List Frame) : Type 0 where
-  pub name : is_name c.name ≡ true
-  pub group_name : is_name c.group ≡ true
+  pub good : host.is_good c ≡ true
   pub group : IsUtf8 c.group
   pub put : frames ≡ map frame.Packet (packets_of c (calls_of c told)) ++ frame.End ∷ []
 

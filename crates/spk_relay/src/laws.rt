@@ -1,5 +1,5 @@
 //! Laws of the definitions alone: functions that do nothing, whose contracts speak of definitions.
-ghost use Rattle.std.specs.Prelude.{◌≡◌, ℕ, ◌≤◌, Bool, List, [], ◌∷◌, ◌++◌};
+ghost use Rattle.std.specs.Prelude.{◌≡◌, ℕ, ◌-◌, ◌*◌, ◌<◌, ◌≤◌, Bool, List, [], ◌∷◌, ◌++◌, length, Option};
 ghost use Rattle.spk_sequence.specs.Claims.{AfterDeath, AfterGap, BirthPrefixes, HasCause, IsLawful, SameStep, TakesBirth};
 ghost use Rattle.spk_sequence.specs.HostRecord.{Input, MessageComes, consumed_of, done_at, record_of, standing_of};
 ghost use Rattle.spk_sequence.specs.NodeRecord.{Setting};
@@ -9,10 +9,13 @@ ghost use Rattle.spk_broker_body.specs.Done.{refused_to};
 ghost use Rattle.spk_broker_body.specs.Log.{IsLog, refusals_of, room_of, taken_of};
 ghost use Rattle.spk_relay.specs.Due.{due};
 ghost use Rattle.spk_relay.specs.Relayed.{IsRelayed};
-ghost use Rattle.spk_packets.specs.Spelling.{PacketFits};
-ghost use Rattle.spk_edge_rules.specs.Config.{Config};
-ghost use Rattle.spk_edge_rules.specs.Packets.{subscribe_of};
-ghost use Rattle.spk_relay.specs.Speech.{HasTexts};
+ghost use Rattle.spk_reading.specs.Data.{HeardData};
+ghost use Rattle.spk_edge_rules.specs.Config.{Setup};
+ghost use Rattle.spk_edge_rules.specs.Inputs as edge;
+ghost use Rattle.spk_edge_rules.specs.Run.{published, run_of};
+ghost use Rattle.spk_host_session.specs.Data.{Config};
+ghost use Rattle.spk_relay.specs.Speech.{IsPlant};
+ghost use Rattle.spk_relay.specs.Topics.{is_numbered_topic};
 ghost use Rattle.spk_relay.specs.Senders.{AreSenders};
 ghost use Rattle.spk_relay.specs.Shown.{AllMaySay, HasPlaces, IsFew, count_numbered, shown};
 
@@ -86,6 +89,36 @@ pub fn few()
     spk_broker_rules::laws::drops();
 }
 
-pub fn orderly()
-    ensures { (c : Config) (t : HasTexts c) → PacketFits (subscribe_of c) }
-{}
+/// Along every log of a plant whose edge nodes and host say what their rules give: nothing is asked of windows, orders or losses.
+pub fn shown()
+    // they say no more than they may
+    ensures orderly { (width edges k : ℕ) (setup : ℕ → Setup) (inputs : ℕ → List edge.Input) (c : Config) (told : List (Option HeardData))
+        (log : List Entry) → k < edges → IsPlant width edges setup inputs c told log →
+        AllMaySay (is_numbered_topic (setup k).config.group (setup k).config.node) k edges log }
+
+    // as many numbered messages of a node were taken as it published
+    ensures counted { (width edges k : ℕ) (setup : ℕ → Setup) (inputs : ℕ → List edge.Input) (c : Config) (told : List (Option HeardData))
+        (log : List Entry) → k < edges → IsPlant width edges setup inputs c told log →
+        count_numbered (is_numbered_topic (setup k).config.group (setup k).config.node) k log ≡ length (published (run_of (setup k) (inputs k))) }
+
+    // what the host's ring got of a node are positions of what the node published, in order, each once, and from the first to the last
+    // fewer are missing than refusals close the host's connection
+    ensures few { (width edges k : ℕ) (setup : ℕ → Setup) (inputs : ℕ → List edge.Input) (c : Config) (told : List (Option HeardData))
+        (log : List Entry) → k < edges → IsPlant width edges setup inputs c told log →
+        IsFew (256 - 2 * width) (length (published (run_of (setup k) (inputs k))))
+        (shown (is_numbered_topic (setup k).config.group (setup k).config.node) k edges log) }
+
+    // where no send to the host was refused and all was offered, these are all that were due to it
+    ensures complete { (width edges k : ℕ) (setup : ℕ → Setup) (inputs : ℕ → List edge.Input) (c : Config) (told : List (Option HeardData))
+        (log : List Entry) → k < edges → IsPlant width edges setup inputs c told log → refused_to edges (refusals_of log) ≡ 0 →
+        (room_of (256 - 2 * width) edges log).pending ≡ [] →
+        due (256 - 2 * width) edges (is_numbered_topic (setup k).config.group (setup k).config.node) k edges log ≡
+        shown (is_numbered_topic (setup k).config.group (setup k).config.node) k edges log }
+{
+    spk_packets::laws::prefix_free();
+    spk_packets::laws::spelling_spells();
+    spk_topics::laws::reading();
+    spk_topics::laws::levels_are_parts();
+    spk_edge_rules::laws::published();
+    few();
+}

@@ -1,0 +1,318 @@
+-- The frames of a host neither end its connection nor take grants back, and what it asks for fits all numbered topics of a node or none.
+use Rattle.std.proofs.Common.{◌≡◌, ◌⊎◌, inl, inr, sym, ap, refl, subst, ◌∙◌, ℕ, zero, suc, ◌+◌, ◌-◌, ◌*◌, ◌%◌, ◌<◌, ◌≤◌, Bool, true, false, not, ◌&&◌, ◌||◌, cond, eqb, leb, ltb, List, [], ◌∷◌, ◌++◌, map, replicate, length, Option, Some, None, Result, Ok, Err, is_some, is_none, codes, arith, true≢false, leb-true, le-ltb, length-append}
+use Rattle.std.specs.List.{list_any, AllByRecursion}
+use Rattle.std.specs.Str.{IsUtf8}
+use Rattle.std.proofs.lemmas.Bool.{and_parts, or_from, or_parts}
+use Rattle.std.proofs.lemmas.List.Folds.{list_any-append}
+use Rattle.std.proofs.lemmas.Str.{IsUtf8-append}
+use Rattle.spk_packets.specs.Fault.{first_of}
+use Rattle.spk_packets.specs.declared.fault.PacketFault.{PacketFault}
+use Rattle.spk_packets.specs.Grammar.{Spells, bit, first_byte, has_zero, largest}
+use Rattle.spk_packets.specs.Message.{Connect, ConnAck, Publish, PubAck, Subscribe, SubAck, Unsubscribe, UnsubAck, PingReq, PingResp, Disconnect, WillData}
+use Rattle.spk_packets.specs.Message.{Message as Packet}
+use Rattle.spk_packets.specs.Spelling.{HasWords, PacketFits, body, has_bad_body, has_bad_text, is_qos_two, shortest, spelling, unwritable}
+use Rattle.spk_topics.specs.Levels.{joined, levels}
+use Rattle.spk_topics.specs.Spark.{is_name}
+use Rattle.spk_topics.specs.Text.{holds}
+use Rattle.spk_broker_rules.specs.Listening.{is_disconnect, is_unsubscribe}
+use Rattle.spk_broker_body.specs.Data.{Input, Says, Breaks, Cuts, Ends}
+use Rattle.spk_broker_body.specs.Log.{Means}
+use Rattle.spk_ingress.specs.declared.frame.Frame.{Frame}
+use Rattle.spk_ingress.specs.declared.frame.Frame.TheVariants as frame
+use Rattle.spk_reading.specs.Data as said
+use Rattle.spk_reading.specs.Data.{ContentData, HeardData, NumberedData}
+use Rattle.spk_edge_rules.specs.Answers.{is_writable}
+use Rattle.spk_host_session.specs.Data.{Config, is_address, is_good, is_short_name}
+use Rattle.spk_host_session.specs.Packets.{connect_of, filter_of, online_of, rebirth_of, subscribe_of}
+use Rattle.spk_host_session.specs.Step as session
+use Rattle.spk_host_session.specs.declared.fault.HostFault.{HostFault}
+use Rattle.spk_host.specs.Data.{Entry, HostData, OutData}
+use Rattle.spk_host.specs.Inputs.{Call, Heard, Ticked, Connected, Stopped, Ended, Renewed, host_after}
+use Rattle.spk_host.specs.Step.{acks, is_asked, packet_out, requests_at, requests_to, said_by, spelled}
+use Rattle.spk_host_body.specs.Calls.{done, is_done, out_at, packets_of}
+use Rattle.spk_host_body.specs.Told.{asked, calls_of}
+use Rattle.spk_relay.proofs.Offers.{no-yes}
+use Rattle.spk_relay.proofs.Tells.{AsksForAll, AsksIn, PacketFacts, ascii, first-of-spelled, one-reading, publish-first, written}
+use Rattle.spk_relay.proofs.Topics.{TopicFacts, fits-alike, group-test, group-topics, name-slashless, slashless}
+
+-- ---- what a host may say
+
+pub record IsHarmless (q : Packet) : Type 0 where
+  pub asks : AsksForAll q
+  pub stays : is_disconnect q ≡ false
+  pub keeps : is_unsubscribe q ≡ false
+
+harmless-first : (q : Packet) → (first_byte q ≡ 130 → ⊥) → (first_byte q ≡ 162 → ⊥) → (first_byte q ≡ 224 → ⊥) → IsHarmless q
+harmless-first (Subscribe id filters) s u d = absurd (s refl)
+harmless-first (Unsubscribe id filters) s u d = absurd (u refl)
+harmless-first Disconnect s u d = absurd (d refl)
+harmless-first (Connect client clean alive will) s u d = record { asks = λ group node one two x y. tt; stays = refl; keeps = refl }
+harmless-first (ConnAck present code) s u d = record { asks = λ group node one two x y. tt; stays = refl; keeps = refl }
+harmless-first (Publish dup qos retain topic id payload) s u d = record { asks = λ group node one two x y. tt; stays = refl; keeps = refl }
+harmless-first (PubAck id) s u d = record { asks = λ group node one two x y. tt; stays = refl; keeps = refl }
+harmless-first (SubAck id given) s u d = record { asks = λ group node one two x y. tt; stays = refl; keeps = refl }
+harmless-first (UnsubAck id) s u d = record { asks = λ group node one two x y. tt; stays = refl; keeps = refl }
+harmless-first PingReq s u d = record { asks = λ group node one two x y. tt; stays = refl; keeps = refl }
+harmless-first PingResp s u d = record { asks = λ group node one two x y. tt; stays = refl; keeps = refl }
+
+-- a packet whose first byte is below 128
+harmless-low : (p q : Packet) → first_byte p < 128 → Spells (spelling p) q → IsHarmless q
+harmless-low p q low says =
+    let first = first-of-spelled p q says in
+    harmless-first q (λ e. omega (arith, first, low, e)) (λ e. omega (arith, first, low, e)) (λ e. omega (arith, first, low, e))
+
+-- ---- its SUBSCRIBE
+
+short-size : (n : ℕ) → length (shortest n) ≤ 4
+unfolding shortest
+short-size n = by (ltb n 128) (ltb n 16384) (ltb n 2097152)
+  where
+    by : (a b c : Bool) → length (cond a (n ∷ []) (cond b ((n % 128 + 128) ∷ Rattle.std.specs.Prelude.◌/◌ n 128 ∷ [])
+        (cond c ((n % 128 + 128) ∷ (Rattle.std.specs.Prelude.◌/◌ n 128 % 128 + 128) ∷ Rattle.std.specs.Prelude.◌/◌ n 16384 ∷ [])
+        ((n % 128 + 128) ∷ (Rattle.std.specs.Prelude.◌/◌ n 128 % 128 + 128) ∷ (Rattle.std.specs.Prelude.◌/◌ n 16384 % 128 + 128) ∷ Rattle.std.specs.Prelude.◌/◌ n 2097152 ∷ [])))) ≤ 4
+    by true b c = omega arith
+    by false true c = omega arith
+    by false false true = omega arith
+    by false false false = omega arith
+
+none-zero : (text : List ℕ) → is_name text ≡ true → holds 0 text ≡ false
+none-zero text e = by (not (Rattle.spk_topics.specs.Levels.is_empty text)) (not (holds 47 text)) (Rattle.spk_topics.specs.Text.is_plain text) (holds 0 text) e
+  where
+    by : (a b c d : Bool) → (a && b && c && not d) ≡ true → d ≡ false
+    by true true true false e = refl
+    by true true true true e = absurd (no-yes e)
+    by true true false d e = absurd (no-yes e)
+    by true false c d e = absurd (no-yes e)
+    by false b c d e = absurd (no-yes e)
+
+group-size : (g : List ℕ) → length (codes "spBv1.0/" ++ (g ++ codes "/#")) ≡ length g + 10
+group-size g = let e = length-append g (codes "/#") in omega (arith, e)
+
+four-refusals : (a b c d : Bool) (w x y z : PacketFault) → a ≡ false → b ≡ false → c ≡ false → d ≡ false →
+    is_none (first_of ((a, w) ∷ (b, x) ∷ (c, y) ∷ (d, z) ∷ [])) ≡ true
+four-refusals false false false false w x y z p q r s = refl
+four-refusals true b c d w x y z p q r s = absurd (true≢false p)
+four-refusals false true c d w x y z p q r s = absurd (true≢false q)
+four-refusals false false true d w x y z p q r s = absurd (true≢false r)
+four-refusals false false false true w x y z p q r s = absurd (true≢false s)
+
+request-size : (f : List ℕ) → length (body (Subscribe 1 ((f, 1) ∷ []))) ≡ length f + 5
+unfolding body
+request-size f = let a = length-append f (1 ∷ []) in let b = length-append (f ++ 1 ∷ []) [] in omega (arith, a, b)
+
+pub can-subscribe : (c : Config) → is_short_name c.group ≡ true → is_writable (subscribe_of c) ≡ true
+unfolding has_bad_text has_bad_body is_qos_two spelling
+can-subscribe c short = four-refusals _ _ _ _ _ _ _ _ text refl refl size
+  where
+    parts : (is_name c.group ≡ true) × (leb (length c.group) 60000 ≡ true)
+    parts = and_parts _ _ short
+
+    low : length c.group ≤ 60000
+    low = leb-true (length c.group) 60000 parts.1
+
+    zeros : has_zero (filter_of c) ≡ false
+    zeros = list_any-append (λ b. eqb b 0) c.group (codes "/#") ∙ or_from _ _ (none-zero c.group parts.0) refl
+
+    text : (ltb 65535 (length (filter_of c)) || has_zero (filter_of c) || false) ≡ false
+    text = or_from _ _ (or_from _ _ (le-ltb 65535 (length (filter_of c)) (let g = group-size c.group in let l = low in omega (arith, g, l))) zeros) refl
+
+    size : ltb largest (length (first_byte (subscribe_of c) % 256 ∷ (shortest (length (body (subscribe_of c))) ++ body (subscribe_of c)))) ≡ false
+    size = le-ltb largest _ (let a = length-append (shortest (length (body (subscribe_of c)))) (body (subscribe_of c)) in let s = short-size (length (body (subscribe_of c))) in
+        let b = request-size (filter_of c) in let g = group-size c.group in let l = low in omega (arith, a, s, b, g, l))
+
+pub subscribe-fits : (c : Config) → IsUtf8 c.group → PacketFits (subscribe_of c)
+unfolding HasWords
+subscribe-fits c group = (omega arith, (IsUtf8-append (codes "spBv1.0/") (c.group ++ codes "/#") (ascii (codes "spBv1.0/") refl) (IsUtf8-append c.group (codes "/#") group (ascii (codes "/#") refl)), tt))
+
+group-levels : TopicFacts → (g : List ℕ) → is_name g ≡ true → levels (codes "spBv1.0/" ++ (g ++ codes "/#")) ≡ codes "spBv1.0" ∷ g ∷ (35 ∷ []) ∷ []
+group-levels t g name = t.again (codes "spBv1.0") (g ∷ (35 ∷ []) ∷ []) (Rattle.spk_relay.proofs.Topics.three-levels g (name-slashless g name))
+
+pub group-asks : TopicFacts → (c : Config) → is_name c.group ≡ true → AsksForAll (subscribe_of c)
+group-asks t c name group node one other x y =
+    (fits-alike t group node (filter_of c) (codes "spBv1.0" ∷ c.group ∷ (35 ∷ []) ∷ []) (group-levels t c.group name)
+    (record { plain = refl; verdict = group-test c.group group; same = group-topics c.group group node }) one other x y, tt)
+
+-- ---- the packets of a host
+
+pub data IsHosts (c : Config) (p : Packet) : Type 0 where
+  Acks : (id : ℕ) → p ≡ PubAck id → IsHosts c p
+  Joins : (client : List ℕ) (clean : Bool) (alive : ℕ) (will : Option WillData) → p ≡ Connect client clean alive will → IsHosts c p
+  Asks : p ≡ subscribe_of c → IsHosts c p
+  Publishes : (qos : ℕ) (retain : Bool) (topic : List ℕ) (id : Option ℕ) (payload : List ℕ) → qos ≤ 1 → p ≡ Publish false qos retain topic id payload → IsHosts c p
+
+abbrev pub AreHosts : Config → List Packet → Type 0
+AreHosts c [] = Unit {0}
+AreHosts c (p ∷ ps) = IsHosts c p × AreHosts c ps
+
+pub hosts-harmless : PacketFacts → TopicFacts → (c : Config) → is_good c ≡ true → IsUtf8 c.group → (p q : Packet) → IsHosts c p → Spells (spelling p) q → IsHarmless q
+hosts-harmless f t c good text p q (Acks id is) says = harmless-low p q (subst (λ x. first_byte x < 128) (sym is) (omega arith)) says
+hosts-harmless f t c good text p q (Joins client clean alive will is) says = harmless-low p q (subst (λ x. first_byte x < 128) (sym is) (omega arith)) says
+hosts-harmless f t c good text p q (Publishes qos retain topic id payload low is) says =
+    harmless-low p q (subst (λ x. first_byte x < 128) (sym is) (let b = (publish-first false qos retain low).1 in omega (arith, b))) says
+hosts-harmless f t c good text p q (Asks is) says =
+    let short = (and_parts (is_short_name c.name) (is_short_name c.group) good).1 in
+    let own = written f (subscribe_of c) (subscribe-fits c text) (can-subscribe c short) in
+    let name = (and_parts (is_name c.group) (leb (length c.group) 60000) short).0 in
+    subst IsHarmless (sym (one-reading f (spelling (subscribe_of c)) (subscribe_of c) q own (subst (λ x. Spells (spelling x) q) is says)))
+    (record { asks = group-asks t c name; stays = refl; keeps = refl })
+
+hosts-append : (c : Config) (xs ys : List Packet) → AreHosts c xs → AreHosts c ys → AreHosts c (xs ++ ys)
+hosts-append c [] ys x y = y
+hosts-append c (p ∷ xs) ys x y = (x.0, hosts-append c xs ys x.1 y)
+
+hosts-acks : (c : Config) (ack : Option ℕ) → AreHosts c (acks ack)
+hosts-acks c None = tt
+hosts-acks c (Some id) = (Acks id refl, tt)
+
+hosts-many : (c : Config) (group name : List ℕ) (now n : ℕ) → AreHosts c (replicate n (rebirth_of group name now))
+hosts-many c group name now zero = tt
+hosts-many c group name now (suc n) = (Publishes 0 false _ None _ (omega arith) refl, hosts-many c group name now n)
+
+hosts-requests : (c : Config) (group name : List ℕ) (now n : ℕ) → AreHosts c (requests_to group name now n)
+hosts-requests c group name now n = by (is_address group name)
+  where
+    by : (b : Bool) → AreHosts c (cond b (replicate n (rebirth_of group name now)) [])
+    by true = hosts-many c group name now n
+    by false = tt
+
+hosts-ticks : (c : Config) (now : ℕ) (es : List Entry) → AreHosts c (requests_at now es)
+hosts-ticks c now [] = tt
+hosts-ticks c now (x ∷ es) = hosts-append c _ (requests_at now es) (by (is_asked now x)) (hosts-ticks c now es)
+  where
+    by : (b : Bool) → AreHosts c (cond b (requests_to x.group x.node now 1) [])
+    by true = hosts-requests c x.group x.node now 1
+    by false = tt
+
+-- bytes that are spellings of such packets
+pub record AreBytes (c : Config) (bytes : List (List ℕ)) : Type 0 where
+  pub packets : List Packet
+  pub hosts : AreHosts c packets
+  pub spell : bytes ≡ spelled packets
+
+hosts-published : (c : Config) (h : HostData) (ack : Option ℕ) (content : ContentData) (now : ℕ) → AreBytes c (Rattle.spk_host.specs.Step.published_out h ack content now).packets
+hosts-published c h ack (said.Message m) now = record { packets = acks ack ++ _; hosts = hosts-append c (acks ack) _ (hosts-acks c ack) (hosts-requests c m.group m.node now _); spell = refl }
+hosts-published c h ack (said.Death group name bd) now = record { packets = acks ack; hosts = hosts-acks c ack; spell = refl }
+hosts-published c h ack said.Nothing now = record { packets = acks ack; hosts = hosts-acks c ack; spell = refl }
+
+hosts-heard : (c : Config) (h : HostData) (heard : HeardData) (now : ℕ) → h.session.config ≡ c → AreBytes c (packet_out h heard now).packets
+hosts-heard c h (said.Published ack content) now same = hosts-published c h ack content now
+hosts-heard c h (said.Answered code) now same = record { packets = said_by (session.says h.session (session.Answered code)); hosts = by h.session.began; spell = refl }
+  where
+    answered : (b : Bool) → AreHosts c (cond b (subscribe_of h.session.config ∷ []) [])
+    answered true = (Asks (ap subscribe_of same), tt)
+    answered false = tt
+
+    by : (o : Option ℕ) → AreHosts c (said_by (session.within o (λ began. cond (eqb code 0) (subscribe_of h.session.config ∷ []) [])))
+    by None = tt
+    by (Some began) = answered (eqb code 0)
+hosts-heard c h said.Granted now same = record { packets = said_by (session.says h.session session.Granted); hosts = by h.session.began; spell = refl }
+  where
+    by : (o : Option ℕ) → AreHosts c (said_by (session.within o (λ began. online_of h.session.config began ∷ [])))
+    by None = tt
+    by (Some began) = (Publishes 1 true _ (Some 2) _ (omega arith) refl, tt)
+hosts-heard c h said.Other now same = record { packets = []; hosts = tt; spell = refl }
+
+-- calls of a run: a session is begun, and the rest is heard
+abbrev pub IsOfRun : Call → Type 0
+IsOfRun (Heard heard now) = Unit {0}
+IsOfRun (Ticked now) = Unit {0}
+IsOfRun (Connected now) = Unit {0}
+IsOfRun (Stopped now) = ⊥
+IsOfRun Ended = ⊥
+IsOfRun (Renewed now) = ⊥
+
+hosts-call : (c : Config) (h : HostData) (call : Call) → h.session.config ≡ c → IsOfRun call → AreBytes c (out_at h call).packets
+hosts-call c h (Heard heard now) same run = hosts-heard c h heard now same
+hosts-call c h (Ticked now) same run = record { packets = requests_at now h.nodes; hosts = hosts-ticks c now h.nodes; spell = refl }
+hosts-call c h (Connected now) same run = record { packets = said_by (session.says h.session (session.Connected now)); hosts = by h.session.began; spell = refl }
+  where
+    by : (o : Option ℕ) → AreHosts c (said_by (session.outside o (connect_of h.session.config now ∷ [])))
+    by None = (Joins _ _ _ _ refl, tt)
+    by (Some began) = tt
+hosts-call c h (Stopped now) same run = absurd run
+hosts-call c h Ended same run = absurd run
+hosts-call c h (Renewed now) same run = absurd run
+
+config-with : (h : HostData) (call : Call) → (Rattle.spk_host.specs.Inputs.host_with h call).session.config ≡ h.session.config
+config-with h (Heard (said.Published ack content) now) = refl
+config-with h (Heard (said.Answered code) now) = refl
+config-with h (Heard said.Granted now) = refl
+config-with h (Heard said.Other now) = refl
+config-with h (Ticked now) = refl
+config-with h (Connected now) = refl
+config-with h (Stopped now) = refl
+config-with h Ended = refl
+config-with h (Renewed now) = refl
+
+config-after : (c : Config) (calls : List Call) → (host_after c calls).session.config ≡ c
+config-after c [] = refl
+config-after c (call ∷ calls) = config-with (host_after c calls) call ∙ config-after c calls
+
+map-both : (xs ys : List Packet) → spelled (xs ++ ys) ≡ spelled xs ++ spelled ys
+map-both [] ys = refl
+map-both (x ∷ xs) ys = ap (λ l. spelling x ∷ l) (map-both xs ys)
+
+bytes-append : (c : Config) (xs ys : List (List ℕ)) → AreBytes c xs → AreBytes c ys → AreBytes c (xs ++ ys)
+bytes-append c xs ys x y = record {
+  packets = x.packets ++ y.packets;
+  hosts = hosts-append c x.packets y.packets x.hosts y.hosts;
+  spell = ap (λ l. l ++ ys) x.spell ∙ ap (λ l. spelled x.packets ++ l) y.spell ∙ sym (map-both x.packets y.packets);
+}
+
+hosts-calls : (c : Config) (calls : List Call) → AllByRecursion (λ call. IsOfRun call) calls → AreBytes c (packets_of c calls)
+unfolding packets_of
+hosts-calls c [] run = record { packets = []; hosts = tt; spell = refl }
+hosts-calls c (call ∷ calls) run = bytes-append c (packets_of c calls) _ (hosts-calls c calls run.1) (hosts-call c (host_after c calls) call (config-after c calls) run.0)
+
+run-asked : (told : List (Option HeardData)) → AllByRecursion (λ call. IsOfRun call) (asked told)
+run-asked [] = (tt, tt)
+run-asked (Some heard ∷ told) = (tt, (tt, run-asked told))
+run-asked (None ∷ told) = (tt, run-asked told)
+
+run-done : (c : Config) (calls : List Call) → AllByRecursion (λ call. IsOfRun call) calls → AllByRecursion (λ call. IsOfRun call) (done c calls)
+unfolding done
+run-done c [] run = tt
+run-done c (call ∷ calls) run = by (is_done (host_after c (done c calls)) call) (run-done c calls run.1)
+  where
+    by : (b : Bool) → AllByRecursion (λ call. IsOfRun call) (done c calls) → AllByRecursion (λ call. IsOfRun call) (cond b (call ∷ done c calls) (done c calls))
+    by true rest = (run.0, rest)
+    by false rest = rest
+
+-- ---- the frames of a host
+
+abbrev pub IsHarmlessIn : Input → Type 0
+IsHarmlessIn (Says q) = IsHarmless q
+IsHarmlessIn (Breaks g) = Unit {0}
+IsHarmlessIn Cuts = ⊥
+IsHarmlessIn Ends = Unit {0}
+
+pub record IsHostFrame (f : Frame) : Type 0 where
+  pub means : (i : Input) → Means f i → IsHarmlessIn i
+
+packet-frame-harmless : (bytes : List ℕ) → ((q : Packet) → Spells bytes q → IsHarmless q) → IsHostFrame (frame.Packet bytes)
+packet-frame-harmless bytes says = record { means = by }
+  where
+    by : (i : Input) → Means (frame.Packet bytes) i → IsHarmlessIn i
+    by (Says q) m = says q m
+    by (Breaks g) m = tt
+    by Cuts m = absurd m
+    by Ends m = tt
+
+pub end-harmless : IsHostFrame frame.End
+end-harmless = record { means = by }
+  where
+    by : (i : Input) → Means frame.End i → IsHarmlessIn i
+    by (Says q) m = absurd m
+    by (Breaks g) m = tt
+    by Cuts m = absurd m
+    by Ends m = tt
+
+frames-harmless : PacketFacts → TopicFacts → (c : Config) → is_good c ≡ true → IsUtf8 c.group → (ps : List Packet) → AreHosts c ps → AllByRecursion (λ f. IsHostFrame f) (map frame.Packet (spelled ps) ++ frame.End ∷ [])
+frames-harmless f t c good text [] own = (end-harmless, tt)
+frames-harmless f t c good text (p ∷ ps) own = (packet-frame-harmless (spelling p) (λ q says. hosts-harmless f t c good text p q own.0 says), frames-harmless f t c good text ps own.1)
+
+pub host-frames : PacketFacts → TopicFacts → (c : Config) → is_good c ≡ true → IsUtf8 c.group → (told : List (Option HeardData)) →
+    AllByRecursion (λ f. IsHostFrame f) (map frame.Packet (packets_of c (calls_of c told)) ++ frame.End ∷ [])
+host-frames f t c good text told =
+    let b = hosts-calls c (calls_of c told) (run-done c (asked told) (run-asked told)) in
+    subst (λ xs. AllByRecursion (λ x. IsHostFrame x) (map frame.Packet xs ++ frame.End ∷ [])) (sym b.spell) (frames-harmless f t c good text b.packets b.hosts)

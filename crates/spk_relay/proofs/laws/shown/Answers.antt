@@ -1,0 +1,44 @@
+use Rattle.std.proofs.Common.{◌≤◌, ◌-◌, ◌*◌, ℕ, arith, subst}
+use Rattle.spk_broker_body.specs.Log.{taken_of}
+use Rattle.spk_relay.specs.Shown.{IsFew, shown}
+use Rattle.spk_relay.proofs.Nodes.{EdgeFacts, on_of}
+use Rattle.spk_relay.proofs.Plant.{plant-counts, plant-says}
+use Rattle.spk_relay.proofs.Tells.{PacketFacts}
+use Rattle.spk_relay.proofs.Topics.{TopicFacts}
+use Rattle.spk_relay.proofs.laws.shown.Goals as goal
+
+small : (width : ℕ) → 256 - 2 * width ≤ 65535
+small width = omega arith
+
+pub returns-clause-orderly : goal.returns-clause-orderly
+returns-clause-orderly c = λ width edges k setup inputs config told log low plant. plant-says packets topics rules width edges k setup inputs config told log low plant
+  where
+    packets : PacketFacts
+    packets = record { prefix = c.prefix_free.ensures; spells = c.spelling_spells.ensures }
+
+    topics : TopicFacts
+    topics = record { reading = c.reading.ensures; again = c.levels_are_parts.ensures.again }
+
+    rules : EdgeFacts
+    rules = record { kinds = c.published.ensures.kinds; grows = c.published.ensures.grows; names = c.published.ensures.names }
+
+pub returns-clause-counted : goal.returns-clause-counted
+returns-clause-counted c = λ width edges k setup inputs config told log low plant. plant-counts packets topics rules width edges k setup inputs config told log low plant
+  where
+    packets : PacketFacts
+    packets = record { prefix = c.prefix_free.ensures; spells = c.spelling_spells.ensures }
+
+    topics : TopicFacts
+    topics = record { reading = c.reading.ensures; again = c.levels_are_parts.ensures.again }
+
+    rules : EdgeFacts
+    rules = record { kinds = c.published.ensures.kinds; grows = c.published.ensures.grows; names = c.published.ensures.names }
+
+pub returns-clause-few : goal.returns-clause-few
+returns-clause-few c = λ width edges k setup inputs config told log low plant.
+    subst (λ n. IsFew (256 - 2 * width) n (shown (on_of (setup k)) k edges log)) (returns-clause-counted c width edges k setup inputs config told log low plant)
+    (c.few.ensures.few (256 - 2 * width) edges k (on_of (setup k)) log (small width) plant.is_log (returns-clause-orderly c width edges k setup inputs config told log low plant) plant.senders)
+
+pub returns-clause-complete : goal.returns-clause-complete
+returns-clause-complete c = λ width edges k setup inputs config told log low plant none offered.
+    c.few.ensures.complete (256 - 2 * width) edges k (on_of (setup k)) log (small width) plant.is_log (returns-clause-orderly c width edges k setup inputs config told log low plant) plant.senders none offered
