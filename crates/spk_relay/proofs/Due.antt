@@ -35,7 +35,7 @@ owes-none ds ps n same = record { none = λ e. same; some = λ low. absurd (omeg
 -- ---- a numbered message
 
 module _ (f : Facts) (limit : ℕ) (on : List ℕ → Bool) (h k : ℕ) (r : Room) (b : Base limit on r) (all : AllJoined (after limit r.events)) (conn now : ℕ) (topic payload : List ℕ)
-  (plain : IsPlain topic payload) (there : conn_at limit r k ≡ Some conn) where
+    (plain : IsPlain topic payload) (there : conn_at limit r k ≡ Some conn) where
   abbrev dropped : ℕ → Bool
   dropped = is_dropped r.over r.closed
 

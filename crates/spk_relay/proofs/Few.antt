@@ -161,8 +161,8 @@ packet-taken f limit on h k r ps n now busy j p x small numbered says room none 
         let is = known-some (after limit r.events) (r.last j) conn at in
         quiet-after limit on h k r (called limit r (event.Packet conn p now)) ps n busy none
         (passes-called f limit on h k r (event.Packet conn p now) small refl says.1
-            (λ c own. (harmless limit on r h j conn c (is_disconnect p) st.base is.0 own says.2, harmless limit on r h j conn c (is_unsubscribe p) st.base is.0 own says.3))
-            st.base st.joined) st
+        (λ c own. (harmless limit on r h j conn c (is_disconnect p) st.base is.0 own says.2, harmless limit on r h j conn c (is_unsubscribe p) st.base is.0 own says.3))
+        st.base st.joined) st
 
     first : conn_at limit r j ≡ None → r.closed j ≡ false → (y : Bool) → x ≡ y →
         State limit on h k (called limit (opened limit now r j) (event.Packet (next_conn limit r) p now)) ps (cond y (n + 1) n) y
@@ -213,7 +213,7 @@ frame-taken f limit edges on h k r ps n busy taken j Cuts x small numbered says 
         let is = known-some (after limit r.events) (r.last j) conn at in
         quiet-after limit on h k r (called limit r (event.Closed conn (length taken))) ps n busy none
         (passes-called f limit on h k r (event.Closed conn (length taken)) small refl (λ one other y z. tt)
-            (λ c own. (not-host limit on r h j conn c st.base is.0 own says, refl)) st.base st.joined) st
+        (λ c own. (not-host limit on r h j conn c st.base is.0 own says, refl)) st.base st.joined) st
     by None at = idle limit on h k r ps n busy none st
 
     quiet : (x : Bool) → (eqb j k && false) ≡ x → State limit on h k (called_on limit r (λ conn. event.Closed conn (length taken)) (conn_at limit r j)) ps (cond x (n + 1) n) x

@@ -128,9 +128,11 @@ group-levels : TopicFacts → (g : List ℕ) → is_name g ≡ true → levels (
 group-levels t g name = t.again (codes "spBv1.0") (g ∷ (35 ∷ []) ∷ []) (Rattle.spk_relay.proofs.Topics.three-levels g (name-slashless g name))
 
 pub group-asks : TopicFacts → (c : Config) → is_name c.group ≡ true → AsksForAll (subscribe_of c)
-group-asks t c name group node one other x y =
-    (fits-alike t group node (filter_of c) (codes "spBv1.0" ∷ c.group ∷ (35 ∷ []) ∷ []) (group-levels t c.group name)
-    (record { plain = refl; verdict = group-test c.group group; same = group-topics c.group group node }) one other x y, tt)
+group-asks t c name group node one other x y = (
+  fits-alike t group node (filter_of c) (codes "spBv1.0" ∷ c.group ∷ (35 ∷ []) ∷ []) (group-levels t c.group name)
+      (record { plain = refl; verdict = group-test c.group group; same = group-topics c.group group node }) one other x y,
+  tt,
+)
 
 -- ---- the packets of a host
 

@@ -9,6 +9,7 @@ pub mod Offers
 pub mod Owns
 pub mod Places
 pub mod Plant
+pub mod Rows
 pub mod State
 pub mod Tells
 pub mod Topics

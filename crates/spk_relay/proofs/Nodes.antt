@@ -228,9 +228,12 @@ module _ (t : TopicFacts) (e : EdgeFacts) (s : Setup) (inputs : List Input) (nam
       list_all is_writable (wires_at s messages p drafts) ≡ true → Tells s all (map packet_frame (wires_at s messages p drafts)) p (length (front ++ posts session births drafts))
   wires-tell messages session [] front more births p is at can = at ∙ sym (ap (λ (xs : List Message). length xs) (append-nil front))
   wires-tell messages session (d ∷ ds) front more births p is at can =
-      inr (here, subst (λ n. Tells s all (map packet_frame (wires_at s messages (p + 1) ds)) (p + 1) n) (ap (λ (xs : List Message). length xs) (append_assoc front (post ∷ []) rest))
-      (wires-tell messages session ds (front ++ post ∷ []) more next (p + 1) (is ∙ sym (append_assoc front (post ∷ []) (rest ++ more)))
-          (let l = length-one front post in omega (arith, l, at)) both.1))
+      inr (
+        here,
+        subst (λ n. Tells s all (map packet_frame (wires_at s messages (p + 1) ds)) (p + 1) n) (ap (λ (xs : List Message). length xs) (append_assoc front (post ∷ []) rest))
+            (wires-tell messages session ds (front ++ post ∷ []) more next (p + 1) (is ∙ sym (append_assoc front (post ∷ []) (rest ++ more)))
+            (let l = length-one front post in omega (arith, l, at)) both.1),
+      )
     where
       next : ℕ
       next = cond (opens d) (births + 1) births
@@ -340,7 +343,7 @@ module _ (f : PacketFacts) (t : TopicFacts) (e : EdgeFacts) (s : Setup) (inputs 
           (tells-append s every (map packet_frame answer.given.plain) (map packet_frame wires) (length (published h)) (length (published h)) (length after)
           (own-tell f t s every names texts answer.given.plain (length (published h)) a.own both.0)
           (wires-tell t e s inputs names on whole messages (opened h - 1) answer.given.drafts (published h) more (births_in (published h)) (length (published h))
-              (is ∙ append_assoc (published h) (posts (opened h - 1) (births_in (published h)) answer.given.drafts) more) refl both.1))
+          (is ∙ append_assoc (published h) (posts (opened h - 1) (births_in (published h)) answer.given.drafts) more) refl both.1))
 
   frames-tell : (is : List Input) (more : List Message) → every ≡ published (run_of s is) ++ more → Tells s every (frames_of s is) 0 (length (published (run_of s is)))
   frames-tell [] more at = refl

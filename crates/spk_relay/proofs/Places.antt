@@ -117,9 +117,9 @@ few-lines last (suc m) xs each once = by (last m) refl (few-lines last m)
         below j low other = omega (arith, low, other)
     by (Some c) at fewer =
         let rest = fewer (filter (elsewhere c) xs)
-            (λ d e. let j = each d (any-kept c d xs e) in
-                (j.0, below j.0 j.1 (λ same. true≢false (sym e ∙ ap (λ x. list_any (sits x) (filter (elsewhere c) xs)) (same-some d c (sym j.2 ∙ ap last same ∙ at)) ∙ none-kept c xs)), j.2))
-            (λ d. let a = fewer-kept c d xs in let z = once d in omega (arith, a, z)) in
+        (λ d e. let j = each d (any-kept c d xs e) in
+        (j.0, below j.0 j.1 (λ same. true≢false (sym e ∙ ap (λ x. list_any (sits x) (filter (elsewhere c) xs)) (same-some d c (sym j.2 ∙ ap last same ∙ at)) ∙ none-kept c xs)), j.2))
+        (λ d. let a = fewer-kept c d xs in let z = once d in omega (arith, a, z)) in
         let both = parted c xs in
         let one = once c in
         omega (arith, rest, both, one)
@@ -178,6 +178,7 @@ no-guests f limit es all = by (after limit es).guests refl
         let b = count-sits g.conn (after limit es).seats sat in
         let z = (f.lawful limit es).apart g.conn in
         absurd (omega (arith, a, b, z))
+
 -- ---- clients along a log
 
 -- how many connections were opened, by whom

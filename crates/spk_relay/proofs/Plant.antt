@@ -103,12 +103,12 @@ message-says : PacketFacts → (edges k j : ℕ) (setup : ℕ → Setup) (all : 
 message-says facts edges k j setup all p f i other x m =
     subst (MaySay (on_of (setup k)) k edges j) (sym (message-means facts (setup j) all p f i x m)) (
       (λ same on. (
-          Rattle.spk_topics.specs.Spark.topic_of (named_by (setup j).config x.message.draft),
-          Rattle.spk_payload.specs.Spelling.spelling (payload_of (run.number_at (setup j) all p) x.message.draft),
-          refl,
-          x.plain,
-          ap (λ n. on_of (setup n) (Rattle.spk_topics.specs.Spark.topic_of (named_by (setup j).config x.message.draft))) (sym same) ∙ x.on_topic,
-        )),
+        Rattle.spk_topics.specs.Spark.topic_of (named_by (setup j).config x.message.draft),
+        Rattle.spk_payload.specs.Spelling.spelling (payload_of (run.number_at (setup j) all p) x.message.draft),
+        refl,
+        x.plain,
+        ap (λ n. on_of (setup n) (Rattle.spk_topics.specs.Spark.topic_of (named_by (setup j).config x.message.draft))) (sym same) ∙ x.on_topic,
+      )),
       (λ one two y z. tt),
       (λ same. absurd (other same)),
       (λ same. absurd (other same)),
@@ -146,7 +146,7 @@ may-say facts edges k setup all xs m i low a means = elim (cases_eq m.sender edg
       let t = a.nodes m.sender below in
       last-says facts edges k m.sender setup (all m.sender) (share_of m.sender xs) m.frame 0 t.0 i other
       (tells-last (setup m.sender) (all m.sender) (share_of m.sender xs) m.frame 0 t.0
-          (subst (λ fs. Tells (setup m.sender) (all m.sender) fs 0 t.0) (share-own m.sender xs m (eq-eqb m.sender m.sender refl)) t.1)) means)
+      (subst (λ fs. Tells (setup m.sender) (all m.sender) fs 0 t.0) (share-own m.sender xs m (eq-eqb m.sender m.sender refl)) t.1)) means)
 ]
 
 pub all-say : PacketFacts → (limit edges k : ℕ) (setup : ℕ → Setup) (all : ℕ → List run.Message) (l : List Entry) → k < edges → IsLog limit edges l → Along edges setup all (taken_of l) → AllMaySay (on_of (setup k)) k edges l

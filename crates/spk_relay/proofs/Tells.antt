@@ -223,5 +223,8 @@ subscribe-asks t c g m primary group node one other x y =
 
     by_state : (o : Option (List ℕ)) → IsPrimary o → AllByRecursion (λ (e : List ℕ × ℕ). FitsAlike one other e.0) (state_filter o)
     by_state None p = tt
-    by_state (Some h) p = (fits-alike t group node (topic_of (of_state h)) (named_levels (of_state h)) (levels-of t (of_state h) p.0)
-        (record { plain = refl; verdict = false; same = λ n e. states h group node n p.0 e }) one other x y, tt)
+    by_state (Some h) p = (
+      fits-alike t group node (topic_of (of_state h)) (named_levels (of_state h)) (levels-of t (of_state h) p.0)
+          (record { plain = refl; verdict = false; same = λ n e. states h group node n p.0 e }) one other x y,
+      tt,
+    )
