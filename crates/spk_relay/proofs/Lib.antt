@@ -1,7 +1,10 @@
 pub mod Base
+pub mod Carries
+pub mod Deaths
 pub mod Due
 pub mod Facts
 pub mod Few
+pub mod Heard
 pub mod Hosts
 pub mod Moves
 pub mod Nodes

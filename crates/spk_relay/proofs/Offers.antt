@@ -97,7 +97,7 @@ abbrev pub offers_of : (dropped : ℕ → Bool) (os : List ℕ) (topic payload :
 offers_of dropped os topic payload xs = map (offer_of os dropped) (map outgoing (flat_map (given_to topic payload) xs))
 
 -- a session's offer, in front of those of the others
-abbrev front : (dropped : ℕ → Bool) (os : List ℕ) (topic payload : List ℕ) → Bool → Option Line → List Send → List Offer
+abbrev pub front : (dropped : ℕ → Bool) (os : List ℕ) (topic payload : List ℕ) → Bool → Option Line → List Send → List Offer
 front dropped os topic payload b here rest =
     map (offer_of os dropped) (map outgoing (cond b (to_line (option_map (λ (l : Line). l.conn) here) (plain_publish topic payload)) [] ++ rest))
 

@@ -1,4 +1,5 @@
 pub mod Due
+pub mod Given
 pub mod Relayed
 pub mod Senders
 pub mod Shown

@@ -4,7 +4,7 @@ use Rattle.std.specs.Str.{IsUtf8}
 use Rattle.spk_topics.specs.Spark.{is_name}
 use Rattle.spk_sequence.specs.NodeRecord.{RunsOn}
 use Rattle.spk_reading.specs.Data.{HeardData}
-use Rattle.spk_edge_rules.specs.Claims.{HasNames}
+use Rattle.spk_edge_rules.specs.Claims.{HasNames, IsUnreserved}
 use Rattle.spk_edge_rules.specs.Config.{Config, Setup}
 use Rattle.spk_edge_rules.specs.Inputs.{Input}
 use Rattle.spk_edge_rules.specs.Run.{published, run_of}
@@ -36,6 +36,7 @@ pub record HasTexts (c : Config) : Type 0 where
 pub record IsNodeSpeech (s : Setup) (inputs : List Input) (frames : List Frame) : Type 0 where
   pub names : HasNames s
   pub texts : HasTexts s.config
+  pub unreserved : IsUnreserved s
   pub runs_on : s.config.numbering ≡ RunsOn
   pub whole : AllWhole s (published (run_of s inputs))
   pub put : frames ≡ frames_of s inputs ++ frame.End ∷ []

@@ -1,3 +1,5 @@
+use Rattle.spk_relay.proofs.Heard.{numbered-item}
+use Rattle.spk_relay.proofs.Carries.{carry-of}
 use Rattle.std.proofs.Common.{◌≤◌, ◌-◌, ◌*◌, ℕ, arith, subst}
 use Rattle.spk_broker_body.specs.Log.{taken_of}
 use Rattle.spk_relay.specs.Shown.{IsFew, shown}
