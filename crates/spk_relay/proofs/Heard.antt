@@ -31,8 +31,8 @@ use Rattle.spk_relay.specs.Shown.{AllMaySay, HasPlaces, count_numbered, is_relay
 use Rattle.spk_relay.proofs.Carries.{Carry, carry-of}
 use Rattle.spk_relay.proofs.Deaths.{death-low, session-for-is, session-for-low, session_for}
 use Rattle.spk_relay.proofs.Facts.{Facts}
-use Rattle.spk_relay.proofs.Nodes.{Tells, on_of}
-use Rattle.spk_relay.proofs.Offers.{no-yes}
+use Rattle.spk_relay.proofs.Nodes.{Tells, on_of, tells-last}
+use Rattle.spk_relay.proofs.Plant.{share-other, share-own}
 use Rattle.spk_relay.proofs.Tells.{PacketFacts}
 
 -- what was told was read at these positions
@@ -135,3 +135,39 @@ module _ (f : Facts) (pf : PacketFacts) (limit edges k : ℕ) (small : limit ≤
       (subst (λ bytes. ReadsMessage s all (count_numbered (on_of s) k l - 1) c.message bytes) (sym (same ∙ c.bytes.0)) (reads (count_numbered (on_of s) k l - 1) c.message _ c.there (whole (count_numbered (on_of s) k l - 1) c.message c.there))) by told
   accepted-here l o rest x t before false at same carry other by welcome told =
       other-item s all (shown (on_of s) k edges l) x t before (subst (λ bytes. IsNoMessageOf s.config.group s.config.node bytes) (sym same) (other refl)) by welcome told
+
+  told-of : (l : List Entry) (ts : List (Option HeardData)) (q : ℕ) → IsLog limit edges l → AllMaySay (on_of s) k edges l → HasPlaces limit edges l → Tells s all (share_of k (taken_of l)) 0 q →
+      AreOthers (on_of s) k edges s.config.group s.config.node l → AreToldBy (got_of edges l) ts → AreWelcome (reverse ts) → IsTold s all (shown (on_of s) k edges l) (calls s (reverse ts))
+  told-of [] [] q log says room t others by welcome = record { inputs = []; read = tt; deaths = tt; shown = refl }
+  told-of [] (x ∷ ts) q log says room t others by welcome = absurd by
+  told-of (Took m i ∷ l) ts q log says room t others by welcome = before (eqb m.sender k) refl (λ r u. told-of l ts r log.0 says.1 room.1 u others by welcome)
+    where
+      before : (b : Bool) → eqb m.sender k ≡ b → ((r : ℕ) → Tells s all (share_of k (taken_of l)) 0 r → IsTold s all (shown (on_of s) k edges l) (calls s (reverse ts))) → IsTold s all (shown (on_of s) k edges l) (calls s (reverse ts))
+      before true own rest =
+          let last = tells-last s all (share_of k (taken_of l)) m.frame 0 q (subst (λ fs. Tells s all fs 0 q) (share-own k (taken_of l) m own) t) in
+          rest last.middle last.before
+      before false other rest = rest q (subst (λ fs. Tells s all fs 0 q) (share-other k (taken_of l) m other) t)
+  told-of (Accepted j o ∷ l) ts q log says room t others by welcome = at (eqb j edges) refl (λ us v w. told-of l us q log.0 says room t others.1 v w) by
+    where
+      x : Item
+      x = record { bytes = o.bytes; cuts = Rattle.spk_broker_body.specs.Step.cuts_in edges (taken_of l) }
+
+      at : (b : Bool) → eqb j edges ≡ b → ((us : List (Option HeardData)) → AreToldBy (got_of edges l) us → AreWelcome (reverse us) → IsTold s all (shown (on_of s) k edges l) (calls s (reverse us)))
+          → AreToldBy (cond b (got_of edges l ++ x ∷ []) (got_of edges l)) ts
+          → IsTold s all (cond (b && is_relaying (on_of s) k l) ((count_numbered (on_of s) k l - 1) ∷ shown (on_of s) k edges l) (shown (on_of s) k edges l)) (calls s (reverse ts))
+      at false other rest by = rest ts by welcome
+      at true own rest by =
+          let last = last-told (got_of edges l) x ts by in
+          let is : reverse ts ≡ last.last ∷ reverse last.before = ap (λ us. reverse us) last.parts ∙ newest last.before last.last in
+          let good : AreWelcome (last.last ∷ reverse last.before) = subst AreWelcome is welcome in
+          subst (λ us. IsTold s all (cond (is_relaying (on_of s) k l) ((count_numbered (on_of s) k l - 1) ∷ shown (on_of s) k edges l) (shown (on_of s) k edges l)) (calls s us)) (sym is)
+          (accepted-here l o log.1.0.0 x last.last (reverse last.before) (is_relaying (on_of s) k l) refl refl
+              (λ busy. subst (λ os. Carry s all (count_numbered (on_of s) k l - 1) os) log.1.0.1 (carry-of f pf limit edges k s all small l q log.0 says room t busy))
+              (λ idle. others.0 (eqb-true j edges own) idle) last.is good.0 (rest last.before last.told good.1))
+  told-of (Refused j o ∷ l) ts q log says room t others by welcome = told-of l ts q log.0 says room t others by welcome
+  told-of (Passed o ∷ l) ts q log says room t others by welcome = told-of l ts q log.0 says room t others by welcome
+  told-of (Told o ∷ l) ts q log says room t others by welcome = told-of l ts q log.0 says room t others by welcome
+
+  pub all-told : (l : List Entry) (ts : List (Option HeardData)) (q : ℕ) → IsLog limit edges l → AllMaySay (on_of s) k edges l → HasPlaces limit edges l → Tells s all (share_of k (taken_of l)) 0 q →
+      AreOthers (on_of s) k edges s.config.group s.config.node l → AreToldBy (got_of edges l) ts → AreWelcome (reverse ts) → IsTold s all (shown (on_of s) k edges l) (calls s (reverse ts))
+  all-told = told-of

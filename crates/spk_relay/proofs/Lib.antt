@@ -13,6 +13,7 @@ pub mod Owns
 pub mod Places
 pub mod Plant
 pub mod Rows
+pub mod Running
 pub mod State
 pub mod Tells
 pub mod Topics

@@ -1,18 +1,24 @@
 //! Laws of the definitions alone: functions that do nothing, whose contracts speak of definitions.
-ghost use Rattle.std.specs.Prelude.{◌≡◌, ℕ, ◌-◌, ◌*◌, ◌<◌, ◌≤◌, Bool, List, [], ◌∷◌, ◌++◌, length, Option};
+ghost use Rattle.std.specs.Prelude.{◌≡◌, ℕ, ◌-◌, ◌*◌, ◌<◌, ◌≤◌, Bool, List, [], ◌∷◌, ◌++◌, length, map, Option};
+ghost use Rattle.std.specs.List.{flat_map};
 ghost use Rattle.spk_sequence.specs.Claims.{AfterDeath, AfterGap, BirthPrefixes, HasCause, IsLawful, SameStep, TakesBirth};
 ghost use Rattle.spk_sequence.specs.HostRecord.{Input, MessageComes, consumed_of, done_at, record_of, standing_of};
 ghost use Rattle.spk_sequence.specs.NodeRecord.{Setting};
 ghost use Rattle.spk_sequence.specs.Window.{AllNearDeaths, IsNearBirth};
 ghost use Rattle.spk_broker_body.specs.Data.{Entry};
 ghost use Rattle.spk_broker_body.specs.Done.{refused_to};
-ghost use Rattle.spk_broker_body.specs.Log.{IsLog, refusals_of, room_of, taken_of};
+ghost use Rattle.spk_broker_body.specs.Log.{IsLog, got_of, refusals_of, room_of, taken_of};
 ghost use Rattle.spk_relay.specs.Due.{due};
+ghost use Rattle.spk_relay.specs.Given.{AreOthers, IsHeard};
 ghost use Rattle.spk_relay.specs.Relayed.{IsRelayed};
 ghost use Rattle.spk_reading.specs.Data.{HeardData};
 ghost use Rattle.spk_edge_rules.specs.Config.{Setup};
 ghost use Rattle.spk_edge_rules.specs.Inputs as edge;
-ghost use Rattle.spk_edge_rules.specs.Run.{published, run_of};
+ghost use Rattle.spk_edge_rules.specs.Run.{opened, published, run_of};
+ghost use Rattle.spk_heard.specs.Read.{HandsOutFronts};
+ghost use Rattle.spk_host.specs.Inputs.{node_calls};
+ghost use Rattle.spk_host_body.specs.Told.{AreToldBy, AreWelcome, asked, consumed_by, consumed_for, consumptions, heard_in, told_in};
+ghost use Rattle.spk_host_body.specs.declared.ends.Given.{Given};
 ghost use Rattle.spk_host_session.specs.Data.{Config};
 ghost use Rattle.spk_relay.specs.Speech.{IsPlant};
 ghost use Rattle.spk_relay.specs.Topics.{is_numbered_topic};
@@ -121,4 +127,49 @@ pub fn shown()
     spk_topics::laws::levels_are_parts();
     spk_edge_rules::laws::published();
     few();
+}
+
+/// What a host consumes of a node in a plant, where no CONNACK turned it away and what else its ring got is no numbered message of
+/// that node. A node opens at most 256 sessions. The report of a plant has these lists; `given` stands oldest first.
+pub fn running()
+    // what the host was told of the node was read at the positions shown, one by one, and these are relayed: so the headline holds of
+    // them, without a window as a premise
+    ensures heard { (edges k : ℕ) (setup : ℕ → Setup) (inputs : ℕ → List edge.Input) (c : Config) (given : List Given) (log : List Entry) →
+        k < edges → 0 < c.width → c.width ≤ 96 → IsPlant c.width edges setup inputs c (told_in given) log →
+        opened (run_of (setup k) (inputs k)) ≤ 256 → AreToldBy (got_of edges log) (map heard_in given) → AreWelcome (told_in given) →
+        AreOthers (is_numbered_topic (setup k).config.group (setup k).config.node) k edges (setup k).config.group (setup k).config.node log →
+        IsHeard (setup k) (published (run_of (setup k) (inputs k))) c.wait c.width
+        (shown (is_numbered_topic (setup k).config.group (setup k).config.node) k edges log)
+        (node_calls (asked (told_in given)) (setup k).config.group (setup k).config.node) }
+
+    // birth by birth in increasing order, what it consumed of the node is a prefix of the messages that the node published under that
+    // birth, each once, as they were published
+    ensures consumed { (edges k : ℕ) (setup : ℕ → Setup) (inputs : ℕ → List edge.Input) (c : Config) (given : List Given) (log : List Entry) →
+        k < edges → 0 < c.width → c.width ≤ 96 → IsPlant c.width edges setup inputs c (told_in given) log →
+        opened (run_of (setup k) (inputs k)) ≤ 256 → AreToldBy (got_of edges log) (map heard_in given) → AreWelcome (told_in given) →
+        AreOthers (is_numbered_topic (setup k).config.group (setup k).config.node) k edges (setup k).config.group (setup k).config.node log →
+        consumed_by given ≡ consumptions c (told_in given) →
+        HandsOutFronts (setup k) (published (run_of (setup k) (inputs k)))
+        (flat_map (consumed_for (setup k).config.group (setup k).config.node) given) }
+{
+    spk_packets::laws::prefix_free();
+    spk_packets::laws::spelling_spells();
+    spk_topics::laws::reading();
+    spk_topics::laws::levels_are_parts();
+    spk_edge_rules::laws::published();
+    spk_edge_rules::laws::any_list();
+    spk_tie::laws::messages();
+    spk_heard::laws::consumption();
+    spk_host_body::laws::any_items();
+    spk_broker_rules::laws::any_list();
+    spk_broker_rules::laws::routing();
+    spk_broker_rules::laws::plain_publish();
+    spk_broker_rules::laws::staying();
+    spk_broker_rules::laws::filters();
+    spk_broker_rules::laws::knowing();
+    spk_broker_rules::laws::joining();
+    spk_broker_rules::laws::drops();
+    few();
+    relayed();
+    shown();
 }
