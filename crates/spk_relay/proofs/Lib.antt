@@ -8,8 +8,10 @@ pub mod Heard
 pub mod Hosts
 pub mod Moves
 pub mod Nodes
+pub mod Off
 pub mod Offers
 pub mod Owns
+pub mod Parse
 pub mod Places
 pub mod Plant
 pub mod Rows

@@ -1,3 +1,5 @@
+use Rattle.spk_relay.proofs.Off.{others-of}
+use Rattle.spk_relay.proofs.Parse.{no-message}
 use Rattle.spk_relay.proofs.Heard.{numbered-item}
 use Rattle.spk_relay.proofs.Carries.{carry-of}
 use Rattle.std.proofs.Common.{◌≤◌, ◌-◌, ◌*◌, ℕ, arith, subst}
