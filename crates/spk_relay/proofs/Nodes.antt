@@ -38,7 +38,7 @@ use Rattle.spk_relay.specs.Speech.{HasTexts, IsNodeSpeech}
 use Rattle.spk_relay.specs.Topics.{is_numbered_name, is_numbered_topic}
 use Rattle.spk_relay.proofs.Offers.{no-yes}
 use Rattle.spk_relay.proofs.Owns.{AreOwn, GivesOwn, IsOwn, own-quiet, own-rules}
-use Rattle.spk_relay.proofs.Tells.{AsksForAll, IsQuiet, PacketFacts, connect-fits, cut-quiet, death-fits, disconnect-fits, end-quiet, itself-quiet, packet-quiet, puback-quiet, subscribe-asks, subscribe-fits, written}
+use Rattle.spk_relay.proofs.Tells.{AsksForAll, IsQuiet, PacketFacts, connect-fits, cut-quiet, death-fits, disconnect-fits, end-quiet, itself-quiet, packet-quiet, puback-quiet, short-topic, subscribe-asks, subscribe-fits, written}
 use Rattle.spk_relay.proofs.Topics.{TopicFacts, numbered-is}
 
 -- what the laws on an edge node's rules say
@@ -167,15 +167,6 @@ topic-good text is short = by (is_empty text) (holds 43 text) (holds 35 text) (h
     by false false true z w p q r s t = absurd (true≢false r)
     by false false false true w p q r s t = absurd (true≢false s)
     by false false false false true p q r s t = absurd (true≢false t)
-
-none-first : (a : Bool) (fault : PacketFault) (rest : List (Bool × PacketFault)) → is_none (first_of ((a, fault) ∷ rest)) ≡ true → a ≡ false
-none-first true fault rest e = absurd (no-yes e)
-none-first false fault rest e = refl
-
--- what can be written has a short topic
-short-topic : (dup : Bool) (qos : ℕ) (retain : Bool) (topic : List ℕ) (id : Option ℕ) (payload : List ℕ) → is_writable (Publish dup qos retain topic id payload) ≡ true → nat_lt 65535 (length topic) ≡ false
-unfolding has_bad_text
-short-topic dup qos retain topic id payload e = (or_parts (nat_lt 65535 (length topic)) (Rattle.spk_packets.specs.Grammar.has_zero topic) (none-first (is_bad_text topic) _ _ e)).0
 
 some-of : {X : Type 0} (o : Option X) → is_none o ≡ true → is_some o ≡ false
 some-of None e = refl

@@ -18,7 +18,8 @@ use Rattle.spk_broker_body.specs.Step.{behind, called, called_on, conn_at, have_
 use Rattle.spk_relay.specs.Given.{AreOthers}
 use Rattle.spk_relay.specs.Shown.{AllMaySay, IsPlainOn, MaySay, is_numbered, is_on, is_publish_on, is_relaying}
 use Rattle.spk_relay.proofs.Offers.{no-yes}
-use Rattle.spk_relay.proofs.Parse.{barred, no-message}
+use Rattle.spk_relay.proofs.Parse.{no-message}
+use Rattle.spk_relay.proofs.Topics.{barred}
 
 -- what the broker's law on topics says
 pub record TopicLaw : Type 0 where

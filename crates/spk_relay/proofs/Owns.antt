@@ -31,7 +31,7 @@ use Rattle.spk_relay.specs.Shown.{is_publish_on}
 use Rattle.spk_relay.specs.Speech.{HasTexts}
 use Rattle.spk_relay.specs.Topics.{is_numbered_topic}
 use Rattle.spk_relay.proofs.Offers.{no-yes}
-use Rattle.spk_relay.proofs.Tells.{AsksForAll, PacketFacts, connect-fits, death-fits, disconnect-fits, itself-quiet, puback-quiet, subscribe-asks, subscribe-fits, written}
+use Rattle.spk_relay.proofs.Tells.{PacketFacts, Quietly, connect-fits, connect-off, death-fits, dying-off, disconnect-fits, itself-quiet, puback-quiet, subscribe-asks, subscribe-fits, written}
 use Rattle.spk_relay.proofs.Topics.{TopicFacts, numbered-is}
 
 pub data IsOwn (c : Config) (p : Packet) : Type 0 where
@@ -155,23 +155,23 @@ own-rules c a i = by (fits a.phase i.act) (nat_lt i.now (2 ^ 63))
 
 -- what is said in each of them
 pub own-quiet : PacketFacts → TopicFacts → (s : Setup) → HasNames s → HasTexts s.config → (p q : Packet) → IsOwn s.config p → is_writable p ≡ true → Spells (spelling p) q →
-    (is_publish_on (is_numbered_topic s.config.group s.config.node) q ≡ false) × AsksForAll q
+    Quietly (is_numbered_topic s.config.group s.config.node) q
 own-quiet f t s names texts p q (Acknowledges id is) can says =
     puback-quiet (is_numbered_topic s.config.group s.config.node) id q (subst (λ x. Spells (spelling x) q) is says)
 own-quiet f t s names texts p q (Connects bd time is) can says =
     itself-quiet f (is_numbered_topic s.config.group s.config.node) (connect_of s.config bd time) q
     (written f (connect_of s.config bd time) (connect-fits s.config bd time texts) (subst (λ x. is_writable x ≡ true) is can))
-    (refl, λ group node one two x y. tt) (subst (λ x. Spells (spelling x) q) is says)
+    (refl, (λ group node one two x y. tt), connect-off t s.config bd time names.group names.node (subst (λ x. is_writable x ≡ true) is can)) (subst (λ x. Spells (spelling x) q) is says)
 own-quiet f t s names texts p q (Subscribes is) can says =
     itself-quiet f (is_numbered_topic s.config.group s.config.node) (subscribe_of s.config) q
     (written f (subscribe_of s.config) (subscribe-fits s.config texts) (subst (λ x. is_writable x ≡ true) is can))
-    (refl, subscribe-asks t s.config names.group names.node texts.primary) (subst (λ x. Spells (spelling x) q) is says)
+    (refl, subscribe-asks t s.config names.group names.node texts.primary, λ group node. tt) (subst (λ x. Spells (spelling x) q) is says)
 own-quiet f t s names texts p q (Dies text is) can says =
     itself-quiet f (is_numbered_topic s.config.group s.config.node) (Publish false 1 false (death_topic s.config) (Some 2) text) q
     (written f (Publish false 1 false (death_topic s.config) (Some 2) text) (death-fits s.config text texts) (subst (λ x. is_writable x ≡ true) is can))
-    (numbered-is t s.config.group s.config.node (of_node s.config.group Death s.config.node) (and_from _ _ names.group names.node), λ group node one two x y. tt)
+    (numbered-is t s.config.group s.config.node (of_node s.config.group Death s.config.node) (and_from _ _ names.group names.node), (λ group node one two x y. tt), dying-off t s.config text names.group names.node (subst (λ x. is_writable x ≡ true) is can))
     (subst (λ x. Spells (spelling x) q) is says)
 own-quiet f t s names texts p q (Leaves is) can says =
     itself-quiet f (is_numbered_topic s.config.group s.config.node) Disconnect q
     (written f Disconnect disconnect-fits (subst (λ x. is_writable x ≡ true) is can))
-    (refl, λ group node one two x y. tt) (subst (λ x. Spells (spelling x) q) is says)
+    (refl, (λ group node one two x y. tt), λ group node. tt) (subst (λ x. Spells (spelling x) q) is says)

@@ -20,6 +20,7 @@ use Rattle.spk_broker_rules.specs.Topics.{IsOff, TopicIn}
 use Rattle.spk_relay.specs.Given.{IsNoMessageOf}
 use Rattle.spk_relay.specs.Topics.{is_numbered_name, is_numbered_topic}
 use Rattle.spk_relay.proofs.Offers.{no-yes}
+use Rattle.spk_relay.proofs.Topics.{barred}
 use Rattle.spk_relay.proofs.Tells.{first-of-spelled, low-qos, publish-first}
 
 -- ---- lists
@@ -173,10 +174,6 @@ heard-ok ack topic (Ok Nothing) is = tt
 heard-ok ack topic (Err e) is = tt
 
 -- ---- bytes of another topic
-
--- one of the node's numbered topics, or none that a packet can have
-abbrev pub barred : (group node : List ℕ) → List ℕ → Bool
-barred group node topic = is_numbered_topic group node topic || ltb 65535 (length topic)
 
 abbrev NotMessage : (group name : List ℕ) → Result HeardData ReadFault → Type 0
 NotMessage group name r = (ack : Option ℕ) (m : NumberedData) → r ≡ Ok (Published ack (Message m)) → is_same group name m.group m.node ≡ false

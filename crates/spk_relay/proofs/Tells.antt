@@ -2,21 +2,22 @@
 use Rattle.std.proofs.Common.{◌≡◌, ◌⊎◌, inl, inr, sym, ap, refl, subst, ◌∙◌, ℕ, zero, suc, ◌+◌, ◌*◌, ◌%◌, ◌<◌, ◌≤◌, Bool, true, false, not, ◌&&◌, ◌||◌, cond, eqb, List, [], ◌∷◌, ◌++◌, map, length, Option, Some, None, Result, Ok, Err, is_some, is_none, slice_get, All, nat_lt, codes, arith, true≢false, append_assoc, append-nil}
 use Rattle.std.specs.List.{enumerate_from, list_all, AllByRecursion}
 use Rattle.std.specs.Str.{IsUtf8}
-use Rattle.std.proofs.lemmas.Bool.{and_from, and_parts, ltb-true}
+use Rattle.std.proofs.lemmas.Bool.{and_from, and_parts, ltb-true, or_from, or_parts}
 use Rattle.std.proofs.lemmas.Str.{IsUtf8-append, IsUtf8-from_ascii}
 use Rattle.std.proofs.lemmas.Str.Ascii.{IsAscii-from_all}
 use Rattle.std.proofs.lemmas.List.Elements.{All-cons, All-nil}
 use Rattle.spk_packets.specs.Fault.{first_of}
 use Rattle.spk_packets.specs.Grammar.{IsBody, IsIdPart, Spells, bit, first_byte}
-use Rattle.spk_packets.specs.Message.{Connect, ConnAck, Publish, PubAck, Subscribe, SubAck, Unsubscribe, UnsubAck, PingReq, PingResp, Disconnect}
+use Rattle.spk_packets.specs.Message.{Connect, ConnAck, Publish, PubAck, Subscribe, SubAck, Unsubscribe, UnsubAck, PingReq, PingResp, Disconnect, WillData}
 use Rattle.spk_packets.specs.Message.{Message as Packet}
-use Rattle.spk_packets.specs.Spelling.{HasWords, PacketFits, TextsAreUtf8, spelling, unwritable}
+use Rattle.spk_packets.specs.Spelling.{HasWords, PacketFits, TextsAreUtf8, has_bad_text, is_bad_text, spelling, unwritable}
+use Rattle.spk_packets.specs.declared.fault.PacketFault.{PacketFault}
 use Rattle.spk_topics.specs.Fitting.{is_match}
 use Rattle.spk_topics.specs.Levels.{joined, levels}
 use Rattle.spk_topics.specs.Spark.{Named, device_type, has_names, is_name, named_levels, node_type, topic_of}
 use Rattle.spk_topics.specs.Spark.Named.{of_node, of_device, of_state}
 use Rattle.spk_topics.specs.declared.spark.Verb.TheVariants.{Birth, Death, Data, Command}
-use Rattle.spk_broker_rules.specs.Topics.{FiltersIn, FitsAlike}
+use Rattle.spk_broker_rules.specs.Topics.{FiltersIn, FitsAlike, IsOff, TopicIn}
 use Rattle.spk_broker_body.specs.Data.{Input, Says, Breaks, Cuts, Ends}
 use Rattle.spk_broker_body.specs.Log.{Means}
 use Rattle.spk_ingress.specs.declared.frame.Frame.{Frame}
@@ -28,7 +29,7 @@ use Rattle.spk_relay.specs.Shown.{AsksAlike, is_on, is_publish_on}
 use Rattle.spk_relay.specs.Speech.{HasTexts, IsPrimary}
 use Rattle.spk_relay.specs.Topics.{is_numbered_name, is_numbered_topic}
 use Rattle.spk_relay.proofs.Offers.{no-yes}
-use Rattle.spk_relay.proofs.Topics.{IsAlike, TopicFacts, device-commands, fits-alike, five-levels, levels-of, name-slashless, node-commands, numbered-is, states}
+use Rattle.spk_relay.proofs.Topics.{IsAlike, TopicFacts, barred, device-commands, fits-alike, five-levels, levels-of, name-slashless, node-commands, numbered-is, states}
 
 -- what the laws on packets say
 pub record PacketFacts : Type 0 where
@@ -70,18 +71,38 @@ AsksIn (Breaks f) = Unit {0}
 AsksIn Cuts = Unit {0}
 AsksIn Ends = Unit {0}
 
+-- no topic of it is a node's numbered one
+abbrev pub KeepsOff : Packet → Type 0
+KeepsOff q = (group node : List ℕ) → TopicIn (IsOff (barred group node)) q
+
+abbrev pub KeepsIn : Input → Type 0
+KeepsIn (Says q) = KeepsOff q
+KeepsIn (Breaks f) = Unit {0}
+KeepsIn Cuts = Unit {0}
+KeepsIn Ends = Unit {0}
+
+abbrev pub Quietly : (List ℕ → Bool) → Packet → Type 0
+Quietly on q = (is_publish_on on q ≡ false) × AsksForAll q × KeepsOff q
+
 pub record IsQuiet (on : List ℕ → Bool) (f : Frame) : Type 0 where
   pub off : (i : Input) → Means f i → is_on on i ≡ false
   pub asks : (i : Input) → Means f i → AsksIn i
+  pub keeps : (i : Input) → Means f i → KeepsIn i
 
-pub packet-quiet : (on : List ℕ → Bool) (bytes : _) → ((q : Packet) → Means (frame.Packet bytes) (Says q) → (is_publish_on on q ≡ false) × AsksForAll q) → IsQuiet on (frame.Packet bytes)
-packet-quiet on bytes says = record { off = off; asks = asks }
+pub packet-quiet : (on : List ℕ → Bool) (bytes : _) → ((q : Packet) → Means (frame.Packet bytes) (Says q) → Quietly on q) → IsQuiet on (frame.Packet bytes)
+packet-quiet on bytes says = record { off = off; asks = asks; keeps = keeps }
   where
     off : (i : Input) → Means (frame.Packet bytes) i → is_on on i ≡ false
     off (Says q) m = (says q m).0
     off (Breaks f) m = refl
     off Cuts m = refl
     off Ends m = refl
+
+    keeps : (i : Input) → Means (frame.Packet bytes) i → KeepsIn i
+    keeps (Says q) m = (says q m).2
+    keeps (Breaks f) m = tt
+    keeps Cuts m = tt
+    keeps Ends m = tt
 
     asks : (i : Input) → Means (frame.Packet bytes) i → AsksIn i
     asks (Says q) m = (says q m).1
@@ -90,13 +111,19 @@ packet-quiet on bytes says = record { off = off; asks = asks }
     asks Ends m = tt
 
 pub cut-quiet : (on : List ℕ → Bool) → IsQuiet on frame.Cut
-cut-quiet on = record { off = off; asks = asks }
+cut-quiet on = record { off = off; asks = asks; keeps = keeps }
   where
     off : (i : Input) → Means frame.Cut i → is_on on i ≡ false
     off (Says q) m = absurd m
     off (Breaks f) m = refl
     off Cuts m = refl
     off Ends m = refl
+
+    keeps : (i : Input) → Means frame.Cut i → KeepsIn i
+    keeps (Says q) m = absurd m
+    keeps (Breaks f) m = tt
+    keeps Cuts m = tt
+    keeps Ends m = tt
 
     asks : (i : Input) → Means frame.Cut i → AsksIn i
     asks (Says q) m = absurd m
@@ -105,13 +132,19 @@ cut-quiet on = record { off = off; asks = asks }
     asks Ends m = tt
 
 pub end-quiet : (on : List ℕ → Bool) → IsQuiet on frame.End
-end-quiet on = record { off = off; asks = asks }
+end-quiet on = record { off = off; asks = asks; keeps = keeps }
   where
     off : (i : Input) → Means frame.End i → is_on on i ≡ false
     off (Says q) m = absurd m
     off (Breaks f) m = refl
     off Cuts m = refl
     off Ends m = refl
+
+    keeps : (i : Input) → Means frame.End i → KeepsIn i
+    keeps (Says q) m = absurd m
+    keeps (Breaks f) m = tt
+    keeps Cuts m = tt
+    keeps Ends m = tt
 
     asks : (i : Input) → Means frame.End i → AsksIn i
     asks (Says q) m = absurd m
@@ -121,25 +154,25 @@ end-quiet on = record { off = off; asks = asks }
 
 -- ---- the packets of an edge node
 
-pub puback-quiet : (on : List ℕ → Bool) (id : ℕ) (q : Packet) → Spells (spelling (PubAck id)) q → (is_publish_on on q ≡ false) × AsksForAll q
+pub puback-quiet : (on : List ℕ → Bool) (id : ℕ) (q : Packet) → Spells (spelling (PubAck id)) q → Quietly on q
 puback-quiet on id (Publish dup qos retain topic other payload) s =
     let first = first-of-spelled (PubAck id) (Publish dup qos retain topic other payload) s in
     let high = (publish-first dup qos retain (low-qos _ qos other s.is_body.3)).1 in
     absurd (omega (arith, first, high))
 puback-quiet on id (Subscribe other filters) s = absurd (let first = first-of-spelled (PubAck id) (Subscribe other filters) s in omega (arith, first))
-puback-quiet on id (Connect client clean keep will) s = (refl, λ group node one two x y. tt)
-puback-quiet on id (ConnAck present code) s = (refl, λ group node one two x y. tt)
-puback-quiet on id (PubAck other) s = (refl, λ group node one two x y. tt)
-puback-quiet on id (SubAck other given) s = (refl, λ group node one two x y. tt)
-puback-quiet on id (Unsubscribe other filters) s = (refl, λ group node one two x y. tt)
-puback-quiet on id (UnsubAck other) s = (refl, λ group node one two x y. tt)
-puback-quiet on id PingReq s = (refl, λ group node one two x y. tt)
-puback-quiet on id PingResp s = (refl, λ group node one two x y. tt)
-puback-quiet on id Disconnect s = (refl, λ group node one two x y. tt)
+puback-quiet on id (Connect client clean keep will) s = absurd (let first = first-of-spelled (PubAck id) (Connect client clean keep will) s in omega (arith, first))
+puback-quiet on id (ConnAck present code) s = (refl, (λ group node one two x y. tt), λ group node. tt)
+puback-quiet on id (PubAck other) s = (refl, (λ group node one two x y. tt), λ group node. tt)
+puback-quiet on id (SubAck other given) s = (refl, (λ group node one two x y. tt), λ group node. tt)
+puback-quiet on id (Unsubscribe other filters) s = (refl, (λ group node one two x y. tt), λ group node. tt)
+puback-quiet on id (UnsubAck other) s = (refl, (λ group node one two x y. tt), λ group node. tt)
+puback-quiet on id PingReq s = (refl, (λ group node one two x y. tt), λ group node. tt)
+puback-quiet on id PingResp s = (refl, (λ group node one two x y. tt), λ group node. tt)
+puback-quiet on id Disconnect s = (refl, (λ group node one two x y. tt), λ group node. tt)
 
 -- a packet that its spelling spells says itself
-pub itself-quiet : PacketFacts → (on : List ℕ → Bool) (p q : Packet) → Spells (spelling p) p → (is_publish_on on p ≡ false) × AsksForAll p → Spells (spelling p) q → (is_publish_on on q ≡ false) × AsksForAll q
-itself-quiet f on p q own quiet s = subst (λ x. (is_publish_on on x ≡ false) × AsksForAll x) (sym (one-reading f (spelling p) p q own s)) quiet
+pub itself-quiet : PacketFacts → (on : List ℕ → Bool) (p q : Packet) → Spells (spelling p) p → Quietly on p → Spells (spelling p) q → Quietly on q
+itself-quiet f on p q own quiet s = subst (Quietly on) (sym (one-reading f (spelling p) p q own s)) quiet
 
 -- ---- texts
 
@@ -173,7 +206,7 @@ device-filter-utf8 : (c : Config) → HasTexts c → IsUtf8 (topic_of (of_device
 device-filter-utf8 c t =
     joined-utf8 (codes "spBv1.0" ∷ c.group ∷ codes "DCMD" ∷ c.node ∷ codes "+" ∷ []) (spb-utf8, (t.group, (ascii (codes "DCMD") refl, (t.node, (ascii (codes "+") refl, tt)))))
 
-state-utf8 : (h : List ℕ) → IsUtf8 h → IsUtf8 (topic_of (of_state h))
+pub state-utf8 : (h : List ℕ) → IsUtf8 h → IsUtf8 (topic_of (of_state h))
 state-utf8 h u = joined-utf8 (codes "spBv1.0" ∷ codes "STATE" ∷ h ∷ []) (spb-utf8, (ascii (codes "STATE") refl, (u, tt)))
 
 pub connect-fits : (c : Config) (bd time : ℕ) → HasTexts c → PacketFits (connect_of c bd time)
@@ -228,3 +261,28 @@ subscribe-asks t c g m primary group node one other x y =
           (record { plain = refl; verdict = false; same = λ n e. states h group node n p.0 e }) one other x y,
       tt,
     )
+
+none-first : (a : Bool) (fault : PacketFault) (rest : List (Bool × PacketFault)) → is_none (first_of ((a, fault) ∷ rest)) ≡ true → a ≡ false
+none-first true fault rest e = absurd (no-yes e)
+none-first false fault rest e = refl
+
+-- what can be written has a short topic
+pub short-topic : (dup : Bool) (qos : ℕ) (retain : Bool) (topic : List ℕ) (id : Option ℕ) (payload : List ℕ) → is_writable (Publish dup qos retain topic id payload) ≡ true → nat_lt 65535 (length topic) ≡ false
+unfolding has_bad_text
+short-topic dup qos retain topic id payload e = (or_parts (nat_lt 65535 (length topic)) (Rattle.spk_packets.specs.Grammar.has_zero topic) (none-first (is_bad_text topic) _ _ e)).0
+
+short-will : (client : List ℕ) (clean : Bool) (alive : ℕ) (will : WillData) → is_writable (Connect client clean alive (Some will)) ≡ true → nat_lt 65535 (length will.topic) ≡ false
+unfolding has_bad_text
+short-will client clean alive will e =
+    (or_parts (nat_lt 65535 (length will.topic)) (Rattle.spk_packets.specs.Grammar.has_zero will.topic)
+    (or_parts (is_bad_text client) (is_bad_text will.topic) (none-first (is_bad_text client || is_bad_text will.topic) _ _ e)).1).0
+
+-- the topic of a node's NDEATH is none of any node's numbered topics
+pub death-off : TopicFacts → (c : Config) → is_name c.group ≡ true → is_name c.node ≡ true → nat_lt 65535 (length (death_topic c)) ≡ false → (group node : List ℕ) → barred group node (death_topic c) ≡ false
+death-off t c g m short group node = or_from _ _ (numbered-is t group node (of_node c.group Death c.node) (and_from _ _ g m)) short
+
+pub connect-off : TopicFacts → (c : Config) (bd time : ℕ) → is_name c.group ≡ true → is_name c.node ≡ true → is_writable (connect_of c bd time) ≡ true → KeepsOff (connect_of c bd time)
+connect-off t c bd time g m can = death-off t c g m (short-will (client_of c) true c.keep (will_of c bd time) can)
+
+pub dying-off : TopicFacts → (c : Config) (text : List ℕ) → is_name c.group ≡ true → is_name c.node ≡ true → is_writable (Publish false 1 false (death_topic c) (Some 2) text) ≡ true → KeepsOff (Publish false 1 false (death_topic c) (Some 2) text)
+dying-off t c text g m can = death-off t c g m (short-topic false 1 false (death_topic c) (Some 2) text can)

@@ -1,5 +1,5 @@
 -- Filters of a plant's clients fit all numbered topics of a node, or none.
-use Rattle.std.proofs.Common.{◌≡◌, sym, ap, refl, subst, ◌∙◌, ℕ, Bool, true, false, not, ◌&&◌, ◌||◌, cond, List, [], ◌∷◌, ◌++◌, Option, Some, None, IsTrue, ◌↔◌, codes, bytes_eq, true≢false}
+use Rattle.std.proofs.Common.{◌≡◌, sym, ap, refl, subst, ◌∙◌, ℕ, Bool, true, false, not, ◌&&◌, ◌||◌, cond, ltb, List, [], ◌∷◌, ◌++◌, length, Option, Some, None, IsTrue, ◌↔◌, codes, bytes_eq, true≢false}
 use Rattle.std.specs.List.{list_all}
 use Rattle.std.specs.Option.{option_map_or}
 use Rattle.std.proofs.lemmas.Bool.{and_from, and_parts, and_right}
@@ -107,6 +107,10 @@ numbered-topic t group node topic e = by (named_at topic) refl e
 pub numbered-is : TopicFacts → (group node : List ℕ) (n : Named) → has_names n ≡ true → is_numbered_topic group node (topic_of n) ≡ is_numbered_name group node n
 unfolding is_numbered_topic
 numbered-is t group node n e = ap (λ o. option_map_or (is_numbered_name group node) o false) ((t.reading (topic_of n) n).1 (e, refl))
+
+-- one of the node's numbered topics, or none that a packet can have
+abbrev pub barred : (group node : List ℕ) → List ℕ → Bool
+barred group node topic = is_numbered_topic group node topic || ltb 65535 (length topic)
 
 -- ---- filters
 
