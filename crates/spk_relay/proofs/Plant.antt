@@ -198,7 +198,7 @@ pub along : PacketFacts → TopicFacts → EdgeFacts → (width edges : ℕ) (se
 along f t e width edges setup inputs c told log p = record {
   senders = p.senders.senders;
   nodes = λ j low. (length (all_of setup inputs j), share-tells f t e (setup j) (inputs j) (share_of j (taken_of log)) (p.nodes j low));
-  host = subst (λ fs. AllByRecursion (λ x. IsHostFrame x) fs) (sym p.host.put) (host-frames f t c p.host.good p.host.group told);
+  host = subst (λ fs. AllByRecursion (λ x. IsHostFrame x) fs) (sym p.host.put) (host-frames f t c (record { good = p.host.good; name = p.host.name; group = p.host.group; keep = p.host.keep }) told);
 }
 
 pub plant-says : PacketFacts → TopicFacts → EdgeFacts → (width edges k : ℕ) (setup : ℕ → Setup) (inputs : ℕ → List edge.Input) (c : host.Config) (told : List (Option HeardData)) (log : List Entry) → k < edges →

@@ -44,12 +44,16 @@ pub record IsNodeSpeech (s : Setup) (inputs : List Input) (frames : List Frame) 
 -- A host with good names put the packets of the calls that it did, of what it was told, newest first, and last its end.
 pub record IsHostSpeech (c : host.Config) (told : List (Option HeardData)) (frames : List Frame) : Type 0 where
   pub good : host.is_good c ≡ true
+  pub name : IsUtf8 c.name
   pub group : IsUtf8 c.group
+  pub keep : c.keep < 65536
   pub put : frames ≡ map frame.Packet (packets_of c (calls_of c told)) ++ frame.End ∷ []
 
--- A log of a plant's broker whose clients are these edge nodes, by their places, and the host behind them.
+-- A log of a plant's broker whose clients are these edge nodes, by their places, no two of one name, and the host behind them.
 pub record IsPlant (width edges : ℕ) (setup : ℕ → Setup) (inputs : ℕ → List Input) (c : host.Config) (told : List (Option HeardData)) (log : List Entry) : Type 0 where
   pub is_log : IsLog (256 - 2 * width) edges log
   pub senders : AreSenders edges (taken_of log)
+  pub distinct : (i j : ℕ) → i < edges → j < edges → (setup i).config.group ≡ (setup j).config.group →
+      (setup i).config.node ≡ (setup j).config.node → i ≡ j
   pub nodes : (j : ℕ) → j < edges → IsNodeSpeech (setup j) (inputs j) (share_of j (taken_of log))
   pub host : IsHostSpeech c told (share_of edges (taken_of log))
