@@ -16,6 +16,7 @@ pub mod Places
 pub mod Plant
 pub mod Rows
 pub mod Running
+pub mod Silence
 pub mod State
 pub mod Tells
 pub mod Topics

@@ -65,11 +65,11 @@ pub record Along (edges : ℕ) (setup : ℕ → Setup) (all : ℕ → List run.M
   pub nodes : (j : ℕ) → j < edges → (q : ℕ) × Tells (setup j) (all j) (share_of j taken) 0 q
   pub host : AllByRecursion (λ f. IsHostFrame f) (share_of edges taken)
 
-all-parts : {X : Type 0} (P : X → Type 0) (xs : List X) (x : X) → AllByRecursion P (xs ++ x ∷ []) → AllByRecursion P xs × P x
+pub all-parts : {X : Type 0} (P : X → Type 0) (xs : List X) (x : X) → AllByRecursion P (xs ++ x ∷ []) → AllByRecursion P xs × P x
 all-parts P [] x all = (tt, all.0)
 all-parts P (y ∷ xs) x all = let rest = all-parts P xs x all.1 in ((all.0, rest.0), rest.1)
 
-along-before : (edges : ℕ) (setup : ℕ → Setup) (all : ℕ → List run.Message) (xs : List Message) (m : Message) → Along edges setup all (xs ++ m ∷ []) → Along edges setup all xs
+pub along-before : (edges : ℕ) (setup : ℕ → Setup) (all : ℕ → List run.Message) (xs : List Message) (m : Message) → Along edges setup all (xs ++ m ∷ []) → Along edges setup all xs
 along-before edges setup all xs m a = record {
   senders = (all-parts (λ (x : Message). x.sender < edges + 1) xs m a.senders).0;
   nodes = λ j low. node j (eqb m.sender j) refl (a.nodes j low);

@@ -1,12 +1,10 @@
-use Rattle.spk_relay.proofs.Off.{others-of}
-use Rattle.spk_relay.proofs.Parse.{no-message}
-use Rattle.spk_relay.proofs.Heard.{numbered-item}
-use Rattle.spk_relay.proofs.Carries.{carry-of}
 use Rattle.std.proofs.Common.{◌≤◌, ◌-◌, ◌*◌, ℕ, arith, subst}
 use Rattle.spk_broker_body.specs.Log.{taken_of}
 use Rattle.spk_relay.specs.Shown.{IsFew, shown}
 use Rattle.spk_relay.proofs.Nodes.{EdgeFacts, on_of}
+use Rattle.spk_relay.proofs.Off.{TopicLaw}
 use Rattle.spk_relay.proofs.Plant.{plant-counts, plant-says}
+use Rattle.spk_relay.proofs.Silence.{plant-others}
 use Rattle.spk_relay.proofs.Tells.{PacketFacts}
 use Rattle.spk_relay.proofs.Topics.{TopicFacts}
 use Rattle.spk_relay.proofs.laws.shown.Goals as goal
@@ -14,29 +12,26 @@ use Rattle.spk_relay.proofs.laws.shown.Goals as goal
 small : (width : ℕ) → 256 - 2 * width ≤ 65535
 small width = omega arith
 
+packets : goal.After-few → PacketFacts
+packets c = record { prefix = c.prefix_free.ensures; spells = c.spelling_spells.ensures }
+
+topics : goal.After-few → TopicFacts
+topics c = record { reading = c.reading.ensures; again = c.levels_are_parts.ensures.again }
+
+rules : goal.After-few → EdgeFacts
+rules c = record { kinds = c.published.ensures.kinds; grows = c.published.ensures.grows; names = c.published.ensures.names }
+
+law : goal.After-few → TopicLaw
+law c = record { first = c.topics.ensures.first; kept = c.topics.ensures.kept; others = c.topics.ensures.others; plain = c.topics.ensures.plain }
+
 pub returns-clause-orderly : goal.returns-clause-orderly
-returns-clause-orderly c = λ width edges k setup inputs config told log low plant. plant-says packets topics rules width edges k setup inputs config told log low plant
-  where
-    packets : PacketFacts
-    packets = record { prefix = c.prefix_free.ensures; spells = c.spelling_spells.ensures }
-
-    topics : TopicFacts
-    topics = record { reading = c.reading.ensures; again = c.levels_are_parts.ensures.again }
-
-    rules : EdgeFacts
-    rules = record { kinds = c.published.ensures.kinds; grows = c.published.ensures.grows; names = c.published.ensures.names }
+returns-clause-orderly c = λ width edges k setup inputs config told log low plant. plant-says (packets c) (topics c) (rules c) width edges k setup inputs config told log low plant
 
 pub returns-clause-counted : goal.returns-clause-counted
-returns-clause-counted c = λ width edges k setup inputs config told log low plant. plant-counts packets topics rules width edges k setup inputs config told log low plant
-  where
-    packets : PacketFacts
-    packets = record { prefix = c.prefix_free.ensures; spells = c.spelling_spells.ensures }
+returns-clause-counted c = λ width edges k setup inputs config told log low plant. plant-counts (packets c) (topics c) (rules c) width edges k setup inputs config told log low plant
 
-    topics : TopicFacts
-    topics = record { reading = c.reading.ensures; again = c.levels_are_parts.ensures.again }
-
-    rules : EdgeFacts
-    rules = record { kinds = c.published.ensures.kinds; grows = c.published.ensures.grows; names = c.published.ensures.names }
+pub returns-clause-others : goal.returns-clause-others
+returns-clause-others c = λ width edges k setup inputs config told log low plant. plant-others (packets c) (topics c) (rules c) (law c) width edges k setup inputs config told log low plant
 
 pub returns-clause-few : goal.returns-clause-few
 returns-clause-few c = λ width edges k setup inputs config told log low plant.
