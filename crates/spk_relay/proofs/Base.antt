@@ -1,20 +1,20 @@
 -- What holds of the connections of a plant's clients at every moment of a log.
-use Rattle.std.proofs.Common.{◌≡◌, ◌⊎◌, inl, inr, sym, ap, refl, subst, ◌∙◌, ℕ, zero, suc, ◌+◌, ◌-◌, ◌<◌, ◌≤◌, max, Bool, true, false, not, ◌&&◌, ◌||◌, cond, eqb, leb, List, [], ◌∷◌, ◌++◌, map, length, Option, Some, None, is_some, slice_get, arith, true≢false, eq-eqb, eqb-true, leb-false}
-use Rattle.std.specs.List.{filter, find, list_any, AllByRecursion}
+use Rattle.std.proofs.Common.{◌≡◌, inl, inr, sym, ap, refl, subst, ◌∙◌, ℕ, zero, suc, ◌+◌, ◌-◌, ◌<◌, ◌≤◌, max, Bool, true, false, cond, eqb, List, [], ◌∷◌, ◌++◌, length, Option, Some, None, is_some, slice_get, arith, true≢false, eq-eqb, eqb-true, leb-false}
+use Rattle.std.specs.List.{find, list_any, AllByRecursion}
 use Rattle.std.specs.Option.{option_map_or}
-use Rattle.std.proofs.lemmas.Bool.{cases_Bool, cases_eq, cases_lt, or_cases, or_left, or_right, or_parts}
+use Rattle.std.proofs.lemmas.Bool.{cases_Bool, cases_eq, or_cases, or_left, or_right}
 use Rattle.std.proofs.lemmas.Option.{slice_get_within}
 use Rattle.spk_packets.specs.Message.{Message as Packet}
 use Rattle.spk_session.specs.declared.answer.Sort.TheVariants as sort
 use Rattle.spk_session.specs.Step.{is_spent, one_more}
 use Rattle.spk_broker_rules.specs.Data.{Broker, Guest, Line, Seat}
-use Rattle.spk_broker_rules.specs.Dropping.{HasFew, drops_after, is_drop}
+use Rattle.spk_broker_rules.specs.Dropping.{HasFew, is_drop}
 use Rattle.spk_broker_rules.specs.Knowing.{is_opening}
 use Rattle.spk_broker_rules.specs.Lawful.{IsLawful, IsLow}
 use Rattle.spk_broker_rules.specs.Listening.{is_closed_in, is_joined, lets_go, listens, takes_back}
 use Rattle.spk_broker_rules.specs.Plan.{Event, Open}
 use Rattle.spk_broker_rules.specs.Plan as event
-use Rattle.spk_broker_rules.specs.Step.{acts, after, drops_in, is_guest, knows, noted, seat_at, sits, step}
+use Rattle.spk_broker_rules.specs.Step.{after, drops_in, is_guest, knows, seat_at, sits, step}
 use Rattle.spk_broker_rules.specs.Topics.{Brings, FiltersIn, FitsAlike, HasFilters}
 use Rattle.spk_broker_body.specs.Data.{Room}
 use Rattle.spk_broker_body.specs.Step.{called, client_of, conn_at, holds_client, is_client, known, next_conn, opened}

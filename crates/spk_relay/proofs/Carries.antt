@@ -1,32 +1,29 @@
 -- The offers of a numbered message carry the bytes of its position.
-use Rattle.std.proofs.Common.{◌≡◌, ◌⊎◌, inl, inr, sym, ap, refl, subst, ◌∙◌, ℕ, zero, suc, ◌+◌, ◌-◌, ◌<◌, ◌≤◌, Bool, true, false, not, ◌&&◌, ◌||◌, cond, eqb, List, [], ◌∷◌, ◌++◌, map, length, Option, Some, None, slice_get, arith, true≢false, eqb-true}
+use Rattle.std.proofs.Common.{◌≡◌, ◌⊎◌, inl, inr, sym, ap, refl, subst, ◌∙◌, ℕ, ◌+◌, ◌-◌, ◌≤◌, Bool, true, false, cond, eqb, List, [], ◌∷◌, map, length, Option, Some, None, slice_get, arith, true≢false, eqb-true}
 use Rattle.std.specs.List.{flat_map, AllByRecursion}
 use Rattle.std.proofs.lemmas.Bool.{and_parts}
-use Rattle.spk_packets.specs.Grammar.{Spells}
-use Rattle.spk_packets.specs.Message.{Message as Packet}
 use Rattle.spk_packets.specs.Spelling.{spelling}
 use Rattle.spk_broker.specs.Sent.{outgoing}
 use Rattle.spk_broker_rules.specs.Data.{Line, Seat, Send}
-use Rattle.spk_broker_rules.specs.Listening.{IsPlain, given_to, is_listening, plain_publish}
+use Rattle.spk_broker_rules.specs.Listening.{given_to, is_listening, plain_publish}
 use Rattle.spk_broker_rules.specs.Plan as event
 use Rattle.spk_broker_rules.specs.Step.{after}
 use Rattle.spk_ingress.specs.Lanes.{share_of}
 use Rattle.spk_ingress.specs.declared.frame.Frame.{Frame}
-use Rattle.spk_broker_body.specs.Data.{Input, Says, Breaks, Cuts, Ends, Offer, Entry, Took, Accepted, Refused, Passed, Told, Room}
+use Rattle.spk_broker_body.specs.Data.{Input, Offer, Entry, Took, Accepted, Refused, Passed, Told, Room}
 use Rattle.spk_broker_body.specs.Log.{IsLog, room_of, taken_of}
 use Rattle.spk_broker_body.specs.Step.{behind, called, conn_at, is_dropped, may_open, next_conn, offer_of, opened, packet_on, took}
 use Rattle.spk_edge_rules.specs.Config.{Setup}
 use Rattle.spk_edge_rules.specs.Messages.{named_by, payload_of}
 use Rattle.spk_edge_rules.specs.Run as run
-use Rattle.spk_relay.specs.Shown.{AllMaySay, HasPlaces, count_numbered, is_numbered, is_on, is_relaying, shown}
+use Rattle.spk_relay.specs.Shown.{AllMaySay, HasPlaces, count_numbered, is_numbered, is_on, is_relaying}
 use Rattle.spk_relay.proofs.Base.{AllJoined}
 use Rattle.spk_relay.proofs.Facts.{Facts}
 use Rattle.spk_relay.proofs.Few.{state-of}
 use Rattle.spk_relay.proofs.Moves.{first-shut, known-some, open-joins-none}
 use Rattle.spk_relay.proofs.Nodes.{IsMessageFrame, Last, Tells, on_of, tells-last, wire_at}
 use Rattle.spk_relay.proofs.Offers.{front, no-yes, offers_of}
-use Rattle.spk_relay.proofs.Plant.{counts, message-means, share-other, share-own}
-use Rattle.spk_relay.proofs.State.{State}
+use Rattle.spk_relay.proofs.Plant.{counts, message-means, share-own}
 use Rattle.spk_relay.proofs.Tells.{IsQuiet, PacketFacts}
 
 abbrev pub HaveBytes : List ℕ → List Offer → Type 0
@@ -68,14 +65,14 @@ carry-taken facts limit r k now s all p f x joined none = record { message = x.m
     there conn at =
         subst (HaveBytes (spelling (plain_publish topic payload)))
         (sym (ap (λ ss. map (offer_of r.openers (is_dropped r.over r.closed)) (map outgoing ss))
-            (facts.sends (after limit r.events) conn now topic payload x.plain (joined conn (known-some (after limit r.events) (r.last k) conn at).1))))
+        (facts.sends (after limit r.events) conn now topic payload x.plain (joined conn (known-some (after limit r.events) (r.last k) conn at).1))))
         (offers-bytes (is_dropped r.over r.closed) r.openers topic payload (after limit r.events).seats)
 
     first : (b : Bool) → HaveBytes (spelling (plain_publish topic payload)) (cond b (called limit (opened limit now r k) (event.Packet (next_conn limit r) (plain_publish topic payload) now)) r).pending
     first true =
         subst (HaveBytes (spelling (plain_publish topic payload)))
         (sym (ap (λ ss. map (offer_of (opened limit now r k).openers (is_dropped r.over r.closed)) (map outgoing ss))
-            (first-shut facts (after limit (event.Open now ∷ r.events)) (next_conn limit r) now topic payload (open-joins-none facts limit r.events now)).0)) tt
+        (first-shut facts (after limit (event.Open now ∷ r.events)) (next_conn limit r) now topic payload (open-joins-none facts limit r.events now)).0)) tt
     first false = subst (HaveBytes (spelling (plain_publish topic payload))) (sym none) tt
 
     by : (o : Option ℕ) → conn_at limit r k ≡ o → HaveBytes (spelling (plain_publish topic payload)) (packet_on limit now r k (plain_publish topic payload) o).pending
@@ -108,7 +105,7 @@ carry-of f pf limit edges k s all small (Took m i ∷ l) q log says room t busy 
     subst (λ n. Carry s all n (room_of limit edges (Took m i ∷ l)).pending) (sym (one-more (is_numbered (on_of s) k m i) (count_numbered (on_of s) k l) busy))
     (subst (λ j. Carry s all (count_numbered (on_of s) k l) (took limit edges (taken_of (Took m i ∷ l)) (room_of limit edges l) j i).pending) (sym (eqb-true m.sender k parts.0))
     (carry-frame f pf limit edges (room_of limit edges l) (taken_of (Took m i ∷ l)) k s all (share_of k (taken_of l)) m.frame q (count_numbered (on_of s) k l) i last log.1.0 parts.1
-        (λ r u. counts pf limit edges k s all l r log.0 u) st.joined log.1.1))
+    (λ r u. counts pf limit edges k s all l r log.0 u) st.joined log.1.1))
   where
     one-more : (b : Bool) (n : ℕ) → b ≡ true → cond b (n + 1) n - 1 ≡ n
     one-more true n e = omega arith

@@ -1,15 +1,13 @@
 -- Where the host's ring refused nothing, all that is due was shown.
-use Rattle.std.proofs.Common.{◌≡◌, ◌⊎◌, inl, inr, sym, ap, refl, subst, ◌∙◌, ℕ, zero, suc, ◌+◌, ◌-◌, ◌<◌, ◌≤◌, Bool, true, false, not, ◌&&◌, ◌||◌, cond, eqb, List, [], ◌∷◌, ◌++◌, map, length, count_by, Option, Some, None, is_some, arith, true≢false, eq-eqb, eqb-true}
-use Rattle.std.specs.List.{flat_map, list_any}
-use Rattle.std.proofs.lemmas.Bool.{and_from, and_left, and_parts, and_right, cases_Bool, not_from_false, or_from, or_parts}
+use Rattle.std.proofs.Common.{◌≡◌, sym, ap, refl, subst, ◌∙◌, ℕ, ◌+◌, ◌-◌, ◌<◌, ◌≤◌, Bool, true, false, not, ◌&&◌, cond, eqb, List, [], ◌∷◌, ◌++◌, map, length, Option, Some, None, is_some, arith, true≢false, eqb-true}
+use Rattle.std.proofs.lemmas.Bool.{and_from, and_left, and_parts, and_right, not_from_false}
 use Rattle.std.proofs.lemmas.List.Sums.{sum_by_push}
 use Rattle.spk_packets.specs.Message.{Message as Packet}
 use Rattle.spk_broker.specs.Sent.{outgoing}
-use Rattle.spk_broker_rules.specs.Data.{Broker, Seat}
-use Rattle.spk_broker_rules.specs.Listening.{IsPlain, is_listening, listens, plain_publish}
+use Rattle.spk_broker_rules.specs.Listening.{IsPlain, listens, plain_publish}
 use Rattle.spk_broker_rules.specs.Plan as event
 use Rattle.spk_broker_rules.specs.Plan.{Event}
-use Rattle.spk_broker_rules.specs.Step.{after, is_full, knows, sits, step}
+use Rattle.spk_broker_rules.specs.Step.{after, is_full}
 use Rattle.spk_broker_body.specs.declared.part.Refusal.{Refusal}
 use Rattle.spk_broker_body.specs.Data.{Input, Says, Breaks, Cuts, Ends, Offer, Entry, Took, Accepted, Refused, Passed, Told, Room}
 use Rattle.spk_broker_body.specs.Done.{refused_to}
@@ -17,7 +15,7 @@ use Rattle.spk_broker_body.specs.Log.{IsFirst, IsLog, refusals_of, room_of, take
 use Rattle.spk_broker_body.specs.Step.{called, client_of, conn_at, is_client, is_dropped, known, may_open, next_conn, offer_of, opened, packet_on, took}
 use Rattle.spk_relay.specs.Due.{due, hears_on, is_heard}
 use Rattle.spk_relay.specs.Shown.{AllMaySay, HasPlaces, IsPlainOn, MaySay, count_numbered, is_numbered, is_on, is_publish_on, is_relaying, shown}
-use Rattle.spk_relay.proofs.Base.{AllJoined, Base, joined-known}
+use Rattle.spk_relay.proofs.Base.{AllJoined, Base}
 use Rattle.spk_relay.proofs.Facts.{Facts}
 use Rattle.spk_relay.proofs.Few.{state-of}
 use Rattle.spk_relay.proofs.Moves.{first-shut, known-is, known-some, listens-sat, open-joins-none, sat-known}

@@ -1,10 +1,9 @@
 -- What the broker's laws say, handed in to the lemmas.
-use Rattle.std.proofs.Common.{◌≡◌, ◌⊎◌, ℕ, ◌+◌, ◌≤◌, Bool, true, false, cond, List, [], ◌∷◌}
+use Rattle.std.proofs.Common.{◌≡◌, ◌⊎◌, ℕ, ◌+◌, ◌≤◌, true, false, cond, List, []}
 use Rattle.std.specs.List.{flat_map}
 use Rattle.spk_packets.specs.Message.{Message}
 use Rattle.spk_session.specs.declared.answer.Sort.TheVariants as sort
-use Rattle.spk_session.specs.Step.{is_spent, one_more}
-use Rattle.spk_broker_rules.specs.Data.{Broker, Send, fresh_broker}
+use Rattle.spk_broker_rules.specs.Data.{Broker, fresh_broker}
 use Rattle.spk_broker_rules.specs.Dropping.{HasFew, drops_after}
 use Rattle.spk_broker_rules.specs.Knowing.{is_opening}
 use Rattle.spk_broker_rules.specs.Lawful.{IsLawful}

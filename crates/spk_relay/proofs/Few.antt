@@ -1,22 +1,20 @@
 -- Along a log few of a node's numbered messages are missing from what the host is shown.
-use Rattle.std.proofs.Common.{◌≡◌, ◌⊎◌, inl, inr, sym, ap, refl, subst, ◌∙◌, ℕ, zero, suc, ◌+◌, ◌-◌, ◌<◌, ◌≤◌, max, Bool, true, false, not, ◌&&◌, ◌||◌, cond, eqb, List, [], ◌∷◌, ◌++◌, length, Option, Some, None, arith, true≢false, eq-eqb, eqb-true}
+use Rattle.std.proofs.Common.{◌≡◌, inl, inr, sym, ap, refl, subst, ◌∙◌, ℕ, ◌+◌, ◌-◌, ◌<◌, ◌≤◌, max, Bool, true, false, not, ◌&&◌, ◌||◌, cond, eqb, List, [], ◌∷◌, ◌++◌, length, Option, Some, None, arith, true≢false, eq-eqb, eqb-true}
 use Rattle.std.proofs.lemmas.Bool.{and_left, and_right, and_parts, cases_Bool, or_parts}
 use Rattle.spk_packets.specs.Message.{Message as Packet}
-use Rattle.spk_broker_rules.specs.Data.{Broker}
 use Rattle.spk_broker_rules.specs.Listening.{is_disconnect, is_unsubscribe, plain_publish}
 use Rattle.spk_broker_rules.specs.Plan as event
 use Rattle.spk_broker_rules.specs.Plan.{Event}
 use Rattle.spk_broker_rules.specs.Step.{after, drops_in, is_full, knows}
 use Rattle.spk_broker_body.specs.Data.{Input, Says, Breaks, Cuts, Ends, Offer, Entry, Took, Accepted, Refused, Passed, Told, Room}
 use Rattle.spk_broker_body.specs.Log.{IsFirst, IsLog, room_of, taken_of}
-use Rattle.spk_broker_body.specs.Step.{behind, called, called_on, client_of, conn_at, fresh_room, have_ended, is_client, may_open, next_conn, opened, packet_on, told, took}
-use Rattle.spk_relay.specs.Relayed.{past_newest}
-use Rattle.spk_relay.specs.Shown.{AllMaySay, AsksAlike, HasPlaces, IsFew, IsPlainOn, MaySay, count_numbered, is_numbered, is_on, is_publish_on, is_relaying, shown}
+use Rattle.spk_broker_body.specs.Step.{behind, called, called_on, client_of, conn_at, fresh_room, have_ended, is_client, next_conn, opened, packet_on, told, took}
+use Rattle.spk_relay.specs.Shown.{AllMaySay, HasPlaces, IsFew, IsPlainOn, MaySay, count_numbered, is_numbered, is_on, is_publish_on, is_relaying, shown}
 use Rattle.spk_relay.proofs.Base.{Base, Hears, few-drops, joined-known}
 use Rattle.spk_relay.proofs.Facts.{Facts}
-use Rattle.spk_relay.proofs.Moves.{LeavesHost, Passes, known-some, passes-called, passes-first, quiet-after, refusal-passed, refusal-told, relayed, unjoined}
+use Rattle.spk_relay.proofs.Moves.{known-some, passes-called, passes-first, quiet-after, refusal-passed, refusal-told, relayed, unjoined}
 use Rattle.spk_relay.proofs.Offers.{aimed, goes, no-yes}
-use Rattle.spk_relay.proofs.State.{IsBegun, IsFinished, IsLive, Kept, State, accepted-here, covers-more, other-made, plain-accepted, refused-here, waiting}
+use Rattle.spk_relay.proofs.State.{IsFinished, State, accepted-here, other-made, plain-accepted, refused-here}
 
 same-some : (x y : ℕ) → ◌≡◌ {A = Option ℕ} (Some x) (Some y) → x ≡ y
 same-some x y e = cc

@@ -1,18 +1,16 @@
 -- What the host is told of a node was read at the positions shown, one by one.
-use Rattle.std.proofs.Common.{◌≡◌, ◌⊎◌, inl, inr, sym, ap, refl, subst, ◌∙◌, ℕ, zero, suc, ◌+◌, ◌-◌, ◌*◌, ◌%◌, ◌<◌, ◌≤◌, max, Bool, true, false, not, ◌&&◌, ◌||◌, cond, eqb, List, [], ◌∷◌, ◌++◌, map, reverse, length, Option, Some, None, slice_get, bytes_eq, arith, true≢false, eqb-true}
-use Rattle.std.proofs.lemmas.Bool.{and_from, and_parts, cases_Bool}
+use Rattle.std.proofs.Common.{◌≡◌, sym, ap, refl, subst, ◌∙◌, ℕ, ◌+◌, ◌-◌, ◌<◌, ◌≤◌, Bool, true, false, ◌&&◌, cond, eqb, List, [], ◌∷◌, ◌++◌, reverse, length, Option, Some, None, slice_get, eqb-true}
+use Rattle.std.proofs.lemmas.Bool.{and_from}
 use Rattle.std.proofs.lemmas.List.{reverse-append}
 use Rattle.std.proofs.lemmas.Slice.Eq.{bytes_eq-Decides}
-use Rattle.spk_packets.specs.Spelling.{spelling}
 use Rattle.spk_rings.specs.declared.item.Item.{Item}
 use Rattle.spk_ingress.specs.Lanes.{share_of}
 use Rattle.spk_sequence.specs.Calls as call
-use Rattle.spk_sequence.specs.HostRecord.{Input, MessageComes, DeathComes, TickComes, call_of}
+use Rattle.spk_sequence.specs.HostRecord.{Input, MessageComes, DeathComes, TickComes}
 use Rattle.spk_reading.specs.Data as said
 use Rattle.spk_reading.specs.Data.{HeardData, NumberedData}
-use Rattle.spk_reading.specs.Meaning.{IsReadFault, Says}
-use Rattle.spk_reading.specs.declared.fault.ReadFault.{ReadFault}
-use Rattle.spk_host.specs.Inputs.{is_same, node_calls, with_content, with_heard}
+use Rattle.spk_reading.specs.Meaning.{Says}
+use Rattle.spk_host.specs.Inputs.{is_same, node_calls, with_heard}
 use Rattle.spk_host_node.specs.Inputs as node
 use Rattle.spk_host_body.specs.Told.{AreToldBy, AreWelcome, IsToldBy, IsWelcome, asked}
 use Rattle.spk_edge_rules.specs.Config.{Setup}
@@ -21,10 +19,10 @@ use Rattle.spk_edge_rules.specs.Claims.{HasNames, IsUnreserved, IsWhole}
 use Rattle.spk_edge_rules.specs.Run as run
 use Rattle.spk_edge_rules.specs.Run.{number_at, published, run_of}
 use Rattle.spk_edge.specs.Along.{AllWhole}
-use Rattle.spk_tie.specs.Tie.{IsMessageAt, ReadsMessage, host_setting}
+use Rattle.spk_tie.specs.Tie.{IsMessageAt, ReadsMessage}
 use Rattle.spk_heard.specs.Read.{AreRead}
 use Rattle.spk_broker_body.specs.Data.{Offer, Entry, Took, Accepted, Refused, Passed, Told}
-use Rattle.spk_broker_body.specs.Log.{IsLog, got_of, room_of, taken_of}
+use Rattle.spk_broker_body.specs.Log.{IsLog, got_of, taken_of}
 use Rattle.spk_relay.specs.Given.{AreOthers, IsNoMessageOf}
 use Rattle.spk_relay.specs.Relayed.{AreEarlyDeaths, positions_in}
 use Rattle.spk_relay.specs.Shown.{AllMaySay, HasPlaces, count_numbered, is_relaying, shown}
@@ -89,8 +87,8 @@ numbered-item s all ps item p m None before r by t = absurd (r.alone.unrefused b
 numbered-item s all ps item p m (Some heard) before r by t =
     subst (λ x. IsTold s all (p ∷ ps) (calls s (Some x ∷ before))) (sym (r.alone.only heard by))
     (ticked s all (p ∷ ps) _ (length before + 1)
-        (subst (λ b. IsTold s all (p ∷ ps) (cond b (node.Comes r.read (length before + 1) ∷ calls s before) (calls s before))) (sym same)
-        (came s all ps (calls s before) p (length before + 1) m r.read r.is t)))
+    (subst (λ b. IsTold s all (p ∷ ps) (cond b (node.Comes r.read (length before + 1) ∷ calls s before) (calls s before))) (sym same)
+    (came s all ps (calls s before) p (length before + 1) m r.read r.is t)))
   where
     same : is_same s.config.group s.config.node r.read.group r.read.node ≡ true
     same = and_from _ _ ((bytes_eq-Decides s.config.group r.read.group).1 (sym r.is.group)) ((bytes_eq-Decides s.config.node r.read.node).1 (sym r.is.node))
@@ -117,7 +115,7 @@ newest ts t = reverse-append ts (t ∷ [])
 -- ---- a log
 
 module _ (f : Facts) (pf : PacketFacts) (limit edges k : ℕ) (small : limit ≤ 65535) (s : Setup) (inputs : List edge.Input) (names : HasNames s) (unreserved : IsUnreserved s) (whole : AllWhole s (published (run_of s inputs)))
-  (reads : (p : ℕ) (m : run.Message) (bytes : List ℕ) → slice_get (published (run_of s inputs)) p ≡ Some m → IsWhole bytes s.config (number_at s (published (run_of s inputs)) p) m.draft → ReadsMessage s (published (run_of s inputs)) p m bytes) where
+    (reads : (p : ℕ) (m : run.Message) (bytes : List ℕ) → slice_get (published (run_of s inputs)) p ≡ Some m → IsWhole bytes s.config (number_at s (published (run_of s inputs)) p) m.draft → ReadsMessage s (published (run_of s inputs)) p m bytes) where
   abbrev all : List run.Message
   all = published (run_of s inputs)
 
@@ -162,8 +160,8 @@ module _ (f : Facts) (pf : PacketFacts) (limit edges k : ℕ) (small : limit ≤
           let good : AreWelcome (last.last ∷ reverse last.before) = subst AreWelcome is welcome in
           subst (λ us. IsTold s all (cond (is_relaying (on_of s) k l) ((count_numbered (on_of s) k l - 1) ∷ shown (on_of s) k edges l) (shown (on_of s) k edges l)) (calls s us)) (sym is)
           (accepted-here l o log.1.0.0 x last.last (reverse last.before) (is_relaying (on_of s) k l) refl refl
-              (λ busy. subst (λ os. Carry s all (count_numbered (on_of s) k l - 1) os) log.1.0.1 (carry-of f pf limit edges k s all small l q log.0 says room t busy))
-              (λ idle. others.0 (eqb-true j edges own) idle) last.is good.0 (rest last.before last.told good.1))
+          (λ busy. subst (λ os. Carry s all (count_numbered (on_of s) k l - 1) os) log.1.0.1 (carry-of f pf limit edges k s all small l q log.0 says room t busy))
+          (λ idle. others.0 (eqb-true j edges own) idle) last.is good.0 (rest last.before last.told good.1))
   told-of (Refused j o ∷ l) ts q log says room t others by welcome = told-of l ts q log.0 says room t others by welcome
   told-of (Passed o ∷ l) ts q log says room t others by welcome = told-of l ts q log.0 says room t others by welcome
   told-of (Told o ∷ l) ts q log says room t others by welcome = told-of l ts q log.0 says room t others by welcome

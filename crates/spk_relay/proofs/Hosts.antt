@@ -1,5 +1,5 @@
 -- The frames of a host neither end its connection nor take grants back, and what it asks for fits all numbered topics of a node or none.
-use Rattle.std.proofs.Common.{◌≡◌, ◌⊎◌, inl, inr, sym, ap, refl, subst, ◌∙◌, ℕ, zero, suc, ◌+◌, ◌-◌, ◌*◌, ◌%◌, ◌<◌, ◌≤◌, Bool, true, false, not, ◌&&◌, ◌||◌, cond, eqb, leb, ltb, List, [], ◌∷◌, ◌++◌, map, replicate, length, Option, Some, None, Result, Ok, Err, is_some, is_none, codes, arith, true≢false, decimal, ◌/◌, leb-true, le-ltb, ltb-false, length-append}
+use Rattle.std.proofs.Common.{◌≡◌, sym, ap, refl, subst, ◌∙◌, ℕ, zero, suc, ◌+◌, ◌-◌, ◌%◌, ◌<◌, ◌≤◌, Bool, true, false, not, ◌&&◌, ◌||◌, cond, eqb, leb, ltb, List, [], ◌∷◌, ◌++◌, map, replicate, length, Option, Some, None, is_none, codes, arith, true≢false, decimal, ◌/◌, leb-true, le-ltb, ltb-false, length-append}
 use Rattle.std.specs.List.{list_any, AllByRecursion}
 use Rattle.std.specs.Str.{IsUtf8}
 use Rattle.std.proofs.lemmas.Bool.{and_from, and_parts, or_from, or_parts}
@@ -8,10 +8,10 @@ use Rattle.std.proofs.lemmas.List.Folds.{list_any-append}
 use Rattle.std.proofs.lemmas.Str.{IsUtf8-append}
 use Rattle.spk_packets.specs.Fault.{first_of}
 use Rattle.spk_packets.specs.declared.fault.PacketFault.{PacketFault}
-use Rattle.spk_packets.specs.Grammar.{Spells, bit, first_byte, has_zero, largest}
-use Rattle.spk_packets.specs.Message.{Connect, ConnAck, Publish, PubAck, Subscribe, SubAck, Unsubscribe, UnsubAck, PingReq, PingResp, Disconnect, WillData}
+use Rattle.spk_packets.specs.Grammar.{Spells, first_byte, has_zero, largest}
+use Rattle.spk_packets.specs.Message.{Connect, ConnAck, Publish, PubAck, Subscribe, SubAck, Unsubscribe, UnsubAck, PingReq, PingResp, Disconnect}
 use Rattle.spk_packets.specs.Message.{Message as Packet}
-use Rattle.spk_packets.specs.Spelling.{HasWords, PacketFits, body, has_bad_body, has_bad_text, is_qos_two, shortest, spelling, unwritable}
+use Rattle.spk_packets.specs.Spelling.{HasWords, PacketFits, body, has_bad_body, has_bad_text, is_qos_two, shortest, spelling}
 use Rattle.spk_topics.specs.Levels.{joined, levels}
 use Rattle.spk_topics.specs.Spark.{is_name, topic_of}
 use Rattle.spk_topics.specs.Spark.Named.{of_node, of_state}
@@ -26,10 +26,9 @@ use Rattle.spk_reading.specs.Data as said
 use Rattle.spk_reading.specs.Data.{ContentData, HeardData, NumberedData}
 use Rattle.spk_edge_rules.specs.Answers.{is_writable}
 use Rattle.spk_host_session.specs.Data.{Config, is_address, is_good, is_short_name}
-use Rattle.spk_host_session.specs.Packets.{connect_of, filter_of, offline, online_of, rebirth_of, subscribe_of, will_of}
+use Rattle.spk_host_session.specs.Packets.{connect_of, filter_of, offline, online_of, rebirth_of, subscribe_of}
 use Rattle.spk_host_session.specs.Step as session
-use Rattle.spk_host_session.specs.declared.fault.HostFault.{HostFault}
-use Rattle.spk_host.specs.Data.{Entry, HostData, OutData}
+use Rattle.spk_host.specs.Data.{Entry, HostData}
 use Rattle.spk_host.specs.Inputs.{Call, Heard, Ticked, Connected, Stopped, Ended, Renewed, host_after}
 use Rattle.spk_host.specs.Step.{acks, is_asked, packet_out, requests_at, requests_to, said_by, spelled}
 use Rattle.spk_host_body.specs.Calls.{done, is_done, out_at, packets_of}
@@ -37,7 +36,7 @@ use Rattle.spk_host_body.specs.Told.{asked, calls_of}
 use Rattle.spk_relay.proofs.Offers.{no-yes}
 use Rattle.spk_relay.specs.Topics.{is_numbered_topic}
 use Rattle.spk_relay.proofs.Parse.{same-topic}
-use Rattle.spk_relay.proofs.Tells.{AsksForAll, AsksIn, KeepsOff, PacketFacts, ascii, first-of-spelled, one-reading, puback-quiet, publish-first, state-utf8, written}
+use Rattle.spk_relay.proofs.Tells.{AsksForAll, KeepsOff, PacketFacts, ascii, first-of-spelled, one-reading, puback-quiet, publish-first, state-utf8, written}
 use Rattle.spk_relay.proofs.Topics.{TopicFacts, barred, fits-alike, group-test, group-topics, name-slashless, numbered-is, slashless}
 
 -- ---- what a host may say

@@ -1,24 +1,21 @@
 -- What a call of the broker leaves of the state.
-use Rattle.std.proofs.Common.{◌≡◌, ◌⊎◌, inl, inr, sym, ap, refl, subst, ◌∙◌, ℕ, zero, suc, ◌+◌, ◌-◌, ◌<◌, ◌≤◌, max, Bool, true, false, not, ◌&&◌, ◌||◌, cond, eqb, List, [], ◌∷◌, ◌++◌, map, length, Option, Some, None, is_some, arith, true≢false, eq-eqb, eqb-true}
-use Rattle.std.specs.List.{filter, find, flat_map, list_any}
+use Rattle.std.proofs.Common.{◌≡◌, inl, inr, sym, ap, refl, subst, ◌∙◌, ℕ, ◌+◌, ◌<◌, ◌≤◌, max, Bool, true, false, ◌&&◌, ◌||◌, cond, eqb, List, [], ◌∷◌, ◌++◌, map, length, Option, Some, None, is_some, arith, true≢false, eq-eqb, eqb-true}
+use Rattle.std.specs.List.{filter, find, list_any}
 use Rattle.std.specs.Option.{option_map, option_map_or}
-use Rattle.std.proofs.lemmas.Bool.{and_left, and_right, and_parts, cases_Bool, cases_eq, or_from, or_left, or_parts}
+use Rattle.std.proofs.lemmas.Bool.{and_left, and_right, cases_Bool, or_from, or_left, or_parts}
 use Rattle.spk_packets.specs.Fault.{first_of}
-use Rattle.spk_packets.specs.Message.{Message as Packet, Publish}
+use Rattle.spk_packets.specs.Message.{Message as Packet}
 use Rattle.spk_packets.specs.Spelling.{unwritable}
 use Rattle.spk_session.specs.declared.answer.Sort.TheVariants as sort
 use Rattle.spk_broker.specs.Sent.{outgoing}
-use Rattle.spk_broker_rules.specs.Data.{Broker, Guest, Line, Seat, Send}
+use Rattle.spk_broker_rules.specs.Data.{Broker, Line, Seat}
 use Rattle.spk_broker_rules.specs.Knowing.{is_opening}
-use Rattle.spk_broker_rules.specs.Lawful.{IsLawful, places}
-use Rattle.spk_broker_rules.specs.Listening.{IsPlain, given_to, is_closed_in, is_joined, is_listening, lets_go, listens, plain_publish, takes_back}
+use Rattle.spk_broker_rules.specs.Listening.{IsPlain, is_closed_in, is_joined, is_listening, lets_go, plain_publish, takes_back}
 use Rattle.spk_broker_rules.specs.Plan.{Event, Open, shut}
 use Rattle.spk_broker_rules.specs.Plan as event
 use Rattle.spk_broker_rules.specs.Step.{Turn, act, acts, after, drops_in, is_guest, knows, line_heard, noted, route, seat_at, sits, step}
-use Rattle.spk_broker_rules.specs.Topics.{Brings}
 use Rattle.spk_broker_body.specs.Data.{Offer, Room}
 use Rattle.spk_broker_body.specs.Step.{called, client_of, conn_at, holds_client, is_client, is_dropped, known, next_conn, offer_of, opened}
-use Rattle.spk_relay.specs.Relayed.{past_newest}
 use Rattle.spk_relay.proofs.Base.{AllJoined, AllJoinedBut, Base, BringsAlike, Hears, base-called, base-opened, client-more, client-new, client-within, closes-client, drops-kept, hears-called, hears-opened, joined-called, joined-first, joined-known, joined-opened}
 use Rattle.spk_relay.proofs.Facts.{Facts}
 use Rattle.spk_relay.proofs.Offers.{Aim, aimed, aimed_at, all-aim, at-least, at-most, no-yes, offers_of, who-listens}

@@ -1,44 +1,39 @@
 -- The frames of an edge node tell its numbered messages one by one, in order.
-use Rattle.std.proofs.Common.{◌≡◌, ◌⊎◌, inl, inr, sym, ap, refl, subst, ◌∙◌, ℕ, zero, suc, ◌+◌, ◌-◌, ◌*◌, ◌%◌, ◌<◌, ◌≤◌, ◌^◌, Bool, true, false, not, ◌&&◌, ◌||◌, cond, eqb, List, [], ◌∷◌, ◌++◌, map, length, Option, Some, None, Result, Ok, Err, is_some, is_none, slice_get, nat_lt, codes, arith, true≢false, append_assoc, append-nil}
-use Rattle.std.specs.List.{enumerate_from, list_all, list_any, AllByRecursion}
+use Rattle.std.proofs.Common.{◌≡◌, ◌⊎◌, inl, inr, sym, ap, refl, subst, ◌∙◌, ℕ, ◌+◌, ◌-◌, ◌%◌, Bool, true, false, not, ◌&&◌, ◌||◌, cond, eqb, List, [], ◌∷◌, ◌++◌, map, length, Option, Some, None, Result, Ok, Err, is_some, is_none, slice_get, nat_lt, codes, arith, true≢false, append_assoc, append-nil}
+use Rattle.std.specs.List.{list_all, AllByRecursion}
 use Rattle.std.specs.Str.{bytes_eq}
-use Rattle.std.proofs.lemmas.Bool.{and_from, and_parts, or_from, or_parts, not-true}
+use Rattle.std.proofs.lemmas.Bool.{and_from, and_parts, or_from}
 use Rattle.std.proofs.lemmas.List.Folds.{list_any-append}
 use Rattle.std.proofs.lemmas.Slice.Eq.{bytes_eq-Decides}
 use Rattle.spk_packets.specs.Fault.{first_of}
-use Rattle.spk_packets.specs.declared.fault.PacketFault.{PacketFault}
 use Rattle.spk_packets.specs.Grammar.{Spells}
-use Rattle.spk_packets.specs.Message.{Publish, PubAck, Disconnect}
 use Rattle.spk_packets.specs.Message.{Message as Packet}
-use Rattle.spk_packets.specs.Spelling.{has_bad_text, is_bad_text, spelling, unwritable}
+use Rattle.spk_packets.specs.Spelling.{spelling, unwritable}
 use Rattle.spk_topics.specs.Levels.{is_empty, joined}
-use Rattle.spk_topics.specs.Spark.{Named, device_type, has_names, is_name, named_levels, node_type, topic_of}
+use Rattle.spk_topics.specs.Spark.{Named, device_type, has_names, is_name, node_type, topic_of}
 use Rattle.spk_topics.specs.Spark.Named.{of_node, of_device, of_state}
-use Rattle.spk_topics.specs.Text.{holds, is_plain, refusal, topic_refusal}
+use Rattle.spk_topics.specs.Text.{holds, topic_refusal}
 use Rattle.spk_topics.specs.declared.spark.Verb.{Verb}
 use Rattle.spk_topics.specs.declared.spark.Verb.TheVariants.{Birth, Death, Data, Command}
-use Rattle.spk_sequence.specs.NodeRecord.{Numbering, RunsOn, Restarts, number_by}
+use Rattle.spk_sequence.specs.NodeRecord.{Numbering, RunsOn, number_by}
 use Rattle.spk_broker_rules.specs.Listening.{IsPlain, plain_publish}
-use Rattle.spk_broker_body.specs.Log.{Means}
 use Rattle.spk_ingress.specs.declared.frame.Frame.{Frame}
 use Rattle.spk_ingress.specs.declared.frame.Frame.TheVariants as frame
 use Rattle.spk_edge_rules.specs.declared.fault.EdgeFault.{EdgeFault}
 use Rattle.spk_edge_rules.specs.Answers.{Answer, checked, is_writable}
 use Rattle.spk_edge_rules.specs.Claims.{HasNames, is_numbered}
 use Rattle.spk_edge_rules.specs.Config.{Config, Setup}
-use Rattle.spk_edge_rules.specs.Inputs.{Act, Open, Accepted, Change, Turn, Command as Commands, State, Drain, Stop, Cut, TurnedAway, Pass, Input}
+use Rattle.spk_edge_rules.specs.Inputs.{Input}
 use Rattle.spk_edge_rules.specs.Messages.{Draft, named_by, opens, payload_of, wire}
-use Rattle.spk_edge_rules.specs.Packets.{connect_of, death_topic, subscribe_of}
-use Rattle.spk_edge_rules.specs.Rules.{Asked, Given, accepting, acked, acts, changing, commanded, draining, fits, hearing, heard_in, is_timely, joining, leaving, nothing, obeying, on_ok, refused_or, rules, stating, telling, timely, turned_away, turning}
+use Rattle.spk_edge_rules.specs.Rules.{Given, on_ok, rules}
 use Rattle.spk_edge_rules.specs.Run.{Done, Message, asked_of, number_at, opened, packets_of, posts, published, right_at, run_of, with_done, with_posts, wires_at, births_in}
 use Rattle.spk_edge.specs.Along.{AllWhole}
 use Rattle.spk_edge_body.specs.Frames.{cut_if, frames_at, frames_by, frames_of, is_cut, packet_frame}
-use Rattle.spk_relay.specs.Shown.{is_publish_on}
-use Rattle.spk_relay.specs.Speech.{HasTexts, IsNodeSpeech}
+use Rattle.spk_relay.specs.Speech.{HasTexts}
 use Rattle.spk_relay.specs.Topics.{is_numbered_name, is_numbered_topic}
 use Rattle.spk_relay.proofs.Offers.{no-yes}
-use Rattle.spk_relay.proofs.Owns.{AreOwn, GivesOwn, IsOwn, own-quiet, own-rules}
-use Rattle.spk_relay.proofs.Tells.{AsksForAll, IsQuiet, PacketFacts, connect-fits, cut-quiet, death-fits, disconnect-fits, end-quiet, itself-quiet, packet-quiet, puback-quiet, short-topic, subscribe-asks, subscribe-fits, written}
+use Rattle.spk_relay.proofs.Owns.{AreOwn, GivesOwn, own-quiet, own-rules}
+use Rattle.spk_relay.proofs.Tells.{IsQuiet, PacketFacts, cut-quiet, end-quiet, packet-quiet, short-topic}
 use Rattle.spk_relay.proofs.Topics.{TopicFacts, numbered-is}
 
 -- what the laws on an edge node's rules say

@@ -1,10 +1,10 @@
 -- What is offered beside the node's numbered messages keeps off their topics.
-use Rattle.std.proofs.Common.{◌≡◌, sym, ap, refl, subst, ◌∙◌, ℕ, ◌+◌, ◌≤◌, Bool, true, false, not, ◌&&◌, ◌||◌, cond, eqb, List, [], ◌∷◌, ◌++◌, map, length, Option, Some, None, true≢false, eqb-true}
+use Rattle.std.proofs.Common.{◌≡◌, sym, refl, subst, ℕ, Bool, true, false, ◌&&◌, ◌||◌, cond, eqb, List, [], ◌∷◌, ◌++◌, map, length, Option, Some, None, true≢false, eqb-true}
 use Rattle.std.specs.List.{AllByRecursion}
-use Rattle.std.proofs.lemmas.Bool.{and_parts, and_from}
+use Rattle.std.proofs.lemmas.Bool.{and_parts}
 use Rattle.spk_packets.specs.Message.{Message as Packet}
 use Rattle.spk_packets.specs.Spelling.{spelling}
-use Rattle.spk_broker.specs.Sent.{Sent, outgoing}
+use Rattle.spk_broker.specs.Sent.{outgoing}
 use Rattle.spk_broker_rules.specs.Data.{Broker, Send, fresh_broker}
 use Rattle.spk_broker_rules.specs.Listening.{plain_publish}
 use Rattle.spk_broker_rules.specs.Plan as event
@@ -16,8 +16,7 @@ use Rattle.spk_broker_body.specs.Data.{Input, Says, Breaks, Cuts, Ends, Offer, E
 use Rattle.spk_broker_body.specs.Log.{IsLog, room_of, taken_of}
 use Rattle.spk_broker_body.specs.Step.{behind, called, called_on, conn_at, have_ended, known, may_open, next_conn, offer_of, opened, packet_on, told, took}
 use Rattle.spk_relay.specs.Given.{AreOthers}
-use Rattle.spk_relay.specs.Shown.{AllMaySay, IsPlainOn, MaySay, is_numbered, is_on, is_publish_on, is_relaying}
-use Rattle.spk_relay.proofs.Offers.{no-yes}
+use Rattle.spk_relay.specs.Shown.{AllMaySay, MaySay, is_numbered, is_on, is_publish_on, is_relaying}
 use Rattle.spk_relay.proofs.Parse.{no-message}
 use Rattle.spk_relay.proofs.Topics.{barred}
 
@@ -145,11 +144,12 @@ room-off t limit edges k bar on (Told o ∷ l) log says off =
 pub others-of : TopicLaw → (limit edges k : ℕ) (group name : List ℕ) (on : List ℕ → Bool) (l : List Entry) → IsLog limit edges l → AllMaySay on k edges l → AllOff on (barred group name) k l → AreOthers on k edges group name l
 others-of t limit edges k group name on [] log says off = tt
 others-of t limit edges k group name on (Took m i ∷ l) log says off = others-of t limit edges k group name on l log.0 says.1 off.1
-others-of t limit edges k group name on (Accepted j o ∷ l) log says off =
-    ((λ host idle.
-        let all = subst (AreOff (barred group name)) log.1.0.1 ((room-off t limit edges k (barred group name) on l log.0 says off).pending idle) in
-        no-message group name o.bytes all.0.packet all.0.bytes all.0.off),
-    others-of t limit edges k group name on l log.0 says off)
+others-of t limit edges k group name on (Accepted j o ∷ l) log says off = (
+  (λ host idle.
+      let all = subst (AreOff (barred group name)) log.1.0.1 ((room-off t limit edges k (barred group name) on l log.0 says off).pending idle) in
+      no-message group name o.bytes all.0.packet all.0.bytes all.0.off),
+  others-of t limit edges k group name on l log.0 says off,
+)
 others-of t limit edges k group name on (Refused j o ∷ l) log says off = others-of t limit edges k group name on l log.0 says off
 others-of t limit edges k group name on (Passed o ∷ l) log says off = others-of t limit edges k group name on l log.0 says off
 others-of t limit edges k group name on (Told o ∷ l) log says off = others-of t limit edges k group name on l log.0 says off

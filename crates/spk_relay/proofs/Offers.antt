@@ -1,13 +1,12 @@
 -- How many of a call's offers go to a client.
-use Rattle.std.proofs.Common.{◌≡◌, ◌⊎◌, inl, inr, sym, ap, refl, subst, ◌∙◌, ℕ, zero, suc, ◌+◌, ◌-◌, ◌<◌, ◌≤◌, Bool, true, false, ◌&&◌, ◌||◌, cond, eqb, List, [], ◌∷◌, ◌++◌, map, length, Option, Some, None, is_some, arith, true≢false, eq-eqb, eqb-true}
+use Rattle.std.proofs.Common.{◌≡◌, sym, ap, refl, subst, ◌∙◌, ℕ, ◌+◌, ◌<◌, ◌≤◌, Bool, true, false, ◌&&◌, ◌||◌, cond, eqb, List, [], ◌∷◌, ◌++◌, map, length, Option, Some, None, arith, true≢false, eq-eqb, eqb-true}
 use Rattle.std.specs.List.{filter, flat_map, list_any}
 use Rattle.std.specs.Option.{option_map, option_map_or}
-use Rattle.std.proofs.lemmas.Bool.{and_parts, cases_Bool, or_left, or_right}
-use Rattle.spk_packets.specs.Message.{Message}
+use Rattle.std.proofs.lemmas.Bool.{or_left, or_right}
 use Rattle.spk_broker.specs.Sent.{Sent, outgoing}
 use Rattle.spk_broker_rules.specs.Data.{Line, Seat, Send}
 use Rattle.spk_broker_rules.specs.Listening.{given_to, is_listening, plain_publish}
-use Rattle.spk_broker_rules.specs.Step.{conn_at, sits}
+use Rattle.spk_broker_rules.specs.Step.{sits}
 use Rattle.spk_broker_rules.specs.Words.{to_line}
 use Rattle.spk_broker_body.specs.Data.{Offer}
 use Rattle.spk_broker_body.specs.Step.{client_of, is_client, offer_of, ring_of}

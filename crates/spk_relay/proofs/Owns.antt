@@ -1,7 +1,6 @@
 -- An edge node's packets beside its numbered messages: acknowledgements, CONNECT, SUBSCRIBE, and its NDEATH with DISCONNECT.
-use Rattle.std.proofs.Common.{◌≡◌, ◌⊎◌, inl, inr, sym, ap, refl, subst, ◌∙◌, ℕ, Bool, true, false, not, ◌&&◌, ◌||◌, cond, List, [], ◌∷◌, ◌++◌, map, length, Option, Some, None, Result, Ok, Err, is_some, nat_lt, ◌^◌}
-use Rattle.std.specs.List.{list_all, AllByRecursion}
-use Rattle.std.proofs.lemmas.Bool.{and_from, and_parts}
+use Rattle.std.proofs.Common.{◌≡◌, refl, subst, ℕ, Bool, true, false, not, ◌&&◌, cond, List, [], ◌∷◌, Option, Some, None, Result, Ok, Err, is_some, nat_lt, ◌^◌}
+use Rattle.std.proofs.lemmas.Bool.{and_from}
 use Rattle.spk_payload.specs.Typing.{Typed}
 use Rattle.spk_packets.specs.Grammar.{Spells}
 use Rattle.spk_packets.specs.Message.{Publish, PubAck, Disconnect}
@@ -19,18 +18,15 @@ use Rattle.spk_edge_rules.specs.declared.fault.EdgeFault.TheVariants as fault
 use Rattle.spk_device.specs.Step.{set_refusal, turn_refusal}
 use Rattle.spk_state.specs.Step.{heard_as}
 use Rattle.spk_state.specs.Text.{state_at}
-use Rattle.spk_ingress.specs.declared.frame.Frame.{Frame}
 use Rattle.spk_edge_rules.specs.declared.fault.EdgeFault.{EdgeFault}
-use Rattle.spk_edge_rules.specs.Answers.{Answer, checked, is_writable}
+use Rattle.spk_edge_rules.specs.Answers.{is_writable}
 use Rattle.spk_edge_rules.specs.Claims.{HasNames}
 use Rattle.spk_edge_rules.specs.Config.{Config, Setup}
 use Rattle.spk_edge_rules.specs.Inputs.{Act, Open, Accepted, Change, Turn, Command, State, Drain, Stop, Cut, TurnedAway, Pass, ChangeData, Input}
 use Rattle.spk_edge_rules.specs.Packets.{connect_of, death_topic, subscribe_of}
-use Rattle.spk_edge_rules.specs.Rules.{Asked, Given, accepting, acked, acts, born, changing, is_born, is_connecting, is_same_value, is_so_already, is_waiting, commanded, draining, fits, hearing, heard_in, is_timely, joining, leaving, nothing, obeying, on_ok, refused_or, rules, stating, telling, timely, turned_away, turning}
-use Rattle.spk_relay.specs.Shown.{is_publish_on}
+use Rattle.spk_edge_rules.specs.Rules.{Asked, Given, accepting, acked, acts, born, changing, is_born, is_connecting, is_same_value, is_so_already, is_waiting, commanded, draining, fits, hearing, heard_in, is_timely, joining, leaving, nothing, obeying, on_ok, refused_or, rules, telling, timely, turned_away, turning}
 use Rattle.spk_relay.specs.Speech.{HasTexts}
 use Rattle.spk_relay.specs.Topics.{is_numbered_topic}
-use Rattle.spk_relay.proofs.Offers.{no-yes}
 use Rattle.spk_relay.proofs.Tells.{PacketFacts, Quietly, connect-fits, connect-off, death-fits, dying-off, disconnect-fits, itself-quiet, puback-quiet, subscribe-asks, subscribe-fits, written}
 use Rattle.spk_relay.proofs.Topics.{TopicFacts, numbered-is}
 

@@ -1,8 +1,7 @@
 -- Whatever the spelling of a PUBLISH spells has its topic, and bytes of another topic are no numbered message of a node.
-use Rattle.std.proofs.Common.{◌≡◌, sym, ap, refl, subst, ◌∙◌, ℕ, zero, suc, ◌+◌, ◌-◌, ◌*◌, ◌/◌, ◌%◌, ◌<◌, ◌≤◌, Bool, true, false, ◌&&◌, ◌||◌, cond, ltb, List, [], ◌∷◌, ◌++◌, length, Option, Some, None, Result, Ok, Err, bytes_eq, arith, true≢false, length-append}
-use Rattle.std.specs.List.{AllByRecursion}
+use Rattle.std.proofs.Common.{◌≡◌, sym, ap, refl, subst, ◌∙◌, ℕ, ◌+◌, ◌*◌, ◌/◌, ◌%◌, ◌<◌, ◌≤◌, Bool, true, false, ◌&&◌, cond, ltb, List, [], ◌∷◌, ◌++◌, length, Option, Some, None, Result, Ok, Err, bytes_eq, arith, true≢false, length-append}
 use Rattle.std.specs.Option.{option_map_or}
-use Rattle.std.proofs.lemmas.Bool.{and_from, and_parts, cases_Bool, ltb-true, ltb-false, or_parts}
+use Rattle.std.proofs.lemmas.Bool.{and_from, and_parts, ltb-true, ltb-false, or_parts}
 use Rattle.std.proofs.lemmas.Slice.Eq.{bytes_eq-Decides}
 use Rattle.spk_packets.specs.Grammar.{AreSevens, IsNumber, Spells, first_byte, largest}
 use Rattle.spk_packets.specs.Message.{Message as Packet, Connect, ConnAck, Publish, PubAck, Subscribe, SubAck, Unsubscribe, UnsubAck, PingReq, PingResp, Disconnect}
@@ -12,14 +11,13 @@ use Rattle.spk_topics.specs.Spark.Named.{of_node, of_device, of_state}
 use Rattle.spk_topics.specs.declared.spark.Verb.TheVariants as verb
 use Rattle.spk_payload.specs.Meaning.{PayloadData}
 use Rattle.spk_reading.specs.Data.{ContentData, Message, Death, Nothing, HeardData, NumberedData, Published, Answered, Granted, Other, SubjectData}
-use Rattle.spk_reading.specs.Meaning.{◌>>=◌, Says, birth_in, content_at, content_in, death_in, heard, or_fault, other_in, payload_in, seq_of, session_of}
+use Rattle.spk_reading.specs.Meaning.{◌>>=◌, birth_in, content_at, content_in, death_in, heard, or_fault, other_in, payload_in, seq_of, session_of}
 use Rattle.spk_reading.specs.declared.fault.ReadFault.{ReadFault}
 use Rattle.spk_reading.specs.declared.fault.ReadFault.TheVariants as fault
 use Rattle.spk_host.specs.Inputs.{is_same}
 use Rattle.spk_broker_rules.specs.Topics.{IsOff, TopicIn}
 use Rattle.spk_relay.specs.Given.{IsNoMessageOf}
 use Rattle.spk_relay.specs.Topics.{is_numbered_name, is_numbered_topic}
-use Rattle.spk_relay.proofs.Offers.{no-yes}
 use Rattle.spk_relay.proofs.Topics.{barred}
 use Rattle.spk_relay.proofs.Tells.{first-of-spelled, low-qos, publish-first}
 

@@ -1,18 +1,16 @@
 -- In a plant the broker may always have a further connection: never client has two.
-use Rattle.std.proofs.Common.{◌≡◌, ◌⊎◌, inl, inr, sym, ap, refl, subst, ◌∙◌, ℕ, zero, suc, ◌+◌, ◌-◌, ◌<◌, ◌≤◌, ◌^◌, Bool, true, false, not, ◌&&◌, ◌||◌, cond, eqb, leb, List, [], ◌∷◌, ◌++◌, length, Option, Some, None, is_some, slice_get, arith, true≢false, eq-eqb, eqb-true}
+use Rattle.std.proofs.Common.{◌≡◌, inl, inr, sym, ap, refl, subst, ◌∙◌, ℕ, zero, suc, ◌+◌, ◌-◌, ◌<◌, ◌≤◌, ◌^◌, Bool, true, false, not, ◌||◌, cond, eqb, leb, List, [], ◌∷◌, ◌++◌, length, Option, Some, None, is_some, slice_get, arith, true≢false, eq-eqb, eqb-true}
 use Rattle.std.specs.List.{filter, find, list_any, AllByRecursion}
 use Rattle.std.specs.Option.{option_map_or}
-use Rattle.std.proofs.lemmas.Bool.{and_left, cases_Bool, cases_eq, lt-leb, or_from, or_left, or_right}
+use Rattle.std.proofs.lemmas.Bool.{cases_eq, lt-leb, or_from, or_left, or_right}
 use Rattle.spk_ingress.specs.declared.rule.Message.{Message}
 use Rattle.spk_broker_rules.specs.Data.{Broker, Guest, Line, Seat}
-use Rattle.spk_broker_rules.specs.Lawful.{places}
-use Rattle.spk_broker_rules.specs.Listening.{is_joined}
 use Rattle.spk_broker_rules.specs.Plan.{Event}
 use Rattle.spk_broker_rules.specs.Plan as event
-use Rattle.spk_broker_rules.specs.Step.{after, is_full, is_guest, knows, open_count, seat_at, sits}
-use Rattle.spk_broker_body.specs.Data.{Input, Says, Breaks, Cuts, Ends, Offer, Entry, Took, Accepted, Refused, Passed, Told, Room}
+use Rattle.spk_broker_rules.specs.Step.{after, is_full, is_guest, knows, open_count, sits}
+use Rattle.spk_broker_body.specs.Data.{Input, Says, Breaks, Cuts, Ends, Entry, Took, Accepted, Refused, Passed, Told, Room}
 use Rattle.spk_broker_body.specs.Log.{IsLog, room_of, taken_of}
-use Rattle.spk_broker_body.specs.Step.{called, called_on, client_of, conn_at, have_ended, known, may_open, next_conn, opened, packet_on, told, took}
+use Rattle.spk_broker_body.specs.Step.{called, called_on, client_of, conn_at, known, may_open, next_conn, opened, packet_on, took}
 use Rattle.spk_relay.specs.Senders.{AreSenders}
 use Rattle.spk_relay.specs.Shown.{AllMaySay, HasPlaces}
 use Rattle.spk_relay.proofs.Base.{AllJoined, Base, joined-known, known-low}

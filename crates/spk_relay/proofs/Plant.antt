@@ -1,16 +1,12 @@
 -- The clients of a plant say no more than they may, and as many numbered messages are taken of a node as it published.
 use Rattle.std.proofs.Common.{◌≡◌, ◌⊎◌, inl, inr, sym, ap, refl, subst, ◌∙◌, ℕ, zero, suc, ◌+◌, ◌-◌, ◌*◌, ◌<◌, ◌≤◌, Bool, true, false, ◌&&◌, ◌||◌, cond, eqb, List, [], ◌∷◌, ◌++◌, map, length, Option, Some, None, arith, true≢false, eq-eqb, eqb-true}
 use Rattle.std.specs.List.{AllByRecursion}
-use Rattle.std.proofs.lemmas.Bool.{and_from, and_left, and_right, cases_Bool, cases_eq}
-use Rattle.spk_packets.specs.Grammar.{Spells}
-use Rattle.spk_packets.specs.Message.{Message as Packet}
+use Rattle.std.proofs.lemmas.Bool.{cases_eq}
 use Rattle.spk_packets.specs.Spelling.{spelling}
 use Rattle.spk_ingress.specs.Lanes.{share_of}
 use Rattle.spk_ingress.specs.declared.frame.Frame.{Frame}
-use Rattle.spk_ingress.specs.declared.frame.Frame.TheVariants as frame
 use Rattle.spk_ingress.specs.declared.rule.Message.{Message}
-use Rattle.spk_broker_rules.specs.Listening.{plain_publish}
-use Rattle.spk_broker_body.specs.Data.{Input, Says, Breaks, Cuts, Ends, Offer, Entry, Took, Accepted, Refused, Passed, Told}
+use Rattle.spk_broker_body.specs.Data.{Input, Says, Breaks, Cuts, Ends, Entry, Took, Accepted, Refused, Passed, Told}
 use Rattle.spk_broker_body.specs.Log.{IsLog, Means, taken_of}
 use Rattle.spk_edge_rules.specs.Config.{Setup}
 use Rattle.spk_edge_rules.specs.Inputs as edge
@@ -20,12 +16,10 @@ use Rattle.spk_edge_rules.specs.Run.{published, run_of}
 use Rattle.spk_edge_body.specs.Frames.{packet_frame}
 use Rattle.spk_reading.specs.Data.{HeardData}
 use Rattle.spk_host_session.specs.Data as host
-use Rattle.spk_relay.specs.Senders.{AreSenders}
-use Rattle.spk_relay.specs.Shown.{AllMaySay, AsksAlike, IsPlainOn, MaySay, count_numbered, is_numbered, is_on, is_publish_on}
-use Rattle.spk_relay.specs.Speech.{IsHostSpeech, IsNodeSpeech, IsPlant}
-use Rattle.spk_relay.proofs.Hosts.{IsHarmless, IsHostFrame, host-frames}
+use Rattle.spk_relay.specs.Shown.{AllMaySay, MaySay, count_numbered, is_on, is_publish_on}
+use Rattle.spk_relay.specs.Speech.{IsNodeSpeech, IsPlant}
+use Rattle.spk_relay.proofs.Hosts.{IsHostFrame, host-frames}
 use Rattle.spk_relay.proofs.Nodes.{EdgeFacts, IsMessageFrame, Last, Tells, node-tells, on_of, tells-last, wire_at}
-use Rattle.spk_relay.proofs.Offers.{no-yes}
 use Rattle.spk_relay.proofs.Tells.{IsQuiet, PacketFacts, one-reading}
 use Rattle.spk_relay.proofs.Topics.{TopicFacts}
 

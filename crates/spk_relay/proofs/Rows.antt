@@ -1,13 +1,13 @@
 -- Logs by hand: what is shown of a node, and what is missing.
-use Rattle.std.proofs.Common.{◌≡◌, refl, ℕ, Bool, true, false, List, [], ◌∷◌, Some, bytes_eq}
+use Rattle.std.proofs.Common.{◌≡◌, refl, ℕ, Bool, List, [], ◌∷◌, Some, bytes_eq}
 use Rattle.spk_ingress.specs.declared.frame.Frame.TheVariants as frame
 use Rattle.spk_ingress.specs.declared.rule.Message.{Message}
 use Rattle.spk_session.specs.declared.answer.Sort.TheVariants as sort
 use Rattle.spk_broker_rules.specs.Listening.{plain_publish}
-use Rattle.spk_broker_body.specs.Data.{Input, Says, Offer, Entry, Took, Accepted, Refused, Passed, Told}
+use Rattle.spk_broker_body.specs.Data.{Input, Says, Offer, Entry, Took, Accepted, Refused, Told}
 use Rattle.spk_sequence.specs.HostRecord.{MessageComes, DeathComes, TickComes}
 use Rattle.spk_relay.specs.Relayed.{missing, positions_in}
-use Rattle.spk_relay.specs.Shown.{count_numbered, is_relaying, shown}
+use Rattle.spk_relay.specs.Shown.{count_numbered, shown}
 
 -- the topic of one byte 7 is the node's
 abbrev on : List ℕ → Bool

@@ -1,5 +1,5 @@
 -- What is told of a node in a plant is relayed, so it is lawful.
-use Rattle.std.proofs.Common.{◌≡◌, ◌⊎◌, inl, inr, sym, ap, refl, subst, ◌∙◌, ℕ, zero, suc, ◌+◌, ◌-◌, ◌*◌, ◌<◌, ◌≤◌, max, Bool, true, false, cond, List, [], ◌∷◌, ◌++◌, map, length, get_or, Option, arith}
+use Rattle.std.proofs.Common.{◌≡◌, sym, subst, ℕ, zero, suc, ◌+◌, ◌-◌, ◌*◌, ◌<◌, ◌≤◌, Bool, true, false, cond, List, [], ◌∷◌, ◌++◌, length, arith}
 use Rattle.std.specs.List.{AllByRecursion}
 use Rattle.std.proofs.lemmas.List.{length-map}
 use Rattle.spk_sequence.specs.Claims.{AllPublished}
@@ -13,7 +13,7 @@ use Rattle.spk_edge_rules.specs.Run.{Done, Message, births_in, opened, outline, 
 use Rattle.spk_edge_rules.specs.Step.{is_open}
 use Rattle.spk_tie.specs.Tie.{host_setting}
 use Rattle.spk_relay.specs.Given.{IsHeard}
-use Rattle.spk_relay.specs.Relayed.{AreRising, HasFewSessions, missing, past_newest, positions_in}
+use Rattle.spk_relay.specs.Relayed.{AreRising, missing, past_newest, positions_in}
 use Rattle.spk_relay.specs.Shown.{IsFew}
 use Rattle.spk_relay.proofs.Heard.{IsTold}
 

@@ -1,8 +1,8 @@
 -- In a plant nobody but the node says anything on its numbered topics.
-use Rattle.std.proofs.Common.{◌≡◌, ◌⊎◌, inl, inr, sym, ap, refl, subst, ◌∙◌, ℕ, ◌+◌, ◌*◌, ◌-◌, ◌<◌, Bool, true, false, ◌&&◌, ◌||◌, List, [], ◌∷◌, ◌++◌, length, Option, Some, None, is_some, is_none, nat_lt, bytes_eq, arith, true≢false, eq-eqb}
+use Rattle.std.proofs.Common.{◌≡◌, ◌⊎◌, inl, inr, sym, ap, refl, subst, ◌∙◌, ℕ, ◌+◌, ◌*◌, ◌-◌, ◌<◌, Bool, true, false, ◌&&◌, List, [], ◌∷◌, ◌++◌, Option, Some, None, is_some, is_none, bytes_eq, arith, true≢false, eq-eqb}
 use Rattle.std.specs.List.{AllByRecursion}
 use Rattle.std.specs.Option.{option_map_or}
-use Rattle.std.proofs.lemmas.Bool.{and_from, and_parts, cases_Bool, cases_eq, or_from}
+use Rattle.std.proofs.lemmas.Bool.{and_parts, cases_Bool, cases_eq, or_from}
 use Rattle.std.proofs.lemmas.Slice.Eq.{bytes_eq-Decides}
 use Rattle.spk_packets.specs.Fault.{first_of}
 use Rattle.spk_packets.specs.Spelling.{unwritable}
@@ -13,7 +13,7 @@ use Rattle.spk_ingress.specs.Lanes.{share_of}
 use Rattle.spk_ingress.specs.declared.frame.Frame.{Frame}
 use Rattle.spk_ingress.specs.declared.rule.Message.{Message}
 use Rattle.spk_broker_rules.specs.Listening.{plain_publish}
-use Rattle.spk_broker_body.specs.Data.{Input, Says, Breaks, Cuts, Ends, Offer, Entry, Took, Accepted, Refused, Passed, Told}
+use Rattle.spk_broker_body.specs.Data.{Input, Says, Breaks, Cuts, Ends, Entry, Took, Accepted, Refused, Passed, Told}
 use Rattle.spk_broker_body.specs.Log.{IsLog, Means, taken_of}
 use Rattle.spk_edge_rules.specs.Config.{Setup}
 use Rattle.spk_edge_rules.specs.Inputs as edge
@@ -121,7 +121,7 @@ harmless-off group node Ends h = tt
 -- ---- a log
 
 module _ (pf : PacketFacts) (edges k : ℕ) (setup : ℕ → Setup) (all : ℕ → List run.Message) (low : k < edges)
-  (distinct : (i j : ℕ) → i < edges → j < edges → (setup i).config.group ≡ (setup j).config.group → (setup i).config.node ≡ (setup j).config.node → i ≡ j) where
+    (distinct : (i j : ℕ) → i < edges → j < edges → (setup i).config.group ≡ (setup j).config.group → (setup i).config.node ≡ (setup j).config.node → i ≡ j) where
   took-off : (xs : List Message) (m : Message) (i : Input) → Along edges setup all (xs ++ m ∷ []) → Means m.frame i → is_numbered (on_of (setup k)) k m i ≡ false → OffIn (barred (setup k).config.group (setup k).config.node) i
   took-off xs m i a means quiet = elim (cases_eq m.sender edges) [
     | inl same ↦ harmless-off (setup k).config.group (setup k).config.node i
@@ -133,7 +133,7 @@ module _ (pf : PacketFacts) (edges k : ℕ) (setup : ℕ → Setup) (all : ℕ �
         off-last pf setup k m.sender (all m.sender) (share_of m.sender xs) m.frame 0 t.0 i (distinct m.sender k below low)
         (λ same. idle (is_on (on_of (setup k)) i) (ap (λ b. b && is_on (on_of (setup k)) i) (sym (eq-eqb m.sender k same)) ∙ quiet))
         (tells-last (setup m.sender) (all m.sender) (share_of m.sender xs) m.frame 0 t.0
-            (subst (λ fs. Tells (setup m.sender) (all m.sender) fs 0 t.0) (share-own m.sender xs m (eq-eqb m.sender m.sender refl)) t.1)) means)
+        (subst (λ fs. Tells (setup m.sender) (all m.sender) fs 0 t.0) (share-own m.sender xs m (eq-eqb m.sender m.sender refl)) t.1)) means)
   ]
     where
       idle : (b : Bool) → (true && b) ≡ false → b ≡ false

@@ -1,10 +1,9 @@
 -- What holds of a log of a plant's broker at every moment: of what was shown to the host of one node, and of what is offered and told.
-use Rattle.std.proofs.Common.{◌≡◌, ◌⊎◌, inl, inr, sym, ap, refl, subst, ◌∙◌, ℕ, zero, suc, ◌+◌, ◌-◌, ◌<◌, ◌≤◌, max, Bool, true, false, ◌&&◌, ◌||◌, cond, eqb, List, [], ◌∷◌, ◌++◌, length, Option, Some, None, arith, true≢false, eq-eqb, eqb-true}
+use Rattle.std.proofs.Common.{◌≡◌, ◌⊎◌, inl, inr, sym, ap, refl, subst, ◌∙◌, ℕ, ◌+◌, ◌-◌, ◌<◌, ◌≤◌, max, Bool, true, false, ◌&&◌, cond, eqb, List, [], ◌∷◌, ◌++◌, length, Some, None, arith, eq-eqb}
 use Rattle.std.proofs.lemmas.Bool.{and_left}
 use Rattle.spk_broker_rules.specs.Step.{after, drops_in}
 use Rattle.spk_broker_body.specs.Data.{Offer, Room}
-use Rattle.spk_broker_body.specs.Log.{IsFirst}
-use Rattle.spk_broker_body.specs.Step.{behind, conn_at, is_client}
+use Rattle.spk_broker_body.specs.Step.{conn_at}
 use Rattle.spk_relay.specs.Relayed.{AreRising, missing, oldest_of, past_newest}
 use Rattle.spk_relay.proofs.Base.{AllJoined, Base, Hears}
 use Rattle.spk_relay.proofs.Offers.{Aim, aimed, aimed-snoc, aimed_at, aimed_at-snoc, fewer-at, goes, no-yes}

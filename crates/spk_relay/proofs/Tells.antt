@@ -1,6 +1,6 @@
 -- What a node's frames say: its numbered messages one by one, and nothing else on their topics.
-use Rattle.std.proofs.Common.{◌≡◌, ◌⊎◌, inl, inr, sym, ap, refl, subst, ◌∙◌, ℕ, zero, suc, ◌+◌, ◌*◌, ◌%◌, ◌<◌, ◌≤◌, Bool, true, false, not, ◌&&◌, ◌||◌, cond, eqb, List, [], ◌∷◌, ◌++◌, map, length, Option, Some, None, Result, Ok, Err, is_some, is_none, slice_get, All, nat_lt, codes, arith, true≢false, append_assoc, append-nil}
-use Rattle.std.specs.List.{enumerate_from, list_all, AllByRecursion}
+use Rattle.std.proofs.Common.{◌≡◌, sym, refl, subst, ℕ, ◌+◌, ◌*◌, ◌%◌, ◌<◌, ◌≤◌, Bool, true, false, ◌||◌, List, [], ◌∷◌, ◌++◌, length, Option, Some, None, is_none, All, nat_lt, codes, arith}
+use Rattle.std.specs.List.{list_all, AllByRecursion}
 use Rattle.std.specs.Str.{IsUtf8}
 use Rattle.std.proofs.lemmas.Bool.{and_from, and_parts, ltb-true, or_from, or_parts}
 use Rattle.std.proofs.lemmas.Str.{IsUtf8-append, IsUtf8-from_ascii}
@@ -13,23 +13,23 @@ use Rattle.spk_packets.specs.Message.{Message as Packet}
 use Rattle.spk_packets.specs.Spelling.{HasWords, PacketFits, TextsAreUtf8, has_bad_text, is_bad_text, spelling, unwritable}
 use Rattle.spk_packets.specs.declared.fault.PacketFault.{PacketFault}
 use Rattle.spk_topics.specs.Fitting.{is_match}
-use Rattle.spk_topics.specs.Levels.{joined, levels}
-use Rattle.spk_topics.specs.Spark.{Named, device_type, has_names, is_name, named_levels, node_type, topic_of}
+use Rattle.spk_topics.specs.Levels.{joined}
+use Rattle.spk_topics.specs.Spark.{is_name, named_levels, topic_of}
 use Rattle.spk_topics.specs.Spark.Named.{of_node, of_device, of_state}
-use Rattle.spk_topics.specs.declared.spark.Verb.TheVariants.{Birth, Death, Data, Command}
-use Rattle.spk_broker_rules.specs.Topics.{FiltersIn, FitsAlike, IsOff, TopicIn}
+use Rattle.spk_topics.specs.declared.spark.Verb.TheVariants.{Death, Command}
+use Rattle.spk_broker_rules.specs.Topics.{FitsAlike, IsOff, TopicIn}
 use Rattle.spk_broker_body.specs.Data.{Input, Says, Breaks, Cuts, Ends}
 use Rattle.spk_broker_body.specs.Log.{Means}
 use Rattle.spk_ingress.specs.declared.frame.Frame.{Frame}
 use Rattle.spk_ingress.specs.declared.frame.Frame.TheVariants as frame
 use Rattle.spk_edge_rules.specs.Answers.{is_writable}
-use Rattle.spk_edge_rules.specs.Config.{Config, Setup}
-use Rattle.spk_edge_rules.specs.Packets.{client_of, connect_of, death_topic, farewell, subscribe_of, state_filter, will_of}
+use Rattle.spk_edge_rules.specs.Config.{Config}
+use Rattle.spk_edge_rules.specs.Packets.{client_of, connect_of, death_topic, subscribe_of, state_filter, will_of}
 use Rattle.spk_relay.specs.Shown.{AsksAlike, is_on, is_publish_on}
 use Rattle.spk_relay.specs.Speech.{HasTexts, IsPrimary}
-use Rattle.spk_relay.specs.Topics.{is_numbered_name, is_numbered_topic}
+use Rattle.spk_relay.specs.Topics.{is_numbered_topic}
 use Rattle.spk_relay.proofs.Offers.{no-yes}
-use Rattle.spk_relay.proofs.Topics.{IsAlike, TopicFacts, barred, device-commands, fits-alike, five-levels, levels-of, name-slashless, node-commands, numbered-is, states}
+use Rattle.spk_relay.proofs.Topics.{TopicFacts, barred, device-commands, fits-alike, five-levels, levels-of, name-slashless, node-commands, numbered-is, states}
 
 -- what the laws on packets say
 pub record PacketFacts : Type 0 where

@@ -1,12 +1,12 @@
 -- What is relayed so is inside the window.
-use Rattle.std.proofs.Common.{◌≡◌, ◌∙◌, sym, ap, refl, subst, inl, inr, ℕ, zero, suc, ◌+◌, ◌-◌, ◌*◌, ◌%◌, ◌<◌, ◌≤◌, max, Bool, true, false, not, ◌&&◌, ◌||◌, true≢false, List, [], ◌∷◌, ◌++◌, length, get_or, Option, Some, None, arith}
-use Rattle.std.proofs.lemmas.Bool.{and_left, cases_lt}
+use Rattle.std.proofs.Common.{◌≡◌, ◌∙◌, sym, ap, refl, subst, inl, inr, ℕ, ◌+◌, ◌-◌, ◌*◌, ◌%◌, ◌<◌, ◌≤◌, max, Bool, true, false, ◌&&◌, true≢false, List, [], ◌∷◌, ◌++◌, length, Option, Some, None, arith}
+use Rattle.std.proofs.lemmas.Bool.{cases_lt}
 use Rattle.std.proofs.lemmas.List.{get_or_past}
-use Rattle.spk_sequence.specs.Claims.{AllPublished, IsLawful}
-use Rattle.spk_sequence.specs.Following.{following, is_gap_of, is_matching_death, taken}
-use Rattle.spk_sequence.specs.HostRecord.{HostRecord, Input, MessageComes, DeathComes, TickComes, next_after, reach, record_of}
-use Rattle.spk_sequence.specs.NodeRecord.{NodeRecord, Numbering, RunsOn, Restarts, Setting, session_at, written_session}
-use Rattle.spk_sequence.specs.Window.{AllMayCome, AllNearDeaths, IsNear, IsNearBirth, IsNearDeath, IsNearTo, IsToldApart, MayCome, NumbersFit}
+use Rattle.spk_sequence.specs.Claims.{IsLawful}
+use Rattle.spk_sequence.specs.Following.{following, taken}
+use Rattle.spk_sequence.specs.HostRecord.{Input, MessageComes, DeathComes, TickComes, reach, record_of}
+use Rattle.spk_sequence.specs.NodeRecord.{NodeRecord, Setting, session_at}
+use Rattle.spk_sequence.specs.Window.{AllMayCome, AllNearDeaths, IsNearBirth, IsNearDeath, IsNearTo, IsToldApart, MayCome, NumbersFit}
 use Rattle.spk_relay.specs.Relayed.{AreEarlyDeaths, AreRising, HasFewSessions, IsRelayed, missing, oldest_of, past_newest, positions_in}
 
 -- ---- of fewer inputs

@@ -1,12 +1,11 @@
 -- What a plant's broker owes the host of one edge node. `on` are the topics of the node's numbered messages.
-use Rattle.std.specs.Prelude.{ℕ, ◌==◌, Bool, false, not, ◌&&◌, List, [], ◌∷◌, Option, Some, None, is_some, if◌then◌else◌}
+use Rattle.std.specs.Prelude.{ℕ, Bool, false, not, ◌&&◌, List, [], ◌∷◌, Option, Some, None, is_some, if◌then◌else◌}
 use Rattle.spk_packets.specs.Message.{Connect, ConnAck, Publish, PubAck, Subscribe, SubAck, Unsubscribe, UnsubAck, PingReq, PingResp, Disconnect}
 use Rattle.spk_packets.specs.Message.{Message as Packet}
-use Rattle.spk_ingress.specs.declared.rule.Message.{Message}
 use Rattle.spk_broker_rules.specs.Data.{Broker}
 use Rattle.spk_broker_rules.specs.Listening.{listens}
 use Rattle.spk_broker_rules.specs.Step.{after}
-use Rattle.spk_broker_body.specs.Data.{Input, Says, Breaks, Cuts, Ends, Offer, Entry, Took, Accepted, Refused, Passed, Told, Room}
+use Rattle.spk_broker_body.specs.Data.{Input, Says, Breaks, Cuts, Ends, Entry, Took, Accepted, Refused, Passed, Told, Room}
 use Rattle.spk_broker_body.specs.Log.{room_of}
 use Rattle.spk_broker_body.specs.Step.{conn_at, is_dropped}
 use Rattle.spk_relay.specs.Shown.{count_numbered, is_numbered}

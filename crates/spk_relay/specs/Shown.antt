@@ -4,11 +4,10 @@ use Rattle.std.specs.Prelude.{◌≡◌, ℕ, ◌+◌, ◌-◌, ◌<◌, ◌≤�
 use Rattle.spk_packets.specs.Message.{Connect, ConnAck, Publish, PubAck, Subscribe, SubAck, Unsubscribe, UnsubAck, PingReq, PingResp, Disconnect}
 use Rattle.spk_packets.specs.Message.{Message as Packet}
 use Rattle.spk_ingress.specs.declared.rule.Message.{Message}
-use Rattle.spk_broker_rules.specs.Data.{Broker}
 use Rattle.spk_broker_rules.specs.Listening.{IsPlain, is_disconnect, is_unsubscribe, plain_publish}
 use Rattle.spk_broker_rules.specs.Step.{after, is_full}
 use Rattle.spk_broker_rules.specs.Topics.{FiltersIn, FitsAlike}
-use Rattle.spk_broker_body.specs.Data.{Input, Says, Breaks, Cuts, Ends, Offer, Entry, Took, Accepted, Refused, Passed, Told, Room}
+use Rattle.spk_broker_body.specs.Data.{Input, Says, Breaks, Cuts, Ends, Entry, Took, Accepted, Refused, Passed, Told}
 use Rattle.spk_broker_body.specs.Log.{room_of}
 use Rattle.spk_relay.specs.Relayed.{AreRising, missing, past_newest}
 

@@ -1,5 +1,5 @@
 -- What the clients of a plant say: each edge node what its rules give for its inputs, and the host what its calls give.
-use Rattle.std.specs.Prelude.{◌≡◌, ℕ, ◌+◌, ◌-◌, ◌*◌, ◌<◌, true, List, [], ◌∷◌, ◌++◌, map, Option, Some, None}
+use Rattle.std.specs.Prelude.{◌≡◌, ℕ, ◌-◌, ◌*◌, ◌<◌, true, List, [], ◌∷◌, ◌++◌, map, Option, Some, None}
 use Rattle.std.specs.Str.{IsUtf8}
 use Rattle.spk_topics.specs.Spark.{is_name}
 use Rattle.spk_sequence.specs.NodeRecord.{RunsOn}

@@ -1,6 +1,6 @@
 use Rattle.std.proofs.Common.{◌∷◌}
 use Rattle.spk_sequence.specs.HostRecord.{MessageComes}
-use Rattle.spk_relay.proofs.Window.{lawful, near-birth, near-deaths, relayed-fewer}
+use Rattle.spk_relay.proofs.Window.{lawful, near-birth, near-deaths}
 use Rattle.spk_relay.proofs.laws.headline.Goals as goal
 
 pub returns-clause-prefixes : goal.returns-clause-prefixes

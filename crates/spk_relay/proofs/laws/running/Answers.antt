@@ -3,10 +3,9 @@ use Rattle.spk_edge_rules.specs.Run.{published, run_of}
 use Rattle.spk_broker_body.specs.Log.{taken_of}
 use Rattle.spk_host_body.specs.Told.{asked, heard_in, told_in}
 use Rattle.spk_host.specs.Inputs.{node_calls}
-use Rattle.spk_heard.specs.Read.{HandsOutFronts, all_taken}
+use Rattle.spk_heard.specs.Read.{HandsOutFronts}
 use Rattle.spk_ingress.specs.Lanes.{share_of}
-use Rattle.spk_relay.specs.Relayed.{IsRelayed}
-use Rattle.spk_relay.specs.Shown.{IsFew, shown}
+use Rattle.spk_relay.specs.Shown.{shown}
 use Rattle.spk_tie.specs.Tie.{host_setting}
 use Rattle.spk_relay.proofs.Facts.{Facts}
 use Rattle.spk_relay.proofs.Heard.{all-told}
@@ -65,10 +64,10 @@ returns-clause-heard c = λ edges k setup inputs config given log low some most 
     (c.any_list.ensures.record s (inputs k)) sessions
     (c.shown.ensures.few config.width edges k setup inputs config (told_in given) log low plant)
     (all-told (broker c) (packets c) (256 - 2 * config.width) edges k (small config.width) s (inputs k) node.names node.unreserved node.whole
-        (λ p m bytes there whole. c.messages.ensures s [] (inputs k) p m bytes node.names node.unreserved there whole)
-        log (map heard_in given) (length (published (run_of s (inputs k)))) plant.is_log says
-        (c.few.ensures.places (256 - 2 * config.width) edges k (on_of s) log (small config.width) plant.is_log says plant.senders)
-        (share-tells (packets c) (topics c) (rules c) s (inputs k) (share_of k (taken_of log)) node) (c.shown.ensures.others config.width edges k setup inputs config (told_in given) log low plant) told welcome)
+    (λ p m bytes there whole. c.messages.ensures s [] (inputs k) p m bytes node.names node.unreserved there whole)
+    log (map heard_in given) (length (published (run_of s (inputs k)))) plant.is_log says
+    (c.few.ensures.places (256 - 2 * config.width) edges k (on_of s) log (small config.width) plant.is_log says plant.senders)
+    (share-tells (packets c) (topics c) (rules c) s (inputs k) (share_of k (taken_of log)) node) (c.shown.ensures.others config.width edges k setup inputs config (told_in given) log low plant) told welcome)
 
 pub returns-clause-consumed : goal.returns-clause-consumed
 returns-clause-consumed c = λ edges k setup inputs config given log low some most plant sessions told welcome consumed.
@@ -77,4 +76,4 @@ returns-clause-consumed c = λ edges k setup inputs config given log low some mo
     subst (HandsOutFronts s (published (run_of s (inputs k))))
     (sym (c.any_items.ensures.kept config given s.config.group s.config.node consumed ∙ c.any_items.ensures.consumed config (told_in given) s.config.group s.config.node welcome))
     (c.consumption.ensures.births s (published (run_of s (inputs k))) config.wait config.width h.inputs (node_calls (asked (told_in given)) s.config.group s.config.node)
-        (c.relayed.ensures.lawful (host_setting s (published (run_of s (inputs k))) config.wait config.width) h.inputs h.relayed) h.read)
+    (c.relayed.ensures.lawful (host_setting s (published (run_of s (inputs k))) config.wait config.width) h.inputs h.relayed) h.read)

@@ -1,5 +1,4 @@
 use Rattle.std.proofs.Common.{◌≤◌, ◌-◌, ◌*◌, ℕ, arith, subst}
-use Rattle.spk_broker_body.specs.Log.{taken_of}
 use Rattle.spk_relay.specs.Shown.{IsFew, shown}
 use Rattle.spk_relay.proofs.Nodes.{EdgeFacts, on_of}
 use Rattle.spk_relay.proofs.Off.{TopicLaw}
