@@ -102,14 +102,14 @@ pub record LastTold (xs : List Item) (x : Item) (ts : List (Option HeardData)) :
   pub told : AreToldBy xs before
   pub is : IsToldBy x last
 
-last-told : (xs : List Item) (x : Item) (ts : List (Option HeardData)) → AreToldBy (xs ++ x ∷ []) ts → LastTold xs x ts
+pub last-told : (xs : List Item) (x : Item) (ts : List (Option HeardData)) → AreToldBy (xs ++ x ∷ []) ts → LastTold xs x ts
 last-told [] x [] by = absurd by
 last-told [] x (t ∷ []) by = record { before = []; last = t; parts = refl; told = tt; is = by.0 }
 last-told [] x (t ∷ u ∷ ts) by = absurd by.1
 last-told (y ∷ xs) x [] by = absurd by
 last-told (y ∷ xs) x (t ∷ ts) by = let l = last-told xs x ts by.1 in record { before = t ∷ l.before; last = l.last; parts = ap (λ us. t ∷ us) l.parts; told = (by.0, l.told); is = l.is }
 
-newest : (ts : List (Option HeardData)) (t : Option HeardData) → reverse (ts ++ t ∷ []) ≡ t ∷ reverse ts
+pub newest : (ts : List (Option HeardData)) (t : Option HeardData) → reverse (ts ++ t ∷ []) ≡ t ∷ reverse ts
 newest ts t = reverse-append ts (t ∷ [])
 
 -- ---- a log

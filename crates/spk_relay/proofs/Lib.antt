@@ -1,3 +1,4 @@
+pub mod Answered
 pub mod Base
 pub mod Carries
 pub mod Deaths
@@ -20,4 +21,5 @@ pub mod Silence
 pub mod State
 pub mod Tells
 pub mod Topics
+pub mod Welcome
 pub mod Window

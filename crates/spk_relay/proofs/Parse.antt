@@ -23,10 +23,10 @@ use Rattle.spk_relay.proofs.Tells.{first-of-spelled, low-qos, publish-first}
 
 -- ---- lists
 
-head-is : (x y : ℕ) (xs ys : List ℕ) → x ∷ xs ≡ y ∷ ys → x ≡ y
+pub head-is : (x y : ℕ) (xs ys : List ℕ) → x ∷ xs ≡ y ∷ ys → x ≡ y
 head-is x y xs ys e = cc
 
-tail-is : (x y : ℕ) (xs ys : List ℕ) → x ∷ xs ≡ y ∷ ys → xs ≡ ys
+pub tail-is : (x y : ℕ) (xs ys : List ℕ) → x ∷ xs ≡ y ∷ ys → xs ≡ ys
 tail-is x y xs ys e = cc
 
 same-front : (xs ys us vs : List ℕ) → length xs ≡ length ys → xs ++ us ≡ ys ++ vs → xs ≡ ys
@@ -40,7 +40,7 @@ same-front (x ∷ xs) (y ∷ ys) us vs size e =
 
 -- ---- the remaining length
 
-sevens-rest : (a b xs ys : List ℕ) (x y : ℕ) → AreSevens a x → AreSevens b y → a ++ xs ≡ b ++ ys → xs ≡ ys
+pub sevens-rest : (a b xs ys : List ℕ) (x y : ℕ) → AreSevens a x → AreSevens b y → a ++ xs ≡ b ++ ys → xs ≡ ys
 sevens-rest [] b xs ys x y s t e = absurd s
 sevens-rest (u ∷ []) [] xs ys x y s t e = absurd t
 sevens-rest (u ∷ c ∷ a) [] xs ys x y s t e = absurd t
@@ -49,7 +49,7 @@ sevens-rest (u ∷ []) (v ∷ d ∷ b) xs ys x y s t e = absurd (let h = head-is
 sevens-rest (u ∷ c ∷ a) (v ∷ []) xs ys x y s t e = absurd (let h = head-is u v (c ∷ (a ++ xs)) ys e in let l = s.0 in let m = t.0 in omega (arith, h, l, m))
 sevens-rest (u ∷ c ∷ a) (v ∷ d ∷ b) xs ys x y s t e = sevens-rest (c ∷ a) (d ∷ b) xs ys s.1.0 t.1.0 s.1.2 t.1.2 (tail-is u v (c ∷ (a ++ xs)) (d ∷ (b ++ ys)) e)
 
-shortest-sevens : (n : ℕ) → n < 2097152 → AreSevens (shortest n) n
+pub shortest-sevens : (n : ℕ) → n < 2097152 → AreSevens (shortest n) n
 unfolding shortest
 shortest-sevens n low = by (ltb n 128) (ltb n 16384) (ltb n 2097152) refl refl refl
   where

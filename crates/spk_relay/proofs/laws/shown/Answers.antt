@@ -1,3 +1,5 @@
+use Rattle.spk_relay.proofs.Answered.{welcome-of}
+use Rattle.spk_relay.proofs.Welcome.{kind-step}
 use Rattle.std.proofs.Common.{◌≤◌, ◌-◌, ◌*◌, ℕ, arith, subst}
 use Rattle.spk_relay.specs.Shown.{IsFew, shown}
 use Rattle.spk_relay.proofs.Nodes.{EdgeFacts, on_of}
