@@ -23,15 +23,9 @@ use Rattle.spk_relay.proofs.Heard.{LastTold, last-told, newest}
 use Rattle.spk_relay.proofs.Offers.{no-yes}
 use Rattle.spk_relay.proofs.Parse.{head-is, sevens-rest, shortest-sevens, tail-is}
 use Rattle.spk_relay.proofs.Tells.{first-of-spelled}
-use Rattle.spk_relay.proofs.Welcome.{AreKind, IsCleanEvent, IsKind, JoinsClean, kind-step}
+use Rattle.spk_relay.proofs.Welcome.{AreKind, IsCleanEvent, IsCleanInput, IsKind, JoinsClean, kind-step}
 
 -- ---- frames
-
-abbrev pub IsCleanInput : Input → Type 0
-IsCleanInput (Says p) = JoinsClean p
-IsCleanInput (Breaks f) = ⊥
-IsCleanInput Cuts = Unit {0}
-IsCleanInput Ends = Unit {0}
 
 abbrev pub AllClean : List Entry → Type 0
 AllClean [] = Unit {0}

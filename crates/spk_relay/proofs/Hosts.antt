@@ -37,6 +37,7 @@ use Rattle.spk_relay.proofs.Offers.{no-yes}
 use Rattle.spk_relay.specs.Topics.{is_numbered_topic}
 use Rattle.spk_relay.proofs.Parse.{same-topic}
 use Rattle.spk_relay.proofs.Tells.{AsksForAll, KeepsOff, PacketFacts, ascii, first-of-spelled, one-reading, puback-quiet, publish-first, state-utf8, written}
+use Rattle.spk_relay.proofs.Welcome.{JoinsClean}
 use Rattle.spk_relay.proofs.Topics.{TopicFacts, barred, fits-alike, group-test, group-topics, name-slashless, numbered-is, slashless}
 
 -- ---- what a host may say
@@ -51,9 +52,23 @@ pub record IsHarmless (q : Packet) : Type 0 where
   pub stays : is_disconnect q ≡ false
   pub keeps : is_unsubscribe q ≡ false
   pub off : KeepsOff q
+  pub clean : JoinsClean q
 
-with-topics : (q : Packet) → IsMild q → KeepsOff q → IsHarmless q
-with-topics q m off = record { asks = m.asks; stays = m.stays; keeps = m.keeps; off = off }
+with-topics : (q : Packet) → IsMild q → KeepsOff q → JoinsClean q → IsHarmless q
+with-topics q m off clean = record { asks = m.asks; stays = m.stays; keeps = m.keeps; off = off; clean = clean }
+
+clean-first : (q : Packet) → (first_byte q ≡ 16 → ⊥) → JoinsClean q
+clean-first (Connect client clean alive will) other = absurd (other refl)
+clean-first (ConnAck present code) other = tt
+clean-first (Publish dup qos retain topic id payload) other = tt
+clean-first (PubAck id) other = tt
+clean-first (Subscribe id filters) other = tt
+clean-first (SubAck id given) other = tt
+clean-first (Unsubscribe id filters) other = tt
+clean-first (UnsubAck id) other = tt
+clean-first PingReq other = tt
+clean-first PingResp other = tt
+clean-first Disconnect other = tt
 
 harmless-first : (q : Packet) → (first_byte q ≡ 130 → ⊥) → (first_byte q ≡ 162 → ⊥) → (first_byte q ≡ 224 → ⊥) → IsMild q
 harmless-first (Subscribe id filters) s u d = absurd (s refl)
@@ -263,21 +278,23 @@ pub record HostTexts (c : Config) : Type 0 where
 
 pub hosts-harmless : PacketFacts → TopicFacts → (c : Config) → HostTexts c → (p q : Packet) → IsHosts c p → Spells (spelling p) q → IsHarmless q
 hosts-harmless f t c h p q (Acks id is) says =
-    with-topics q (harmless-low p q (subst (λ x. first_byte x < 128) (sym is) (omega arith)) says) (puback-quiet (λ topic. false) id q (subst (λ x. Spells (spelling x) q) is says)).2
+    with-topics q (harmless-low p q (subst (λ x. first_byte x < 128) (sym is) (omega arith)) says) (puback-quiet (λ topic. false) id q (subst (λ x. Spells (spelling x) q) is says)).2 (puback-quiet (λ topic. false) id q (subst (λ x. Spells (spelling x) q) is says)).3
 hosts-harmless f t c h p q (Joins is) says =
     let short = (and_parts (is_short_name c.name) (is_short_name c.group) h.good).0 in
     let own = written f (connect_of c 0) (connect-fits c h.name h.keep) (can-connect c short) in
     subst IsHarmless (sym (one-reading f (spelling (connect_of c 0)) (connect_of c 0) q own (subst (λ x. Spells (spelling x) q) is says)))
-    (record { asks = λ group node one two x y. tt; stays = refl; keeps = refl; off = state-off t c.name short })
+    (record { asks = λ group node one two x y. tt; stays = refl; keeps = refl; off = state-off t c.name short; clean = refl })
 hosts-harmless f t c h p q (Publishes qos retain topic id payload low off is) says =
     with-topics q (harmless-low p q (subst (λ x. first_byte x < 128) (sym is) (let b = (publish-first false qos retain low).1 in omega (arith, b))) says)
     (publish-off qos retain topic id payload q low off (subst (λ x. Spells (spelling x) q) is says))
+    (clean-first q (λ e. let first = first-of-spelled (Publish false qos retain topic id payload) q (subst (λ x. Spells (spelling x) q) is says) in
+        let b = publish-first false qos retain low in let u = b.0 in let v = b.1 in omega (arith, first, e, u, v)))
 hosts-harmless f t c h p q (Asks is) says =
     let short = (and_parts (is_short_name c.name) (is_short_name c.group) h.good).1 in
     let own = written f (subscribe_of c) (subscribe-fits c h.group) (can-subscribe c short) in
     let name = (and_parts (is_name c.group) (leb (length c.group) 60000) short).0 in
     subst IsHarmless (sym (one-reading f (spelling (subscribe_of c)) (subscribe_of c) q own (subst (λ x. Spells (spelling x) q) is says)))
-    (record { asks = group-asks t c name; stays = refl; keeps = refl; off = λ group node. tt })
+    (record { asks = group-asks t c name; stays = refl; keeps = refl; off = λ group node. tt; clean = tt })
 
 hosts-append : (c : Config) (xs ys : List Packet) → AreHosts c xs → AreHosts c ys → AreHosts c (xs ++ ys)
 hosts-append c [] ys x y = y
@@ -405,7 +422,7 @@ run-done c (call ∷ calls) run = by (is_done (host_after c (done c calls)) call
 
 abbrev pub IsHarmlessIn : Input → Type 0
 IsHarmlessIn (Says q) = IsHarmless q
-IsHarmlessIn (Breaks g) = Unit {0}
+IsHarmlessIn (Breaks g) = ⊥
 IsHarmlessIn Cuts = ⊥
 IsHarmlessIn Ends = Unit {0}
 
@@ -417,7 +434,7 @@ packet-frame-harmless bytes says = record { means = by }
   where
     by : (i : Input) → Means (frame.Packet bytes) i → IsHarmlessIn i
     by (Says q) m = says q m
-    by (Breaks g) m = tt
+    by (Breaks g) m = absurd m
     by Cuts m = absurd m
     by Ends m = tt
 
@@ -426,7 +443,7 @@ end-harmless = record { means = by }
   where
     by : (i : Input) → Means frame.End i → IsHarmlessIn i
     by (Says q) m = absurd m
-    by (Breaks g) m = tt
+    by (Breaks g) m = absurd m
     by Cuts m = absurd m
     by Ends m = tt
 

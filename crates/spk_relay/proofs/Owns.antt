@@ -157,17 +157,17 @@ own-quiet f t s names texts p q (Acknowledges id is) can says =
 own-quiet f t s names texts p q (Connects bd time is) can says =
     itself-quiet f (is_numbered_topic s.config.group s.config.node) (connect_of s.config bd time) q
     (written f (connect_of s.config bd time) (connect-fits s.config bd time texts) (subst (λ x. is_writable x ≡ true) is can))
-    (refl, (λ group node one two x y. tt), connect-off t s.config bd time names.group names.node (subst (λ x. is_writable x ≡ true) is can)) (subst (λ x. Spells (spelling x) q) is says)
+    (refl, (λ group node one two x y. tt), connect-off t s.config bd time names.group names.node (subst (λ x. is_writable x ≡ true) is can), refl) (subst (λ x. Spells (spelling x) q) is says)
 own-quiet f t s names texts p q (Subscribes is) can says =
     itself-quiet f (is_numbered_topic s.config.group s.config.node) (subscribe_of s.config) q
     (written f (subscribe_of s.config) (subscribe-fits s.config texts) (subst (λ x. is_writable x ≡ true) is can))
-    (refl, subscribe-asks t s.config names.group names.node texts.primary, λ group node. tt) (subst (λ x. Spells (spelling x) q) is says)
+    (refl, subscribe-asks t s.config names.group names.node texts.primary, (λ group node. tt), tt) (subst (λ x. Spells (spelling x) q) is says)
 own-quiet f t s names texts p q (Dies text is) can says =
     itself-quiet f (is_numbered_topic s.config.group s.config.node) (Publish false 1 false (death_topic s.config) (Some 2) text) q
     (written f (Publish false 1 false (death_topic s.config) (Some 2) text) (death-fits s.config text texts) (subst (λ x. is_writable x ≡ true) is can))
-    (numbered-is t s.config.group s.config.node (of_node s.config.group Death s.config.node) (and_from _ _ names.group names.node), (λ group node one two x y. tt), dying-off t s.config text names.group names.node (subst (λ x. is_writable x ≡ true) is can))
+    (numbered-is t s.config.group s.config.node (of_node s.config.group Death s.config.node) (and_from _ _ names.group names.node), (λ group node one two x y. tt), dying-off t s.config text names.group names.node (subst (λ x. is_writable x ≡ true) is can), tt)
     (subst (λ x. Spells (spelling x) q) is says)
 own-quiet f t s names texts p q (Leaves is) can says =
     itself-quiet f (is_numbered_topic s.config.group s.config.node) Disconnect q
     (written f Disconnect disconnect-fits (subst (λ x. is_writable x ≡ true) is can))
-    (refl, (λ group node one two x y. tt), λ group node. tt) (subst (λ x. Spells (spelling x) q) is says)
+    (refl, (λ group node one two x y. tt), (λ group node. tt), tt) (subst (λ x. Spells (spelling x) q) is says)

@@ -1,4 +1,5 @@
 -- In a plant nobody but the node says anything on its numbered topics.
+use Rattle.std.proofs.Common.{reverse}
 use Rattle.std.proofs.Common.{◌≡◌, ◌⊎◌, inl, inr, sym, ap, refl, subst, ◌∙◌, ℕ, ◌+◌, ◌*◌, ◌-◌, ◌<◌, Bool, true, false, ◌&&◌, List, [], ◌∷◌, ◌++◌, Option, Some, None, is_some, is_none, bytes_eq, arith, true≢false, eq-eqb}
 use Rattle.std.specs.List.{AllByRecursion}
 use Rattle.std.specs.Option.{option_map_or}
@@ -14,7 +15,7 @@ use Rattle.spk_ingress.specs.declared.frame.Frame.{Frame}
 use Rattle.spk_ingress.specs.declared.rule.Message.{Message}
 use Rattle.spk_broker_rules.specs.Listening.{plain_publish}
 use Rattle.spk_broker_body.specs.Data.{Input, Says, Breaks, Cuts, Ends, Entry, Took, Accepted, Refused, Passed, Told}
-use Rattle.spk_broker_body.specs.Log.{IsLog, Means, taken_of}
+use Rattle.spk_broker_body.specs.Log.{IsLog, Means, got_of, taken_of}
 use Rattle.spk_edge_rules.specs.Config.{Setup}
 use Rattle.spk_edge_rules.specs.Inputs as edge
 use Rattle.spk_edge_rules.specs.Messages.{named_by, payload_of}
@@ -31,6 +32,9 @@ use Rattle.spk_relay.proofs.Off.{AllOff, OffIn, TopicLaw, others-of}
 use Rattle.spk_relay.proofs.Offers.{no-yes}
 use Rattle.spk_relay.proofs.Plant.{Along, all-parts, all_of, along, along-before, message-means, plant-says, share-own}
 use Rattle.spk_relay.proofs.Tells.{IsQuiet, KeepsIn, PacketFacts, short-topic}
+use Rattle.spk_relay.proofs.Welcome.{IsCleanInput}
+use Rattle.spk_relay.proofs.Answered.{AllClean, welcome-of}
+use Rattle.spk_host_body.specs.Told.{AreToldBy, AreWelcome}
 use Rattle.spk_relay.proofs.Topics.{TopicFacts, barred}
 
 -- ---- one topic is of one node
@@ -152,3 +156,44 @@ pub plant-others : PacketFacts → TopicFacts → EdgeFacts → TopicLaw → (wi
 plant-others f t e law width edges k setup inputs c told log low p =
     others-of law (256 - 2 * width) edges k (setup k).config.group (setup k).config.node (on_of (setup k)) log p.is_log (plant-says f t e width edges k setup inputs c told log low p)
     (all-off f edges k setup (all_of setup inputs) low p.distinct (256 - 2 * width) log p.is_log (along f t e width edges setup inputs c told log p))
+
+-- ---- clean sessions
+
+clean-last : PacketFacts → (s : Setup) (all : List run.Message) (xs : List Frame) (f : Frame) (p q : ℕ) (i : Input) → Last s all xs f p q → Means f i → IsCleanInput i
+clean-last pf s all xs f p q i l m = by l.is
+  where
+    by : (IsQuiet (on_of s) f × (l.middle ≡ q)) ⊎ (IsMessageFrame s all l.middle f × (l.middle + 1 ≡ q)) → IsCleanInput i
+    by (inl x) = x.0.clean i m
+    by (inr x) = subst IsCleanInput (sym (message-means pf s all l.middle f i x.0 m)) tt
+
+harmless-clean : (i : Input) → IsHarmlessIn i → IsCleanInput i
+harmless-clean (Says q) h = h.clean
+harmless-clean (Breaks g) h = absurd h
+harmless-clean Cuts h = absurd h
+harmless-clean Ends h = tt
+
+took-clean : PacketFacts → (edges : ℕ) (setup : ℕ → Setup) (all : ℕ → List run.Message) (xs : List Message) (m : Message) (i : Input) → Along edges setup all (xs ++ m ∷ []) → Means m.frame i → IsCleanInput i
+took-clean pf edges setup all xs m i a means = elim (cases_eq m.sender edges) [
+  | inl same ↦ harmless-clean i
+      ((all-parts (λ f. IsHostFrame f) (share_of edges xs) m.frame (subst (λ fs. AllByRecursion (λ f. IsHostFrame f) fs) (share-own edges xs m (eq-eqb m.sender edges same)) a.host)).1.means i means)
+  | inr other ↦
+      (let high = (all-parts (λ (x : Message). x.sender < edges + 1) xs m a.senders).1 in
+      let below : m.sender < edges = omega (arith, high, other) in
+      let t = a.nodes m.sender below in
+      clean-last pf (setup m.sender) (all m.sender) (share_of m.sender xs) m.frame 0 t.0 i
+      (tells-last (setup m.sender) (all m.sender) (share_of m.sender xs) m.frame 0 t.0
+          (subst (λ fs. Tells (setup m.sender) (all m.sender) fs 0 t.0) (share-own m.sender xs m (eq-eqb m.sender m.sender refl)) t.1)) means)
+]
+
+all-clean : PacketFacts → (limit edges : ℕ) (setup : ℕ → Setup) (all : ℕ → List run.Message) (l : List Entry) → IsLog limit edges l → Along edges setup all (taken_of l) → AllClean l
+all-clean pf limit edges setup all [] log a = tt
+all-clean pf limit edges setup all (Took m i ∷ l) log a = (took-clean pf edges setup all (taken_of l) m i a log.1.0, all-clean pf limit edges setup all l log.0 (along-before edges setup all (taken_of l) m a))
+all-clean pf limit edges setup all (Accepted j o ∷ l) log a = all-clean pf limit edges setup all l log.0 a
+all-clean pf limit edges setup all (Refused j o ∷ l) log a = all-clean pf limit edges setup all l log.0 a
+all-clean pf limit edges setup all (Passed o ∷ l) log a = all-clean pf limit edges setup all l log.0 a
+all-clean pf limit edges setup all (Told o ∷ l) log a = all-clean pf limit edges setup all l log.0 a
+
+pub plant-welcome : PacketFacts → TopicFacts → EdgeFacts → (width edges : ℕ) (setup : ℕ → Setup) (inputs : ℕ → List edge.Input) (c : host.Config) (told : List (Option HeardData)) (log : List Entry) (ts : List (Option HeardData)) →
+    IsPlant width edges setup inputs c told log → AreToldBy (got_of edges log) ts → AreWelcome (reverse ts)
+plant-welcome f t e width edges setup inputs c told log ts p by =
+    welcome-of (256 - 2 * width) edges log ts p.is_log (all-clean f (256 - 2 * width) edges setup (all_of setup inputs) log p.is_log (along f t e width edges setup inputs c told log p)) by

@@ -29,6 +29,7 @@ use Rattle.spk_relay.specs.Shown.{AsksAlike, is_on, is_publish_on}
 use Rattle.spk_relay.specs.Speech.{HasTexts, IsPrimary}
 use Rattle.spk_relay.specs.Topics.{is_numbered_topic}
 use Rattle.spk_relay.proofs.Offers.{no-yes}
+use Rattle.spk_relay.proofs.Welcome.{IsCleanInput, JoinsClean}
 use Rattle.spk_relay.proofs.Topics.{TopicFacts, barred, device-commands, fits-alike, five-levels, levels-of, name-slashless, node-commands, numbered-is, states}
 
 -- what the laws on packets say
@@ -82,15 +83,16 @@ KeepsIn Cuts = Unit {0}
 KeepsIn Ends = Unit {0}
 
 abbrev pub Quietly : (List ℕ → Bool) → Packet → Type 0
-Quietly on q = (is_publish_on on q ≡ false) × AsksForAll q × KeepsOff q
+Quietly on q = (is_publish_on on q ≡ false) × AsksForAll q × KeepsOff q × JoinsClean q
 
 pub record IsQuiet (on : List ℕ → Bool) (f : Frame) : Type 0 where
   pub off : (i : Input) → Means f i → is_on on i ≡ false
   pub asks : (i : Input) → Means f i → AsksIn i
   pub keeps : (i : Input) → Means f i → KeepsIn i
+  pub clean : (i : Input) → Means f i → IsCleanInput i
 
 pub packet-quiet : (on : List ℕ → Bool) (bytes : _) → ((q : Packet) → Means (frame.Packet bytes) (Says q) → Quietly on q) → IsQuiet on (frame.Packet bytes)
-packet-quiet on bytes says = record { off = off; asks = asks; keeps = keeps }
+packet-quiet on bytes says = record { off = off; asks = asks; keeps = keeps; clean = clean }
   where
     off : (i : Input) → Means (frame.Packet bytes) i → is_on on i ≡ false
     off (Says q) m = (says q m).0
@@ -104,6 +106,12 @@ packet-quiet on bytes says = record { off = off; asks = asks; keeps = keeps }
     keeps Cuts m = tt
     keeps Ends m = tt
 
+    clean : (i : Input) → Means (frame.Packet bytes) i → IsCleanInput i
+    clean (Says q) m = (says q m).3
+    clean (Breaks f) m = absurd m
+    clean Cuts m = tt
+    clean Ends m = tt
+
     asks : (i : Input) → Means (frame.Packet bytes) i → AsksIn i
     asks (Says q) m = (says q m).1
     asks (Breaks f) m = tt
@@ -111,7 +119,7 @@ packet-quiet on bytes says = record { off = off; asks = asks; keeps = keeps }
     asks Ends m = tt
 
 pub cut-quiet : (on : List ℕ → Bool) → IsQuiet on frame.Cut
-cut-quiet on = record { off = off; asks = asks; keeps = keeps }
+cut-quiet on = record { off = off; asks = asks; keeps = keeps; clean = clean }
   where
     off : (i : Input) → Means frame.Cut i → is_on on i ≡ false
     off (Says q) m = absurd m
@@ -125,6 +133,12 @@ cut-quiet on = record { off = off; asks = asks; keeps = keeps }
     keeps Cuts m = tt
     keeps Ends m = tt
 
+    clean : (i : Input) → Means frame.Cut i → IsCleanInput i
+    clean (Says q) m = absurd m
+    clean (Breaks f) m = absurd m
+    clean Cuts m = tt
+    clean Ends m = tt
+
     asks : (i : Input) → Means frame.Cut i → AsksIn i
     asks (Says q) m = absurd m
     asks (Breaks f) m = tt
@@ -132,7 +146,7 @@ cut-quiet on = record { off = off; asks = asks; keeps = keeps }
     asks Ends m = tt
 
 pub end-quiet : (on : List ℕ → Bool) → IsQuiet on frame.End
-end-quiet on = record { off = off; asks = asks; keeps = keeps }
+end-quiet on = record { off = off; asks = asks; keeps = keeps; clean = clean }
   where
     off : (i : Input) → Means frame.End i → is_on on i ≡ false
     off (Says q) m = absurd m
@@ -145,6 +159,12 @@ end-quiet on = record { off = off; asks = asks; keeps = keeps }
     keeps (Breaks f) m = tt
     keeps Cuts m = tt
     keeps Ends m = tt
+
+    clean : (i : Input) → Means frame.End i → IsCleanInput i
+    clean (Says q) m = absurd m
+    clean (Breaks f) m = absurd m
+    clean Cuts m = tt
+    clean Ends m = tt
 
     asks : (i : Input) → Means frame.End i → AsksIn i
     asks (Says q) m = absurd m
@@ -161,14 +181,14 @@ puback-quiet on id (Publish dup qos retain topic other payload) s =
     absurd (omega (arith, first, high))
 puback-quiet on id (Subscribe other filters) s = absurd (let first = first-of-spelled (PubAck id) (Subscribe other filters) s in omega (arith, first))
 puback-quiet on id (Connect client clean keep will) s = absurd (let first = first-of-spelled (PubAck id) (Connect client clean keep will) s in omega (arith, first))
-puback-quiet on id (ConnAck present code) s = (refl, (λ group node one two x y. tt), λ group node. tt)
-puback-quiet on id (PubAck other) s = (refl, (λ group node one two x y. tt), λ group node. tt)
-puback-quiet on id (SubAck other given) s = (refl, (λ group node one two x y. tt), λ group node. tt)
-puback-quiet on id (Unsubscribe other filters) s = (refl, (λ group node one two x y. tt), λ group node. tt)
-puback-quiet on id (UnsubAck other) s = (refl, (λ group node one two x y. tt), λ group node. tt)
-puback-quiet on id PingReq s = (refl, (λ group node one two x y. tt), λ group node. tt)
-puback-quiet on id PingResp s = (refl, (λ group node one two x y. tt), λ group node. tt)
-puback-quiet on id Disconnect s = (refl, (λ group node one two x y. tt), λ group node. tt)
+puback-quiet on id (ConnAck present code) s = (refl, (λ group node one two x y. tt), (λ group node. tt), tt)
+puback-quiet on id (PubAck other) s = (refl, (λ group node one two x y. tt), (λ group node. tt), tt)
+puback-quiet on id (SubAck other given) s = (refl, (λ group node one two x y. tt), (λ group node. tt), tt)
+puback-quiet on id (Unsubscribe other filters) s = (refl, (λ group node one two x y. tt), (λ group node. tt), tt)
+puback-quiet on id (UnsubAck other) s = (refl, (λ group node one two x y. tt), (λ group node. tt), tt)
+puback-quiet on id PingReq s = (refl, (λ group node one two x y. tt), (λ group node. tt), tt)
+puback-quiet on id PingResp s = (refl, (λ group node one two x y. tt), (λ group node. tt), tt)
+puback-quiet on id Disconnect s = (refl, (λ group node one two x y. tt), (λ group node. tt), tt)
 
 -- a packet that its spelling spells says itself
 pub itself-quiet : PacketFacts → (on : List ℕ → Bool) (p q : Packet) → Spells (spelling p) p → Quietly on p → Spells (spelling p) q → Quietly on q

@@ -15,6 +15,7 @@ use Rattle.spk_broker_rules.specs.Plan as event
 use Rattle.spk_broker_rules.specs.Plan.{Act, Event, Seen, plan, before}
 use Rattle.spk_broker_rules.specs.Step.{Turn, accept_of, act, acts, begun, bursts, conn_at, give_at, hand, hand_at, leave_at, forget_at, most, noted, numbered, offer, offer_at, other_grants, route, route_one, route_some, seen, serve, serve_at, step, take_at, ack_at, take_up, with_key, away_for, line_of, seat_at, swap, with_seats, is_guest, is_away}
 use Rattle.spk_broker_rules.specs.Words.{best, codes_of, granted_of, level, numbered_packet, offers_to, with_entry, option_list, plain_packet, resent, sent_as, to_line}
+use Rattle.spk_broker_body.specs.Data.{Input, Says, Breaks, Cuts, Ends}
 use Rattle.spk_relay.proofs.Offers.{no-yes}
 
 -- a CONNACK of code 0, and a PUBLISH at QoS 0 or 1
@@ -181,6 +182,12 @@ JoinsClean (UnsubAck id) = Unit {0}
 JoinsClean PingReq = Unit {0}
 JoinsClean PingResp = Unit {0}
 JoinsClean Disconnect = Unit {0}
+
+abbrev pub IsCleanInput : Input → Type 0
+IsCleanInput (Says p) = JoinsClean p
+IsCleanInput (Breaks f) = ⊥
+IsCleanInput Cuts = Unit {0}
+IsCleanInput Ends = Unit {0}
 
 abbrev pub IsCleanEvent : Event → Type 0
 IsCleanEvent (event.Open moment) = Unit {0}

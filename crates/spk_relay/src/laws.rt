@@ -125,6 +125,11 @@ pub fn shown()
     ensures others { (width edges k : ℕ) (setup : ℕ → Setup) (inputs : ℕ → List edge.Input) (c : Config) (told : List (Option HeardData))
         (log : List Entry) → k < edges → IsPlant width edges setup inputs c told log →
         AreOthers (is_numbered_topic (setup k).config.group (setup k).config.node) k edges (setup k).config.group (setup k).config.node log }
+
+    // and none of it says that the host was turned away
+    ensures welcome { (width edges : ℕ) (setup : ℕ → Setup) (inputs : ℕ → List edge.Input) (c : Config) (given : List Given)
+        (log : List Entry) → IsPlant width edges setup inputs c (told_in given) log →
+        AreToldBy (got_of edges log) (map heard_in given) → AreWelcome (told_in given) }
 {
     spk_packets::laws::prefix_free();
     spk_packets::laws::spelling_spells();
@@ -135,14 +140,14 @@ pub fn shown()
     few();
 }
 
-/// What a host consumes of a node in a plant, for every width of 1 to 96, without a window as a premise: where no CONNACK turned the
-/// host away, and the node opened at most 256 sessions. The report of a plant has these lists; `given` stands oldest first.
+/// What a host consumes of a node in a plant, for every width of 1 to 96, without a window as a premise: where the node opened at
+/// most 256 sessions. The report of a plant has these lists; `given` stands oldest first.
 pub fn running()
     // what the host was told of the node was read at the positions shown, one by one, and these are relayed: so the headline holds of
     // them, without a window as a premise
     ensures heard { (edges k : ℕ) (setup : ℕ → Setup) (inputs : ℕ → List edge.Input) (c : Config) (given : List Given) (log : List Entry) →
         k < edges → 0 < c.width → c.width ≤ 96 → IsPlant c.width edges setup inputs c (told_in given) log →
-        opened (run_of (setup k) (inputs k)) ≤ 256 → AreToldBy (got_of edges log) (map heard_in given) → AreWelcome (told_in given) →
+        opened (run_of (setup k) (inputs k)) ≤ 256 → AreToldBy (got_of edges log) (map heard_in given) →
         IsHeard (setup k) (published (run_of (setup k) (inputs k))) c.wait c.width
         (shown (is_numbered_topic (setup k).config.group (setup k).config.node) k edges log)
         (node_calls (asked (told_in given)) (setup k).config.group (setup k).config.node) }
@@ -151,7 +156,7 @@ pub fn running()
     // birth, each once, as they were published
     ensures consumed { (edges k : ℕ) (setup : ℕ → Setup) (inputs : ℕ → List edge.Input) (c : Config) (given : List Given) (log : List Entry) →
         k < edges → 0 < c.width → c.width ≤ 96 → IsPlant c.width edges setup inputs c (told_in given) log →
-        opened (run_of (setup k) (inputs k)) ≤ 256 → AreToldBy (got_of edges log) (map heard_in given) → AreWelcome (told_in given) →
+        opened (run_of (setup k) (inputs k)) ≤ 256 → AreToldBy (got_of edges log) (map heard_in given) →
         consumed_by given ≡ consumptions c (told_in given) →
         HandsOutFronts (setup k) (published (run_of (setup k) (inputs k)))
         (flat_map (consumed_for (setup k).config.group (setup k).config.node) given) }

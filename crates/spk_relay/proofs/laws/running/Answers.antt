@@ -56,7 +56,8 @@ rules : goal.After-shown → EdgeFacts
 rules c = record { kinds = c.published.ensures.kinds; grows = c.published.ensures.grows; names = c.published.ensures.names }
 
 pub returns-clause-heard : goal.returns-clause-heard
-returns-clause-heard c = λ edges k setup inputs config given log low some most plant sessions told welcome.
+returns-clause-heard c = λ edges k setup inputs config given log low some most plant sessions told.
+    let welcome = c.shown.ensures.welcome config.width edges setup inputs config given log plant told in
     let s = setup k in
     let says = c.shown.ensures.orderly config.width edges k setup inputs config (told_in given) log low plant in
     let node = plant.nodes k low in
@@ -70,9 +71,10 @@ returns-clause-heard c = λ edges k setup inputs config given log low some most 
     (share-tells (packets c) (topics c) (rules c) s (inputs k) (share_of k (taken_of log)) node) (c.shown.ensures.others config.width edges k setup inputs config (told_in given) log low plant) told welcome)
 
 pub returns-clause-consumed : goal.returns-clause-consumed
-returns-clause-consumed c = λ edges k setup inputs config given log low some most plant sessions told welcome consumed.
+returns-clause-consumed c = λ edges k setup inputs config given log low some most plant sessions told consumed.
+    let welcome = c.shown.ensures.welcome config.width edges setup inputs config given log plant told in
     let s = setup k in
-    let h = returns-clause-heard c edges k setup inputs config given log low some most plant sessions told welcome in
+    let h = returns-clause-heard c edges k setup inputs config given log low some most plant sessions told in
     subst (HandsOutFronts s (published (run_of s (inputs k))))
     (sym (c.any_items.ensures.kept config given s.config.group s.config.node consumed ∙ c.any_items.ensures.consumed config (told_in given) s.config.group s.config.node welcome))
     (c.consumption.ensures.births s (published (run_of s (inputs k))) config.wait config.width h.inputs (node_calls (asked (told_in given)) s.config.group s.config.node)

@@ -1,11 +1,11 @@
-use Rattle.spk_relay.proofs.Answered.{welcome-of}
-use Rattle.spk_relay.proofs.Welcome.{kind-step}
+use Rattle.std.proofs.Common.{map}
+use Rattle.spk_host_body.specs.Told.{heard_in, told_in}
 use Rattle.std.proofs.Common.{◌≤◌, ◌-◌, ◌*◌, ℕ, arith, subst}
 use Rattle.spk_relay.specs.Shown.{IsFew, shown}
 use Rattle.spk_relay.proofs.Nodes.{EdgeFacts, on_of}
 use Rattle.spk_relay.proofs.Off.{TopicLaw}
 use Rattle.spk_relay.proofs.Plant.{plant-counts, plant-says}
-use Rattle.spk_relay.proofs.Silence.{plant-others}
+use Rattle.spk_relay.proofs.Silence.{plant-others, plant-welcome}
 use Rattle.spk_relay.proofs.Tells.{PacketFacts}
 use Rattle.spk_relay.proofs.Topics.{TopicFacts}
 use Rattle.spk_relay.proofs.laws.shown.Goals as goal
@@ -42,3 +42,7 @@ returns-clause-few c = λ width edges k setup inputs config told log low plant.
 pub returns-clause-complete : goal.returns-clause-complete
 returns-clause-complete c = λ width edges k setup inputs config told log low plant none offered.
     c.few.ensures.complete (256 - 2 * width) edges k (on_of (setup k)) log (small width) plant.is_log (returns-clause-orderly c width edges k setup inputs config told log low plant) plant.senders none offered
+
+pub returns-clause-welcome : goal.returns-clause-welcome
+returns-clause-welcome c = λ width edges setup inputs config given log plant told.
+    plant-welcome (packets c) (topics c) (rules c) width edges setup inputs config (told_in given) log (map heard_in given) plant told
