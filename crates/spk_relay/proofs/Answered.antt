@@ -1,13 +1,13 @@
 -- No item of the host's ring says that it was turned away.
-use Rattle.std.proofs.Common.{◌≡◌, ◌⊎◌, inl, inr, sym, ap, refl, subst, ◌∙◌, ℕ, ◌+◌, ◌*◌, ◌%◌, ◌≤◌, ◌<◌, Bool, true, false, ◌&&◌, cond, eqb, List, [], ◌∷◌, ◌++◌, map, reverse, length, Option, Some, None, Result, Ok, Err, arith, true≢false, eq-eqb}
+use Rattle.std.proofs.Common.{◌≡◌, sym, ap, refl, subst, ◌∙◌, ℕ, ◌≤◌, Bool, true, false, cond, eqb, List, [], ◌∷◌, ◌++◌, map, reverse, length, Option, Some, None, Result, Ok, Err, arith, eq-eqb}
 use Rattle.std.specs.List.{AllByRecursion}
-use Rattle.spk_packets.specs.Grammar.{Spells, first_byte, bit}
+use Rattle.spk_packets.specs.Grammar.{Spells, bit}
 use Rattle.spk_packets.specs.Message.{Message as Packet, Connect, ConnAck, Publish, PubAck, Subscribe, SubAck, Unsubscribe, UnsubAck, PingReq, PingResp, Disconnect}
 use Rattle.spk_packets.specs.Spelling.{body, shortest, spelling}
 use Rattle.spk_rings.specs.declared.item.Item.{Item}
 use Rattle.spk_ingress.specs.declared.rule.Message.{Message}
 use Rattle.spk_broker.specs.Sent.{outgoing}
-use Rattle.spk_broker_rules.specs.Data.{Broker, Send}
+use Rattle.spk_broker_rules.specs.Data.{Send}
 use Rattle.spk_broker_rules.specs.Plan as event
 use Rattle.spk_broker_rules.specs.Plan.{Event}
 use Rattle.spk_broker_rules.specs.Step.{after, step}
@@ -16,11 +16,10 @@ use Rattle.spk_broker_body.specs.Log.{IsLog, got_of, room_of, taken_of}
 use Rattle.spk_broker_body.specs.Step.{behind, called, called_on, conn_at, known, may_open, next_conn, offer_of, opened, packet_on, told, took}
 use Rattle.spk_reading.specs.Data as said
 use Rattle.spk_reading.specs.Data.{ContentData, HeardData}
-use Rattle.spk_reading.specs.Meaning.{◌>>=◌, Says as SaysTo, content_at, heard}
+use Rattle.spk_reading.specs.Meaning.{◌>>=◌, content_at, heard}
 use Rattle.spk_reading.specs.declared.fault.ReadFault.{ReadFault}
 use Rattle.spk_host_body.specs.Told.{AreToldBy, AreWelcome, IsToldBy, IsWelcome}
-use Rattle.spk_relay.proofs.Heard.{LastTold, last-told, newest}
-use Rattle.spk_relay.proofs.Offers.{no-yes}
+use Rattle.spk_relay.proofs.Heard.{last-told, newest}
 use Rattle.spk_relay.proofs.Parse.{head-is, sevens-rest, shortest-sevens, tail-is}
 use Rattle.spk_relay.proofs.Tells.{first-of-spelled}
 use Rattle.spk_relay.proofs.Welcome.{AreKind, IsCleanEvent, IsCleanInput, IsKind, JoinsClean, kind-step}
@@ -140,7 +139,7 @@ item-welcome : (o : Offer) (item : Item) (t : Option HeardData) → item.bytes �
 item-welcome o item None same sent by = tt
 item-welcome o item (Some h) same sent by =
     subst WelcomeIn by.is (heard-welcome by.packet (λ present code is.
-        zero-code sent.packet present code sent.kind (subst (λ x. Spells x (ConnAck present code)) (same ∙ sent.bytes) (subst (λ q. Spells item.bytes q) is by.spelled))))
+    zero-code sent.packet present code sent.kind (subst (λ x. Spells x (ConnAck present code)) (same ∙ sent.bytes) (subst (λ q. Spells item.bytes q) is by.spelled))))
 
 pub welcome-of : (limit edges : ℕ) (l : List Entry) (ts : List (Option HeardData)) → IsLog limit edges l → AllClean l → AreToldBy (got_of edges l) ts → AreWelcome (reverse ts)
 welcome-of limit edges [] [] log clean by = tt

@@ -288,7 +288,7 @@ hosts-harmless f t c h p q (Publishes qos retain topic id payload low off is) sa
     with-topics q (harmless-low p q (subst (λ x. first_byte x < 128) (sym is) (let b = (publish-first false qos retain low).1 in omega (arith, b))) says)
     (publish-off qos retain topic id payload q low off (subst (λ x. Spells (spelling x) q) is says))
     (clean-first q (λ e. let first = first-of-spelled (Publish false qos retain topic id payload) q (subst (λ x. Spells (spelling x) q) is says) in
-        let b = publish-first false qos retain low in let u = b.0 in let v = b.1 in omega (arith, first, e, u, v)))
+    let b = publish-first false qos retain low in let u = b.0 in let v = b.1 in omega (arith, first, e, u, v)))
 hosts-harmless f t c h p q (Asks is) says =
     let short = (and_parts (is_short_name c.name) (is_short_name c.group) h.good).1 in
     let own = written f (subscribe_of c) (subscribe-fits c h.group) (can-subscribe c short) in

@@ -182,7 +182,7 @@ took-clean pf edges setup all xs m i a means = elim (cases_eq m.sender edges) [
       let t = a.nodes m.sender below in
       clean-last pf (setup m.sender) (all m.sender) (share_of m.sender xs) m.frame 0 t.0 i
       (tells-last (setup m.sender) (all m.sender) (share_of m.sender xs) m.frame 0 t.0
-          (subst (λ fs. Tells (setup m.sender) (all m.sender) fs 0 t.0) (share-own m.sender xs m (eq-eqb m.sender m.sender refl)) t.1)) means)
+      (subst (λ fs. Tells (setup m.sender) (all m.sender) fs 0 t.0) (share-own m.sender xs m (eq-eqb m.sender m.sender refl)) t.1)) means)
 ]
 
 all-clean : PacketFacts → (limit edges : ℕ) (setup : ℕ → Setup) (all : ℕ → List run.Message) (l : List Entry) → IsLog limit edges l → Along edges setup all (taken_of l) → AllClean l

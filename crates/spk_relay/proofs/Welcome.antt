@@ -1,9 +1,7 @@
 -- In a plant no CONNACK turns a client away: each CONNECT asks for a clean session, and each frame is a packet.
-use Rattle.std.proofs.Common.{◌≡◌, sym, ap, refl, subst, ◌∙◌, ℕ, zero, suc, ◌+◌, ◌*◌, ◌%◌, ◌≤◌, ◌<◌, Bool, true, false, not, ◌&&◌, ◌||◌, cond, eqb, List, [], ◌∷◌, ◌++◌, map, length, Option, Some, None, is_some, fold, arith, true≢false}
+use Rattle.std.proofs.Common.{◌≡◌, sym, refl, subst, ℕ, zero, suc, ◌≤◌, Bool, true, false, ◌&&◌, cond, List, [], ◌∷◌, ◌++◌, Option, Some, None, is_some, fold, arith}
 use Rattle.std.specs.List.{flat_map, AllByRecursion}
 use Rattle.std.specs.Option.{option_map}
-use Rattle.std.proofs.lemmas.Bool.{and_right}
-use Rattle.spk_packets.specs.declared.fault.PacketFault.{PacketFault}
 use Rattle.spk_packets.specs.Fault.{first_of}
 use Rattle.spk_packets.specs.Message.{Message as Packet, WillData, Connect, ConnAck, Publish, PubAck, Subscribe, SubAck, Unsubscribe, UnsubAck, PingReq, PingResp, Disconnect}
 use Rattle.spk_packets.specs.Spelling.{unwritable}
@@ -13,10 +11,9 @@ use Rattle.spk_session.specs.Step.{has_room}
 use Rattle.spk_broker_rules.specs.Data.{Broker, Copy, Guest, Line, Post, Seat, Send}
 use Rattle.spk_broker_rules.specs.Plan as event
 use Rattle.spk_broker_rules.specs.Plan.{Act, Event, Seen, plan, before}
-use Rattle.spk_broker_rules.specs.Step.{Turn, accept_of, act, acts, begun, bursts, conn_at, give_at, hand, hand_at, leave_at, forget_at, most, noted, numbered, offer, offer_at, other_grants, route, route_one, route_some, seen, serve, serve_at, step, take_at, ack_at, take_up, with_key, away_for, line_of, seat_at, swap, with_seats, is_guest, is_away}
+use Rattle.spk_broker_rules.specs.Step.{Turn, accept_of, act, acts, begun, bursts, conn_at, give_at, hand, hand_at, leave_at, forget_at, most, noted, numbered, offer, offer_at, other_grants, route, route_one, route_some, seen, serve, serve_at, step, take_at, ack_at, take_up, with_key, away_for, line_of, seat_at, swap, with_seats}
 use Rattle.spk_broker_rules.specs.Words.{best, codes_of, granted_of, level, numbered_packet, offers_to, with_entry, option_list, plain_packet, resent, sent_as, to_line}
 use Rattle.spk_broker_body.specs.Data.{Input, Says, Breaks, Cuts, Ends}
-use Rattle.spk_relay.proofs.Offers.{no-yes}
 
 -- a CONNACK of code 0, and a PUBLISH at QoS 0 or 1
 abbrev pub IsKind : Packet → Type 0
