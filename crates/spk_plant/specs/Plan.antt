@@ -1,8 +1,9 @@
 -- Plans of a plant that can run, and what their nodes and their host are made of (own rules).
-use Rattle.std.specs.Prelude.{◌≡◌, ℕ, ◌+◌, ◌≤◌, ◌&&◌, Bool, true, false, not, List, [], ◌∷◌, length, nat_le, count_by, Some, None}
-use Rattle.std.specs.List.{list_all, list_any, slice_get}
+use Rattle.std.specs.Prelude.{◌≡◌, ℕ, ◌+◌, ◌<◌, ◌≤◌, ◌&&◌, Bool, true, false, not, List, [], ◌∷◌, length, nat_le, count_by, Some, None}
+use Rattle.std.specs.List.{AllByRecursion, list_all, list_any, slice_get}
 use Rattle.std.specs.String.{string_bytes}
 use Rattle.std.specs.Str.{bytes_eq}
+use Rattle.spk_device.specs.Lawful.{IsLawful}
 use Rattle.spk_sequence.specs.NodeRecord.{RunsOn}
 use Rattle.spk_edge_rules.specs.Config as edge
 use Rattle.spk_edge.specs.Patch as edge_patch
@@ -101,3 +102,14 @@ pub record CanRun (p : Plan) : Type 0 where
   pub within : IsWithin p
   pub edges : AreEdges (string_bytes p.group) (string_bytes p.host) p.nodes.items
   pub host : host_names.is_good (host_in p) ≡ true
+
+-- ---- every plan
+
+abbrev pub HasLawful : PlanNode → Type 0
+HasLawful n = IsLawful n.registry
+
+-- What the parts of every plan are, since there are no others: a window of 1 to 96 places, and lawful registries.
+pub record IsMade (p : Plan) : Type 0 where
+  pub some : 0 < p.width
+  pub most : p.width ≤ 96
+  pub lawful : AllByRecursion HasLawful p.nodes.items

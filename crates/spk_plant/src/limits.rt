@@ -1,7 +1,7 @@
 //! The limits of a plan (own rules).
 ghost use Rattle.std.specs.Prelude.{◌≡◌, ◌↔◌, count_by, nat_le, true};
-ghost use Rattle.std.specs.List.{list_all, list_any};
-ghost use Rattle.spk_plant.specs.Plan.{IsWithin, are_distinct, changes_at, changes_in, fits, has_name, is_open};
+ghost use Rattle.std.specs.List.{AllByRecursion, list_all, list_any};
+ghost use Rattle.spk_plant.specs.Plan.{HasLawful, IsMade, IsWithin, are_distinct, changes_at, changes_in, fits, has_name, is_open};
 
 use spk_plan::{Plan, PlanNode, Step};
 
@@ -100,4 +100,21 @@ pub(crate) fn is_within(plan: &Plan) -> bool
         return false;
     }
     are_distinct(nodes)
+}
+
+/// Every registry is lawful.
+fn are_lawful(nodes: &[PlanNode])
+    ensures { AllByRecursion HasLawful nodes.now }
+{
+    for node in nodes {
+        let _count = node.registry.device_count();
+    }
+}
+
+/// Every plan has lawful registries, and the width of a window.
+pub(crate) fn is_made(plan: &Plan)
+    ensures { IsMade plan.now }
+{
+    let _places = plan.width.get();
+    are_lawful(plan.nodes.as_slice());
 }

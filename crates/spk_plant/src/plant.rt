@@ -1,8 +1,9 @@
 //! A plant, from its plan to its report.
 ghost use Rattle.std.specs.Prelude.{IfOk, IfErr, OnOk};
-ghost use Rattle.spk_plant.specs.Plan.{CanRun};
+ghost use Rattle.spk_plant.specs.Plan.{CanRun, IsMade};
 ghost use Rattle.spk_plant.specs.Report.{IsFault, RunsAs};
 
+use crate::limits::is_made;
 use crate::report::Report;
 use crate::start::{Parts, parts_of};
 use crate::threads::run_all;
@@ -28,8 +29,10 @@ pub fn run_plant<R: Threads + Wait + Sync, G: Gate + Sync>(
 ) -> Result<Report, PlantFault>
     ensures ran { IfOk result (λ r. RunsAs plan r) }
     ensures can { OnOk result (CanRun plan) }
+    ensures made { OnOk result (IsMade plan) }
     ensures fault { IfErr result (λ e. IsFault plan e) }
 {
+    is_made(&plan);
     let parts = match parts_of(rt, alloc, plan) {
         Ok(parts) => parts,
         Err(fault) => return Err(fault),
