@@ -1,0 +1,7 @@
+pub mod Due
+pub mod Given
+pub mod Relayed
+pub mod Senders
+pub mod Shown
+pub mod Speech
+pub mod Topics
