@@ -1,5 +1,5 @@
 -- What calls of the broker leave of its connections.
-use Rattle.std.proofs.Common.{◌≡◌, ℕ, ◌||◌, ◌&&◌, not, if◌then◌else◌, Bool, true, false, List, [], map, Option, Some, None, refl, sym, ◌∙◌, ap, subst}
+use Rattle.std.proofs.Common.{◌≡◌, ℕ, ◌||◌, ◌&&◌, not, if◌then◌else◌, Bool, true, false, [], map, Option, Some, None, refl, sym, ◌∙◌, ap, subst}
 use Rattle.spk_broker.specs.Sent.{outgoing, sent_view}
 use Rattle.spk_broker.specs.declared.out.Out.{Out}
 use Rattle.spk_broker_rules.specs.Data.{Broker}

@@ -1,5 +1,6 @@
 -- One entry more in the log of what a hub holds.
-use Rattle.std.proofs.Common.{◌≡◌, ◌≢◌, ℕ, ◌+◌, ◌<◌, ◌==◌, ◌&&◌, ◌||◌, if◌then◌else◌, Bool, true, false, List, [], ◌∷◌, ◌++◌, map, length, Option, Some, None, refl, sym, ◌∙◌, ap, subst, arith, ◌⊎◌, inl, inr, take, get_or, zero, suc, ◌-◌, ◌*◌, true≢false}
+use Rattle.std.proofs.Common.{◌≡◌, ℕ, ◌+◌, ◌<◌, ◌==◌, ◌&&◌, ◌||◌, if◌then◌else◌, Bool, true, false, List, [], ◌∷◌, ◌++◌, map, length, Some, None, refl, sym, ◌∙◌, ap, subst, arith, ◌⊎◌, inl, inr, take, get_or, zero, suc, ◌-◌, ◌*◌, ◌^◌, true≢false}
+use Rattle.std.specs.List.{AllByRecursion}
 use Rattle.std.proofs.lemmas.List.Folds.{list_any_more}
 use Rattle.std.proofs.Math.Bool.{or-true}
 use Rattle.std.proofs.lemmas.List.{map-append}
@@ -20,12 +21,11 @@ use Rattle.spk_broker_body.specs.declared.hub.Hub.{Hub}
 use Rattle.spk_broker_body.specs.declared.hub.Untold.{Untold}
 use Rattle.spk_broker_body.specs.declared.part.BrokerStart.{BrokerStart}
 use Rattle.spk_broker_body.specs.declared.part.BrokerEnd.{BrokerEnd}
-use Rattle.spk_broker_body.specs.declared.part.Refusal.{Refusal}
 use Rattle.spk_broker_body.specs.Done.{BrokerDone, BrokerReady, IsEndOf, refused_to}
-use Rattle.spk_broker_body.specs.Data.{Entry, Input, Offer, Room, Took, Accepted, Refused, Passed, Told, Says, Breaks, Cuts, Ends}
-use Rattle.spk_broker_body.specs.Holding.{Awaits, FitClients, FitLine, FitLines, FitsDesk, Gives, Holds, HasAllEnded, IsIdle, IsNoted, IsTaken, Offers, Rests, Setting, setting_of, untold_of}
-use Rattle.spk_broker_body.specs.Log.{IsFirst, IsLog, MayMove, Means, accepted_of, got_of, refusals_of, room_of, taken_of}
-use Rattle.spk_broker_body.specs.Step.{behind, called_on, client_of, cuts_in, fresh_room, has_ended, have_ended, holds_client, is_client, is_cut, is_dropped, is_end, known, moved, offer_of, ring_of, took}
+use Rattle.spk_broker_body.specs.Data.{Entry, Input, Offer, Room, Took, Accepted, Refused, Passed, Told, Cuts, Ends}
+use Rattle.spk_broker_body.specs.Holding.{FitLines, FitsDesk, Gives, Holds, HasAllEnded, IsIdle, IsNoted, IsTaken, Offers, Rests, Setting, setting_of, untold_of}
+use Rattle.spk_broker_body.specs.Log.{IsLog, Means, accepted_of, got_of, refusals_of, room_of, taken_of}
+use Rattle.spk_broker_body.specs.Step.{behind, called_on, client_of, cuts_in, fresh_room, has_ended, have_ended, holds_client, is_client, is_cut, is_dropped, is_end, known, offer_of, ring_of, took}
 use Rattle.spk_broker_body.specs.declared.line.Line.{Line}
 use Rattle.spk_broker_body.proofs.Desks.{or_false}
 use Rattle.spk_broker_body.proofs.Each.{same_or_not}
@@ -487,8 +487,8 @@ each_ended (suc n) ms h k below =
     ]
 
 pub run_done : (n : Ingress) (start : BrokerStart) (pass : TakePass) (hub : Hub) (end : BrokerEnd) → BrokerReady n start → HasAllEnded (setting_of (256 - 2 * start.width) start.outlets.items) hub
-    → TakesFrom n pass → frames_taken pass ≡ hub.taken.items → IsEndOf hub pass end → BrokerDone n start end
-run_done n start pass hub end ready all takes frames is =
+    → TakesFrom n pass → frames_taken pass ≡ hub.taken.items → AllByRecursion (λ (m : Message). m.sender < n.senders) hub.taken.items → IsEndOf hub pass end → BrokerDone n start end
+run_done n start pass hub end ready all takes frames senders is =
     let limit : ℕ = 256 - 2 * start.width in
     let s : Setting = setting_of limit start.outlets.items in
     let held : Holds s (room s all.log).closed hub all.log = all.idle.rests.holds in
@@ -502,6 +502,8 @@ run_done n start pass hub end ready all takes frames is =
       pass = subst (TakesFrom n) (sym is.pass_is) takes;
       frames = ap frames_taken is.pass_is ∙ (frames ∙ held.taken);
       taken = is.taken ∙ held.taken;
+      senders = subst (AllByRecursion (λ (m : Message). m.sender < n.senders)) held.taken senders;
+      counted = subst (λ (ms : List Message). length ms < 2 ^ 64) held.taken (omega (arith, hub.taken.ok.0));
       refusals = is.refusals ∙ held.refusals;
       refused = is.refused ∙ (ap (λ e. refused_to e hub.refusals.items) (held.edges ∙ host) ∙ ap (refused_to (n.senders - 1)) held.refusals);
       accepted = is.accepted ∙ (held.accepted ∙ ap (λ e. accepted_of e all.log) host);

@@ -1,14 +1,13 @@
 -- Worked logs of a plant with one edge node (client 0) and its host (client 1), newest first, named by what they show.
-use Rattle.std.proofs.Common.{◌≡◌, ℕ, Bool, true, false, List, [], ◌∷◌, Option, Some, None, refl}
-use Rattle.std.specs.Prelude.{codes}
-use Rattle.spk_packets.specs.Message.{Message as Packet, Connect, ConnAck, PingReq}
+use Rattle.std.proofs.Common.{◌≡◌, ℕ, true, List, [], ◌∷◌, Some, None, refl}
+use Rattle.spk_packets.specs.Message.{Message as Packet, Connect}
 use Rattle.spk_packets.specs.Spelling.{has_bad_text, has_bad_body, is_qos_two, spelling, body, shortest}
 use Rattle.spk_packets.specs.declared.fault.PacketFault.TheVariants as fault
 use Rattle.spk_ingress.specs.declared.frame.Frame.TheVariants as frame
 use Rattle.spk_session.specs.declared.answer.Sort.TheVariants as sort
 use Rattle.spk_broker_rules.specs.Step.{step, route, route_some}
-use Rattle.spk_broker_body.specs.Data.{Entry, Offer, Room, Took, Accepted, Refused, Passed, Told, Says, Breaks, Cuts, Ends}
-use Rattle.spk_broker_body.specs.Log.{accepted_of, got_of, refusals_of, room_of}
+use Rattle.spk_broker_body.specs.Data.{Entry, Offer, Room, Took, Accepted, Refused, Told, Says, Breaks, Cuts, Ends}
+use Rattle.spk_broker_body.specs.Log.{got_of, refusals_of, room_of}
 use Rattle.spk_broker_body.specs.Step.{conn_at, fresh_room}
 
 abbrev says : ℕ → Packet → Entry

@@ -1,6 +1,6 @@
 -- What the broker's thread is given, and what it hands on when it is joined.
-use Rattle.std.specs.Prelude.{◌≡◌, ℕ, ◌+◌, ◌-◌, ◌*◌, ◌<◌, ◌==◌, Bool, true, List, [], ◌∷◌, length, Option, Some, None, count_by}
-use Rattle.std.specs.List.{slice_get}
+use Rattle.std.specs.Prelude.{◌≡◌, ℕ, ◌-◌, ◌*◌, ◌^◌, ◌<◌, ◌==◌, Bool, true, List, [], length, Option, Some, None, count_by}
+use Rattle.std.specs.List.{AllByRecursion, slice_get}
 use Rattle.spk_ingress.specs.Passes.{TakesFrom, frames_taken}
 use Rattle.spk_ingress.specs.declared.channel.Ingress.{Ingress}
 use Rattle.spk_ingress.specs.declared.channel.TakePass.{TakePass}
@@ -58,6 +58,9 @@ pub record BrokerDone (n : Ingress) (start : BrokerStart) (end : BrokerEnd) : Ty
   pub pass : TakesFrom n end.pass
   pub frames : frames_taken end.pass ≡ taken_of log
   pub taken : end.taken.items ≡ taken_of log
+  -- each frame is one of the ingress's senders, and a count of 64 bits counts them
+  pub senders : AllByRecursion (λ (m : Message). m.sender < n.senders) (taken_of log)
+  pub counted : length (taken_of log) < 2 ^ 64
   pub refusals : end.refusals.items ≡ refusals_of log
   pub refused : end.refused ≡ refused_to (n.senders - 1) (refusals_of log)
   pub accepted : end.accepted.items ≡ accepted_of (n.senders - 1) log

@@ -1,5 +1,7 @@
 //! The broker's thread.
 ghost use Rattle.std.specs.Prelude.{◌≡◌, ◌<◌, ℕ, List, length, IfOk, OnOk, true};
+ghost use Rattle.std.specs.List.{AllByRecursion};
+ghost use Rattle.spk_ingress.specs.declared.rule.Message.{Message};
 ghost use Rattle.spk_ingress.specs.Passes.{TakesFrom, frames_taken};
 ghost use Rattle.spk_broker_body.specs.Data.{Entry};
 ghost use Rattle.spk_broker_body.specs.Done.{BrokerDone, BrokerReady};
@@ -24,8 +26,10 @@ fn take_all<R: Wait, G: Gate>(
     requires pass { TakesFrom ingress.now pass.old }
     requires known { (s : Setting) × (log : List Entry) × IsIdle s hub.old log × (s.count ≡ ingress.now.senders) }
     requires taken { frames_taken pass.old ≡ hub.old.taken.items }
+    requires senders { AllByRecursion (λ (m : Message). m.sender < ingress.now.senders) hub.old.taken.items }
     ensures pass { TakesFrom ingress.now pass.new }
     ensures taken { OnOk result (frames_taken pass.new ≡ hub.new.taken.items) }
+    ensures senders { OnOk result (AllByRecursion (λ (m : Message). m.sender < ingress.now.senders) hub.new.taken.items) }
     ensures idle { OnOk result ((s : Setting) (log : List Entry) → IsIdle s hub.old log → s.count ≡ ingress.now.senders → HasAllEnded s hub.new) }
 {
     for _ in rt.forever() {

@@ -1,6 +1,7 @@
 -- The threads' promises and what ties them are what the report says.
-use Rattle.std.proofs.Common.{◌≡◌, ◌∙◌, ℕ, ◌+◌, ◌-◌, ◌*◌, List, [], ◌∷◌, ◌++◌, length, map, Option, Some, sym, ap, subst, arith}
-use Rattle.std.specs.List.{slice_get}
+use Rattle.std.proofs.Common.{◌≡◌, ◌∙◌, ℕ, ◌+◌, ◌-◌, ◌*◌, ◌<◌, List, [], ◌∷◌, ◌++◌, length, map, Option, Some, sym, ap, subst, arith}
+use Rattle.std.specs.List.{AllByRecursion, slice_get}
+use Rattle.spk_ingress.specs.declared.rule.Message.{Message}
 use Rattle.spk_ingress.specs.Lanes.{share_of}
 use Rattle.spk_ingress.specs.Passes.{frames_put}
 use Rattle.spk_ingress.specs.declared.channel.Ingress.{Ingress}
@@ -75,6 +76,8 @@ logged_is n b ends r edges d senders tied =
       told = d.told;
       ended = λ k below. d.ended k (omega (arith, below, senders));
       taken = ap (λ v. v.items) tied.taken ∙ d.taken;
+      senders = subst (λ m. AllByRecursion (λ (x : Message). x.sender < m) (taken_of d.log)) (senders ∙ ap (λ m. m + 1) (sym less)) d.senders;
+      counted = d.counted;
       refusals = ap (λ v. v.items) tied.refusals ∙ d.refusals;
       refused = tied.refused ∙ d.refused;
       accepted = ap (λ v. v.items) tied.accepted ∙ d.accepted;

@@ -1,6 +1,6 @@
 -- What a report of a plant says: a log of its broker, and of each thread what it did along it (own rules).
-use Rattle.std.specs.Prelude.{◌≡◌, ◌⊎◌, ℕ, ◌+◌, ◌-◌, ◌*◌, ◌<◌, true, List, [], ◌∷◌, ◌++◌, length, map, Some}
-use Rattle.std.specs.List.{slice_get}
+use Rattle.std.specs.Prelude.{◌≡◌, ◌⊎◌, ℕ, ◌+◌, ◌-◌, ◌*◌, ◌^◌, ◌<◌, true, List, [], ◌∷◌, ◌++◌, length, map, Some}
+use Rattle.std.specs.List.{AllByRecursion, slice_get}
 use Rattle.spk_edge.specs.Along.{AllWhole, messages_from}
 use Rattle.spk_edge.specs.View.{message_view}
 use Rattle.spk_edge_rules.specs.Config.{Setup}
@@ -8,6 +8,7 @@ use Rattle.spk_edge_rules.specs.Run.{published, run_of}
 use Rattle.spk_ingress.specs.Lanes.{share_of}
 use Rattle.spk_ingress.specs.declared.frame.Frame.{Frame}
 use Rattle.spk_ingress.specs.declared.frame.Frame.TheVariants as frame
+use Rattle.spk_ingress.specs.declared.rule.Message.{Message}
 use Rattle.spk_rings.specs.declared.item.Item.{Item}
 use Rattle.spk_plan.specs.declared.fault.PlantFault.{PlantFault}
 use Rattle.spk_plan.specs.declared.fault.PlantFault.TheVariants as fault
@@ -42,6 +43,9 @@ pub record IsLogged (limit edges : ℕ) (log : List Entry) (r : Report) : Type 0
   pub told : (room_of limit edges log).untold ≡ []
   pub ended : (k : ℕ) → k < edges + 1 → has_ended k (taken_of log) ≡ true
   pub taken : r.taken.items ≡ taken_of log
+  -- each frame is one of the edge nodes or of the host behind them, and a count of 64 bits counts them
+  pub senders : AllByRecursion (λ (m : Message). m.sender < edges + 1) (taken_of log)
+  pub counted : length (taken_of log) < 2 ^ 64
   pub refusals : r.refusals.items ≡ refusals_of log
   pub refused : r.refused ≡ refused_to edges (refusals_of log)
   pub accepted : r.accepted.items ≡ accepted_of edges log

@@ -1,4 +1,4 @@
-use Rattle.std.proofs.Common.{◌≡◌, ◌<◌, ◌≤◌, ◌∙◌, ◌||◌, length, arith, refl, true, Some}
+use Rattle.std.proofs.Common.{◌≡◌, ◌<◌, ◌∙◌, ◌||◌, length, arith, refl, true, Some}
 use Rattle.spk_broker_body.specs.Step.{is_client}
 use Rattle.spk_broker_body.proofs.Lines.{lines_ext, one_more_finished}
 use Rattle.spk_broker_body.proofs.hub.finish_all.Goals as goal

@@ -1,5 +1,5 @@
-use Rattle.std.proofs.Common.{◌≡◌, ◌<◌, ◌∙◌, sym, ap, length, arith, true, false}
-use Rattle.spk_broker_body.specs.Step.{has_ended, have_ended}
+use Rattle.std.proofs.Common.{◌≡◌, ◌<◌, ◌∙◌, sym, ap, length, arith}
+use Rattle.spk_broker_body.specs.Step.{have_ended}
 use Rattle.spk_broker_body.proofs.Lines.{ended_at, one_has_not, one_more_has}
 use Rattle.spk_broker_body.proofs.hub.have_ended.Goals as goal
 

@@ -1,4 +1,4 @@
-use Rattle.std.proofs.Common.{◌≡◌, ◌∙◌, ◌+◌, refl, sym, ap, subst, ℕ, List, [], ◌∷◌, ◌++◌, length, false, Some, arith, append_assoc, length-append}
+use Rattle.std.proofs.Common.{◌≡◌, ◌∙◌, ◌+◌, sym, ap, [], ◌∷◌, ◌++◌, length, arith, append_assoc, length-append}
 use Rattle.std.proofs.lemmas.List.{append-nil}
 use Rattle.std.specs.Vec.Iter.{into_iter_items}
 use Rattle.spk_broker_body.proofs.Each.{nothing_left}

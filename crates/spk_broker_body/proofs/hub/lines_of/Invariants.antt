@@ -1,4 +1,4 @@
-use Rattle.std.proofs.Common.{◌≡◌, ℕ, List, [], ◌++◌, length, false}
+use Rattle.std.proofs.Common.{◌≡◌, List, [], ◌++◌, length, false}
 use Rattle.std.specs.Vec.Iter.{into_iter_items}
 use Rattle.spk_rings.specs.declared.outlet.Outlet.{Outlet}
 use Rattle.spk_broker_body.specs.Done.{AreFresh}

@@ -1,4 +1,4 @@
-use Rattle.std.proofs.Common.{◌≡◌, ◌<◌, length, arith}
+use Rattle.std.proofs.Common.{◌<◌, length, arith}
 use Rattle.spk_broker_body.proofs.Lines.{offers_line}
 use Rattle.spk_broker_body.proofs.hub.offer_to.Goals as goal
 

@@ -1,6 +1,6 @@
-use Rattle.std.proofs.Common.{◌≡◌, ◌<◌, ◌-◌, ◌*◌, ◌∙◌, [], length, sym, ap, subst, arith}
+use Rattle.std.proofs.Common.{◌≡◌, ◌<◌, ◌-◌, [], length, subst, arith}
 use Rattle.std.proofs.lemmas.Result.{IfOk-weaker}
-use Rattle.spk_broker_body.specs.Holding.{HasAllEnded, IsIdle, setting_of}
+use Rattle.spk_broker_body.specs.Holding.{HasAllEnded, setting_of}
 use Rattle.spk_broker_body.proofs.Hubs.{run_done}
 use Rattle.spk_broker_body.proofs.run.run_broker.Goals as goal
 
@@ -22,5 +22,5 @@ returns g c =
     IfOk-weaker c.end_of.result _ _
     (λ end is. run_done c.args.ingress.now c.args.start c.take_all.new.pass c.take_all.new.hub end c.requires
     (subst (λ n. HasAllEnded (setting_of n c.args.start.outlets.items) c.take_all.new.hub) c.budget.ensures.value all)
-    c.in_ok-take_all.ensures.pass c.in_ok-take_all.ensures.taken is)
+    c.in_ok-take_all.ensures.pass c.in_ok-take_all.ensures.taken c.in_ok-take_all.ensures.senders is)
     c.end_of.ensures

@@ -1,4 +1,4 @@
-use Rattle.std.proofs.Common.{◌≡◌, ◌∙◌, sym, ap, length, arith, true}
+use Rattle.std.proofs.Common.{◌≡◌, ◌∙◌, sym, ap, length, arith}
 use Rattle.spk_broker_body.specs.Log.{got_of, room_of, taken_of}
 use Rattle.spk_broker_body.specs.Step.{have_ended, is_dropped}
 use Rattle.spk_broker_body.proofs.run.take_all.Goals as goal

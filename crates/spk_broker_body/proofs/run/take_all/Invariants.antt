@@ -1,4 +1,6 @@
-use Rattle.std.proofs.Common.{◌≡◌, List}
+use Rattle.std.proofs.Common.{◌≡◌, ◌<◌, List}
+use Rattle.std.specs.List.{AllByRecursion}
+use Rattle.spk_ingress.specs.declared.rule.Message.{Message}
 use Rattle.spk_ingress.specs.Passes.{TakesFrom, frames_taken}
 use Rattle.spk_broker_body.specs.Data.{Entry}
 use Rattle.spk_broker_body.specs.Holding.{IsIdle, Setting}
@@ -9,5 +11,6 @@ abbrev pub invariant-loop : goal.invariant-loop
 invariant-loop g l = record {
   pass : TakesFrom l.ingress l.pass;
   taken : frames_taken l.pass ≡ l.hub.taken.items;
+  senders : AllByRecursion (λ (m : Message). m.sender < l.ingress.senders) l.hub.taken.items;
   idle : (s : Setting) (log : List Entry) → IsIdle s l.fn.hub log → (m : List Entry) × IsIdle s l.hub m;
 }

@@ -1,4 +1,4 @@
-use Rattle.std.proofs.Common.{refl, sym, ap, ◌∙◌}
+use Rattle.std.proofs.Common.{refl}
 use Rattle.spk_broker_body.proofs.Hubs.{closed_holds, closed_none}
 use Rattle.spk_broker_body.proofs.hub.Hub.close.Goals as goal
 

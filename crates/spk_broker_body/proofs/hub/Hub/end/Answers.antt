@@ -1,4 +1,4 @@
-use Rattle.std.proofs.Common.{refl, inl, inr, sym, ◌∙◌, true, false}
+use Rattle.std.proofs.Common.{refl, inl, inr, sym, ◌∙◌}
 use Rattle.spk_broker_body.proofs.Hubs.{end_kept, end_over}
 use Rattle.spk_broker_body.proofs.hub.Hub.end.Goals as goal
 

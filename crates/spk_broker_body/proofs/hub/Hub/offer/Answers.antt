@@ -1,10 +1,10 @@
-use Rattle.std.proofs.Common.{◌≡◌, refl, sym, ap, ◌∙◌, None, Some, if◌then◌else◌, ◌==◌, ◌++◌, ◌∷◌, [], length, subst, true, false}
+use Rattle.std.proofs.Common.{refl, sym, ap, ◌∙◌, None, Some, if◌then◌else◌, ◌==◌, ◌++◌, ◌∷◌, [], length, subst}
 use Rattle.spk_broker_body.specs.declared.hub.Hub.{Hub}
 use Rattle.spk_broker_body.specs.Holding.{FitLines}
 use Rattle.spk_broker.specs.Sent.{sent_view}
 use Rattle.spk_broker_body.specs.Step.{cuts_in, is_dropped, ring_of}
 use Rattle.spk_broker_body.specs.Log.{got_of, room_of, taken_of}
-use Rattle.spk_broker_body.proofs.Hubs.{Same, accepted_offers, passed_offers, refused_offers}
+use Rattle.spk_broker_body.proofs.Hubs.{accepted_offers, passed_offers, refused_offers}
 use Rattle.spk_broker_body.proofs.hub.Hub.offer.Goals as goal
 
 pub returns-in_default-clause-offers : goal.returns-in_default-clause-offers

@@ -1,4 +1,4 @@
-use Rattle.std.proofs.Common.{◌≡◌, refl, sym, ap, subst, ◌∙◌, map, List, [], ◌∷◌, arith}
+use Rattle.std.proofs.Common.{◌≡◌, refl, sym, subst, ◌∙◌, map, [], ◌∷◌, arith}
 use Rattle.std.specs.Vec.Iter.{into_iter_items}
 use Rattle.spk_broker.specs.Sent.{sent_view}
 use Rattle.spk_broker_body.specs.Holding.{Offers}

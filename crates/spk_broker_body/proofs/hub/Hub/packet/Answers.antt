@@ -1,11 +1,10 @@
-use Rattle.std.proofs.Common.{refl, ◌∙◌}
+use Rattle.std.proofs.Common.{refl}
 use Rattle.std.proofs.lemmas.Result.{IfOk-weaker}
 use Rattle.spk_packets.specs.View.{view}
 use Rattle.spk_ingress.specs.declared.frame.Frame.TheVariants as frame
-use Rattle.spk_broker_rules.specs.Plan as event
-use Rattle.spk_broker_body.specs.Data.{Says, Breaks, Cuts}
-use Rattle.spk_broker_body.specs.Step.{called_on, conn_at, packet_on}
-use Rattle.spk_broker_body.proofs.Hubs.{cut_taken, frame_taken}
+use Rattle.spk_broker_body.specs.Data.{Says}
+use Rattle.spk_broker_body.specs.Step.{conn_at, packet_on}
+use Rattle.spk_broker_body.proofs.Hubs.{frame_taken}
 use Rattle.spk_broker_body.proofs.hub.Hub.packet.Goals as goal
 
 pub returns : goal.returns

@@ -1,0 +1,31 @@
+use Rattle.std.proofs.Common.{◌∙◌, sym, length}
+use Rattle.spk_host_body.specs.Told.{told_in}
+use Rattle.spk_plant.specs.Plan.{host_in}
+use Rattle.spk_running.specs.Places.{inputs_at, setup_at}
+use Rattle.spk_running.proofs.Plants.{few_sessions}
+use Rattle.spk_running.proofs.laws.running.Goals as goal
+
+pub returns-clause-counted : goal.returns-clause-counted
+returns-clause-counted c = λ p r k can made ran below.
+    c.shown.ensures.counted p.width (length p.nodes.items) k (setup_at p) (inputs_at r) (host_in p) (told_in r.given.items) ran.log below
+    (c.plant.ensures.is_plant p r can made ran)
+
+pub returns-clause-few : goal.returns-clause-few
+returns-clause-few c = λ p r k can made ran below.
+    c.shown.ensures.few p.width (length p.nodes.items) k (setup_at p) (inputs_at r) (host_in p) (told_in r.given.items) ran.log below
+    (c.plant.ensures.is_plant p r can made ran)
+
+pub returns-clause-complete : goal.returns-clause-complete
+returns-clause-complete c = λ p r k can made ran below none.
+    c.shown.ensures.complete p.width (length p.nodes.items) k (setup_at p) (inputs_at r) (host_in p) (told_in r.given.items) ran.log below
+    (c.plant.ensures.is_plant p r can made ran) (sym ran.logged.refused ∙ none) ran.logged.offered
+
+pub returns-clause-heard : goal.returns-clause-heard
+returns-clause-heard c = λ p r k can made ran below.
+    c.running.ensures.heard (length p.nodes.items) k (setup_at p) (inputs_at r) (host_in p) r.given.items ran.log below made.some made.most
+    (c.plant.ensures.is_plant p r can made ran) (few_sessions p r k (c.plant.ensures.opened p r k can ran below)) ran.host.told
+
+pub returns-clause-consumed : goal.returns-clause-consumed
+returns-clause-consumed c = λ p r k can made ran below.
+    c.running.ensures.consumed (length p.nodes.items) k (setup_at p) (inputs_at r) (host_in p) r.given.items ran.log below made.some made.most
+    (c.plant.ensures.is_plant p r can made ran) (few_sessions p r k (c.plant.ensures.opened p r k can ran below)) ran.host.told ran.host.consumed

@@ -1,0 +1,66 @@
+//! Laws on what `run_plant` promises: functions that do nothing, whose contracts speak of a plan and a report.
+ghost use Rattle.std.specs.Prelude.{◌≡◌, ℕ, ◌-◌, ◌*◌, ◌<◌, ◌≤◌, List, [], length, map, Some};
+ghost use Rattle.std.specs.List.{flat_map, slice_get};
+ghost use Rattle.spk_edge.specs.Along.{messages_from};
+ghost use Rattle.spk_edge.specs.View.{message_view};
+ghost use Rattle.spk_edge_rules.specs.Run.{opened, run_of};
+ghost use Rattle.spk_heard.specs.Read.{HandsOutFronts};
+ghost use Rattle.spk_host.specs.Inputs.{node_calls};
+ghost use Rattle.spk_host_body.specs.Told.{asked, consumed_for, told_in};
+ghost use Rattle.spk_plan.specs.declared.plan.Plan.{Plan};
+ghost use Rattle.spk_plant.specs.Plan.{CanRun, IsMade, host_in};
+ghost use Rattle.spk_plant.specs.Report.{RunsAs};
+ghost use Rattle.spk_plant.specs.declared.report.NodeReport.{NodeReport};
+ghost use Rattle.spk_plant.specs.declared.report.Report.{Report};
+ghost use Rattle.spk_relay.specs.Given.{IsHeard};
+ghost use Rattle.spk_relay.specs.Shown.{IsFew, count_numbered};
+ghost use Rattle.spk_relay.specs.Speech.{IsPlant};
+ghost use Rattle.spk_running.specs.Places.{due_at, inputs_at, is_topic_at, published_at, setup_at, shown_at};
+
+/// A plan and a report as `run_plant` has them (its clauses `can`, `made` and `ran`): the log of that report is one of a plant whose
+/// edge nodes are the plan's, with the inputs that the report has of each.
+pub fn plant()
+    // the log meets what the laws on logs of a plant ask
+    ensures is_plant { (p : Plan) (r : Report) → CanRun p → IsMade p → (ran : RunsAs p r) →
+        IsPlant p.width (length p.nodes.items) (setup_at p) (inputs_at r) (host_in p) (told_in r.given.items) ran.log }
+
+    // what the report says that a node published is what the rules publish for its inputs, each with the number of its position
+    ensures published { (p : Plan) (r : Report) (k : ℕ) (x : NodeReport) → RunsAs p r → slice_get r.nodes.items k ≡ Some x →
+        map message_view x.published.items ≡ messages_from (setup_at p k) (published_at p r k) 0 }
+
+    // a node opens at most 200 connections, as many as its script may ask for
+    ensures opened { (p : Plan) (r : Report) (k : ℕ) → CanRun p → RunsAs p r → k < length p.nodes.items →
+        opened (run_of (setup_at p k) (inputs_at r k)) ≤ 200 }
+{}
+
+/// What holds between the lists of a report, for every width of 1 to 96 and whatever the threads did: no window is asked for.
+pub fn running()
+    // as many numbered messages of a node were taken as it published
+    ensures counted { (p : Plan) (r : Report) (k : ℕ) → CanRun p → IsMade p → (ran : RunsAs p r) → k < length p.nodes.items →
+        count_numbered (is_topic_at p k) k ran.log ≡ length (published_at p r k) }
+
+    // what the host's ring got of a node are positions of what the node published, in order, each once, and from the first to the last
+    // fewer are missing than refusals close the host's connection
+    ensures few { (p : Plan) (r : Report) (k : ℕ) → CanRun p → IsMade p → (ran : RunsAs p r) → k < length p.nodes.items →
+        IsFew (256 - 2 * p.width) (length (published_at p r k)) (shown_at p ran.log k) }
+
+    // where no send to the host was refused, these are all that were due to it
+    ensures complete { (p : Plan) (r : Report) (k : ℕ) → CanRun p → IsMade p → (ran : RunsAs p r) → k < length p.nodes.items →
+        r.refused ≡ 0 → due_at p ran.log k ≡ shown_at p ran.log k }
+
+    // What the host was told of a node was read at the positions shown, one by one, and these are relayed. So the laws on positions hold
+    // of them at every moment, as on gaps, deaths, births and causes (`headline` of `spk_relay`).
+    ensures heard { (p : Plan) (r : Report) (k : ℕ) → CanRun p → IsMade p → (ran : RunsAs p r) → k < length p.nodes.items →
+        IsHeard (setup_at p k) (published_at p r k) p.wait p.width (shown_at p ran.log k)
+        (node_calls (asked (told_in r.given.items)) (setup_at p k).config.group (setup_at p k).config.node) }
+
+    // And what it consumed of the node is, birth by birth in increasing order, the first messages that the node published under that
+    // birth, each once, as they were published.
+    ensures consumed { (p : Plan) (r : Report) (k : ℕ) → CanRun p → IsMade p → RunsAs p r → k < length p.nodes.items →
+        HandsOutFronts (setup_at p k) (published_at p r k)
+        (flat_map (consumed_for (setup_at p k).config.group (setup_at p k).config.node) r.given.items) }
+{
+    plant();
+    spk_relay::laws::shown();
+    spk_relay::laws::running();
+}
