@@ -12,9 +12,9 @@ ghost use Rattle.spk_plant.specs.Plan.{CanRun, IsMade, host_in};
 ghost use Rattle.spk_plant.specs.Report.{RunsAs};
 ghost use Rattle.spk_plant.specs.declared.report.NodeReport.{NodeReport};
 ghost use Rattle.spk_plant.specs.declared.report.Report.{Report};
-ghost use Rattle.spk_relay.specs.Given.{IsHeard};
 ghost use Rattle.spk_relay.specs.Shown.{IsFew, count_numbered};
 ghost use Rattle.spk_relay.specs.Speech.{IsPlant};
+ghost use Rattle.spk_running.specs.Moments.{KeepsOrder};
 ghost use Rattle.spk_running.specs.Places.{due_at, inputs_at, is_topic_at, published_at, setup_at, shown_at};
 
 /// A plan and a report as `run_plant` has them (its clauses `can`, `made` and `ran`): the log of that report is one of a plant whose
@@ -48,10 +48,11 @@ pub fn running()
     ensures complete { (p : Plan) (r : Report) (k : ℕ) → CanRun p → IsMade p → (ran : RunsAs p r) → k < length p.nodes.items →
         r.refused ≡ 0 → due_at p ran.log k ≡ shown_at p ran.log k }
 
-    // What the host was told of a node was read at the positions shown, one by one, and these are relayed. So the laws on positions hold
-    // of them at every moment, as on gaps, deaths, births and causes (`headline` of `spk_relay`).
+    // What the host was told of a node was read at the positions shown, one by one, and at every moment of it the order is kept: what was
+    // consumed by then is birth by birth a prefix, it stands only for a cause, after a gap nothing is consumed but a newer birth, nothing
+    // of a dead session, and each birth is taken but for the two causes.
     ensures heard { (p : Plan) (r : Report) (k : ℕ) → CanRun p → IsMade p → (ran : RunsAs p r) → k < length p.nodes.items →
-        IsHeard (setup_at p k) (published_at p r k) p.wait p.width (shown_at p ran.log k)
+        KeepsOrder (setup_at p k) (published_at p r k) p.wait p.width (shown_at p ran.log k)
         (node_calls (asked (told_in r.given.items)) (setup_at p k).config.group (setup_at p k).config.node) }
 
     // And what it consumed of the node is, birth by birth in increasing order, the first messages that the node published under that
@@ -61,6 +62,8 @@ pub fn running()
         (flat_map (consumed_for (setup_at p k).config.group (setup_at p k).config.node) r.given.items) }
 {
     plant();
+    spk_relay::laws::relayed();
+    spk_relay::laws::headline();
     spk_relay::laws::shown();
     spk_relay::laws::running();
 }

@@ -1,7 +1,9 @@
 use Rattle.std.proofs.Common.{◌∙◌, sym, length}
-use Rattle.spk_host_body.specs.Told.{told_in}
+use Rattle.spk_host.specs.Inputs.{node_calls}
+use Rattle.spk_host_body.specs.Told.{asked, told_in}
 use Rattle.spk_plant.specs.Plan.{host_in}
-use Rattle.spk_running.specs.Places.{inputs_at, setup_at}
+use Rattle.spk_running.specs.Places.{inputs_at, published_at, setup_at, shown_at}
+use Rattle.spk_running.proofs.Moments.{keeps_order}
 use Rattle.spk_running.proofs.Plants.{few_sessions}
 use Rattle.spk_running.proofs.laws.running.Goals as goal
 
@@ -22,8 +24,20 @@ returns-clause-complete c = λ p r k can made ran below none.
 
 pub returns-clause-heard : goal.returns-clause-heard
 returns-clause-heard c = λ p r k can made ran below.
-    c.running.ensures.heard (length p.nodes.items) k (setup_at p) (inputs_at r) (host_in p) r.given.items ran.log below made.some made.most
-    (c.plant.ensures.is_plant p r can made ran) (few_sessions p r k (c.plant.ensures.opened p r k can ran below)) ran.host.told
+    keeps_order
+    (record {
+      before = c.relayed.ensures.before;
+      prefixes = c.headline.ensures.prefixes;
+      cause = c.headline.ensures.cause;
+      after_gap = c.headline.ensures.after_gap;
+      after_death = c.headline.ensures.after_death;
+      steps = c.headline.ensures.steps;
+      births = c.headline.ensures.births;
+    })
+    (setup_at p k) (published_at p r k) p.wait p.width (shown_at p ran.log k)
+    (node_calls (asked (told_in r.given.items)) (setup_at p k).config.group (setup_at p k).config.node)
+    (c.running.ensures.heard (length p.nodes.items) k (setup_at p) (inputs_at r) (host_in p) r.given.items ran.log below made.some made.most
+    (c.plant.ensures.is_plant p r can made ran) (few_sessions p r k (c.plant.ensures.opened p r k can ran below)) ran.host.told)
 
 pub returns-clause-consumed : goal.returns-clause-consumed
 returns-clause-consumed c = λ p r k can made ran below.
