@@ -48,6 +48,7 @@ fn world(alloc: Global, nodes: u8, hosts: u8) -> Option<World> {
 }
 
 // How many events are left to do, and how many messages hosts consumed.
+#[derive(Drop)]
 struct Tally {
     left: u64,
     consumed: u64,
