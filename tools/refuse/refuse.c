@@ -36,5 +36,6 @@ void *realloc(void *block, size_t size) {
 }
 
 __attribute__((destructor)) static void end(void) {
+  if (!ready) begin();
   if (says) dprintf(2, "allocations=%lu\n", count);
 }
