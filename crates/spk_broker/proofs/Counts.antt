@@ -1,6 +1,9 @@
 -- Grants counted session by session, and entries granted one after the other.
 use Rattle.std.proofs.Common.{◌≡◌, ℕ, zero, suc, ◌+◌, ◌-◌, ◌<◌, ◌≤◌, min, Bool, true, false, ◌||◌, cond, ltb, List, [], ◌∷◌, ◌++◌, length, take, drop, get_or, refl, sym, ap, ◌∙◌, arith, append_assoc, Option, Some, None}
-use Rattle.std.specs.List.{flat_map, fold}
+use Rattle.std.specs.Prelude.{◌==◌, ◌&&◌}
+use Rattle.std.specs.List.{flat_map, fold, list_all}
+use Rattle.spk_packets.specs.Grammar.{is_grant}
+use Rattle.std.proofs.lemmas.Bool.{le-leb}
 use Rattle.std.specs.Option.{IfSome}
 use Rattle.std.proofs.lemmas.List.{length-append, length-drop}
 use Rattle.std.proofs.lemmas.Bool.Decides.{Decides-ltb}
@@ -107,6 +110,24 @@ requests-are o g (e ∷ es) =
     (append_assoc g.codes (cond (is_granted o g.grants e) (min 1 e.1) 128 ∷ []) (codes_of o next es))
     ∙ ap (λ l. record { grants = fold (with_entry o) next es; codes = g.codes ++ codes_of o g.grants (e ∷ es); given = l })
     (append_assoc g.given (cond (is_granted o g.grants e) (granted e ∷ []) []) (granted_of o next es))
+
+pub codes-are : (r : Grown) (o : ℕ) (grants : Table ℕ) (es : List (List ℕ × ℕ)) → r ≡ fold (with_request o) (record { grants = grants; codes = []; given = [] }) es → r.codes ≡ codes_of o grants es
+codes-are r o grants es e = ap (λ (g : Grown). g.codes) (e ∙ requests-are o (record { grants = grants; codes = []; given = [] }) es)
+
+-- one code for each entry
+pub codes-long : (o : ℕ) (grants : Table ℕ) (es : List (List ℕ × ℕ)) → length (codes_of o grants es) ≡ length es
+codes-long o grants [] = refl
+codes-long o grants (e ∷ es) = ap suc (codes-long o (with_entry o grants e) es)
+
+code-grant : (b : Bool) (qos : ℕ) → is_grant (cond b (min 1 qos) 128) ≡ true
+code-grant true qos = ap (λ x. x || min 1 qos == 128) (le-leb (min 1 qos) 2 (omega arith))
+code-grant false qos = refl
+
+-- each is a QoS or 128
+pub codes-grant : (o : ℕ) (grants : Table ℕ) (es : List (List ℕ × ℕ)) → list_all is_grant (codes_of o grants es) ≡ true
+codes-grant o grants [] = refl
+codes-grant o grants (e ∷ es) =
+    ap (λ x. x && list_all is_grant (codes_of o (with_entry o grants e) es)) (code-grant (is_granted o grants e) e.1) ∙ codes-grant o (with_entry o grants e) es
 
 -- ---- counts cut off at the most
 

@@ -15,6 +15,8 @@ use Rattle.spk_broker.specs.Changes.{changed_at, forgot}
 use Rattle.spk_broker.specs.Drafts.{Drafted, draft_view}
 use Rattle.spk_broker.specs.Entering.{taken, taken_up, with_sends}
 use Rattle.spk_broker.specs.Granting.{without_grants}
+use Rattle.spk_broker.specs.Parts.{retained_view}
+use Rattle.spk_broker.specs.Sendable.{are_sendable}
 use Rattle.spk_broker.specs.Sent.{outgoing}
 use Rattle.spk_broker.specs.View.{Stands, desk_now, with_keeps}
 use Rattle.spk_broker.specs.declared.desk.Desk.{Desk}
@@ -36,10 +38,10 @@ forget-is client t = by (find (is_away client) t.broker.seats)
     by None = refl
     by (Some s) = refl
 
-pub forgets : (d : Desk) (draft : Draft) (t : Turn) (client : List ℕ) (seats : Vec Seat Global) → Stands d draft t
+pub forgets : (d : Desk) (draft : Draft) (t : Turn) (client : List ℕ) (seats : Vec Seat Global) (good : are_sendable (map retained_view d.retained.entries) ≡ true) → Stands d draft t
     → seats_now seats.items ≡ forgot (find (is_away client) (seats_now d.seats.items)) (seats_now d.seats.items)
-    → Stands (record d { seats = seats }) draft (act (Forget client) t)
-forgets d draft t client seats s e =
+    → Stands (record d { seats = seats; sendable = good }) draft (act (Forget client) t)
+forgets d draft t client seats good s e =
     let same : seats_now d.seats.items ≡ t.broker.seats = ap (λ (b : plain.Broker). b.seats) s.broker in
     let now : seats_now seats.items ≡ forgot (find (is_away client) t.broker.seats) t.broker.seats =
     e ∙ ap (λ ss. forgot (find (is_away client) ss) ss) same in
@@ -86,10 +88,10 @@ take-is conn names t = by (seat_at conn t.broker.seats)
     by None = refl
     by (Some s) = refl
 
-pub takes : (d : Desk) (draft : Draft) (t : Turn) (conn : ℕ) (names : List (List ℕ)) (seats : Vec Seat Global) → Stands d draft t
+pub takes : (d : Desk) (draft : Draft) (t : Turn) (conn : ℕ) (names : List (List ℕ)) (seats : Vec Seat Global) (good : are_sendable (map retained_view d.retained.entries) ≡ true) → Stands d draft t
     → seats_now seats.items ≡ changed_at (seat_at conn (seats_now d.seats.items)) (without_grants names) (seats_now d.seats.items)
-    → Stands (record d { seats = seats }) draft (act (Take conn names) t)
-takes d draft t conn names seats s e =
+    → Stands (record d { seats = seats; sendable = good }) draft (act (Take conn names) t)
+takes d draft t conn names seats good s e =
     let same : seats_now d.seats.items ≡ t.broker.seats = ap (λ (b : plain.Broker). b.seats) s.broker in
     let now : seats_now seats.items ≡ changed_at (seat_at conn t.broker.seats) (without_grants names) t.broker.seats =
     e ∙ ap (λ ss. changed_at (seat_at conn ss) (without_grants names) ss) same in

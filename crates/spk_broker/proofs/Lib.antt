@@ -7,9 +7,11 @@ pub mod Desks
 pub mod Entered
 pub mod Filtering
 pub mod Finishing
+pub mod Fits
 pub mod Flats
 pub mod Gives
 pub mod Indexing
+pub mod Keepers
 pub mod Keeping
 pub mod Offers
 pub mod Opening
@@ -22,6 +24,7 @@ pub mod Retained
 pub mod Rounds
 pub mod Routes
 pub mod Ruled
+pub mod Sendables
 pub mod Sending
 pub mod Standing
 pub mod Walks

@@ -11,7 +11,8 @@ use Rattle.std.proofs.lemmas.Slice.Eq.{bytes_eq-Decides}
 use Rattle.indexmap.specs.IndexMap.{insert_entry}
 use Rattle.spk_broker_rules.specs.Data as plain
 use Rattle.spk_broker_rules.specs.Table.{Table, has, put, remove, replaced}
-use Rattle.spk_broker.specs.View.{may_retain, retained_view, stored_view}
+use Rattle.spk_broker.specs.Parts.{retained_view, stored_view}
+use Rattle.spk_broker.specs.View.{may_retain}
 use Rattle.spk_broker.specs.declared.desk.Stored.{Stored}
 
 pub from-ok : {T E : Type 0} (r : Result T E) (P : Type 0) → IsOk r → OnOk r P → P

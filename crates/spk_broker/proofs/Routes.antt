@@ -14,7 +14,8 @@ use Rattle.spk_broker.specs.declared.out.Draft.{Draft}
 use Rattle.spk_broker.specs.Drafts.{Drafted, draft_view}
 use Rattle.spk_broker.specs.Rounds.{kept_with, left_of_round, with_round}
 use Rattle.spk_broker.specs.Sent.{outgoing}
-use Rattle.spk_broker.specs.View.{Stands, desk_now, retained_view, seat_now, with_keeps}
+use Rattle.spk_broker.specs.Parts.{retained_view}
+use Rattle.spk_broker.specs.View.{Stands, desk_now, seat_now, with_keeps}
 
 -- ---- what is to be retained
 

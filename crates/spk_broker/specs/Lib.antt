@@ -15,6 +15,7 @@ pub mod Parts
 pub mod Plain
 pub mod Rounds
 pub mod Seats
+pub mod Sendable
 pub mod Sent
 pub mod Settling
 pub mod Sitting

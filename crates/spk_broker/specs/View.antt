@@ -1,5 +1,5 @@
 -- What contracts see of the broker: its data before the call, and by now.
-use Rattle.std.specs.Prelude.{◌≡◌, ◌+◌, ◌≤◌, ℕ, Bool, true, ◌||◌, nat_lt, List, [], ◌∷◌, map, length, string_bytes, String, if◌then◌else◌}
+use Rattle.std.specs.Prelude.{◌≡◌, ◌+◌, ◌≤◌, ℕ, Bool, true, ◌||◌, nat_lt, List, [], ◌∷◌, map, length, if◌then◌else◌}
 use Rattle.std.specs.List.{flat_map, fold}
 use Rattle.indexmap.specs.IndexMap.{spare}
 use Rattle.spk_broker_rules.specs.Data as plain
@@ -11,10 +11,10 @@ use Rattle.spk_broker_rules.specs.Words.{most_topics, option_list}
 use Rattle.spk_broker.specs.Both.{Both}
 use Rattle.spk_broker.specs.Drafts.{draft_view}
 use Rattle.spk_broker.specs.Filing.{IsIndex}
+use Rattle.spk_broker.specs.Parts.{retained_view}
 use Rattle.spk_broker.specs.Sent.{outgoing}
 use Rattle.spk_broker.specs.declared.broker.Broker.TheInside.{Inside}
 use Rattle.spk_broker.specs.declared.desk.Desk.{Desk}
-use Rattle.spk_broker.specs.declared.desk.Stored.{Stored}
 use Rattle.spk_broker.specs.declared.guest.Guest.{Guest}
 use Rattle.spk_broker.specs.declared.out.Draft.{Draft}
 
@@ -29,12 +29,6 @@ seat_was b = b.was
 
 abbrev pub seat_now : Both → List plain.Seat
 seat_now b = option_list b.now
-
-abbrev pub stored_view : Stored → plain.Stored
-stored_view s = record { payload = s.payload.items; qos = s.qos }
-
-abbrev pub retained_view : {A : Type 0} → String A × Stored → List ℕ × plain.Stored
-retained_view e = (string_bytes e.0, stored_view e.1)
 
 -- there is a message on this topic, or there are fewer topics than there may be
 abbrev pub may_retain : List ℕ → Table plain.Stored → Bool

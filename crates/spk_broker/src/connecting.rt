@@ -1,5 +1,5 @@
 //! A CONNECT (sections 3.1 and 3.1.4): judged, and then the client's older connection is taken over.
-ghost use Rattle.std.specs.Prelude.{ℕ, ◌≡◌, ◌∷◌, ◌++◌, [], IfOk, IfSome, OnOk, not, if◌then◌else◌};
+ghost use Rattle.std.specs.Prelude.{ℕ, ◌≡◌, ◌∷◌, ◌++◌, [], IfOk, IfSome, OnOk, true, not, if◌then◌else◌};
 ghost use Rattle.std.specs.List.{find};
 ghost use Rattle.std.specs.Option.{option_map};
 ghost use Rattle.spk_packets.specs.View.{will_view};
@@ -12,6 +12,7 @@ ghost use Rattle.spk_broker.specs.Connecting.{Comes, judged};
 ghost use Rattle.spk_broker.specs.Drafts.{draft_view};
 ghost use Rattle.spk_broker.specs.Entering.{HasRoom, IsWhole};
 ghost use Rattle.spk_broker.specs.Parts.{line_now, line_was, post_view};
+ghost use Rattle.spk_broker.specs.Sendable.{is_sendable};
 ghost use Rattle.spk_broker.specs.View.{Stands, desk_was};
 ghost use Rattle.spk_broker.specs.declared.out.Draft.{Draft};
 
@@ -63,15 +64,11 @@ fn judge(seats: &[Seat], client: &str, clean: bool, will: &Option<Will>) -> Judg
 
 /// The message of a will.
 fn post_of(will: &Option<Will>) -> Result<Option<Post>, AllocError>
+    requires { IfSome (option_map will_view will.now) (λ w. is_sendable w.topic w.message w.qos ≡ true) }
     ensures { IfOk result (λ p. option_map post_view p ≡ option_map will_post (option_map will_view will.now)) }
 {
     match will {
-        Some(will) => Ok(Some(Post {
-            topic: will.topic.clone()?,
-            payload: will.message.clone()?,
-            qos: will.qos,
-            retain: will.retain,
-        })),
+        Some(will) => Ok(Some(Post::of(&will.topic, &will.message, will.qos, will.retain)?)),
         None => Ok(None),
     }
 }
@@ -181,6 +178,7 @@ impl Desk {
         alive: u16,
         will: &Option<Will>,
     ) -> Result<Option<Entry>, AllocError>
+        requires will { IfSome (option_map will_view will.now) (λ w. is_sendable w.topic w.message w.qos ≡ true) }
         requires lawful { IsLawful (desk_was self.old) }
         ensures done { IfOk result (λ e. (seen : Seen) (t : Turn) → seen.older ≡ older_in client.now t.broker.seats
             → seen.welcome ≡ welcome_in client.now t.broker.seats → Stands self.old draft.old t

@@ -1,6 +1,7 @@
 //! How many grants there are, and which entries of a SUBSCRIBE are granted (section 3.8.4).
-ghost use Rattle.std.specs.Prelude.{◌≡◌, ◌+◌, ◌<◌, ◌≤◌, ◌^◌, IfOk, IfSome, get_or, length, map, min};
-ghost use Rattle.std.specs.List.{fold};
+ghost use Rattle.std.specs.Prelude.{◌≡◌, ◌+◌, ◌<◌, ◌≤◌, ◌^◌, IfOk, IfSome, get_or, length, map, min, true};
+ghost use Rattle.std.specs.List.{fold, list_all};
+ghost use Rattle.spk_packets.specs.Grammar.{is_grant};
 ghost use Rattle.spk_packets.specs.View.{request_view};
 ghost use Rattle.spk_broker_rules.specs.Step.{all_grants, other_grants};
 ghost use Rattle.spk_broker_rules.specs.Words.{codes_of, granted_of, with_entry};
@@ -62,7 +63,9 @@ pub(crate) fn granted(
     entries: &[Request],
 ) -> Result<Granting, AllocError>
     requires { place < length seats.now }
-    ensures { IfOk result (λ g. (d : Both) → IfSome (get_or seats.now place d).now (λ s. granting_view g ≡ record {
+    ensures codes { IfOk result (λ g. length g.codes.items ≡ length entries.now) }
+    ensures granted { IfOk result (λ g. list_all is_grant g.codes.items ≡ true) }
+    ensures view { IfOk result (λ g. (d : Both) → IfSome (get_or seats.now place d).now (λ s. granting_view g ≡ record {
       grants = fold (with_entry (other_grants s (seats_now seats.now))) s.grants (map request_view entries.now);
       codes = codes_of (other_grants s (seats_now seats.now)) s.grants (map request_view entries.now);
       given = granted_of (other_grants s (seats_now seats.now)) s.grants (map request_view entries.now);

@@ -1,4 +1,7 @@
 //! What a broker keeps, in the midst of a call.
+ghost use Rattle.std.specs.Prelude.{◌≡◌, map, true};
+ghost use Rattle.spk_broker.specs.Parts.{retained_view};
+ghost use Rattle.spk_broker.specs.Sendable.{are_sendable};
 
 use crate::guest::Guest;
 use crate::seat::Seat;
@@ -26,4 +29,6 @@ pub(crate) struct Desk {
     pub(crate) seats: Vec<Seat>,
     /// Changed where a call is settled alone.
     pub(crate) retained: IndexMap<String, Stored>,
+    /// Each retained message can be written as a PUBLISH.
+    ghost sendable: { are_sendable (map retained_view retained.entries) ≡ true },
 }

@@ -1,5 +1,5 @@
 //! What each event drafts, but for packets.
-ghost use Rattle.std.specs.Prelude.{◌≡◌, ◌∷◌, [], OnOk, true, false, ◌&&◌, not, is_some};
+ghost use Rattle.std.specs.Prelude.{◌≡◌, ◌≤◌, ◌∷◌, [], OnOk, true, false, ◌&&◌, not, is_some};
 ghost use Rattle.std.specs.List.{flat_map};
 ghost use Rattle.spk_packets.specs.Message.{ConnAck};
 ghost use Rattle.spk_broker_rules.specs.Plan.{Closed, Fault, Leave, Refused, Route, Say, Tell, Tick, is_bad_level, shut, turn_away};
@@ -33,6 +33,7 @@ impl Desk {
         conn: Conn,
         code: u8,
     ) -> Result<(), AllocError>
+        requires { code ≤ 5 }
         ensures done { OnOk result ((t : Turn) → Stands self.old draft.old t
             → Stands self.new draft.new (acts (turn_away conn code) t)) }
         ensures same { desk_was self.new ≡ desk_was self.old }

@@ -8,6 +8,7 @@ ghost use Rattle.spk_broker_rules.specs.Step.{Turn, acts, older_in, seat_at, wel
 ghost use Rattle.spk_broker.specs.Drafts.{draft_view};
 ghost use Rattle.spk_broker.specs.Endings.{IsReady, Leads};
 ghost use Rattle.spk_broker.specs.Filing.{IsIndex};
+ghost use Rattle.spk_broker.specs.Sendable.{IsWritable};
 ghost use Rattle.spk_broker.specs.View.{Stands, desk_now, desk_was, stepped};
 
 use crate::asking::is_joined;
@@ -26,6 +27,7 @@ impl Desk {
         conn: Conn,
         packet: &Packet,
     ) -> Result<Ending, AllocError>
+        requires writable { IsWritable (view packet.now) }
         requires lawful { IsLawful (desk_was self.old) }
         ensures done { IfOk result (λ e. (seen : Seen) (t : Turn)
             → seen.older ≡ older_in (client_in (view packet.now)) t.broker.seats
@@ -58,6 +60,7 @@ impl Desk {
         conn: Conn,
         packet: &Packet,
     ) -> Result<Ending, AllocError>
+        requires writable { IsWritable (view packet.now) }
         requires index { IsIndex tree.now (desk_now self.old).seats }
         requires keeps { (draft_view draft.old).keeps ≡ [] }
         ensures done { IfOk result (λ e. (t : Turn) → Stands self.old draft.old t

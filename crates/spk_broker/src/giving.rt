@@ -1,6 +1,7 @@
 //! SUBSCRIBE (sections 3.8 and 3.9).
 ghost use Rattle.std.specs.Prelude.{ℕ, ◌≡◌, ◌∷◌, [], List, OnOk, Some, is_some, map};
 ghost use Rattle.std.specs.List.{list_any, position};
+ghost use Rattle.spk_packets.specs.Message.{SubAck, Subscribe};
 ghost use Rattle.spk_packets.specs.View.{request_view};
 ghost use Rattle.spk_topics.specs.Text.{filter_refusal};
 ghost use Rattle.spk_broker_rules.specs.Data as plain;
@@ -9,6 +10,7 @@ ghost use Rattle.spk_broker_rules.specs.Step.{Turn, act, acts, other_grants, sea
 ghost use Rattle.spk_broker.specs.Asking.{passes};
 ghost use Rattle.spk_broker.specs.Drafts.{draft_view};
 ghost use Rattle.spk_broker.specs.Granting.{granting_view, grown_by};
+ghost use Rattle.spk_broker.specs.Sendable.{IsWritable};
 ghost use Rattle.spk_broker.specs.View.{Stands, desk_was};
 
 use crate::asking::place_of;
@@ -45,6 +47,7 @@ impl Desk {
         id: u16,
         granting: Granting,
     ) -> Result<(), AllocError>
+        requires writable { IsWritable (SubAck id granting.codes.items) }
         requires place { position (passes (sits conn)) self.old.seats.items ≡ Some place }
         requires keeps { (draft_view draft.old).keeps ≡ [] }
         ensures done { OnOk result ((t : Turn) (seat : plain.Seat) (entries : List (List ℕ × ℕ)) → Stands self.old draft.old t
@@ -72,7 +75,8 @@ impl Desk {
         id: u16,
         entries: &[Request],
     ) -> Result<(), AllocError>
-        requires { (draft_view draft.old).keeps ≡ [] }
+        requires writable { IsWritable (Subscribe id (map request_view entries.now)) }
+        requires keeps { (draft_view draft.old).keeps ≡ [] }
         ensures done { OnOk result ((t : Turn) → Stands self.old draft.old t
             → Stands self.new draft.new (act (Give conn id (map request_view entries.now)) t)) }
         ensures same { desk_was self.new ≡ desk_was self.old }
@@ -95,7 +99,8 @@ impl Desk {
         id: u16,
         entries: &[Request],
     ) -> Result<(), AllocError>
-        requires { (draft_view draft.old).keeps ≡ [] }
+        requires writable { IsWritable (Subscribe id (map request_view entries.now)) }
+        requires keeps { (draft_view draft.old).keeps ≡ [] }
         ensures done { OnOk result ((t : Turn) → Stands self.old draft.old t
             → Stands self.new draft.new (acts (subscribe conn id (map request_view entries.now)) t)) }
         ensures same { desk_was self.new ≡ desk_was self.old }

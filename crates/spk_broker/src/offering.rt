@@ -19,9 +19,9 @@ impl Seat {
         ensures drafted { OnOk result (draft_view draft.new ≡
             served_by (hand (post_view post.now)) self.old.now (draft_view draft.old)) }
     {
-        match post.qos {
-            0 => self.hand_plain(draft, post, post.retain),
-            qos => self.hand_numbered(draft, post, qos, post.retain),
+        if post.qos == 0 {
+            return self.hand_plain(draft, post, post.retain);
         }
+        self.hand_numbered(draft, post, post.qos, post.retain)
     }
 }

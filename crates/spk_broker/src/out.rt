@@ -5,10 +5,11 @@ ghost use Rattle.spk_packets.specs.Spelling.{spelling};
 ghost use Rattle.spk_broker.specs.Sent.{outgoing, sort_at, sort_of};
 ghost use Rattle.spk_broker.specs.Drafts.{draft_view, empty_draft};
 ghost use Rattle.spk_broker.specs.Parts.{post_view};
+ghost use Rattle.spk_broker.specs.Sendable.{IsWritable};
 
 use crate::post::Post;
 use spk_bytes::Bytes;
-use spk_packets::{Packet, PublishRef, encode};
+use spk_packets::{Packet, PacketFault, PublishRef, encode};
 use spk_session::Sort;
 use std::alloc::{AllocError, Global};
 use std::collections::VecDeque;
@@ -60,26 +61,30 @@ fn sort_of(packet: &Packet) -> Sort
     }
 }
 
-/// The canonical spelling. What can't be written is refused like want of memory.
+/// The canonical spelling of a packet that can be written. Refused only where memory is.
 fn spelled(alloc: Global, packet: &Packet) -> Result<Vec<u8>, AllocError>
+    requires { IsWritable (view packet.now) }
     ensures { IfOk result (λ v. v.items ≡ spelling (view packet.now)) }
 {
     match encode(alloc, packet) {
         Ok(bytes) => Ok(bytes),
-        Err(_) => Err(AllocError),
+        Err(PacketFault::NoMemory) => Err(AllocError),
+        Err(_) => unreachable!(),
     }
 }
 
-/// The canonical spelling of a PUBLISH. What can't be written is refused like want of memory.
+/// The canonical spelling of a PUBLISH that can be written. Refused only where memory is.
 pub(crate) fn spelled_publish(
     alloc: Global,
     publish: &PublishRef<'_>,
 ) -> Result<Vec<u8>, AllocError>
+    requires { IsWritable (publish_view publish.now) }
     ensures { IfOk result (λ v. v.items ≡ spelling (publish_view publish.now)) }
 {
     match publish.encode(alloc) {
         Ok(bytes) => Ok(bytes),
-        Err(_) => Err(AllocError),
+        Err(PacketFault::NoMemory) => Err(AllocError),
+        Err(_) => unreachable!(),
     }
 }
 
@@ -99,6 +104,7 @@ impl Draft {
 
     /// One more packet for a connection.
     pub(crate) fn say(&mut self, conn: Conn, packet: &Packet) -> Result<(), AllocError>
+        requires { IsWritable (view packet.now) }
         ensures { OnOk result (draft_view self.new ≡ record (draft_view self.old) {
           sends = (draft_view self.old).sends
               ++ outgoing (record { conn = conn; packet = view packet.now }) ∷ [];
@@ -141,6 +147,7 @@ impl Draft {
 
     /// One more PUBLISH for a connection.
     pub(crate) fn publish(&mut self, conn: Conn, publish: &PublishRef<'_>) -> Result<(), AllocError>
+        requires { IsWritable (publish_view publish.now) }
         ensures { OnOk result (draft_view self.new ≡ record (draft_view self.old) {
           sends = (draft_view self.old).sends
               ++ outgoing (record { conn = conn; packet = publish_view publish.now }) ∷ [];

@@ -1,5 +1,5 @@
 //! Packets of a connection whose CONNECT was accepted.
-ghost use Rattle.std.specs.Prelude.{◌≡◌, IfErr, IfOk, OnErr, OnOk, Some, None, true, false, is_some, []};
+ghost use Rattle.std.specs.Prelude.{◌≡◌, ◌==◌, IfSome, OnOk, true, false, is_some, []};
 ghost use Rattle.spk_packets.specs.View.{view};
 ghost use Rattle.spk_topics.specs.Text.{topic_refusal};
 ghost use Rattle.spk_broker_rules.specs.Plan.{next_packet, publish, puback};
@@ -8,6 +8,7 @@ ghost use Rattle.spk_broker.specs.Drafts.{draft_view};
 ghost use Rattle.spk_broker.specs.Filing.{IsIndex};
 ghost use Rattle.spk_broker.specs.Parts.{post_view};
 ghost use Rattle.spk_broker.specs.Plain.{is_plain};
+ghost use Rattle.spk_broker.specs.Sendable.{IsWritable};
 ghost use Rattle.spk_broker.specs.View.{Stands, desk_now, desk_was};
 
 use crate::desk::Desk;
@@ -30,6 +31,7 @@ pub(crate) fn is_no_topic(text: &str) -> bool
 impl Desk {
     /// PUBACK, where the publish has an identifier (section 3.4).
     fn puback(&self, draft: &mut Draft, conn: Conn, id: Option<u16>) -> Result<(), AllocError>
+        requires { IfSome id (λ n. (n == 0) ≡ false) }
         ensures { OnOk result ((t : Turn) → Stands self.now draft.old t
             → Stands self.now draft.new (acts (puback conn id) t)) }
     {
@@ -49,7 +51,8 @@ impl Desk {
         id: Option<u16>,
         post: Post,
     ) -> Result<(), AllocError>
-        requires { IsIndex tree.now (desk_now self.old).seats }
+        requires index { IsIndex tree.now (desk_now self.old).seats }
+        requires id { IfSome id (λ n. (n == 0) ≡ false) }
         ensures done { OnOk result ((t : Turn) → Stands self.old draft.old t
             → Stands self.new draft.new (acts (publish conn id (post_view post)) t)) }
         ensures same { desk_was self.new ≡ desk_was self.old }
@@ -73,6 +76,7 @@ impl Desk {
         packet: &Packet,
     ) -> Result<(), AllocError>
         requires index { IsIndex tree.now (desk_now self.old).seats }
+        requires writable { IsWritable (view packet.now) }
         requires plain { is_plain (view packet.now) ≡ true }
         requires empty { (draft_view draft.old).keeps ≡ [] }
         ensures done { OnOk result ((t : Turn) → Stands self.old draft.old t
@@ -88,12 +92,7 @@ impl Desk {
                 payload,
                 ..
             } => {
-                let post = Post {
-                    topic: topic.clone()?,
-                    payload: payload.clone()?,
-                    qos: *qos,
-                    retain: *retain,
-                };
+                let post = Post::of(topic, payload, *qos, *retain)?;
                 self.publish(draft, tree, conn, *id, post)
             }
             Packet::Subscribe { id, filters } => {

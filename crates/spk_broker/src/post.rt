@@ -1,8 +1,6 @@
 //! Application messages.
-ghost use Rattle.std.specs.Prelude.{◌≡◌, IfOk, IfSome, OnOk, Some, false, true};
-ghost use Rattle.spk_packets.specs.Message.{Publish};
-ghost use Rattle.spk_packets.specs.View.{publish_view};
-ghost use Rattle.spk_broker.specs.Parts.{post_view};
+ghost use Rattle.std.specs.Prelude.{◌≡◌, ◌≤◌, IfOk, string_bytes, true};
+ghost use Rattle.spk_broker.specs.Sendable.{is_sendable};
 
 use spk_packets::PublishRef;
 use std::alloc::{AllocError, Global};
@@ -15,19 +13,40 @@ pub(crate) struct Post {
     /// 0 or 1.
     pub(crate) qos: u8,
     pub(crate) retain: bool,
+    /// It can be written as a PUBLISH.
+    ghost sendable: { is_sendable (string_bytes topic) payload.items qos ≡ true },
 }
 
 impl Post {
-    /// The same message, with this QoS and RETAIN.
-    pub(crate) fn copied(&self, qos: u8, retain: bool) -> Result<Post, AllocError>
-        ensures { IfOk result (λ p. post_view p ≡ record (post_view self.now) { qos = qos; retain = retain }) }
+    ghost use Rattle.spk_packets.specs.Message.{Publish};
+    ghost use Rattle.spk_packets.specs.View.{publish_view};
+    ghost use Rattle.spk_broker.specs.Parts.{post_view};
+
+    /// A message with copies of this topic and payload.
+    pub(crate) fn of(
+        topic: &String,
+        payload: &Vec<u8>,
+        qos: u8,
+        retain: bool,
+    ) -> Result<Post, AllocError>
+        requires { is_sendable (string_bytes topic.now) payload.now.items qos ≡ true }
+        ensures { IfOk result (λ p. post_view p ≡
+            record { topic = string_bytes topic.now; payload = payload.now.items; qos = qos; retain = retain }) }
     {
         Ok(Post {
-            topic: self.topic.clone()?,
-            payload: self.payload.clone()?,
+            topic: topic.clone()?,
+            payload: payload.clone()?,
             qos,
             retain,
         })
+    }
+
+    /// The same message, with this QoS, which is no greater, and RETAIN.
+    pub(crate) fn copied(&self, qos: u8, retain: bool) -> Result<Post, AllocError>
+        requires { qos ≤ self.now.qos }
+        ensures { IfOk result (λ p. post_view p ≡ record (post_view self.now) { qos = qos; retain = retain }) }
+    {
+        Post::of(&self.topic, &self.payload, qos, retain)
     }
 
     /// The message as a PUBLISH.

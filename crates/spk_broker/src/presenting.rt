@@ -1,5 +1,5 @@
 //! Retained messages for new grants (sections 3.3.1.3 and 3.8.4).
-ghost use Rattle.std.specs.Prelude.{ℕ, ◌≡◌, ◌<◌, ◌∷◌, [], IfOk, OnOk, length, map, string_bytes, slice_index_or, slice_set, vec_len};
+ghost use Rattle.std.specs.Prelude.{ℕ, ◌≡◌, ◌<◌, ◌∷◌, [], IfOk, OnOk, length, map, string_bytes, true, slice_index_or, slice_set, vec_len};
 ghost use Rattle.std.specs.List.{flat_map, fold};
 ghost use Rattle.std.specs.Option.{option_map};
 ghost use Rattle.std.specs.List.{slice_get};
@@ -7,8 +7,9 @@ ghost use Rattle.spk_broker_rules.specs.Step.{Turn, hand, offer};
 ghost use Rattle.spk_broker_rules.specs.Words.{offers_to, option_list};
 ghost use Rattle.spk_broker.specs.Drafts.{draft_view, left_by, served_by};
 ghost use Rattle.spk_broker.specs.Offering.{Offering, offers_at, retained_at};
-ghost use Rattle.spk_broker.specs.Parts.{grant_view, post_view};
-ghost use Rattle.spk_broker.specs.View.{desk_was, retained_view, stored_view};
+ghost use Rattle.spk_broker.specs.Parts.{grant_view, post_view, retained_view, stored_view};
+ghost use Rattle.spk_broker.specs.Sendable.{are_sendable, is_sendable};
+ghost use Rattle.spk_broker.specs.View.{desk_was};
 
 use crate::desk::{Desk, Stored};
 use crate::out::Draft;
@@ -20,18 +21,15 @@ use std::alloc::AllocError;
 
 /// A retained message as it is offered at a QoS.
 fn post_at(topic: &String, stored: &Stored, qos: u8) -> Result<Post, AllocError>
+    requires { is_sendable (string_bytes topic.now) stored.now.payload.items qos ≡ true }
     ensures { IfOk result (λ p. post_view p ≡ retained_at qos (string_bytes topic.now) (stored_view stored.now)) }
 {
-    Ok(Post {
-        topic: topic.clone()?,
-        payload: stored.payload.clone()?,
-        qos,
-        retain: true,
-    })
+    Post::of(topic, &stored.payload, qos, true)
 }
 
 /// A retained message for a grant, where its topic matches: with RETAIN, and the lesser QoS.
 fn offered_one(topic: &String, stored: &Stored, grant: &Grant) -> Result<Option<Post>, AllocError>
+    requires { is_sendable (string_bytes topic.now) stored.now.payload.items stored.now.qos ≡ true }
     ensures { IfOk result (λ p. option_list (option_map post_view p) ≡
         offers_to ((string_bytes topic.now, stored_view stored.now) ∷ []) (grant_view grant.now)) }
 {
@@ -47,6 +45,7 @@ fn offered(
     place: usize,
     grant: &Grant,
 ) -> Result<Option<Post>, AllocError>
+    requires { are_sendable (map retained_view retained.now.entries) ≡ true }
     ensures { IfOk result (λ p. option_list (option_map post_view p) ≡
         offers_at (slice_get (map retained_view retained.now.entries) place) (grant_view grant.now)) }
 {

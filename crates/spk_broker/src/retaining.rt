@@ -1,12 +1,13 @@
 //! Retained messages (section 3.3.1.3).
-ghost use Rattle.std.specs.Prelude.{◌≡◌, ◌+◌, ◌<◌, ◌≤◌, map, string_bytes};
+ghost use Rattle.std.specs.Prelude.{◌≡◌, ◌+◌, ◌<◌, ◌≤◌, map, string_bytes, true};
 ghost use Rattle.std.specs.List.{fold};
 ghost use Rattle.std.specs.VecDeque.{deque_len};
 ghost use Rattle.indexmap.specs.IndexMap.{spare};
 ghost use Rattle.spk_broker_rules.specs.Step.{retained_with};
 ghost use Rattle.spk_broker_rules.specs.Table.{put, remove};
-ghost use Rattle.spk_broker.specs.Parts.{post_view};
-ghost use Rattle.spk_broker.specs.View.{may_retain, retained_view, stored_view};
+ghost use Rattle.spk_broker.specs.Parts.{post_view, retained_view, stored_view};
+ghost use Rattle.spk_broker.specs.Sendable.{are_sendable};
+ghost use Rattle.spk_broker.specs.View.{may_retain};
 
 use crate::desk::Stored;
 use crate::post::Post;
@@ -69,7 +70,9 @@ pub(crate) fn retain(retained: &mut IndexMap<String, Stored>, post: Post)
 /// What is retained after these messages, one after the other.
 pub(crate) fn retain_all(retained: &mut IndexMap<String, Stored>, keeps: VecDeque<Post>)
     requires { deque_len keeps ≤ spare retained.old }
-    ensures { map retained_view retained.new.entries ≡
+    ensures sendable { are_sendable (map retained_view retained.old.entries) ≡ true →
+        are_sendable (map retained_view retained.new.entries) ≡ true }
+    ensures table { map retained_view retained.new.entries ≡
         fold retained_with (map retained_view retained.old.entries) (map post_view keeps.items) }
 {
     let mut left = keeps;

@@ -1,6 +1,7 @@
 //! Sessions (section 3.1.2.4) and their connections.
 
-ghost use Rattle.std.specs.Prelude.{◌≡◌, is_some};
+ghost use Rattle.std.specs.Prelude.{◌≡◌, is_some, true};
+ghost use Rattle.spk_broker.specs.Sendable.{is_numbered};
 
 use crate::post::Post;
 use spk_session::Identifiers;
@@ -38,6 +39,8 @@ pub(crate) struct Copy {
     pub(crate) post: Post,
     /// Whether it was ever handed out.
     pub(crate) handed: bool,
+    /// It is of QoS 1, and its identifier isn't 0.
+    ghost numbered: { is_numbered post.qos id ≡ true },
 }
 
 /// A session and all that hangs on it. In the midst of a call it is seen as before the call and as by now: what a

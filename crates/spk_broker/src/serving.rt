@@ -1,9 +1,9 @@
 //! What one message does to one session.
-ghost use Rattle.std.specs.Prelude.{◌≡◌, OnOk, IfSome, Some, None, false};
+ghost use Rattle.std.specs.Prelude.{◌≡◌, ◌≤◌, OnOk, IfOk, IfSome, Some, None, false};
 ghost use Rattle.spk_broker_rules.specs.Step.{bursts, hand, hand_at, serve};
 ghost use Rattle.spk_broker_rules.specs.Words.{best as rules_best, option_list, sent_as};
 ghost use Rattle.spk_broker.specs.Drafts.{draft_view, hand_some, left_by, served_by};
-ghost use Rattle.spk_broker.specs.Parts.{post_view};
+ghost use Rattle.spk_broker.specs.Parts.{copy_view, post_view};
 
 use crate::grants::{best, level};
 use crate::letter::Letter;
@@ -12,6 +12,20 @@ use crate::post::Post;
 use crate::seat::{Copy, Seat};
 use spk_session::Sort;
 use std::alloc::AllocError;
+
+/// What a kept session keeps of a message of QoS 1.
+fn copied(post: &Post, id: u16, qos: u8, retain: bool, handed: bool) -> Result<Copy, AllocError>
+    requires id { 1 ≤ id }
+    requires one { qos ≡ 1 }
+    requires full { post.now.qos ≡ 1 }
+    ensures { IfOk result (λ c. copy_view c ≡ record { id = id; post = sent_as (post_view post.now) qos retain; handed = handed }) }
+{
+    Ok(Copy {
+        id,
+        post: post.copied(qos, retain)?,
+        handed,
+    })
+}
 
 impl Seat {
     /// The session ends, and its connection with it; its will waits (own rule).
@@ -84,6 +98,8 @@ impl Seat {
         qos: u8,
         retain: bool,
     ) -> Result<(), AllocError>
+        requires one { qos ≡ 1 }
+        requires full { post.now.qos ≡ 1 }
         ensures was { self.new.was ≡ self.old.was }
         ensures left { OnOk result (option_list self.new.now ≡
             left_by (hand_some (sent_as (post_view post.now) qos retain)) self.old.now) }
@@ -97,11 +113,8 @@ impl Seat {
             return self.burst(draft);
         };
         if self.kept {
-            self.copies.push(Copy {
-                id,
-                post: post.copied(qos, retain)?,
-                handed: self.here.is_some(),
-            })?;
+            let copy = copied(post, id, qos, retain, self.here.is_some())?;
+            self.copies.push(copy)?;
         }
         if let Some(line) = &self.here {
             draft.publish(line.conn, &post.as_publish(false, 1, retain, Some(id)))?;

@@ -1,7 +1,7 @@
 //! UNSUBSCRIBE and SUBSCRIBE (sections 3.8 to 3.11).
 ghost use Rattle.std.specs.Prelude.{ℕ, ◌≡◌, ◌∷◌, [], OnOk, is_some, map, string_bytes};
 ghost use Rattle.std.specs.List.{list_any};
-ghost use Rattle.spk_packets.specs.View.{request_view};
+ghost use Rattle.spk_packets.specs.Message.{Unsubscribe};
 ghost use Rattle.spk_topics.specs.Text.{filter_refusal};
 ghost use Rattle.spk_broker_rules.specs.Lawful.{Rises};
 ghost use Rattle.spk_broker_rules.specs.Plan.{Take, has_bad_filter, unsubscribe};
@@ -9,6 +9,7 @@ ghost use Rattle.spk_broker_rules.specs.Step.{Turn, act, acts, seat_at};
 ghost use Rattle.spk_broker.specs.Asking.{seats_now};
 ghost use Rattle.spk_broker.specs.Changes.{changed_at};
 ghost use Rattle.spk_broker.specs.Granting.{without_grants};
+ghost use Rattle.spk_broker.specs.Sendable.{IsWritable};
 ghost use Rattle.spk_broker.specs.View.{Stands, desk_was, seat_was};
 ghost use Rattle.spk_broker.specs.declared.out.Draft.{Draft};
 
@@ -82,6 +83,7 @@ impl Desk {
         id: u16,
         names: &[String],
     ) -> Result<(), AllocError>
+        requires { IsWritable (Unsubscribe id (map (λ name. string_bytes name) names.now)) }
         ensures done { OnOk result ((t : Turn) → Stands self.old draft.old t
             → Stands self.new draft.new (acts (unsubscribe conn id (map (λ name. string_bytes name) names.now)) t)) }
         ensures same { desk_was self.new ≡ desk_was self.old }

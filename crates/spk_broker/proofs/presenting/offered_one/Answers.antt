@@ -1,9 +1,9 @@
-use Rattle.std.proofs.Common.{◌∙◌, ap, sym, string_bytes}
+use Rattle.std.proofs.Common.{◌∙◌, ap, arith, sym, string_bytes}
 use Rattle.spk_topics.specs.Fitting.{is_match}
 use Rattle.spk_broker.specs.Offering.{retained_at}
-use Rattle.spk_broker.specs.Parts.{grant_view}
-use Rattle.spk_broker.specs.View.{stored_view}
+use Rattle.spk_broker.specs.Parts.{grant_view, stored_view}
 use Rattle.spk_broker.proofs.Offers.{offers-none, offers-one}
+use Rattle.spk_broker.proofs.Sendables.{lower}
 use Rattle.spk_broker.proofs.presenting.offered_one.Goals as goal
 
 pub returns-then-not-matches_text : goal.returns-then-not-matches_text
@@ -11,6 +11,10 @@ returns-then-not-matches_text c =
     offers-none (grant_view c.args.grant.now) (string_bytes c.args.topic.now, stored_view c.args.stored.now)
     (ap (is_match (string_bytes c.args.grant.now.filter)) (sym c.as_str-2.ensures.value) ∙ ap (λ f. is_match f c.as_str-2.result.now) (sym c.as_str.ensures.value)
     ∙ sym c.matches_text.ensures.test ∙ c.if-not-matches_text.true)
+
+pub post_at-requires : goal.post_at-requires
+post_at-requires c =
+    lower (string_bytes c.args.topic.now) c.args.stored.now.payload.items c.args.stored.now.qos c.min.result c.requires (omega (arith, c.min.ensures))
 
 pub returns : goal.returns
 returns c =

@@ -1,5 +1,5 @@
 use Rattle.std.proofs.Common.{◌∙◌, ap, map, rules}
-use Rattle.spk_broker.specs.View.{retained_view}
+use Rattle.spk_broker.specs.Parts.{retained_view}
 use Rattle.indexmap.proofs.CallerLemmas.{filter-RetainsPairs}
 use Rattle.spk_broker.proofs.Retained.{is_other, taken-out}
 use Rattle.spk_broker.proofs.retaining.clear.Goals as goal

@@ -1,5 +1,5 @@
 use Rattle.std.proofs.Common.{◌∙◌, ap, map}
-use Rattle.spk_broker.specs.View.{retained_view}
+use Rattle.spk_broker.specs.Parts.{retained_view}
 use Rattle.spk_broker.proofs.Retained.{from-ok, put-in}
 use Rattle.spk_broker.proofs.retaining.replace.Goals as goal
 

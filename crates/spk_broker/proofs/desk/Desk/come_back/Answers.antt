@@ -1,4 +1,4 @@
-use Rattle.std.proofs.Common.{◌≡◌, ◌∙◌, ap, sym, subst}
+use Rattle.std.proofs.Common.{◌≡◌, ◌∙◌, ap, arith, sym, subst, true}
 use Rattle.std.proofs.lemmas.List.Quantifiers.{position-Some}
 use Rattle.std.specs.List.{find}
 use Rattle.std.specs.Option.{IfSome}
@@ -14,7 +14,11 @@ use Rattle.spk_broker.specs.View.{desk_now}
 use Rattle.spk_broker.proofs.Alive.{found-alive}
 use Rattle.spk_broker.proofs.Changes.{is-there}
 use Rattle.spk_broker.proofs.Desks.{come-entry, come-sends}
+use Rattle.spk_broker.proofs.Sendables.{connack-writable}
 use Rattle.spk_broker.proofs.desk.Desk.come_back.Goals as goal
+
+pub say-requires : goal.say-requires
+say-requires c = connack-writable true 0 (omega arith)
 
 pub returns-clause-entry : goal.returns-clause-entry
 returns-clause-entry c =

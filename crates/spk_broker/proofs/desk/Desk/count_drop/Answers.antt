@@ -12,7 +12,7 @@ use Rattle.spk_broker.proofs.desk.Desk.count_drop.Goals as goal
 pub returns-clause-done : goal.returns-clause-done
 returns-clause-done c =
     let d = c.args.self.now in
-    let end : Desk = record d { guests = with_items d.guests c.count_drop.new.guests; seats = with_items d.seats c.count_drop-2.new.seats } in
+    let end : Desk = record d { guests = with_items d.guests c.count_drop.new.guests; seats = with_items d.seats c.count_drop-2.new.seats; sendable = c.self-3-1.given.0 } in
     let back = refilled (vec_len d.guests) c.count_drop.new.guests d.guests.items (omega arith) (omega arith) in
     let rest = refilled (vec_len d.seats) c.count_drop-2.new.seats d.seats.items (omega arith) (omega arith) in
     drop-stands d end c.args.conn refl

@@ -1,5 +1,5 @@
-use Rattle.std.proofs.Common.{◌≡◌, ℕ, Bool, Global, Option, String, refl, sym, subst}
-use Rattle.spk_packets.specs.View.{view}
+use Rattle.std.proofs.Common.{◌≡◌, ℕ, Bool, Global, Option, String, refl, string_bytes, sym, subst}
+use Rattle.spk_packets.specs.View.{view, will_view}
 use Rattle.spk_packets.specs.declared.packet.Packet.{Packet}
 use Rattle.spk_packets.specs.declared.packet.Packet.TheVariants as packets
 use Rattle.spk_packets.specs.declared.packet.Will.{Will}
@@ -7,6 +7,9 @@ use Rattle.spk_broker_rules.specs.Plan.{Seen, first_packet, shut}
 use Rattle.spk_broker_rules.specs.Step.{acts}
 use Rattle.spk_broker.specs.declared.ending.Ending.TheVariants.{Nothing}
 use Rattle.spk_broker.specs.Endings.{Leads}
+use Rattle.std.specs.Option.{option_map}
+use Rattle.spk_broker.specs.Sendable.{IsWritable}
+use Rattle.spk_broker.proofs.Sendables.{wills-sendable}
 use Rattle.spk_broker.proofs.Packeted.{leads-plain}
 use Rattle.spk_broker.proofs.desk.Desk.first_packet.Goals as goal
 
@@ -24,6 +27,11 @@ shuts seen conn (packets.UnsubAck id) other = refl
 shuts seen conn packets.PingReq other = refl
 shuts seen conn packets.PingResp other = refl
 shuts seen conn packets.Disconnect other = refl
+
+pub connect-requires-clause-will : goal.connect-requires-clause-will
+connect-requires-clause-will c =
+    wills-sendable (string_bytes c.in-Connect.client) c.in-Connect.clean c.in-Connect.keep (option_map will_view c.in-Connect.will)
+    (subst (λ p. IsWritable (view p)) c.in-Connect.is c.requires.writable)
 
 pub returns-in_default-clause-done : goal.returns-in_default-clause-done
 returns-in_default-clause-done c seen t older welcome s =

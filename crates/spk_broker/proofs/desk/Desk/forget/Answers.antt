@@ -15,6 +15,6 @@ returns-clause-done c = λ draft t s.
     let len : length c.end_away.new.seats ≡ c.args.self.now.seats.len = search rules in
     let same = with_items_is c.args.self.now.seats c.end_away.new.seats len in
     let rises = subst (Rises 0 t.broker.made) (sym (ap seats_now c.deref_mut.ensures.value ∙ ap (λ (b : plain.Broker). b.seats) s.broker)) s.lawful.keys in
-    forgets c.args.self.now draft t c.args.client.now (with_items c.args.self.now.seats c.end_away.new.seats) s
+    forgets c.args.self.now draft t c.args.client.now (with_items c.args.self.now.seats c.end_away.new.seats) _ s
     (ap seats_now same ∙ c.end_away.ensures.now 0 t.broker.made rises
     ∙ ap (λ xs. forgot (find (is_away c.args.client.now) (seats_now xs)) (seats_now xs)) c.deref_mut.ensures.value)

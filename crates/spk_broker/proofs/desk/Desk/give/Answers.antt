@@ -11,11 +11,18 @@ use Rattle.spk_broker.specs.View.{Stands}
 use Rattle.spk_broker.proofs.Alive.{found-alive, lost-alive}
 use Rattle.spk_broker.proofs.Changes.{is-there}
 use Rattle.spk_broker.proofs.Gives.{gives-none, grown-there}
+use Rattle.std.proofs.lemmas.List.{length-map}
+use Rattle.spk_broker.proofs.Sendables.{suback-writable}
 use Rattle.spk_broker.proofs.desk.Desk.give.Goals as goal
 
 -- what is read past the end of a list
 nobody : Both
 nobody = record { was = record { key = 0; client = []; kept = false; here = None; grants = []; used = []; last = 0; copies = [] }; now = None }
+
+pub give_at-requires-clause-writable : goal.give_at-requires-clause-writable
+give_at-requires-clause-writable c =
+    suback-writable c.args.id (map request_view c.args.entries.now) c.in_ok-granting-in-Some.granting.codes.items
+    (c.in_ok-granting-in-Some.ensures.codes ∙ sym (length-map c.args.entries.now request_view)) c.in_ok-granting-in-Some.ensures.granted c.requires.writable
 
 pub returns-in_ok-give_at-in-Some-clause-done : goal.returns-in_ok-give_at-in-Some-clause-done
 returns-in_ok-give_at-in-Some-clause-done c t s =
@@ -30,7 +37,7 @@ returns-in_ok-give_at-in-Some-clause-done c t s =
     grown-there (λ x. granting_view c.in_ok-granting-in-Some.granting ≡ grown_by (other_grants x (seats_now c.deref-in-Some.result.now)) x.grants (map request_view c.args.entries.now))
     (get_or c.deref-in-Some.result.now i nobody).now there.0
     (ap (λ (xs : List Both). (get_or xs i nobody).now) c.deref-in-Some.ensures.value ∙ there.1)
-    (c.in_ok-granting-in-Some.ensures nobody) in
+    (c.in_ok-granting-in-Some.ensures.view nobody) in
     c.in_ok-give_at-in-Some.ensures.done t there.0 (map request_view c.args.entries.now) s sitting
     (counted ∙ ap (λ ss. grown_by (other_grants there.0 ss) there.0.grants (map request_view c.args.entries.now)) (ap seats_now c.deref-in-Some.ensures.value ∙ same))
 

@@ -9,8 +9,8 @@ use Rattle.spk_broker.specs.Asking.{seat_here}
 use Rattle.spk_broker.specs.Both.{Both}
 use Rattle.spk_broker.specs.declared.desk.Desk.{Desk}
 use Rattle.spk_broker.specs.Granting.{Grown, regranted}
-use Rattle.spk_broker.specs.Parts.{grant_view}
-use Rattle.spk_broker.specs.View.{Stands, desk_was, retained_view, seat_was}
+use Rattle.spk_broker.specs.Parts.{grant_view, retained_view}
+use Rattle.spk_broker.specs.View.{Stands, desk_was, seat_was}
 use Rattle.spk_broker.proofs.Alive.{found-alive}
 use Rattle.spk_broker.proofs.Gives.{begins, given_turn, gives}
 use Rattle.spk_broker.proofs.Walks.{same-step}
@@ -19,7 +19,7 @@ use Rattle.spk_broker.proofs.desk.Desk.give_at.Goals as goal
 pub returns-clause-done : goal.returns-clause-done
 returns-clause-done c t seat entries s sitting grown =
     let d = c.args.self.now in
-    let end : Desk = record d { seats = with_item d.seats c.args.place c.set_grants.new.self } in
+    let end : Desk = record d { seats = with_item d.seats c.args.place c.set_grants.new.self; sendable = c.self-2-1.given.0 } in
     let e = c.index_mut.result.now in
     let at = found-alive seat_here (sits c.args.conn) d.seats.items c.args.place e c.requires.place in
     let here : (get_or d.seats.items c.args.place e).now ≡ Some seat =

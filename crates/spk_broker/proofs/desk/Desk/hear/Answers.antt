@@ -12,7 +12,7 @@ use Rattle.spk_broker.proofs.desk.Desk.hear.Goals as goal
 pub returns-clause-done : goal.returns-clause-done
 returns-clause-done c =
     let d = c.args.self.now in
-    let end : Desk = record d { guests = with_items d.guests c.hear.new.guests; seats = with_items d.seats c.hear-2.new.seats } in
+    let end : Desk = record d { guests = with_items d.guests c.hear.new.guests; seats = with_items d.seats c.hear-2.new.seats; sendable = c.self-3-1.given.0 } in
     let back = refilled (vec_len d.guests) c.hear.new.guests d.guests.items (omega arith) (omega arith) in
     let rest = refilled (vec_len d.seats) c.hear-2.new.seats d.seats.items (omega arith) (omega arith) in
     hear-stands d end c.args.conn refl

@@ -16,7 +16,7 @@ use Rattle.spk_broker.proofs.desk.Desk.leave.Goals as goal
 pub returns-in_default-clause-done : goal.returns-in_default-clause-done
 returns-in_default-clause-done c =
     let d = c.args.self.now in
-    let end : Desk = record d { guests = with_items d.guests c.leave.new.guests } in
+    let end : Desk = record d { guests = with_items d.guests c.leave.new.guests; sendable = c.self-in_default-1.given.0 } in
     let back = refilled (vec_len d.guests) c.leave.new.guests d.guests.items (omega arith) (omega arith) in
     guest-leaves d end c.args.conn c.args.wills
     (ap (position (passes (sits c.args.conn))) (sym c.deref.ensures.value) ∙ sym c.place_of.ensures ∙ c.in_default.is) refl
@@ -35,7 +35,7 @@ returns-clause-same c =
 pub returns-clause-done : goal.returns-clause-done
 returns-clause-done c =
     let d = c.args.self.now in
-    let end : Desk = record d { seats = with_item d.seats c.in-Some.place c.leave-2.new.self } in
+    let end : Desk = record d { seats = with_item d.seats c.in-Some.place c.leave-2.new.self; sendable = c.self-3-1.given.0 } in
     seat-leaves d end c.args.draft.now c.leave-2.new.draft c.args.conn c.in-Some.place c.args.wills c.index_mut.result.now c.leave-2.new.self
     (ap (position (passes (sits c.args.conn))) (sym c.deref.ensures.value) ∙ sym c.place_of.ensures ∙ c.in-Some.is) refl refl
     (c.in_ok-leave.ensures.left ∙ ap (λ (b : Both). flat_map left_behind (option_list b.now)) c.index_mut.ensures.value)

@@ -3,8 +3,7 @@ use Rattle.std.proofs.lemmas.List.{take_all}
 use Rattle.std.specs.List.{flat_map, fold}
 use Rattle.spk_broker_rules.specs.Step.{offer}
 use Rattle.spk_broker_rules.specs.Words.{offers_to}
-use Rattle.spk_broker.specs.Parts.{grant_view}
-use Rattle.spk_broker.specs.View.{retained_view}
+use Rattle.spk_broker.specs.Parts.{grant_view, retained_view}
 use Rattle.spk_broker.proofs.Offers.{offering-along, grants-step}
 use Rattle.spk_broker.proofs.desk.Desk.offer_all.Goals as goal
 

@@ -27,7 +27,7 @@ returns-in_ok-hand-in-Some-clause-same c =
 pub returns-in_ok-hand-in-Some-clause-done : goal.returns-in_ok-hand-in-Some-clause-done
 returns-in_ok-hand-in-Some-clause-done c key t o =
     let d = c.args.self.now in
-    let end : Desk = record d { seats = with_item d.seats c.args.place c.hand.new.self } in
+    let end : Desk = record d { seats = with_item d.seats c.args.place c.hand.new.self; sendable = c.self-in-Some-1.given.0 } in
     let p = post_view c.in-Some.post in
     let one : p ∷ [] ≡ _ = ap (λ x. option_list (option_map post_view x)) (sym c.in-Some.is) ∙ c.in_ok-post.ensures in
     subst (λ ps. Offering end c.hand.new.draft c.args.place key (fold (offer key) t ps)) one

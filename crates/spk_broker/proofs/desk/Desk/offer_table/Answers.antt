@@ -4,8 +4,7 @@ use Rattle.std.specs.List.{fold, slice_get}
 use Rattle.spk_broker_rules.specs.Step.{offer}
 use Rattle.spk_broker_rules.specs.Words.{offers_to}
 use Rattle.spk_broker.specs.Offering.{offers_at}
-use Rattle.spk_broker.specs.Parts.{grant_view}
-use Rattle.spk_broker.specs.View.{retained_view}
+use Rattle.spk_broker.specs.Parts.{grant_view, retained_view}
 use Rattle.spk_broker.proofs.Offers.{offering-along, offers-step}
 use Rattle.spk_broker.proofs.desk.Desk.offer_table.Goals as goal
 

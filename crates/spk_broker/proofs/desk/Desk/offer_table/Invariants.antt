@@ -3,8 +3,8 @@ use Rattle.std.specs.List.{fold}
 use Rattle.spk_broker_rules.specs.Step.{Turn, offer}
 use Rattle.spk_broker_rules.specs.Words.{offers_to}
 use Rattle.spk_broker.specs.Offering.{Offering}
-use Rattle.spk_broker.specs.Parts.{grant_view}
-use Rattle.spk_broker.specs.View.{desk_was, retained_view}
+use Rattle.spk_broker.specs.Parts.{grant_view, retained_view}
+use Rattle.spk_broker.specs.View.{desk_was}
 use Rattle.spk_broker.proofs.desk.Desk.offer_table.Given as goal
 
 abbrev pub invariant-loop-from : goal.invariant-loop-from

@@ -1,11 +1,12 @@
-use Rattle.std.proofs.Common.{◌∙◌, ◌≤◌, ap, subst, sym, refl, length, vec_len, List, ◌≡◌, arith}
+use Rattle.std.proofs.Common.{map, true, ◌∙◌, ◌≤◌, ap, subst, sym, refl, length, vec_len, List, ◌≡◌, arith}
 use Rattle.std.specs.List.{flat_map}
 use Rattle.std.specs.Vec.{with_items}
 use Rattle.indexmap.specs.IndexMap.{spare}
 use Rattle.spk_broker_rules.specs.Data as plain
 use Rattle.spk_broker.specs.declared.desk.Desk.{Desk}
 use Rattle.spk_broker.specs.Drafts.{Drafted, draft_view}
-use Rattle.spk_broker.specs.Parts.{post_view}
+use Rattle.spk_broker.specs.Parts.{post_view, retained_view}
+use Rattle.spk_broker.specs.Sendable.{are_sendable}
 use Rattle.spk_broker.specs.Rounds.{kept_with, left_of_round, with_round}
 use Rattle.spk_broker_rules.specs.Step.{serve}
 use Rattle.spk_broker.specs.View.{seat_now}
@@ -15,15 +16,18 @@ use Rattle.spk_broker.proofs.Refilled.{refilled}
 use Rattle.spk_broker.proofs.Routes.{RoutedOne, one-fewer, one-stands}
 use Rattle.spk_broker.proofs.desk.Desk.route_one.Goals as goal
 
-abbrev end : goal.In_ok-keep → Desk
-end c = record c.args.self.now { seats = with_items c.args.self.now.seats c.round.new.seats; retained = c.keep.new.retained }
+abbrev Good : goal.In_ok-keep → Type 0
+Good c = are_sendable (map retained_view c.keep.new.retained.entries) ≡ true
 
-facts : (c : goal.In_ok-keep) → RoutedOne (post_view c.args.post) c.args.self.now (end c) c.args.draft.now c.keep.new.draft
-facts c =
+abbrev end : (c : goal.In_ok-keep) → Good c → Desk
+end c good = record c.args.self.now { seats = with_items c.args.self.now.seats c.round.new.seats; retained = c.keep.new.retained; sendable = good }
+
+facts : (c : goal.In_ok-keep) (good : Good c) → RoutedOne (post_view c.args.post) c.args.self.now (end c good) c.args.draft.now c.keep.new.draft
+facts c good =
     let m = post_view c.args.post in
     let lent = c.deref_mut.ensures.value in
     let round = c.in_ok-round.ensures in
-    let back : (end c).seats.items ≡ c.round.new.seats = refilled (vec_len c.args.self.now.seats) c.round.new.seats c.args.self.now.seats.items (omega arith) (omega arith) in
+    let back : (end c good).seats.items ≡ c.round.new.seats = refilled (vec_len c.args.self.now.seats) c.round.new.seats c.args.self.now.seats.items (omega arith) (omega arith) in
     let drafted = round.drafted ∙ ap (λ l. with_round (serve m) (flat_map seat_now l) (draft_view c.args.draft.now)) lent in
     let keeps : (draft_view c.round.new.draft).keeps ≡ (draft_view c.args.draft.now).keeps = ap (λ (x : Drafted). x.keeps) c.in_ok-round.ensures.drafted in
     record {
@@ -35,12 +39,12 @@ facts c =
     }
 
 pub returns-clause-done : goal.returns-clause-done
-returns-clause-done c = one-stands (post_view c.args.post) c.args.self.now (end c) c.args.draft.now c.keep.new.draft (facts c)
+returns-clause-done c = one-stands (post_view c.args.post) c.args.self.now (end c c.self-2-1.given.0) c.args.draft.now c.keep.new.draft (facts c c.self-2-1.given.0)
 
 pub returns-clause-fewer : goal.returns-clause-fewer
-returns-clause-fewer c = one-fewer (post_view c.args.post) c.args.self.now (end c) c.args.draft.now c.keep.new.draft (facts c)
+returns-clause-fewer c = one-fewer (post_view c.args.post) c.args.self.now (end c c.self-2-1.given.0) c.args.draft.now c.keep.new.draft (facts c c.self-2-1.given.0)
 
 pub returns-clause-index : goal.returns-clause-index
 returns-clause-index c =
-    subst (IsIndex c.args.tree.now) (sym (facts c).seats)
+    subst (IsIndex c.args.tree.now) (sym (facts c c.self-2-1.given.0).seats)
     (kept-index c.args.tree.now (post_view c.args.post) (flat_map seat_now c.args.self.now.seats.items) c.requires)

@@ -16,6 +16,6 @@ returns-clause-done c = λ draft t s.
     let same = with_items_is c.args.self.now.seats c.take_in.new.seats len in
     let names = map (λ name. string_bytes name) c.args.names.now in
     let rises = subst (Rises 0 t.broker.made) (sym (ap seats_now c.deref_mut.ensures.value ∙ ap (λ (b : plain.Broker). b.seats) s.broker)) s.lawful.keys in
-    takes c.args.self.now draft t c.args.conn names (with_items c.args.self.now.seats c.take_in.new.seats) s
+    takes c.args.self.now draft t c.args.conn names (with_items c.args.self.now.seats c.take_in.new.seats) _ s
     (ap seats_now same ∙ c.in_ok-take_in.ensures.now 0 t.broker.made rises
     ∙ ap (λ xs. changed_at (seat_at c.args.conn (seats_now xs)) (without_grants names) (seats_now xs)) c.deref_mut.ensures.value)

@@ -3,8 +3,12 @@ use Rattle.spk_packets.specs.Message.{UnsubAck}
 use Rattle.spk_broker_rules.specs.Plan.{Take, Say, shut}
 use Rattle.spk_broker_rules.specs.Step.{act, acts}
 use Rattle.spk_broker.specs.View.{Stands}
+use Rattle.spk_broker.proofs.Sendables.{unsuback-writable}
 use Rattle.spk_broker.proofs.Standing.{say-stands}
 use Rattle.spk_broker.proofs.desk.Desk.unsubscribe.Goals as goal
+
+pub say-requires : goal.say-requires
+say-requires c = unsuback-writable c.args.id _ c.requires
 
 pub returns-clause-done : goal.returns-clause-done
 returns-clause-done c t s =
