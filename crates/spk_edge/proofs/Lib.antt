@@ -6,6 +6,8 @@ mod Changed
 mod Lasts
 mod Seals
 mod Plans
+mod Good
+mod Still
 mod Heard
 mod Drains
 mod Along

@@ -26,7 +26,7 @@ use Rattle.spk_edge_rules.specs.Rules.{acked, acts, fits, is_timely, on_ok, rule
 use Rattle.spk_edge_rules.specs.Step as step
 use Rattle.spk_edge_rules.proofs.Courses.{KeepsLaw, rules-lawful}
 use Rattle.spk_edge_rules.proofs.Known as known
-use Rattle.spk_edge.specs.Patch.{IsDone, IsGivenBy, IsPlan, IsRefusal, IsRefusedBy, IsSealed, IsUnsealed, acked_data, act_setting, are_timely, kept_after, packets_of, patched, setting_book, setting_view, SetsNothing, SetsValue, SetsTurn}
+use Rattle.spk_edge.specs.Patch.{IsDone, IsGivenBy, IsPlan, IsRefusal, IsRefusedBy, IsSealed, IsUnsealed, IsSetBy, acked_data, are_timely, kept_after, packets_of, patched, setting_book}
 use Rattle.spk_edge.specs.Sealing as seal
 use Rattle.spk_edge.specs.Sealing.{AllKnown, numbered, bytes_of, seq_past, wire_of, with_number}
 use Rattle.spk_edge.specs.View.{GivenData, MessageData, NodeData, act_view, given_of, given_view, input_view, keeping_view, unnumbered, write_view}
@@ -182,55 +182,31 @@ kept-is a (Keeping.DropFront n is_lost) few =
     let whole : min n (length a.store.items) ≡ n = omega (arith, few) in
     ap (λ m. after_drop a.store m is_lost) whole
 
--- what is set is what the act sets
+-- what isn't refused is given
 accepted : (b : Book) (r : Option Refusal) (g g' : rule.Given) → rule.refused_or r g ≡ Ok g' → r ≡ None
 accepted b None g g' e = refl
 accepted b (Some why) g g' e = absurd (let x : ⊥ = cc in x)
 
-set-value : (b : Book) (alias : ℕ) (value : Option Typed) (s : Setting) (g g' : rule.Given) → rule.refused_or (set_refusal b alias value) g ≡ Ok g'
-    → setting_view s ≡ SetsValue alias value → setting_book b s ≡ with_value b alias value
-set-value b alias value Nothing g g' ok set = absurd (let x : ⊥ = cc in x)
-set-value b alias value (Turn name up) g g' ok set = absurd (let x : ⊥ = cc in x)
-set-value b alias value (Value other given) g g' ok set =
-    let same : other ≡ alias = cc in
-    let equal : option_map typed_view given ≡ value = cc in
-    ap (λ a. unless_refused (set_refusal b a (option_map typed_view given)) (with_value b a (option_map typed_view given)) b) same
-    ∙ ap (λ v. unless_refused (set_refusal b alias v) (with_value b alias v) b) equal
-    ∙ ap (λ r. unless_refused r (with_value b alias value) b) (accepted b (set_refusal b alias value) g g' ok)
-
-set-turn : (b : Book) (name : List ℕ) (up : Bool) (s : Setting) (g g' : rule.Given) → rule.refused_or (turn_refusal b name) g ≡ Ok g'
-    → setting_view s ≡ SetsTurn name up → setting_book b s ≡ with_turn b name up
-set-turn b name up Nothing g g' ok set = absurd (let x : ⊥ = cc in x)
-set-turn b name up (Value alias value) g g' ok set = absurd (let x : ⊥ = cc in x)
-set-turn b name up (Turn other way) g g' ok set =
-    let same : string_bytes other ≡ name = cc in
-    let equal : way ≡ up = cc in
-    ap (λ a. unless_refused (turn_refusal b a) (with_turn b a way) b) same
-    ∙ ap (λ v. unless_refused (turn_refusal b name) (with_turn b name v) b) equal
-    ∙ ap (λ r. unless_refused r (with_turn b name up) b) (accepted b (turn_refusal b name) g g' ok)
-
-no-value : (b : Book) (s : Setting) → setting_view s ≡ SetsNothing → setting_book b s ≡ b
-no-value b Nothing set = refl
-no-value b (Value alias value) set = absurd (let x : ⊥ = cc in x)
-no-value b (Turn name up) set = absurd (let x : ⊥ = cc in x)
-
-book-is : (c : Config) (a : rule.Asked) (now : ℕ) (act : inputs.Act) (s : Setting) (g : rule.Given) → acts c a now act ≡ Ok g → setting_view s ≡ act_setting act
+-- what is set is what the act does to the registry
+book-is : (c : Config) (a : rule.Asked) (now : ℕ) (act : inputs.Act) (s : Setting) (g : rule.Given) → acts c a now act ≡ Ok g → IsSetBy a.book act s
     → setting_book a.book s ≡ step.book_after a.book act
-book-is c a now (inputs.Change alias value) s g ok set = set-value a.book alias value s _ g ok set
-book-is c a now inputs.Open s g ok set = no-value a.book s set
-book-is c a now inputs.Accepted s g ok set = no-value a.book s set
-book-is c a now (inputs.Turn name up) s g ok set = set-turn a.book name up s _ g ok set
-book-is c a now (inputs.Command topic payload) s g ok set = no-value a.book s set
-book-is c a now (inputs.State payload) s g ok set = no-value a.book s set
-book-is c a now inputs.Drain s g ok set = no-value a.book s set
-book-is c a now inputs.Stop s g ok set = no-value a.book s set
-book-is c a now inputs.Cut s g ok set = no-value a.book s set
-book-is c a now inputs.TurnedAway s g ok set = no-value a.book s set
-book-is c a now inputs.Pass s g ok set = no-value a.book s set
+book-is c a now (inputs.Change alias value) s g ok set =
+    set ∙ ap (λ r. unless_refused r (with_value a.book alias value) a.book) (accepted a.book (set_refusal a.book alias value) _ g ok)
+book-is c a now inputs.Open s g ok set = set
+book-is c a now inputs.Accepted s g ok set = set
+book-is c a now (inputs.Turn name up) s g ok set =
+    set ∙ ap (λ r. unless_refused r (with_turn a.book name up) a.book) (accepted a.book (turn_refusal a.book name) _ g ok)
+book-is c a now (inputs.Command topic payload) s g ok set = set
+book-is c a now (inputs.State payload) s g ok set = set
+book-is c a now inputs.Drain s g ok set = set
+book-is c a now inputs.Stop s g ok set = set
+book-is c a now inputs.Cut s g ok set = set
+book-is c a now inputs.TurnedAway s g ok set = set
+book-is c a now inputs.Pass s g ok set = set
 
 -- the data after the plan are the data after the step
 after-is : (n : NodeData) (i : inputs.Input) (g : rule.Given) (setting : Setting) (p : Plan) → acts n.config n.standing.asked i.now i.act ≡ Ok g
-    → setting_view setting ≡ act_setting i.act → IsSealed n i (given_of n.config (step.heard_after n.config n.standing.asked.heard i.act) (acked i.ack g)) setting p
+    → IsSetBy n.standing.asked.book i.act setting → IsSealed n i (given_of n.config (step.heard_after n.config n.standing.asked.heard i.act) (acked i.ack g)) setting p
     → KeepsLaw n.standing.asked (acked i.ack g).store → patched n p ≡ record n { standing = step.stepped n.config n.standing i (acked i.ack g) }
 after-is n i g setting p acted set s lawful =
     let c = n.config in
@@ -244,7 +220,7 @@ after-is n i g setting p acted set s lawful =
     rw (s.tally.of_phase, book, kept, s.tally.of_heard, stamp, s.tally.bd, s.tally.will_bd, s.tally.will_time, seq) refl
 
 pub planned : (n : NodeData) (i : inputs.Input) (g g' : Given) (setting : Setting) (p : Plan) → fits n.standing.asked.phase i.act ≡ true → nat_lt i.now (2 ^ 63) ≡ true
-    → IsGivenBy n i g → given_view g' ≡ acked_data i.ack (given_view g) → setting_view setting ≡ act_setting i.act → IsSealed n i (given_view g') setting p → IsPlan n i p
+    → IsGivenBy n i g → given_view g' ≡ acked_data i.ack (given_view g) → IsSetBy n.standing.asked.book i.act setting → IsSealed n i (given_view g') setting p → IsPlan n i p
 planned n i g g' setting p fit now given is set sealed =
     let heard = step.heard_after n.config n.standing.asked.heard i.act in
     let r = acked i.ack given.given in

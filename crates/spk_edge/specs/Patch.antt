@@ -1,14 +1,15 @@
 -- What a plan says, and what it changes.
-use Rattle.std.specs.Prelude.{◌≡◌, ◌⊎◌, ℕ, ◌+◌, ◌%◌, ◌^◌, min, length, Bool, true, false, ◌&&◌, nat_le, List, ◌∷◌, ◌++◌, map, nat_lt, Option, Some, None, Ok, Err, if◌then◌else◌}
+use Rattle.std.specs.Prelude.{◌≡◌, ◌⊎◌, ℕ, ◌+◌, ◌%◌, ◌^◌, ◌==◌, min, length, Bool, true, false, ◌&&◌, nat_le, List, ◌∷◌, ◌++◌, map, nat_lt, Option, Some, None, is_none, Ok, Err, if◌then◌else◌}
 use Rattle.std.specs.List.{last_or, list_all}
 use Rattle.std.specs.Option.{option_map, option_map_or}
 use Rattle.std.specs.String.{string_bytes}
-use Rattle.spk_payload.specs.Typing.{Typed, typed_view}
+use Rattle.spk_payload.specs.Typing.{typed_view}
 use Rattle.spk_packets.specs.Message as packets
 use Rattle.spk_packets.specs.Spelling.{spelling}
 use Rattle.spk_device.specs.Book.{Book}
 use Rattle.spk_device.specs.Calls.{unless_refused}
 use Rattle.spk_device.specs.Step.{set_refusal, turn_refusal, with_turn, with_value}
+use Rattle.spk_device.specs.declared.fault.Refusal.{Refusal}
 use Rattle.spk_store.specs.Data.{Kept}
 use Rattle.spk_store.specs.Step.{after_drop, after_push}
 use Rattle.spk_edge_rules.specs.declared.fault.EdgeFault.{EdgeFault}
@@ -140,21 +141,34 @@ abbrev pub acked_data : Option ℕ → GivenData → GivenData
 acked_data None g = g
 acked_data (Some id) g = record g { plain = packets.PubAck id ∷ g.plain }
 
--- what an act sets
-pub data Sets : Type 0 where
-  SetsNothing : Sets
-  SetsValue : (alias : ℕ) (value : Option Typed) → Sets
-  SetsTurn : (name : List ℕ) (up : Bool) → Sets
+-- what the registry refuses of an act
+abbrev pub act_refusal : Book → inputs.Act → Option Refusal
+act_refusal b (inputs.Change alias value) = set_refusal b alias value
+act_refusal b (inputs.Turn name up) = turn_refusal b name
+act_refusal b _ = None
 
-abbrev pub setting_view : Setting → Sets
-setting_view Nothing = SetsNothing
-setting_view (Value alias value) = SetsValue alias (option_map typed_view value)
-setting_view (Turn name up) = SetsTurn (string_bytes name) up
+-- what is set makes of the registry what the act makes of it, where it isn't refused
+abbrev pub IsSetBy : Book → inputs.Act → Setting → Type 0
+IsSetBy b act s = setting_book b s ≡ unless_refused (act_refusal b act) (step.book_after b act) b
 
-abbrev pub act_setting : inputs.Act → Sets
-act_setting (inputs.Change alias value) = SetsValue alias value
-act_setting (inputs.Turn name up) = SetsTurn name up
-act_setting _ = SetsNothing
+-- ---- memory
+
+-- an act that gives no packet and sets nothing
+abbrev pub is_still : Asked → inputs.Act → Bool
+is_still a (inputs.Change alias value) = rule.is_same_value a.book alias value
+is_still a inputs.Drain = length a.store.items == 0
+is_still a inputs.Cut = true
+is_still a inputs.TurnedAway = true
+is_still a inputs.Pass = true
+is_still a _ = false
+
+-- no more is it acknowledged: such an input takes no memory
+abbrev pub takes_no_memory : NodeData → inputs.Input → Bool
+takes_no_memory n i = is_none i.ack && is_still n.standing.asked i.act
+
+-- a refusal is for memory only where the input takes some
+abbrev pub IsShort : NodeData → inputs.Input → EdgeFault → Type 0
+IsShort n i e = e ≡ NoMemory → takes_no_memory n i ≡ false
 
 -- ---- what was done
 

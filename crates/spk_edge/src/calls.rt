@@ -22,6 +22,7 @@ impl EdgeNode {
     fn tell(&mut self, input: Input<'_>) -> Result<Out, EdgeFault>
         ensures done { IfOk result (patch.IsDone self.old (input_view input.entry) self.new) }
         ensures refused { IfErr result (patch.IsRefusal self.old (input_view input.entry)) }
+        ensures memory { IfErr result (patch.IsShort self.old (input_view input.entry)) }
         ensures err { OnErr result (self.new ≡ self.old) }
     {
         let plan = self.plan(input)?;
@@ -59,7 +60,7 @@ impl EdgeNode {
     }
 
     /// A metric has a value: one NDATA or DDATA when Born, else the change is kept. A value equal to the present one does
-    /// nothing, and a change of a device that is down only sets the value. Taken in every phase.
+    /// nothing and takes no memory, and a change of a device that is down only sets the value. Taken in every phase.
     pub fn change(
         &mut self,
         now: u64,
@@ -70,6 +71,8 @@ impl EdgeNode {
             (patch.plain_input now (inputs.Change alias
             (option_map typed_view value.now))) self.new) }
         ensures refused { IfErr result (patch.IsRefusal self.old
+            (patch.plain_input now (inputs.Change alias (option_map typed_view value.now)))) }
+        ensures memory { IfErr result (patch.IsShort self.old
             (patch.plain_input now (inputs.Change alias (option_map typed_view value.now)))) }
         ensures err { OnErr result (self.new ≡ self.old) }
     {
@@ -137,6 +140,8 @@ impl EdgeNode {
             (patch.plain_input now inputs.Drain) self.new) }
         ensures refused { IfErr result (patch.IsRefusal self.old
             (patch.plain_input now inputs.Drain)) }
+        ensures memory { IfErr result (patch.IsShort self.old
+            (patch.plain_input now inputs.Drain)) }
         ensures err { OnErr result (self.new ≡ self.old) }
     {
         self.tell(Input {
@@ -153,6 +158,8 @@ impl EdgeNode {
         ensures done { IfOk result (patch.IsDone self.old (input_of self.old.config now
             (view packet.now)) self.new) }
         ensures refused { IfErr result (patch.IsRefusal self.old (input_of self.old.config now
+            (view packet.now))) }
+        ensures memory { IfErr result (patch.IsShort self.old (input_of self.old.config now
             (view packet.now))) }
         ensures err { OnErr result (self.new ≡ self.old) }
     {

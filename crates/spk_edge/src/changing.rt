@@ -1,5 +1,5 @@
 //! Changes of metrics, and devices that come and go.
-ghost use Rattle.std.specs.Prelude.{◌≡◌, ◌⊎◌, ◌∷◌, [], IfOk, IfErr, OnOk, map, string_bytes, Some, None};
+ghost use Rattle.std.specs.Prelude.{◌≡◌, ◌⊎◌, ◌∷◌, [], IfOk, IfErr, OnOk, map, string_bytes, Some, None, false};
 ghost use Rattle.std.specs.Option.{option_map, option_map_or};
 ghost use Rattle.spk_topics.specs.Spark.{topic_of};
 ghost use Rattle.spk_edge_rules.specs.Messages.{spark_of};
@@ -217,6 +217,9 @@ impl EdgeNode {
             × (e ≡ EdgeFault.Device r)
             × (set_refusal self.now.standing.asked.book alias (option_map typed_view value.now) ≡
             Some r))) }
+        ensures memory { IfErr result (λ e. e ≡ EdgeFault.NoMemory →
+            rule.is_same_value self.now.standing.asked.book alias
+            (option_map typed_view value.now) ≡ false) }
     {
         match self.registry.would_set(alias, value) {
             Err(refusal) => Err(EdgeFault::Device(refusal)),

@@ -1,5 +1,5 @@
 //! Kept changes are sent (Sparkplug 3.0.0, chapter 6, historical values).
-ghost use Rattle.std.specs.Prelude.{◌≡◌, ◌++◌, IfOk, OnOk, map, take, slice_get};
+ghost use Rattle.std.specs.Prelude.{◌≡◌, ◌==◌, ◌++◌, IfOk, OnOk, OnErr, false, length, map, take, slice_get};
 ghost use Rattle.spk_payload.specs.View.{metric_view};
 ghost use Rattle.spk_edge_rules.specs.Births as births;
 ghost use Rattle.spk_edge_rules.specs.Rules as rule;
@@ -73,9 +73,11 @@ impl EdgeNode {
 
     /// The front run of kept changes, which are of one owner; nothing where none are kept.
     pub(crate) fn draining(&self, now: u64) -> Result<Given, AllocError>
-        ensures { IfOk result (λ g. given_view g ≡
+        ensures given { IfOk result (λ g. given_view g ≡
             given_of self.now.config self.now.standing.asked.heard
             (rule.draining self.now.standing.asked now self.now.standing.asked.store.items)) }
+        ensures memory { OnErr result ((length self.now.standing.asked.store.items == 0) ≡
+            false) }
     {
         match self.store.get(0) {
             Some(first) => self.draining_run(now, first.owner, self.store.front_run(MOST)),

@@ -2,6 +2,8 @@
 ghost use Rattle.std.specs.Prelude.{◌≡◌, ◌⊎◌, IfOk, IfErr, OnOk, true, false, length};
 ghost use Rattle.spk_topics.specs.Spark.{is_name};
 ghost use Rattle.spk_topics.specs.Text.{holds};
+ghost use Rattle.spk_device.specs.Lawful.{IsLawful};
+ghost use Rattle.spk_edge_rules.specs.Claims.{HasNames, IsUnreserved};
 ghost use Rattle.spk_edge.specs.Patch as patch;
 ghost use Rattle.spk_edge.specs.View.{config_view, record_view};
 ghost use Rattle.spk_edge_rules.specs.Rules.{nothing};
@@ -78,11 +80,18 @@ fn is_good(config: &EdgeConfig) -> bool
         && config.capacity <= 4096
 }
 
+/// Every registry is lawful.
+fn is_lawful(registry: &Registry)
+    ensures { IsLawful registry.now }
+{
+    let _count = registry.device_count();
+}
+
 impl EdgeNode {
     /// A node that goes on with a record, with room for all changes that it may keep. It is Idle.
     ///
     /// Refuses with BadConfig (63) a group, node or primary host that can't stand in a topic, and a capacity outside 1 to
-    /// 4,096.
+    /// 4,096. So the topics of its messages have names, and its NBIRTHs name bdSeq once (`laws::published`).
     pub fn new(
         alloc: Global,
         config: EdgeConfig,
@@ -92,10 +101,15 @@ impl EdgeNode {
         ensures made { IfOk result (λ n. n ≡ patch.made (config_view config) config.capacity
             (record_view start) registry) }
         ensures good { OnOk result (patch.is_good (config_view config) config.capacity ≡ true) }
+        ensures names { OnOk result (HasNames (patch.setup_of (config_view config) config.capacity
+            (record_view start) registry)) }
+        ensures unreserved { OnOk result (IsUnreserved (patch.setup_of (config_view config)
+            config.capacity (record_view start) registry)) }
         ensures fault { IfErr result (λ e. (e ≡ EdgeFault.NoMemory)
             ⊎ ((e ≡ EdgeFault.BadConfig) × (patch.is_good (config_view config) config.capacity ≡
             false))) }
     {
+        is_lawful(&registry);
         if !is_good(&config) {
             return Err(EdgeFault::BadConfig);
         }

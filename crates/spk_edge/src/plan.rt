@@ -1,9 +1,12 @@
 //! What an input comes to: a plan makes all growths, and what it plans is taken up without memory.
-ghost use Rattle.std.specs.Prelude.{◌≡◌, ◌⊎◌, ◌++◌, ◌^◌, IfOk, IfErr, OnOk, map, true, false, nat_lt, Ok, Err};
+ghost use Rattle.std.specs.Prelude.{◌≡◌, ◌⊎◌, ◌+◌, ◌++◌, ◌^◌, ◌<◌, IfOk, IfErr, OnOk, OnErr, is_none, length, map, true, false, nat_lt, Ok, Err};
 ghost use Rattle.std.specs.List.{AllByRecursion, list_all, last_or};
+ghost use Rattle.std.specs.Option.{option_map};
+ghost use Rattle.spk_payload.specs.Typing.{typed_view};
 ghost use Rattle.spk_packets.specs.Spelling.{spelling};
 ghost use Rattle.spk_packets.specs.View.{view};
 ghost use Rattle.spk_edge_rules.specs.Answers.{is_writable};
+ghost use Rattle.spk_edge_rules.specs.Inputs as inputs;
 ghost use Rattle.spk_edge_rules.specs.Rules as rule;
 ghost use Rattle.spk_edge_rules.specs.Step as step;
 ghost use Rattle.spk_edge.specs.Patch as patch;
@@ -16,7 +19,7 @@ use crate::message::{Given, Keeping, Out, Published};
 use crate::node::{EdgeNode, Tally};
 use crate::sealing::{number, written_messages, written_packets};
 use crate::values::copied;
-use spk_device::{Alias, Registry};
+use spk_device::{Alias, Outcome, Registry};
 use spk_edge_rules::{EdgeFault, Phase};
 use spk_packets::Packet;
 use spk_payload::Value;
@@ -87,7 +90,11 @@ fn packets(
     ensures whole { OnOk result (seal.AreWhole (map message_view messages.now)) }
     ensures fault { IfErr result (seal.IsUnwritten
         (map view plain.now ++ map (λ m. seal.wire_of (message_view m)) messages.now)) }
+    ensures memory { OnErr result (0 < length plain.now + length messages.now) }
 {
+    if plain.is_empty() && messages.is_empty() {
+        return Ok(Vec::new(alloc));
+    }
     let mut out = written_packets(alloc, plain)?;
     let mut more = written_messages(alloc, messages)?;
     out.append(&mut more)?;
@@ -151,7 +158,8 @@ fn keep(store: &mut Store, keeping: Keeping)
 
 /// What came at QoS 1 is acknowledged first.
 fn acked(given: Given, ack: Option<u16>) -> Result<Given, AllocError>
-    ensures { IfOk result (λ g. given_view g ≡ patch.acked_data ack (given_view given)) }
+    ensures acked { IfOk result (λ g. given_view g ≡ patch.acked_data ack (given_view given)) }
+    ensures memory { OnErr result (is_none ack ≡ false) }
 {
     let mut given = given;
     if let Some(id) = ack {
@@ -160,18 +168,34 @@ fn acked(given: Given, ack: Option<u16>) -> Result<Given, AllocError>
     Ok(given)
 }
 
-/// What an act sets.
-fn set_by(alloc: Global, act: &Act<'_>) -> Result<Setting, AllocError>
-    ensures { IfOk result (λ s. patch.setting_view s ≡ patch.act_setting (act_view act.now)) }
-{
-    match act {
-        Act::Change(alias, value) => Ok(Setting::Value(*alias, copied(alloc, value)?)),
-        Act::Device(name, up) => Ok(Setting::Turn(String::from_str(alloc, name)?, *up)),
-        _ => Ok(Setting::Nothing),
-    }
-}
-
 impl EdgeNode {
+    /// What a value of a metric sets: nothing where it is the present one, so that no equal value is copied.
+    fn value_set(&self, alias: Alias, value: &Option<Value>) -> Result<Setting, AllocError>
+        ensures set { IfOk result (patch.IsSetBy self.now.standing.asked.book
+            (inputs.Change alias (option_map typed_view value.now))) }
+        ensures memory { OnErr result (rule.is_same_value self.now.standing.asked.book alias
+            (option_map typed_view value.now) ≡ false) }
+    {
+        match self.registry.would_set(alias, value) {
+            Ok(Outcome::Changed) => Ok(Setting::Value(alias, copied(self.alloc, value)?)),
+            Ok(Outcome::Same) => Ok(Setting::Nothing),
+            Err(_refused) => Ok(Setting::Nothing),
+        }
+    }
+
+    /// What an act sets.
+    fn set_by(&self, act: &Act<'_>) -> Result<Setting, AllocError>
+        ensures set { IfOk result (patch.IsSetBy self.now.standing.asked.book (act_view act.now)) }
+        ensures memory { OnErr result (patch.is_still self.now.standing.asked (act_view act.now) ≡
+            false) }
+    {
+        match act {
+            Act::Change(alias, value) => self.value_set(*alias, value),
+            Act::Device(name, up) => Ok(Setting::Turn(String::from_str(self.alloc, name)?, *up)),
+            _ => Ok(Setting::Nothing),
+        }
+    }
+
     /// What it counts after an input that gave these messages, when this number comes next.
     fn tally_after(
         &self,
@@ -208,6 +232,8 @@ impl EdgeNode {
         ensures sealed { IfOk result (patch.IsSealed self.now (input_view input.entry)
             (given_view given) setting) }
         ensures fault { IfErr result (patch.IsUnsealed self.now (given_view given)) }
+        ensures memory { OnErr result (0 < length (given_view given).plain
+            + length (given_view given).messages) }
     {
         if !are_timely(&given.messages) {
             return Err(EdgeFault::ClockEnd);
@@ -266,6 +292,8 @@ impl EdgeNode {
     fn given(&self, input: Input<'_>) -> Result<Given, EdgeFault>
         ensures given { IfOk result (patch.IsGivenBy self.now (input_view input.entry)) }
         ensures fault { IfErr result (patch.IsRefusedBy self.now (input_view input.entry)) }
+        ensures memory { IfErr result (λ e. e ≡ EdgeFault.NoMemory →
+            patch.is_still self.now.standing.asked (input_view input.entry).act ≡ false) }
     {
         match input.act {
             Act::Open => Ok(self.opening(input.now)?),
@@ -288,10 +316,12 @@ impl EdgeNode {
     /// The plan of an input. It makes all growths, and changes nothing.
     ///
     /// Refuses in this order: WrongPhase (60), ClockEnd (61) for a moment of 2^63 or more, what the act itself refuses,
-    /// ClockEnd for a stamp that is needed, TooLarge (64).
+    /// ClockEnd for a stamp that is needed, TooLarge (64). NoMemory (1) comes from no input that gives and sets nothing,
+    /// as a value that is the metric's already.
     pub fn plan(&self, input: Input<'_>) -> Result<Plan, EdgeFault>
         ensures planned { IfOk result (patch.IsPlan self.now (input_view input.entry)) }
         ensures refused { IfErr result (patch.IsRefusal self.now (input_view input.entry)) }
+        ensures memory { IfErr result (patch.IsShort self.now (input_view input.entry)) }
     {
         if !self.fits(&input.act) {
             return Err(EdgeFault::WrongPhase);
@@ -301,7 +331,7 @@ impl EdgeNode {
         }
         let given = self.given(input)?;
         let given = acked(given, input.ack)?;
-        let setting = set_by(self.alloc, &input.act)?;
+        let setting = self.set_by(&input.act)?;
         self.sealed(input, given, setting)
     }
 }

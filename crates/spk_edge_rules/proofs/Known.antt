@@ -1,11 +1,11 @@
 -- No message has a value that isn't known: each is one that its datatype writes.
-use Rattle.std.proofs.Common.{◌≡◌, ◌∙◌, ℕ, Bool, true, false, not, ◌&&◌, cond, List, [], ◌∷◌, map, Option, Some, None, is_some, Result, Ok, Err, refl, sym, ap, subst, take, pos, negsuc, ◌^◌}
+use Rattle.std.proofs.Common.{◌≡◌, ℕ, Bool, true, false, not, ◌&&◌, cond, List, [], ◌∷◌, map, Option, Some, None, is_some, Ok, subst, ◌^◌}
 use Rattle.std.specs.Prelude.{◌==◌}
 use Rattle.std.specs.List.{AllByRecursion, enumerate_from, filter}
 use Rattle.std.specs.Option.{option_and_then, option_map_or}
-use Rattle.spk_payload.specs.Meaning.{Content, Int, Long, Flag, Words, Octets, Other, MetricData}
+use Rattle.spk_payload.specs.Meaning.{Content, Int, Other, MetricData}
 use Rattle.spk_payload.specs.Typing.{Typed, Signed, Unsigned, Truth, Text, Bytes, written_of, int_of_signed, is_signed_below, bits_32, long_of_signed, int_of_unsigned, long_of_unsigned, flag_of, words_of, octets_of}
-use Rattle.spk_device.specs.Book.{Book, DeviceData, GaugeData, birth_of, births_of, gauge_at, number_of, owned}
+use Rattle.spk_device.specs.Book.{Book, DeviceData, GaugeData, birth_of, gauge_at, number_of, owned}
 use Rattle.spk_device.specs.Step.{set_refusal, turn_refusal}
 use Rattle.spk_device.specs.declared.owner.Owner.{Owner}
 use Rattle.spk_device.specs.declared.owner.Owner.TheVariants.{Node, Device}
@@ -14,8 +14,8 @@ use Rattle.spk_state.specs.Text.{state_at}
 use Rattle.spk_state.specs.declared.primary.Heard.{Heard}
 use Rattle.spk_state.specs.declared.primary.Heard.TheVariants.{Online, Offline, Ignored}
 use Rattle.spk_state.specs.declared.state.State as read
-use Rattle.spk_edge_rules.specs.declared.phase.Phase.TheVariants.{Idle, Connecting, Waiting, Born}
-use Rattle.spk_edge_rules.specs.Births.{births_at, birth_stamp, data_metric, device_birth, kept_metric, later_stamp, own_metrics, owner_at, owner_is_up, stamped, turn_draft}
+use Rattle.spk_edge_rules.specs.declared.phase.Phase.TheVariants.{Idle}
+use Rattle.spk_edge_rules.specs.Births.{births_at, birth_stamp, device_birth, kept_metric, later_stamp, own_metrics, owner_at, owner_is_up, stamped, turn_draft}
 use Rattle.spk_edge_rules.specs.Commands.{Order, command_of, wants_rebirth, writes_in}
 use Rattle.spk_edge_rules.specs.Config.{Config}
 use Rattle.spk_edge_rules.specs.Inputs.{Act, Open, Accepted, Change, Turn, Command, State, Drain, Stop, Cut, TurnedAway, Pass, ChangeData}

@@ -1,4 +1,5 @@
 mod Rows
+mod Cases
 mod Chains
 mod Numbers
 pub mod Courses
@@ -9,3 +10,5 @@ mod Told
 mod Bytes
 pub mod Known
 mod Published
+mod Alive
+mod Farewells

@@ -53,7 +53,7 @@ turn-devices h now ack given name up (d ∷ ds) = one (bytes_eq name d.name) (tu
     one true rest = ap (λ l. (record d { up = up }) ∷ l) rest
     one false rest = ap (λ l. device_by h d ∷ l) rest
 
-book-step : (s : Setup) (h : List Done) (now : ℕ) (ack : Option ℕ) (act : Act) (g : Given) → book_after (book_of s h) act ≡ book_of s (done_of now ack act g ∷ h)
+pub book-step : (s : Setup) (h : List Done) (now : ℕ) (ack : Option ℕ) (act : Act) (g : Given) → book_after (book_of s h) act ≡ book_of s (done_of now ack act g ∷ h)
 book-step s h now ack Open g = refl
 book-step s h now ack Accepted g = refl
 book-step s h now ack (Change alias value) g =

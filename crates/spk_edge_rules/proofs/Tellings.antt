@@ -63,14 +63,14 @@ births-list b bd stamp = (
 
 -- ---- a device that comes up
 
-record IsFound (t : DeviceData → Bool) (k : ℕ) (xs : List DeviceData) (n : ℕ) : Type 0 where
-  place : ℕ
-  device : DeviceData
-  counted : n ≡ k + place
-  there : slice_get xs place ≡ Some device
-  passes : t device ≡ true
+pub record IsFound (t : DeviceData → Bool) (k : ℕ) (xs : List DeviceData) (n : ℕ) : Type 0 where
+  pub place : ℕ
+  pub device : DeviceData
+  pub counted : n ≡ k + place
+  pub there : slice_get xs place ≡ Some device
+  pub passes : t device ≡ true
 
-found : (t : DeviceData → Bool) (k n : ℕ) (xs : List DeviceData) → position_from t k xs ≡ Some n → IsFound t k xs n
+pub found : (t : DeviceData → Bool) (k n : ℕ) (xs : List DeviceData) → position_from t k xs ≡ Some n → IsFound t k xs n
 found t k n [] e = absurd (let x : ⊥ = cc in x)
 found t k n (x ∷ xs) e = by (t x) refl e (found t (k + 1) n xs)
   where
@@ -80,7 +80,7 @@ found t k n (x ∷ xs) e = by (t x) refl e (found t (k + 1) n xs)
         let f = later e in
         record { place = suc f.place; device = f.device; counted = (let c = f.counted in omega (arith, c)); there = f.there; passes = f.passes }
 
-known : (b : Book) (name : List ℕ) → turn_refusal b name ≡ None → is_some (number_of b name) ≡ true
+pub known : (b : Book) (name : List ℕ) → turn_refusal b name ≡ None → is_some (number_of b name) ≡ true
 known b name h = by (is_some (number_of b name)) h
   where
     by : (k : Bool) → cond k None (Some NoSuch) ≡ None → k ≡ true

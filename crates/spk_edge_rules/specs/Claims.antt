@@ -1,5 +1,5 @@
 -- What the laws say of every run, in the standard's words.
-use Rattle.std.specs.Prelude.{◌≡◌, ℕ, ◌⊎◌, Bool, true, false, List, [], ◌∷◌, Option, Some, None, is_some, slice_get, All, codes, map, if◌then◌else◌}
+use Rattle.std.specs.Prelude.{◌≡◌, ℕ, ◌⊎◌, ◌&&◌, Bool, true, false, List, [], ◌∷◌, Option, Some, None, is_some, slice_get, All, codes, map, if◌then◌else◌}
 use Rattle.std.specs.List.{AllByRecursion, enumerate_from}
 use Rattle.std.specs.Option.{option_map_or}
 use Rattle.std.specs.Str.{bytes_eq}
@@ -8,6 +8,7 @@ use Rattle.spk_payload.specs.Spelling.{PayloadFits}
 use Rattle.spk_packets.specs.Grammar.{Spells}
 use Rattle.spk_packets.specs.Message as packets
 use Rattle.spk_device.specs.Book.{Book, DeviceData}
+use Rattle.spk_device.specs.Book as book
 use Rattle.spk_device.specs.Lawful.{is_level}
 use Rattle.spk_device.specs.Step.{is_taken}
 use Rattle.spk_device.specs.declared.owner.Owner.TheVariants.{Node, Device}
@@ -94,6 +95,40 @@ abbrev pub AreWholeBirths : Book → ℕ → List Draft → Type 0
 AreWholeBirths b bd drafts =
     AllByRecursion (λ d. opens d ≡ false) drafts ⊎ ((stamp : ℕ) × (drafts ≡ births_at b bd stamp))
 
+-- ---- devices
+
+-- No two devices have one name: a device's name leads to its number, as every registry sees to.
+abbrev pub AreNumbered : Book → Type 0
+AreNumbered b = (n : ℕ) (d : DeviceData) → slice_get b.devices n ≡ Some d → book.number_of b d.name ≡ Some n
+
+abbrev pub is_death : Verb → Bool
+is_death Birth = false
+is_death Death = true
+is_death Data = false
+is_death verb.Command = false
+
+abbrev pub is_of_device : List ℕ → Draft → Bool
+is_of_device name d = option_map_or (λ device. bytes_eq device name) d.device false
+
+-- it is the device's DBIRTH, it is its DDEATH
+abbrev pub is_birth_of : List ℕ → Draft → Bool
+is_birth_of name d = is_birth d.verb && is_of_device name d
+
+abbrev pub is_death_of : List ℕ → Draft → Bool
+is_death_of name d = is_death d.verb && is_of_device name d
+
+-- This message is the device's DBIRTH behind that NBIRTH and in that session, and none of the later ones is its DDEATH.
+pub record IsBornBy (name : List ℕ) (birth session : ℕ) (m : Message) (later : List Message) : Type 0 where
+  pub is_birth : is_birth_of name m.draft ≡ true
+  pub under : m.birth ≡ birth
+  pub of_session : m.session ≡ session
+  pub lives : AllByRecursion (λ x. is_death_of name x.draft ≡ false) later
+
+-- The device is born: one of the messages is its DBIRTH, behind that NBIRTH and in that session, and its DDEATH isn't behind it.
+abbrev pub IsAlive : List ℕ → ℕ → ℕ → List Message → Type 0
+IsAlive name birth session [] = ⊥
+IsAlive name birth session (m ∷ ms) = IsBornBy name birth session m ms ⊎ IsAlive name birth session ms
+
 -- ---- between an accepted open and the next stop, cut or closing
 
 pub data Link : Type 0 where
@@ -130,6 +165,10 @@ link_of (e ∷ h) = if e.given.close then Closed else link_by e.input.act (link_
 pub record IsWhole (bytes : List ℕ) (c : Config) (number : ℕ) (d : Draft) : Type 0 where
   pub spelled : Spells bytes (wire c number d)
   pub fits : PayloadFits (payload_of number d)
+
+abbrev pub is_disconnect : packets.Message → Bool
+is_disconnect packets.Disconnect = true
+is_disconnect _ = false
 
 -- what a PUBLISH is about, and what it carries
 abbrev pub topic_in : packets.Message → List ℕ

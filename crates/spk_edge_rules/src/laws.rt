@@ -1,6 +1,6 @@
 //! Laws on lists of inputs: functions that do nothing, whose contracts speak of definitions alone.
-ghost use Rattle.std.specs.Prelude.{◌≡◌, ℕ, ◌-◌, ◌^◌, ◌<◌, List, [], ◌∷◌, ◌++◌, length, min, slice_get, Some, None, Ok, Err, IsTrue, true};
-ghost use Rattle.std.specs.List.{AllByRecursion};
+ghost use Rattle.std.specs.Prelude.{◌≡◌, ℕ, ◌-◌, ◌^◌, ◌<◌, List, [], ◌∷◌, ◌++◌, length, min, slice_get, take, Some, None, Ok, Err, IsTrue, true, false};
+ghost use Rattle.std.specs.List.{AllByRecursion, list_any};
 ghost use Rattle.spk_payload.specs.Meaning.{MeansPayload, PayloadData};
 ghost use Rattle.spk_payload.specs.Spelling.{spelling};
 ghost use Rattle.spk_packets.specs.Grammar.{Spells};
@@ -8,14 +8,16 @@ ghost use Rattle.spk_packets.specs.Message as packets;
 ghost use Rattle.spk_topics.specs.Spark.{has_names, topic_of};
 ghost use Rattle.spk_sequence.specs.NodeRecord as sequence;
 ghost use Rattle.spk_store.specs.Kept as kept;
+ghost use Rattle.spk_device.specs.Book.{DeviceData};
 ghost use Rattle.spk_edge_rules.specs.declared.fault.EdgeFault.{EdgeFault};
+ghost use Rattle.spk_edge_rules.specs.declared.phase.Phase.TheVariants.{Born};
 ghost use Rattle.spk_edge_rules.specs.Answers.{Answer};
-ghost use Rattle.spk_edge_rules.specs.Claims.{AreWholeBirths, HasNames, IsUnreserved, IsWhole, Joined, ListsWhatIs, SaysSession, SaysSessionOnce, is_numbered, link_of, numbers_at, numbers_from, payload_in, topic_in};
+ghost use Rattle.spk_edge_rules.specs.Claims.{AreNumbered, AreWholeBirths, HasNames, IsAlive, IsUnreserved, IsWhole, Joined, ListsWhatIs, SaysSession, SaysSessionOnce, is_disconnect, is_numbered, link_of, numbers_at, numbers_from, payload_in, topic_in};
 ghost use Rattle.spk_edge_rules.specs.Config.{Config, Setup};
-ghost use Rattle.spk_edge_rules.specs.Inputs.{Input, Open};
-ghost use Rattle.spk_edge_rules.specs.Messages.{Draft, named_by, opens, payload_of, wire};
-ghost use Rattle.spk_edge_rules.specs.Packets.{connect_of, death_payload, will_of};
-ghost use Rattle.spk_edge_rules.specs.Run.{Message, asked_of, book_of, calls_of, number_at, opened, opened_at, outline, published, record_of, right_at, run_of, session_number};
+ghost use Rattle.spk_edge_rules.specs.Inputs.{Input, Open, Stop};
+ghost use Rattle.spk_edge_rules.specs.Messages.{Draft, is_birth, named_by, opens, payload_of, wire};
+ghost use Rattle.spk_edge_rules.specs.Packets.{connect_of, death_payload, farewell, will_of};
+ghost use Rattle.spk_edge_rules.specs.Run.{Message, asked_of, births_in, book_of, calls_of, number_at, opened, opened_at, outline, phase_of, published, record_of, right_at, run_of, session_number};
 ghost use Rattle.spk_edge_rules.specs.Step.{answer_at, record_at, standing_of};
 
 /// For every node and every list of inputs, newest first, whatever the node begins with.
@@ -104,6 +106,22 @@ pub fn published()
     ensures one_session { (s : Setup) (is : List Input) (p : ℕ) (m : Message) → IsUnreserved s →
         slice_get (published (run_of s is)) p ≡ Some m → SaysSessionOnce s m }
 
+    // Data and DDEATH of a device stand only where it is born: behind its DBIRTH, which stands in the same session and behind
+    // the same NBIRTH, and before its DDEATH. A device that is up, of a node whose births were given, is born.
+    ensures devices { (s : Setup) (is : List Input) (p : ℕ) (m : Message) (name : List ℕ) →
+        slice_get (published (run_of s is)) p ≡ Some m → m.draft.device ≡ Some name → is_birth m.draft.verb ≡ false →
+        IsAlive name m.birth m.session (take p (published (run_of s is))) }
+    ensures up { (s : Setup) (is : List Input) (n : ℕ) (d : DeviceData) → phase_of (run_of s is) ≡ Born →
+        slice_get (book_of s (run_of s is)).devices n ≡ Some d → d.up ≡ true →
+        IsAlive d.name (births_in (published (run_of s is)) - 1) (opened (run_of s is) - 1)
+        (published (run_of s is)) }
+
+    // and one that isn't up is not, if no two devices of the registry have one name: so its DDEATH is given when it goes down
+    ensures down { (s : Setup) (is : List Input) (n : ℕ) (d : DeviceData) → AreNumbered s.book →
+        phase_of (run_of s is) ≡ Born → slice_get (book_of s (run_of s is)).devices n ≡ Some d → d.up ≡ false →
+        IsAlive d.name (births_in (published (run_of s is)) - 1) (opened (run_of s is) - 1)
+        (published (run_of s is)) → ⊥ }
+
     // what is done is done at a moment, and so was the last Open
     ensures moments { (s : Setup) (is : List Input) (i : Input) (answer : Answer) →
         right_at s (run_of s is) i ≡ Ok answer → i.now < 2 ^ 63 }
@@ -135,6 +153,16 @@ pub fn messages()
     ensures will { (c : Config) (bd time : ℕ) (q : PayloadData) → bd < 256 → time < 2 ^ 63 →
         MeansPayload (will_of c bd time).message (death_payload bd time) ×
         (MeansPayload (will_of c bd time).message q → q ≡ death_payload bd time) }
+
+    // a Stop gives the NDEATH of the session that it ends, with that session's bdSeq, and DISCONNECT; and no DISCONNECT is
+    // given in any other way
+    ensures ends { (s : Setup) (is : List Input) (i : Input) (answer : Answer) → i.act ≡ Stop → i.ack ≡ None →
+        right_at s (run_of s is) i ≡ Ok answer →
+        answer.packets ≡ farewell s.config (session_number s (opened (run_of s is) - 1)) (opened_at (run_of s is)) }
+    ensures disconnects { (s : Setup) (is : List Input) (i : Input) (answer : Answer) →
+        right_at s (run_of s is) i ≡ Ok answer → list_any is_disconnect answer.packets ≡ true →
+        (front : List packets.Message) × (answer.packets ≡
+        front ++ farewell s.config (session_number s (opened (run_of s is) - 1)) (opened_at (run_of s is))) }
 
     // messages of different nodes have different topics
     ensures topics { (b c : Config) (d e : Draft) → IsTrue (has_names (named_by b d)) → IsTrue (has_names (named_by c e)) →

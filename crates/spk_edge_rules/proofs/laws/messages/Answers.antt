@@ -5,6 +5,7 @@ use Rattle.spk_edge_rules.specs.Claims.{payload_in, topic_in}
 use Rattle.spk_edge_rules.specs.Messages.{named_by, payload_of, wire}
 use Rattle.spk_edge_rules.specs.Packets.{death_payload}
 use Rattle.spk_edge_rules.proofs.Bytes.{death-fits, same-node}
+use Rattle.spk_edge_rules.proofs.Farewells.{disconnects, stops}
 use Rattle.spk_edge_rules.proofs.laws.messages.Goals as goal
 
 pub returns-clause-alone : goal.returns-clause-alone
@@ -31,3 +32,9 @@ returns-clause-will c = λ config bd time q byte moment.
 pub returns-clause-topics : goal.returns-clause-topics
 returns-clause-topics c = λ b config d e has_d has_e same.
     same-node b config d e (c.one_topic.ensures (named_by b d) (named_by config e) has_d has_e same)
+
+pub returns-clause-ends : goal.returns-clause-ends
+returns-clause-ends c = stops
+
+pub returns-clause-disconnects : goal.returns-clause-disconnects
+returns-clause-disconnects c = disconnects

@@ -1,4 +1,7 @@
 use Rattle.spk_edge_rules.specs.Run.{published, run_of, setting_of}
+use Rattle.std.proofs.Common.{ap}
+use Rattle.spk_edge_rules.specs.Rules.{is_born}
+use Rattle.spk_edge_rules.proofs.Alive.{devices-born, down-dead, up-born}
 use Rattle.spk_edge_rules.proofs.Published.{good-at, grows, moment-of, opened-at, sent-under, session-once}
 use Rattle.spk_edge_rules.proofs.laws.published.Goals as goal
 
@@ -28,3 +31,12 @@ returns-clause-opened_at c = opened-at
 
 pub returns-clause-sent : goal.returns-clause-sent
 returns-clause-sent c = sent-under
+
+pub returns-clause-devices : goal.returns-clause-devices
+returns-clause-devices c = devices-born
+
+pub returns-clause-up : goal.returns-clause-up
+returns-clause-up c = λ s is n d is_up there up. up-born s is n d (ap is_born is_up) there up
+
+pub returns-clause-down : goal.returns-clause-down
+returns-clause-down c = λ s is n d numbered is_up there down alive. down-dead s is n d numbered (ap is_born is_up) there down alive
