@@ -1,6 +1,6 @@
 -- What bytes say is one thing, and so is what is answered.
-use Rattle.std.proofs.Common.{◌≡◌, ◌∙◌, ap, sym, refl, ℕ}
-use Rattle.std.specs.Prelude.{Result, Ok, Err, OnOk}
+use Rattle.std.proofs.Common.{◌≡◌, refl, ℕ}
+use Rattle.std.specs.Prelude.{Result, Ok, OnOk}
 use Rattle.spk_reading.specs.Data.{HeardData}
 use Rattle.spk_reading.specs.Answer as read
 use Rattle.spk_reading.specs.declared.fault.ReadFault.{ReadFault}

@@ -55,12 +55,12 @@ at_first : (first : NodeData) (e : Entry) (entries : List Entry) (group name : L
     node_or first (e ∷ entries) group name ≡ cond (is_of group name e) e.kept (node_or first entries group name)
 at_first first e entries group name = picked first e (find (is_of group name) entries) (is_of group name e)
 
-here : (first : NodeData) (e : Entry) (entries : List Entry) (group name : List ℕ) → is_of group name e ≡ true →
+pub here : (first : NodeData) (e : Entry) (entries : List Entry) (group name : List ℕ) → is_of group name e ≡ true →
     node_or first (e ∷ entries) group name ≡ e.kept
 here first e entries group name is =
     at_first first e entries group name ∙ ap (λ b. cond b e.kept (node_or first entries group name)) is
 
-beyond : (first : NodeData) (e : Entry) (entries : List Entry) (group name : List ℕ) → is_of group name e ≡ false →
+pub beyond : (first : NodeData) (e : Entry) (entries : List Entry) (group name : List ℕ) → is_of group name e ≡ false →
     node_or first (e ∷ entries) group name ≡ node_or first entries group name
 beyond first e entries group name is =
     at_first first e entries group name ∙ ap (λ b. cond b e.kept (node_or first entries group name)) is

@@ -1,7 +1,9 @@
 pub mod Along
+pub mod Asked
 pub mod Found
 pub mod Fresh
 pub mod Heard
+pub mod Indexed
 pub mod Kept
 pub mod Mapped
 pub mod Parts

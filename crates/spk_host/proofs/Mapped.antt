@@ -1,5 +1,5 @@
 -- The first elements of a list, mapped.
-use Rattle.std.proofs.Common.{◌≡◌, ◌∙◌, sym, ap, refl, ℕ, zero, suc, List, [], ◌∷◌, map, length, set, get_or, Option, Some, arith}
+use Rattle.std.proofs.Common.{◌≡◌, ◌∙◌, sym, ap, refl, ℕ, zero, suc, List, [], ◌∷◌, map, length, set, get_or, Some, arith}
 use Rattle.std.specs.Prelude.{◌+◌, ◌<◌, ◌≤◌, slice_get}
 use Rattle.std.proofs.lemmas.Option.{slice_get_read}
 

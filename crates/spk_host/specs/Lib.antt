@@ -1,5 +1,7 @@
 pub mod Data
+pub mod Index
 pub mod Inputs
 pub mod Nodes
+pub mod Requests
 pub mod Step
 pub mod View

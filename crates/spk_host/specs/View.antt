@@ -1,5 +1,5 @@
 -- What contracts see of the crate's types.
-use Rattle.std.specs.Prelude.{◌≡◌, List, map, Result, Ok, Err}
+use Rattle.std.specs.Prelude.{map}
 use Rattle.spk_reading.specs.View.{numbered_view}
 use Rattle.spk_topics.specs.Spark.{named}
 use Rattle.spk_reading.specs.declared.fault.ReadFault.{ReadFault}

@@ -3,7 +3,6 @@ ghost use Rattle.std.specs.Prelude.{◌≡◌, ◌≤◌, map, IfOk, OnOk, OnErr
 ghost use Rattle.spk_reading.specs.View.{numbered_view};
 ghost use Rattle.spk_host_node.specs.Data.{fresh_node};
 ghost use Rattle.spk_host_node.specs.Step as node;
-ghost use Rattle.spk_host.specs.Nodes as spec;
 ghost use Rattle.spk_host.specs.Step as step;
 
 use spk_host_node::{Handed, HostNode};
@@ -67,13 +66,6 @@ impl Entry {
         ensures { result.now ≡ self.now.kept }
     {
         &self.kept
-    }
-
-    /// Whether these are its names.
-    pub(crate) fn is_of(&self, group: &str, node: &str) -> bool
-        ensures { result ≡ spec.is_of group.now node.now self.now }
-    {
-        group == self.group.as_str() && node == self.node.as_str()
     }
 
     /// A message of it.

@@ -18,7 +18,7 @@ ghost use Rattle.spk_host.specs.View.{fault_of, out_view};
 
 use crate::entry::Entry;
 use crate::messages::acknowledged;
-use crate::nodes::{ask_at, end_all, hear, hear_death, place_of, tick_all};
+use crate::nodes::{Nodes, ask_at};
 use crate::out::Out;
 use spk_host_session::{HostConfig, HostFault, HostSession};
 use spk_reading::{Content, Heard, ReadFault, read};
@@ -33,7 +33,7 @@ use std::marker::Model;
 pub struct Host {
     alloc: Global,
     session: HostSession,
-    nodes: Vec<Entry>,
+    nodes: Nodes,
 }
 
 impl Model for Host {
@@ -41,7 +41,7 @@ impl Model for Host {
 
     ghost Value = { HostData };
 
-    ghost view = { λ h. record { session = h.session; nodes = h.nodes.items } };
+    ghost view = { λ h. record { session = h.session; nodes = h.nodes } };
 }
 
 /// A fault in reading.
@@ -82,7 +82,7 @@ impl Host {
         Ok(Host {
             alloc,
             session,
-            nodes: Vec::new(alloc),
+            nodes: Nodes::new(alloc),
         })
     }
 
@@ -140,11 +140,11 @@ impl Host {
             Content::Message(message) => {
                 let config = self.session.config();
                 let (wait, width) = (config.wait, config.width);
-                hear(self.alloc, &mut self.nodes, wait, width, ack, message, now)
+                self.nodes.hear(self.alloc, wait, width, ack, message, now)
             }
             Content::Death { group, node, bd } => {
                 let packets = acknowledged(self.alloc, ack)?;
-                hear_death(&mut self.nodes, group.as_str(), node.as_str(), bd);
+                self.nodes.hear_death(group.as_str(), node.as_str(), bd);
                 Ok(sent(self.alloc, packets))
             }
             Content::Nothing => Ok(sent(self.alloc, acknowledged(self.alloc, ack)?)),
@@ -164,7 +164,7 @@ impl Host {
     {
         let packets = self.session.answered(code)?;
         if code != 0 {
-            end_all(&mut self.nodes);
+            self.nodes.over();
         }
         Ok(sent(self.alloc, packets))
     }
@@ -219,8 +219,8 @@ impl Host {
         if !self.session.is_open() {
             return Err(HostFault::WrongPhase);
         }
-        let out = ask_at(self.alloc, &self.nodes, now)?;
-        tick_all(&mut self.nodes, now);
+        let out = ask_at(self.alloc, self.nodes.entries(), now)?;
+        self.nodes.tick(now);
         Ok(out)
     }
 
@@ -233,7 +233,7 @@ impl Host {
         ensures unchanged { OnErr result (self.new ≡ self.old) }
     {
         let packets = self.session.stop(now)?;
-        end_all(&mut self.nodes);
+        self.nodes.over();
         Ok(sent(self.alloc, packets))
     }
 
@@ -243,7 +243,7 @@ impl Host {
         ensures { self.new ≡ calls.host_with self.old calls.Ended }
     {
         self.session.ended();
-        end_all(&mut self.nodes);
+        self.nodes.over();
     }
 
     /// The session ends without a farewell, if there was one, and the next begins: CONNECT, as `connected` says. Whole or nothing.
@@ -255,7 +255,7 @@ impl Host {
     {
         let mut packets = Vec::with_capacity(self.alloc, 1)?;
         packets.push_reserved(self.session.renew(now)?);
-        end_all(&mut self.nodes);
+        self.nodes.over();
         Ok(sent(self.alloc, packets))
     }
 
@@ -263,15 +263,15 @@ impl Host {
     pub fn nodes(&self) -> &[Entry]
         ensures { result.now ≡ self.now.nodes }
     {
-        &self.nodes
+        self.nodes.entries()
     }
 
-    /// What is kept of a node, if it was heard. Takes no memory. The cost is that of going over the nodes.
+    /// What is kept of a node, if it was heard. Takes no memory.
     fn node(&self, group: &str, node: &str) -> Option<&Entry>
         ensures { option_copied result ≡ find (is_of group.now node.now) self.now.nodes }
     {
-        match place_of(&self.nodes, group, node) {
-            Some(place) => self.nodes.get(place),
+        match self.nodes.place_of(group, node) {
+            Some(place) => self.nodes.entries().get(place),
             None => None,
         }
     }

@@ -1,14 +1,19 @@
 //! Laws of the definitions alone: functions that do nothing, whose contracts speak of definitions.
-ghost use Rattle.std.specs.Prelude.{◌≡◌, ℕ, false, List, map};
+ghost use Rattle.std.specs.Prelude.{◌≡◌, ◌++◌, ℕ, false, List, [], Option, map, replicate};
+ghost use Rattle.spk_reading.specs.Data.{NumberedData, Published, Answered, Granted, Other, Message, Death, Nothing};
+ghost use Rattle.spk_topics.specs.Spark.Named.{of_node};
+ghost use Rattle.spk_topics.specs.declared.spark.Verb.TheVariants.{Command};
 ghost use Rattle.spk_host_session.specs.Data.{Config};
 ghost use Rattle.spk_host_rules.specs.Showing.{IsShown};
 ghost use Rattle.spk_host_node.specs.Data.{NodeData, fresh_node};
 ghost use Rattle.spk_host_node.specs.Inputs.{Input, events_of, node_after, order_after, since_end};
 ghost use Rattle.spk_host_node.specs.Step as one_node;
 ghost use Rattle.spk_host.specs.Data.{Entry, HostData};
+ghost use Rattle.spk_host.specs.Index.{names_of};
 ghost use Rattle.spk_host.specs.Inputs.{Call, host_after, host_with, is_same, node_calls, with_node_call};
 ghost use Rattle.spk_host.specs.Nodes.{change_node, node_or, put_node};
-ghost use Rattle.spk_host.specs.Step.{fresh, over_entry, tick_entry};
+ghost use Rattle.spk_host.specs.Requests.{asked_at_moment, asked_by, heard_names, request_to};
+ghost use Rattle.spk_host.specs.Step.{acks, fresh, over_entry, packet_out, spelled, tick_entry, tick_out, topics_to};
 
 /// Of the list of nodes: what each change of it does to what is kept of a node, one that was never heard included.
 pub fn nodes()
@@ -76,9 +81,46 @@ pub fn any_list()
         (node_or (fresh_node config.wait config.width) (host_after config calls).nodes
         group name).watch.view }
 
+    // the nodes stand in the order in which they were first heard, each once
+    ensures listed { (config : Config) (calls : List Call) →
+        map names_of (host_after config calls).nodes ≡ heard_names calls }
+
+    // a message is answered by as many rebirth requests as are due, by what was heard of its node alone
+    // (`spk_host_rules::laws::asked` says when one is due)
+    ensures requests { (config : Config) (calls : List Call) (ack : Option ℕ) (m : NumberedData) (now : ℕ) →
+        (packet_out (host_after config calls) (Published ack (Message m)) now).rebirths ≡
+        topics_to m.group m.node (asked_by config calls m now) }
+
+    // and at a moment each node that has a gap is asked once where a request is due, in the order in which they were first heard
+    ensures ticks { (config : Config) (calls : List Call) (now : ℕ) →
+        (tick_out (host_after config calls).nodes now).rebirths ≡
+        asked_at_moment config calls now (heard_names calls) }
+
     // who the host is, stays
     ensures config { (config : Config) (calls : List Call) →
         (host_after config calls).session.config ≡ config }
 {
     spk_host_node::laws::any_list();
 }
+
+/// Whom a host asks: each rebirth request is a packet of its own to the NCMD topic of the node that it is asked of.
+pub fn addressed()
+    // by a message, its node alone, behind the acknowledgement
+    ensures message { (h : HostData) (ack : Option ℕ) (m : NumberedData) (now : ℕ) →
+        let out = packet_out h (Published ack (Message m)) now in
+        ((count : ℕ) × (out.rebirths ≡ replicate count (of_node m.group Command m.node))) ×
+        (out.packets ≡ spelled (acks ack ++ map (request_to now) out.rebirths)) }
+
+    // by an NDEATH, a command, or a packet that isn't a PUBLISH, nobody
+    ensures death { (h : HostData) (ack : Option ℕ) (group name : List ℕ) (bd now : ℕ) →
+        (packet_out h (Published ack (Death group name bd)) now).rebirths ≡ [] }
+    ensures command { (h : HostData) (ack : Option ℕ) (now : ℕ) →
+        (packet_out h (Published ack Nothing) now).rebirths ≡ [] }
+    ensures answered { (h : HostData) (code now : ℕ) → (packet_out h (Answered code) now).rebirths ≡ [] }
+    ensures granted { (h : HostData) (now : ℕ) → (packet_out h Granted now).rebirths ≡ [] }
+    ensures other { (h : HostData) (now : ℕ) → (packet_out h Other now).rebirths ≡ [] }
+
+    // by a moment, whoever the topics name
+    ensures tick { (nodes : List Entry) (now : ℕ) → let out = tick_out nodes now in
+        out.packets ≡ spelled (map (request_to now) out.rebirths) }
+{}

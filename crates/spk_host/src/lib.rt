@@ -4,6 +4,7 @@
 mod asking;
 mod entry;
 mod host;
+mod index;
 pub mod laws;
 mod messages;
 mod nodes;

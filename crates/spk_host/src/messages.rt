@@ -2,6 +2,7 @@
 ghost use Rattle.std.specs.Prelude.{◌≡◌, map, IfOk, OnOk, OnErr};
 ghost use Rattle.spk_reading.specs.View.{numbered_view};
 ghost use Rattle.spk_host_node.specs.Step as node;
+ghost use Rattle.spk_host.specs.Index.{names_of};
 ghost use Rattle.spk_host.specs.Step.{acks, message_out, spelled};
 ghost use Rattle.spk_host.specs.View.{out_view};
 
@@ -35,6 +36,7 @@ pub(crate) fn hear_message(
     ensures entry { OnOk result
         (entry.new ≡ record entry.old { kept = node.hand entry.old.kept (numbered_view message) now }) }
     ensures unchanged { OnErr result (entry.new ≡ entry.old) }
+    ensures names { names_of entry.new ≡ names_of entry.old }
 {
     let (group, name) = (message.group.as_str(), message.node.as_str());
     let most = entry.kept().most_requests(&message, now);

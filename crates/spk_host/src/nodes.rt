@@ -1,86 +1,159 @@
 //! The nodes that a host heard, in the order in which they were first heard.
-ghost use Rattle.std.specs.Prelude.{◌≡◌, ◌++◌, ◌∷◌, [], map, IfOk, OnOk, OnErr};
+ghost use Rattle.std.specs.Prelude.{◌≡◌, ◌++◌, ◌∷◌, ℕ, List, [], None, Some, map, length, IfOk, OnOk, OnErr, if◌then◌else◌};
 ghost use Rattle.std.specs.List.{position};
 ghost use Rattle.spk_reading.specs.View.{numbered_view};
 ghost use Rattle.spk_host_node.specs.Data.{fresh_node};
 ghost use Rattle.spk_host_node.specs.Step as one_node;
+ghost use Rattle.spk_host.specs.Index.{place_in};
+ghost use Rattle.spk_host.specs.Inputs.{is_same};
 ghost use Rattle.spk_host.specs.Nodes as spec;
 ghost use Rattle.spk_host.specs.Step as step;
 ghost use Rattle.spk_host.specs.View.{out_view};
 
 use crate::asking::ask;
 use crate::entry::Entry;
+use crate::index::Index;
 use crate::messages::hear_message;
 use crate::out::Out;
 use spk_reading::Numbered;
 use spk_sequence::{Step, Width};
 use std::alloc::{AllocError, Global};
+use std::marker::Model;
 
-/// The place of the node of these names, if it was heard.
-pub(crate) fn place_of(nodes: &[Entry], group: &str, node: &str) -> Option<usize>
-    ensures { result ≡ position (spec.is_of group.now node.now) nodes.now }
-{
-    nodes.iter().position(|entry| entry.is_of(group, node))
+/// The nodes that a host heard, each found by its names in one step. Contracts see the list of nodes.
+#[derive(Drop)]
+pub(crate) struct Nodes {
+    entries: Vec<Entry>,
+    /// The place of each node, by its names.
+    index: Index,
 }
 
-/// A message of a node that was never heard.
+impl Model for Nodes {
+    ghost use Rattle.std.specs.Prelude.{List, map};
+    ghost use Rattle.spk_host.specs.Data as plain;
+    ghost use Rattle.spk_host.specs.Index.{IsIndexed, names_of};
+
+    ghost Value = { List plain.Entry };
+
+    ghost view = { λ a. a.entries.items };
+
+    ghost invariant = { λ a. IsIndexed (map names_of a.entries.items) a.index };
+}
+
+/// A message of a node that was never heard. All memory is asked for before anything changes.
 fn hear_first(
     alloc: Global,
-    nodes: &mut Vec<Entry>,
+    entries: &mut Vec<Entry>,
+    index: &mut Index,
     wait: u64,
     width: Width,
     ack: Option<u16>,
     message: Numbered,
     now: u64,
 ) -> Result<Out, AllocError>
+    requires { place_in index.old (numbered_view message).group (numbered_view message).node ≡ None }
     ensures out { IfOk result (λ o.
         out_view o ≡ step.message_out (fresh_node wait width) ack (numbered_view message) now) }
-    ensures nodes { OnOk result (nodes.new.items ≡ nodes.old.items ++ (record {
+    ensures nodes { OnOk result (entries.new.items ≡ entries.old.items ++ (record {
       group = (numbered_view message).group;
       node = (numbered_view message).node;
       kept = one_node.hand (fresh_node wait width) (numbered_view message) now;
     }) ∷ []) }
-    ensures unchanged { OnErr result (nodes.new.items ≡ nodes.old.items) }
+    ensures entered { let m = numbered_view message in
+        OnOk result ((g n : List ℕ) → place_in index.new g n ≡
+        (if is_same g n m.group m.node then Some (length entries.old.items) else place_in index.old g n)) }
+    ensures unchanged { OnErr result (entries.new.items ≡ entries.old.items) }
+    ensures not_entered { OnErr result (index.new ≡ index.old) }
 {
     let (group, name) = (message.group.as_str(), message.node.as_str());
     let mut entry = Entry::new(alloc, group, name, wait, width)?;
-    nodes.reserve(1)?;
+    entries.reserve(1)?;
     let out = hear_message(alloc, &mut entry, ack, message, now)?;
-    nodes.push_reserved(entry);
+    index.enter(alloc, entry.group(), entry.node(), entries.len())?;
+    entries.push_reserved(entry);
     Ok(out)
 }
 
-/// A message of a node.
-pub(crate) fn hear(
-    alloc: Global,
-    nodes: &mut Vec<Entry>,
-    wait: u64,
-    width: Width,
-    ack: Option<u16>,
-    message: Numbered,
-    now: u64,
-) -> Result<Out, AllocError>
-    ensures out { let m = numbered_view message in
-        IfOk result (λ o. out_view o ≡
-        step.message_out (spec.node_or (fresh_node wait width) nodes.old.items m.group m.node) ack m now) }
-    ensures nodes { let m = numbered_view message in
-        OnOk result (nodes.new.items ≡ spec.put_node m.group m.node
-        (one_node.hand (spec.node_or (fresh_node wait width) nodes.old.items m.group m.node) m now) nodes.old.items) }
-    ensures unchanged { OnErr result (nodes.new.items ≡ nodes.old.items) }
-{
-    match place_of(nodes, message.group.as_str(), message.node.as_str()) {
-        Some(place) => hear_message(alloc, &mut nodes[place], ack, message, now),
-        None => hear_first(alloc, nodes, wait, width, ack, message, now),
+impl Nodes {
+    /// No nodes. Takes no memory.
+    pub(crate) fn new(alloc: Global) -> Nodes
+        ensures { result ≡ [] }
+    {
+        Nodes {
+            entries: Vec::new(alloc),
+            index: Index::new(alloc),
+        }
     }
-}
 
-/// An NDEATH of a node. Of a node that was never heard it changes nothing.
-pub(crate) fn hear_death(nodes: &mut Vec<Entry>, group: &str, node: &str, bd: u8)
-    ensures { nodes.new.items ≡ spec.change_node group.now node.now (λ n. one_node.death n bd) nodes.old.items }
-{
-    match place_of(nodes, group, node) {
-        Some(place) => nodes[place].death(bd),
-        None => {}
+    /// The nodes in their order.
+    pub(crate) fn entries(&self) -> &[Entry]
+        ensures { result.now ≡ self.now }
+    {
+        &self.entries
+    }
+
+    /// The place of the node of these names, if it was heard. Takes no memory.
+    pub(crate) fn place_of(&self, group: &str, node: &str) -> Option<usize>
+        ensures { result ≡ position (spec.is_of group.now node.now) self.now }
+    {
+        self.index.find(group, node)
+    }
+
+    /// A message of a node.
+    pub(crate) fn hear(
+        &mut self,
+        alloc: Global,
+        wait: u64,
+        width: Width,
+        ack: Option<u16>,
+        message: Numbered,
+        now: u64,
+    ) -> Result<Out, AllocError>
+        ensures out { let m = numbered_view message in
+            IfOk result (λ o. out_view o ≡
+            step.message_out (spec.node_or (fresh_node wait width) self.old m.group m.node) ack m now) }
+        ensures nodes { let m = numbered_view message in
+            OnOk result (self.new ≡ spec.put_node m.group m.node
+            (one_node.hand (spec.node_or (fresh_node wait width) self.old m.group m.node) m now) self.old) }
+        ensures unchanged { OnErr result (self.new ≡ self.old) }
+    {
+        match self.place_of(message.group.as_str(), message.node.as_str()) {
+            Some(place) => hear_message(alloc, &mut self.entries[place], ack, message, now),
+            None => hear_first(
+                alloc,
+                &mut self.entries,
+                &mut self.index,
+                wait,
+                width,
+                ack,
+                message,
+                now,
+            ),
+        }
+    }
+
+    /// An NDEATH of a node. Of a node that was never heard it changes nothing.
+    pub(crate) fn hear_death(&mut self, group: &str, node: &str, bd: u8)
+        ensures { self.new ≡ spec.change_node group.now node.now (λ n. one_node.death n bd) self.old }
+    {
+        match self.place_of(group, node) {
+            Some(place) => self.entries[place].death(bd),
+            None => {}
+        }
+    }
+
+    /// A moment, at each node.
+    pub(crate) fn tick(&mut self, now: u64)
+        ensures { self.new ≡ map (step.tick_entry now) self.old }
+    {
+        tick_all(&mut self.entries, now);
+    }
+
+    /// The host's session is over, for each node.
+    pub(crate) fn over(&mut self)
+        ensures { self.new ≡ map step.over_entry self.old }
+    {
+        end_all(&mut self.entries);
     }
 }
 
@@ -115,7 +188,7 @@ pub(crate) fn ask_at(alloc: Global, nodes: &[Entry], now: u64) -> Result<Out, Al
 }
 
 /// A moment, at each node.
-pub(crate) fn tick_all(nodes: &mut [Entry], now: u64)
+fn tick_all(nodes: &mut [Entry], now: u64)
     ensures { nodes.new ≡ map (step.tick_entry now) nodes.old }
 {
     for entry in nodes.iter_mut() {
@@ -124,7 +197,7 @@ pub(crate) fn tick_all(nodes: &mut [Entry], now: u64)
 }
 
 /// The host's session is over, for each node.
-pub(crate) fn end_all(nodes: &mut [Entry])
+fn end_all(nodes: &mut [Entry])
     ensures { nodes.new ≡ map step.over_entry nodes.old }
 {
     for entry in nodes.iter_mut() {

@@ -16,8 +16,8 @@ use Rattle.spk_host_rules.specs.Data.{Event, Gap, Over, Watch}
 use Rattle.spk_host_rules.specs.Step.{after, asked_at}
 use Rattle.spk_host_rules.specs.Step as rules
 use Rattle.spk_host_node.specs.Data.{NodeData}
-use Rattle.spk_host_node.specs.Inputs.{Input, Comes, Dies, Ticks, Ends, asked_in, events_of, heard_at, node_after, node_with, order_after, order_with, since_end}
-use Rattle.spk_host_node.specs.Step.{heard_of, requests, requests_of, watched}
+use Rattle.spk_host_node.specs.Inputs.{Input, Comes, Dies, Ticks, Ends, asked_in, events_of, gap_asked, heard_at, node_after, node_with, order_after, order_with, since_end}
+use Rattle.spk_host_node.specs.Step.{heard_of, requests, requests_of, tick_asks, watched}
 
 -- ---- what the host waits and how many numbers it takes stay
 
@@ -155,3 +155,12 @@ asked_is wait width inputs m now =
     ∙ ap (λ w. requests wait w (heard_of n.order m now)) (watch_is wait width inputs)
     ∙ asked_after wait (heard_of n.order m now) (events_of wait width inputs)
     ∙ ap (λ o. asked_in wait (events_of wait width inputs) (heard_of o m now)) (order_is wait width inputs)
+
+pub gap_is : (wait width : ℕ) (inputs : List Input) (now : ℕ) → tick_asks (node_after wait width inputs) now ≡ gap_asked wait width inputs now
+gap_is wait width inputs now =
+    let n = node_after wait width inputs in
+    let h = node_set wait width inputs in
+    ap (λ k. sequence.is_over n.order.standing now && rules.asks k n.watch (Gap now)) h.wait_is
+    ∙ ap (λ w. sequence.is_over n.order.standing now && rules.asks wait w (Gap now)) (watch_is wait width inputs)
+    ∙ ap (λ (o : Ordered NumberedData). sequence.is_over o.standing now && asked_at wait (events_of wait width inputs) (Gap now))
+    (order_is wait width inputs)

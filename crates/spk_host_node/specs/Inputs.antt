@@ -1,5 +1,5 @@
 -- What a host was told of one node, along any list of calls, newest first.
-use Rattle.std.specs.Prelude.{ℕ, ◌+◌, List, [], ◌∷◌, ◌++◌, reverse, if◌then◌else◌}
+use Rattle.std.specs.Prelude.{ℕ, ◌+◌, Bool, ◌&&◌, List, [], ◌∷◌, ◌++◌, reverse, if◌then◌else◌}
 use Rattle.spk_sequence.specs.Step as sequence
 use Rattle.spk_order.specs.Ordered.{Ordered}
 use Rattle.spk_order.specs.Step.{fresh_order, handed, stands_so}
@@ -62,3 +62,8 @@ events_of wait width (i ∷ before) = heard_at (order_after wait width (since_en
 abbrev pub asked_in : ℕ → List Event → List Event → ℕ
 asked_in wait before [] = 0
 asked_in wait before (e ∷ later) = (if asked_at wait before e then 1 else 0) + asked_in wait (e ∷ before) later
+
+-- whether a moment is a gap at which a rebirth is asked for, after these calls
+abbrev pub gap_asked : ℕ → ℕ → List Input → ℕ → Bool
+gap_asked wait width inputs now =
+    sequence.is_over (order_after wait width (since_end inputs)).standing now && asked_at wait (events_of wait width inputs) (Gap now)

@@ -3,8 +3,8 @@ ghost use Rattle.std.specs.Prelude.{◌≡◌, ℕ, List};
 ghost use Rattle.spk_host_rules.specs.Showing.{IsShown};
 ghost use Rattle.spk_host_rules.specs.Step.{after};
 ghost use Rattle.spk_reading.specs.Data.{NumberedData};
-ghost use Rattle.spk_host_node.specs.Inputs.{Input, asked_in, events_of, node_after, order_after, since_end};
-ghost use Rattle.spk_host_node.specs.Step.{heard_of, requests_of};
+ghost use Rattle.spk_host_node.specs.Inputs.{Input, asked_in, events_of, gap_asked, node_after, order_after, since_end};
+ghost use Rattle.spk_host_node.specs.Step.{heard_of, requests_of, tick_asks};
 
 use spk_host_rules::laws::shows;
 
@@ -26,6 +26,10 @@ pub fn any_list()
     ensures requests { (wait width : ℕ) (inputs : List Input) (m : NumberedData) (now : ℕ) →
         requests_of (node_after wait width inputs) m now ≡ asked_in wait (events_of wait width inputs)
         (heard_of (order_after wait width (since_end inputs)) m now) }
+
+    // and at a moment exactly where the order has a gap, and one is due at it
+    ensures ticks { (wait width : ℕ) (inputs : List Input) (now : ℕ) →
+        tick_asks (node_after wait width inputs) now ≡ gap_asked wait width inputs now }
 {
     shows();
 }

@@ -2,7 +2,7 @@ use Rattle.std.proofs.Common.{◌≡◌, ◌≤◌, ◌∙◌, ◌++◌, [], ◌
 use Rattle.spk_reading.specs.View.{numbered_view}
 use Rattle.spk_topics.specs.Spark.{named}
 use Rattle.spk_host_node.specs.Step.{requests_of}
-use Rattle.spk_host.specs.Step.{acks, message_out, requests_to, spelled, topics_to}
+use Rattle.spk_host.specs.Step.{acks, requests_to, spelled, topics_to}
 use Rattle.spk_host.proofs.Requests.{requests_cut, same_out, topics_cut}
 use Rattle.spk_host.proofs.messages.hear_message.Goals as goal
 

@@ -1,10 +1,9 @@
 use Rattle.std.proofs.Common.{◌∙◌, ap, refl, ◌++◌, ◌∷◌, []}
 use Rattle.spk_reading.specs.View.{numbered_view}
-use Rattle.spk_host_node.specs.Data.{fresh_node}
 use Rattle.spk_host_node.specs.Step as one_node
 use Rattle.spk_host.specs.Data.{Entry}
 use Rattle.spk_host.specs.Step.{message_out}
-use Rattle.spk_host.proofs.Parts.{entry_of, same_entry}
+use Rattle.spk_host.proofs.Parts.{same_entry}
 use Rattle.spk_host.proofs.nodes.hear_first.Goals as goal
 
 pub returns-clause-out : goal.returns-clause-out
@@ -15,6 +14,6 @@ returns-clause-out c =
 pub returns-clause-nodes : goal.returns-clause-nodes
 returns-clause-nodes c =
     c.push_reserved.ensures.items ∙ ap (λ l. l ++ c.hear_message.new.entry ∷ []) c.in_ok-reserve.ensures.items
-    ∙ ap (λ e. c.args.nodes.now.items ++ e ∷ [])
+    ∙ ap (λ e. c.args.entries.now.items ++ e ∷ [])
     (c.in_ok-out.ensures.entry ∙ ap (λ (e : Entry). record e { kept = one_node.hand e.kept (numbered_view c.args.message) c.args.now }) c.in_ok-entry.ensures
     ∙ same_entry c.as_str-group.ensures.value c.as_str-name.ensures.value refl)

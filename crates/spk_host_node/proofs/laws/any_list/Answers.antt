@@ -2,7 +2,7 @@ use Rattle.std.proofs.Common.{sym, ap}
 use Rattle.spk_host_rules.specs.Data.{Watch}
 use Rattle.spk_host_rules.specs.Showing.{IsShown}
 use Rattle.spk_host_node.specs.Inputs.{events_of}
-use Rattle.spk_host_node.proofs.Along.{asked_is, order_is, watch_is}
+use Rattle.spk_host_node.proofs.Along.{asked_is, gap_is, order_is, watch_is}
 use Rattle.spk_host_node.proofs.laws.any_list.Goals as goal
 
 pub returns-clause-order : goal.returns-clause-order
@@ -17,3 +17,6 @@ returns-clause-shows c = λ wait width inputs.
 
 pub returns-clause-requests : goal.returns-clause-requests
 returns-clause-requests c = asked_is
+
+pub returns-clause-ticks : goal.returns-clause-ticks
+returns-clause-ticks c = gap_is

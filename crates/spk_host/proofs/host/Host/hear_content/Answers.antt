@@ -15,7 +15,7 @@ pub returns-in-Message-clause-out : goal.returns-in-Message-clause-out
 returns-in-Message-clause-out c =
     if_ok c.hear.result c.hear.ensures.out
     (λ o is. is
-    ∙ ap (λ (k : Config). message_out (node_or (fresh_node k.wait k.width) c.self.inside.nodes.items (numbered_view c.in-Message.message).group (numbered_view c.in-Message.message).node)
+    ∙ ap (λ (k : Config). message_out (node_or (fresh_node k.wait k.width) c.self.inside.nodes (numbered_view c.in-Message.message).group (numbered_view c.in-Message.message).node)
     c.args.ack (numbered_view c.in-Message.message) c.args.now) c.config-config.ensures
     ∙ ap (λ (h : HostData). published_out h c.args.ack (Message (numbered_view c.in-Message.message)) c.args.now) c.self.view_is
     ∙ ap (λ t. published_out c.args.self.now c.args.ack (content_view t) c.args.now) (sym c.in-Message.is))
@@ -25,7 +25,7 @@ returns-in-Message-clause-data c =
     on_ok c.hear.result c.hear.ensures.nodes
     (λ is. ap (host_of c.self.inside.session) (is
     ∙ ap (λ (k : Config). put_node (numbered_view c.in-Message.message).group (numbered_view c.in-Message.message).node
-    (one_node.hand (node_or (fresh_node k.wait k.width) c.self.inside.nodes.items (numbered_view c.in-Message.message).group (numbered_view c.in-Message.message).node)
-    (numbered_view c.in-Message.message) c.args.now) c.self.inside.nodes.items) c.config-config.ensures)
+    (one_node.hand (node_or (fresh_node k.wait k.width) c.self.inside.nodes (numbered_view c.in-Message.message).group (numbered_view c.in-Message.message).node)
+    (numbered_view c.in-Message.message) c.args.now) c.self.inside.nodes) c.config-config.ensures)
     ∙ ap (λ (h : HostData). host_of h.session (nodes_after h (Message (numbered_view c.in-Message.message)) c.args.now)) c.self.view_is
     ∙ ap (λ t. host_of c.args.self.now.session (nodes_after c.args.self.now (content_view t) c.args.now)) (sym c.in-Message.is))
