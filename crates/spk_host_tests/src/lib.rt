@@ -2,8 +2,20 @@
 #![tactic(auto)]
 
 #[cfg(test)]
+mod beside_twin;
+#[cfg(test)]
+mod bytes;
+#[cfg(test)]
 mod host;
 #[cfg(test)]
+mod messages;
+#[cfg(test)]
+mod network;
+#[cfg(test)]
 mod node;
+#[cfg(test)]
+mod refused;
+#[cfg(test)]
+mod twin;
 #[cfg(test)]
 mod view;

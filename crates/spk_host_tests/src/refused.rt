@@ -1,0 +1,463 @@
+//! Each refusal of a packet, at each kind of message that can meet it. Topics, payloads and their numbers are by hand from MQTT 3.1.1
+//! (chapter 3) and Sparkplug 3.0.0 (chapters 4 and 6), each message at QoS 0 and at QoS 1, retained. None is acknowledged, and each
+//! leaves the host as it was.
+use crate::bytes::publish;
+use spk_host::{Host, HostConfig, HostFault, Out};
+use spk_sequence::{Phase, Step, Width};
+use std::alloc::{AllocError, Global};
+use std::process::Abort;
+use std::test::Fail;
+
+/// Messages that carry a sequence number.
+const NUMBERED: [&str; 5] = [
+    "spBv1.0/G/NBIRTH/N",
+    "spBv1.0/G/NDATA/N",
+    "spBv1.0/G/DBIRTH/N/D",
+    "spBv1.0/G/DDATA/N/D",
+    "spBv1.0/G/DDEATH/N/D",
+];
+
+/// Messages that carry a `bdSeq`.
+const OF_A_SESSION: [&str; 2] = ["spBv1.0/G/NBIRTH/N", "spBv1.0/G/NDEATH/N"];
+
+/// Messages that carry a timestamp.
+const STAMPED: [&str; 1] = ["spBv1.0/G/NBIRTH/N"];
+
+/// Messages whose payload is read.
+const READ: [&str; 6] = [
+    "spBv1.0/G/NBIRTH/N",
+    "spBv1.0/G/NDEATH/N",
+    "spBv1.0/G/NDATA/N",
+    "spBv1.0/G/DBIRTH/N/D",
+    "spBv1.0/G/DDATA/N/D",
+    "spBv1.0/G/DDEATH/N/D",
+];
+
+/// Messages whose payload isn't read.
+const UNREAD: [&str; 3] = ["spBv1.0/G/NCMD/N", "spBv1.0/G/DCMD/N/D", "spBv1.0/STATE/H"];
+
+/// Topics that are none of Sparkplug's.
+const TOPICS: [&str; 28] = [
+    "",
+    "a/b",
+    "STATE/H",
+    "spBv1.0",
+    "spBv1.0/G",
+    "spBv1.0/STATE",
+    "spBv1.0/STATE/",
+    "spBv1.0/STATE/H/I",
+    "spBv1.0/G/NDATA",
+    "spBv1.0//NDATA/N",
+    "spBv1.0/G//N",
+    "spBv1.0/G/NDATA/",
+    "spBv1.0/G/DDATA//D",
+    "spBv1.0/G/DDATA/N/",
+    "spBv1.0/G/NBIRTH/N/D",
+    "spBv1.0/G/NDEATH/N/D",
+    "spBv1.0/G/NDATA/N/D",
+    "spBv1.0/G/NCMD/N/D",
+    "spBv1.0/G/DBIRTH/N",
+    "spBv1.0/G/DDEATH/N",
+    "spBv1.0/G/DDATA/N",
+    "spBv1.0/G/DCMD/N",
+    "spBv1.0/G/DDATA/N/D/E",
+    "spBv1.0/G/ndata/N",
+    "spBv1.0/G/STATE/N",
+    "spAv1.0/G/NDATA/N",
+    "spBv1.0/G/NDATA/+",
+    "spBv1.0/#/NDATA/N",
+];
+
+/// Bytes that aren't one packet: none, a part of one, one and more, reserved types and flags, QoS 2 and 3, the identifier 0, a topic that is
+/// no text, a remaining length of five bytes.
+const NO_PACKETS: [&[u8]; 14] = [
+    b"",
+    b"0",
+    b"0\x17\x00\x11spBv1.0/G/NDATA/N\x08\x07\x18",
+    b"0\x17\x00\x11spBv1.0/G/NDATA/N\x08\x07\x18\x01\x00",
+    b"\xd0\x00\xd0\x00",
+    b"\x00\x00",
+    b"\xf0\x00",
+    b"\xd1\x00",
+    b"4\x19\x00\x11spBv1.0/G/NDATA/N\x00\x07\x08\x07\x18\x01",
+    b"6\x19\x00\x11spBv1.0/G/NDATA/N\x00\x07\x08\x07\x18\x01",
+    b"2\x19\x00\x11spBv1.0/G/NDATA/N\x00\x00\x08\x07\x18\x01",
+    b"0\x17\x00\x11spBv1.0/G/NDATA/\x00\x08\x07\x18\x01",
+    b"0\x17\x00\x11spBv1.0/G/NDATA/\xff\x08\x07\x18\x01",
+    b"0\xff\xff\xff\xff\x01",
+];
+
+/// A payload's timestamp and a `bdSeq` of 0.
+const BORN: &[u8] = b"\x08\x64\x12\x0b\x0a\x05bdSeq \x08X\x00";
+
+/// These and a sequence number.
+const WHOLE: &[u8] = b"\x08\x64\x12\x0b\x0a\x05bdSeq \x08X\x00\x18\x01";
+
+/// What no payload has behind what is whole: a field without a value, a long tag, a group, its end, wire type 6, field 0, a metric that
+/// ends early, a name that isn't UTF-8, a number of eleven bytes.
+const NO_FIELDS: [&[u8]; 9] = [
+    b"\x08",
+    b"\xff\xff\xff\xff\xff\xff\xff\xff\xff\xff\x01",
+    b"\x0b\x0c",
+    b"\x0c",
+    b"\x0e",
+    b"\x00\x00",
+    b"\x12\x05\x0a",
+    b"\x12\x03\x0a\x01\xff",
+    b"\x18\xff\xff\xff\xff\xff\xff\xff\xff\xff\xff\x01",
+];
+
+/// No sequence number of at most 255: none, 256, 300, 2^32, 2^64 - 1, a first one and then 256, bytes and four bytes in its place.
+const NO_NUMBERS: [&[u8]; 8] = [
+    b"",
+    b"\x18\x80\x02",
+    b"\x18\xac\x02",
+    b"\x18\x80\x80\x80\x80\x10",
+    b"\x18\xff\xff\xff\xff\xff\xff\xff\xff\xff\x01",
+    b"\x18\x05\x18\x80\x02",
+    b"\x1a\x01\x05",
+    b"\x1d\x05\x00\x00\x00",
+];
+
+/// A sequence number, a `bdSeq` of 4, and no timestamp: none, eight bytes in its place, the metric's own.
+const NO_STAMPS: [&[u8]; 3] = [
+    b"\x18\x01\x12\x09\x0a\x05bdSeqX\x04",
+    b"\x09\x64\x00\x00\x00\x00\x00\x00\x00\x18\x01\x12\x09\x0a\x05bdSeqX\x04",
+    b"\x18\x01\x12\x0b\x0a\x05bdSeq\x18\x64X\x04",
+];
+
+/// A timestamp and a sequence number.
+const NUMBER: &[u8] = b"\x08\x64\x18\x01";
+
+/// No `bdSeq` of at most 255: no metric, no value, null, a long of 256, an int of 300, a long of 2^32, an int of -1, a Boolean, a text, a
+/// float, another name, no name, a first one and then one without a value, a number and then a Boolean.
+const NO_SESSIONS: [&[u8]; 14] = [
+    b"",
+    b"\x12\x07\x0a\x05bdSeq",
+    b"\x12\x0b\x0a\x05bdSeq8\x01X\x04",
+    b"\x12\x0a\x0a\x05bdSeqX\x80\x02",
+    b"\x12\x0a\x0a\x05bdSeqP\xac\x02",
+    b"\x12\x0d\x0a\x05bdSeqX\x80\x80\x80\x80\x10",
+    b"\x12\x12\x0a\x05bdSeqP\xff\xff\xff\xff\xff\xff\xff\xff\xff\x01",
+    b"\x12\x09\x0a\x05bdSeqp\x01",
+    b"\x12\x0a\x0a\x05bdSeqz\x014",
+    b"\x12\x0c\x0a\x05bdSeqe\x00\x00\x80\x3f",
+    b"\x12\x09\x0a\x05bdseqX\x04",
+    b"\x12\x02X\x04",
+    b"\x12\x09\x0a\x05bdSeqX\x04\x12\x07\x0a\x05bdSeq",
+    b"\x12\x0b\x0a\x05bdSeqX\x04p\x01",
+];
+
+/// What an NBIRTH is refused for first: it lacks everything; its timestamp and its `bdSeq`; its sequence number and its `bdSeq`; its
+/// sequence number and its timestamp.
+const FIRST: [(&[u8], HostFault); 4] = [
+    (b"", HostFault::NoSeq),
+    (b"\x18\x01", HostFault::NoStamp),
+    (b"\x08\x64", HostFault::NoSeq),
+    (b"\x12\x09\x0a\x05bdSeqX\x04", HostFault::NoSeq),
+];
+
+/// Messages that no refusal concerns, and what becomes of them: the greatest numbers and the earlier ones that don't count, none where none is asked for.
+const ACCEPTED: [(&str, &[u8], Option<Step>); 9] = [
+    (
+        "spBv1.0/G/NBIRTH/M",
+        b"\x18\x80\x02\x18\xff\x01\x08\x64\x12\x0a\x0a\x05bdSeqX\xff\x01",
+        Some(Step::Consumed(1)),
+    ),
+    ("spBv1.0/G/NDATA/M", b"\x18\x00", Some(Step::Consumed(1))),
+    ("spBv1.0/G/DBIRTH/M/D", b"\x18\x01", Some(Step::Consumed(1))),
+    ("spBv1.0/G/DDATA/M/D", b"\x18\x02", Some(Step::Consumed(1))),
+    ("spBv1.0/G/DDEATH/M/D", b"\x18\x03", Some(Step::Consumed(1))),
+    (
+        "spBv1.0/G/NDEATH/M",
+        b"\x12\x07\x0a\x05bdSeq\x12\x0a\x0a\x05bdSeqP\xfe\x01",
+        None,
+    ),
+    ("spBv1.0/G/NDATA/M", b"\x18\x04", Some(Step::Consumed(1))),
+    (
+        "spBv1.0/G/NDEATH/M",
+        b"\x12\x0a\x0a\x05bdSeqP\xff\x01",
+        None,
+    ),
+    ("spBv1.0/G/NDATA/M", b"\x18\x05", Some(Step::NotLive)),
+];
+
+fn text(alloc: Global, words: &str) -> Result<String, AllocError> {
+    match String::from_str(alloc, words) {
+        Ok(text) => Ok(text),
+        Err(_) => String::from_str(alloc, words),
+    }
+}
+
+/// A host that was never within a session.
+fn host(alloc: Global) -> Result<Host, Fail> {
+    let config = HostConfig {
+        name: text(alloc, "H")?,
+        group: text(alloc, "G")?,
+        wait: 2000,
+        keep: 0,
+        width: Width::new(64).ok_or("width")?,
+    };
+    Ok(Host::new(alloc, config)?)
+}
+
+fn begin(host: &mut Host) -> Result<(), HostFault> {
+    if let Err(HostFault::NoMemory) = host.connected(5) {
+        host.connected(5)?;
+    }
+    Ok(())
+}
+
+fn told(host: &mut Host, bytes: &[u8]) -> Result<Out, HostFault> {
+    match host.packet(bytes, 9) {
+        Err(HostFault::NoMemory) => host.packet(bytes, 9),
+        answer => answer,
+    }
+}
+
+/// A PUBLISH, its payload in two parts.
+fn packet(
+    alloc: Global,
+    topic: &str,
+    id: Option<u16>,
+    front: &[u8],
+    rest: &[u8],
+) -> Result<Vec<u8>, AllocError> {
+    let mut payload = Vec::new(alloc);
+    payload.extend_from_slice(front)?;
+    payload.extend_from_slice(rest)?;
+    publish(alloc, topic, id, payload.as_slice())
+}
+
+fn made(
+    alloc: Global,
+    topic: &str,
+    id: Option<u16>,
+    front: &[u8],
+    rest: &[u8],
+) -> Result<Vec<u8>, AllocError> {
+    match packet(alloc, topic, id, front, rest) {
+        Ok(packet) => Ok(packet),
+        Err(_) => packet(alloc, topic, id, front, rest),
+    }
+}
+
+/// A host within a session, after an NBIRTH of the node N under the number 0, with the timestamp 100 and the bdSeq 0.
+fn live(alloc: Global) -> Result<Host, Fail> {
+    let mut host = host(alloc)?;
+    begin(&mut host)?;
+    let birth = made(alloc, "spBv1.0/G/NBIRTH/N", None, BORN, b"\x18\x00")?;
+    let _out = told(&mut host, birth.as_slice())?;
+    Ok(host)
+}
+
+/// A message is refused, at QoS 0 and at QoS 1.
+fn assert_refused(
+    rt: &(impl Abort + AllocGlobal),
+    host: &mut Host,
+    topic: &str,
+    front: &[u8],
+    rest: &[u8],
+    fault: HostFault,
+) -> Result<(), Fail> {
+    for id in [None, Some(7)] {
+        let packet = made(rt.alloc(), topic, id, front, rest)?;
+        let refused = told(host, packet.as_slice()).err();
+        assert_eq!(rt; refused, Some(fault), "{topic} with {rest:?}");
+    }
+    Ok(())
+}
+
+/// The node N alone was heard, is followed, and its message under the number 1 comes next.
+fn assert_as_before(rt: &(impl Abort + AllocGlobal), host: &mut Host) -> Result<(), Fail> {
+    assert_eq!(rt; host.nodes().len(), 1);
+    assert_eq!(rt; host.phase("G", "N"), Phase::Live);
+    let data = made(rt.alloc(), "spBv1.0/G/NDATA/N", Some(7), b"", b"\x18\x01")?;
+    let out = told(host, data.as_slice())?;
+    assert_eq!(rt; out.steps.as_slice(), [Step::Consumed(1)].as_slice());
+    assert_eq!(rt; out.packets.len(), 1);
+    Ok(())
+}
+
+/// Each of these messages is refused so, with each of these ends of its payload.
+fn assert_all_refused(
+    rt: &(impl Abort + AllocGlobal),
+    topics: &[&str],
+    front: &[u8],
+    rests: &[&[u8]],
+    fault: HostFault,
+) -> Result<(), Fail> {
+    let mut host = live(rt.alloc())?;
+    for topic in topics {
+        for rest in rests {
+            assert_refused(rt, &mut host, topic, front, rest, fault)?;
+        }
+    }
+    assert_as_before(rt, &mut host)
+}
+
+#[test]
+fn a_topic_is_judged_before_its_payload(rt: HostRuntime) -> Result<(), Fail> {
+    let payloads: [&[u8]; 2] = [b"\xff", WHOLE];
+    assert_all_refused(
+        &rt,
+        TOPICS.as_slice(),
+        b"",
+        payloads.as_slice(),
+        HostFault::NotSparkplug,
+    )
+}
+
+#[test]
+fn bytes_that_are_no_packet(rt: HostRuntime) -> Result<(), Fail> {
+    let mut host = live(rt.alloc())?;
+    for bytes in NO_PACKETS {
+        assert_eq!(rt;
+            told(&mut host, bytes).err(),
+            Some(HostFault::BadPayload),
+            "{bytes:?}"
+        );
+    }
+    assert_as_before(&rt, &mut host)
+}
+
+#[test]
+fn a_payload_is_read_before_its_numbers_are_judged(rt: HostRuntime) -> Result<(), Fail> {
+    for front in [WHOLE, b""] {
+        assert_all_refused(
+            &rt,
+            READ.as_slice(),
+            front,
+            NO_FIELDS.as_slice(),
+            HostFault::BadPayload,
+        )?;
+    }
+    Ok(())
+}
+
+#[test]
+fn payloads_that_are_not_read_are_not_refused(rt: HostRuntime) -> Result<(), Fail> {
+    let mut host = live(rt.alloc())?;
+    for topic in UNREAD {
+        for rest in NO_FIELDS {
+            let packet = made(rt.alloc(), topic, Some(7), b"", rest)?;
+            let out = told(&mut host, packet.as_slice())?;
+            assert_eq!(rt; out.steps.len(), 0, "{topic}");
+            assert_eq!(rt; out.packets.len(), 1, "{topic}");
+        }
+    }
+    assert_as_before(&rt, &mut host)
+}
+
+#[test]
+fn messages_without_a_sequence_number(rt: HostRuntime) -> Result<(), Fail> {
+    assert_all_refused(
+        &rt,
+        NUMBERED.as_slice(),
+        BORN,
+        NO_NUMBERS.as_slice(),
+        HostFault::NoSeq,
+    )
+}
+
+#[test]
+fn births_without_a_timestamp(rt: HostRuntime) -> Result<(), Fail> {
+    assert_all_refused(
+        &rt,
+        STAMPED.as_slice(),
+        b"",
+        NO_STAMPS.as_slice(),
+        HostFault::NoStamp,
+    )
+}
+
+#[test]
+fn births_and_deaths_without_a_session(rt: HostRuntime) -> Result<(), Fail> {
+    assert_all_refused(
+        &rt,
+        OF_A_SESSION.as_slice(),
+        NUMBER,
+        NO_SESSIONS.as_slice(),
+        HostFault::NoBdSeq,
+    )
+}
+
+#[test]
+fn the_first_fault_of_a_birth(rt: HostRuntime) -> Result<(), Fail> {
+    let mut host = live(rt.alloc())?;
+    for (payload, fault) in FIRST {
+        assert_refused(&rt, &mut host, "spBv1.0/G/NBIRTH/N", b"", payload, fault)?;
+    }
+    assert_as_before(&rt, &mut host)
+}
+
+#[test]
+fn the_greatest_numbers_and_the_last_ones_are_read(rt: HostRuntime) -> Result<(), Fail> {
+    let mut host = live(rt.alloc())?;
+    for (topic, payload, step) in ACCEPTED {
+        let packet = made(rt.alloc(), topic, None, b"", payload)?;
+        let out = told(&mut host, packet.as_slice())?;
+        assert_eq!(rt;
+            out.steps.first().copied(),
+            step,
+            "{topic} with {payload:?}"
+        );
+    }
+    assert_eq!(rt; host.phase("G", "M"), Phase::Dead);
+    Ok(())
+}
+
+/// Outside a session all is refused, whatever the bytes are.
+fn assert_outside(rt: &(impl Abort + AllocGlobal), host: &mut Host) -> Result<(), Fail> {
+    for bytes in NO_PACKETS {
+        assert_eq!(rt;
+            told(host, bytes).err(),
+            Some(HostFault::WrongPhase),
+            "{bytes:?}"
+        );
+    }
+    for topic in READ.iter().chain(UNREAD.iter()) {
+        let packet = made(rt.alloc(), topic, None, b"", WHOLE)?;
+        assert_eq!(rt;
+            told(host, packet.as_slice()).err(),
+            Some(HostFault::WrongPhase)
+        );
+    }
+    assert_eq!(rt; host.tick(9).err(), Some(HostFault::WrongPhase));
+    assert_eq!(rt; host.stop(9).err(), Some(HostFault::WrongPhase));
+    Ok(())
+}
+
+#[test]
+fn outside_a_session_nothing_is_read(rt: HostRuntime) -> Result<(), Fail> {
+    let mut host = host(rt.alloc())?;
+    assert_outside(&rt, &mut host)?;
+    begin(&mut host)?;
+    assert_eq!(rt; host.connected(6).err(), Some(HostFault::WrongPhase));
+    host.ended();
+    assert_outside(&rt, &mut host)?;
+    begin(&mut host)?;
+    if let Err(HostFault::NoMemory) = host.stop(7) {
+        let _out = host.stop(7)?;
+    }
+    assert_outside(&rt, &mut host)?;
+    begin(&mut host)?;
+    let _out = told(&mut host, b"\x20\x02\x00\x05")?;
+    assert_outside(&rt, &mut host)
+}
+
+#[test]
+fn numbers_of_the_refusals(rt: HostRuntime) {
+    let faults = [
+        HostFault::NoMemory,
+        HostFault::NotSparkplug,
+        HostFault::BadPayload,
+        HostFault::NoSeq,
+        HostFault::NoStamp,
+        HostFault::NoBdSeq,
+        HostFault::WrongPhase,
+    ];
+    for (fault, number) in faults.iter().zip([1, 70, 71, 72, 73, 74, 75]) {
+        assert_eq!(rt; fault.number(), number);
+    }
+}
