@@ -13,6 +13,7 @@ pub mod Gives
 pub mod Indexing
 pub mod Keepers
 pub mod Keeping
+pub mod Near
 pub mod Offers
 pub mod Opening
 pub mod Packeted
@@ -27,5 +28,6 @@ pub mod Ruled
 pub mod Sendables
 pub mod Sending
 pub mod Standing
+pub mod Visits
 pub mod Walks
 pub mod Wholes

@@ -1,6 +1,6 @@
 -- A list whose elements are changed one after the other, in place.
-use Rattle.std.proofs.Common.{◌≡◌, ℕ, zero, suc, ◌+◌, ◌<◌, ◌≤◌, List, [], ◌∷◌, ◌++◌, length, map, take, drop, set, get_or, refl, sym, ap, ◌∙◌, arith, append_assoc}
-use Rattle.std.specs.List.{flat_map}
+use Rattle.std.proofs.Common.{◌≡◌, ℕ, zero, suc, ◌+◌, ◌<◌, ◌≤◌, Bool, true, false, ◌||◌, List, [], ◌∷◌, ◌++◌, length, map, take, drop, set, get_or, refl, sym, ap, ◌∙◌, arith, append_assoc}
+use Rattle.std.specs.List.{flat_map, list_any}
 
 -- the first i as they are by now, the others as they will be
 abbrev pub so_far : {X Y : Type 0} → (X → List Y) → (X → List Y) → List X → ℕ → List Y
@@ -34,3 +34,19 @@ pub same-step : {X Y : Type 0} (w : X → Y) (cur : List X) (i : ℕ) (d x new :
 same-step w [] i d x new is same = refl
 same-step w (c ∷ cs) zero d x new is same = ap (λ l. l ∷ map w cs) (same ∙ ap w is)
 same-step w (c ∷ cs) (suc i) d x new is same = ap (λ l. w c ∷ l) (same-step w cs i d x new is same)
+
+-- whether one of the first has passed, one more looked at
+pub any-step : {X : Type 0} (p : X → Bool) (cur : List X) (i : ℕ) (new : X) → i < length cur → list_any p (take (i + 1) (set cur i new)) ≡ list_any p (take i cur) || p new
+any-step p [] i new lt = absurd (omega (arith, lt))
+any-step p (c ∷ cs) zero new lt = last (p new)
+  where
+    last : (b : Bool) → b || false ≡ false || b
+    last true = refl
+    last false = refl
+any-step p (c ∷ cs) (suc i) new lt =
+    let z : suc i + 1 ≡ suc (i + 1) = omega arith in
+    ap (λ j. list_any p (take j (set (c ∷ cs) (suc i) new))) z ∙ ap (λ b. p c || b) (any-step p cs i new (omega (arith, lt))) ∙ more (p c)
+  where
+    more : (b : Bool) → b || (list_any p (take i cs) || p new) ≡ (b || list_any p (take i cs)) || p new
+    more true = refl
+    more false = refl

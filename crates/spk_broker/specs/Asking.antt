@@ -1,9 +1,10 @@
 -- What is asked of connections and sessions by now: of each that hasn't left or ended.
-use Rattle.std.specs.Prelude.{ℕ, Bool, false, ◌&&◌, List, Option, Some, None, is_some, if◌then◌else◌}
+use Rattle.std.specs.Prelude.{◌≡◌, ◌<◌, ℕ, Bool, true, false, ◌&&◌, List, length, get_or, Option, Some, None, is_some, if◌then◌else◌}
 use Rattle.std.specs.List.{flat_map}
 use Rattle.std.specs.Option.{option_map_or}
 use Rattle.std.specs.Str.{bytes_eq}
 use Rattle.spk_broker_rules.specs.Data as plain
+use Rattle.spk_broker_rules.specs.Step.{sits}
 use Rattle.spk_broker.specs.Both.{Both}
 use Rattle.spk_broker.specs.View.{seat_now, guest_now}
 use Rattle.spk_broker.specs.declared.guest.Guest.{Guest}
@@ -38,3 +39,7 @@ guest_here g = if g.gone then None else Some (record { conn = g.conn; heard = g.
 -- how many sends were dropped on the connection that sits here
 abbrev pub drops_at : plain.Seat → ℕ
 drops_at seat = option_map_or (λ (l : plain.Line). l.drops) seat.here 0
+
+-- this connection sits at this place by now
+abbrev pub SitsAt : ℕ → ℕ → List Both → Type 0
+SitsAt conn place seats = (place < length seats) × ((d : Both) → passes (sits conn) (get_or seats place d) ≡ true)

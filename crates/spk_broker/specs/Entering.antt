@@ -28,7 +28,7 @@ acked id s = record s { used = without id s.used; copies = without_id id s.copie
 
 -- the data with the session that was made, or with the line of the one that is taken up
 abbrev pub entered : Entry → plain.Broker → plain.Broker
-entered (Made conn seat) b = record b { made = seat.was.key; guests = other_guests conn b.guests; seats = b.seats ++ seat.was ∷ [] }
+entered (Made conn seat) b = record b { made = seat.value.was.key; guests = other_guests conn b.guests; seats = b.seats ++ seat.value.was ∷ [] }
 entered (Back client line) b = record b {
   guests = other_guests line.conn b.guests;
   seats = changed_at (find (is_away (string_bytes client)) b.seats) (taken_up (line_now line)) b.seats;
@@ -36,7 +36,7 @@ entered (Back client line) b = record b {
 
 -- it is as before the call
 abbrev pub IsWhole : Entry → Type 0
-IsWhole (Made conn seat) = seat ≡ whole seat.was
+IsWhole (Made conn seat) = seat.value ≡ whole seat.value.was
 IsWhole (Back client line) = line_was line ≡ line_now line
 
 -- a session that was made finds room

@@ -7,6 +7,7 @@ use Rattle.spk_packets.specs.Message.{Message, Connect, ConnAck, Publish, PubAck
 use Rattle.spk_topics.specs.Grants.{Grants}
 use Rattle.spk_broker_rules.specs.Data.{Seat}
 use Rattle.spk_broker_rules.specs.Plan.{Act, Opens, At, Hear, Drop, Say, Leave, Tell, Queue, Route, Forget, Accept, Give, Take, Ack, Event, Open, Packet, Fault, Closed, Tick, Refused}
+use Rattle.spk_broker_rules.specs.Lawful.{Rises}
 use Rattle.spk_broker_rules.specs.Table.{Table, has}
 use Rattle.spk_broker_rules.specs.Words.{best}
 
@@ -86,3 +87,8 @@ IsIndex (Some index) seats = AreFiled index seats
 -- an index has all that another one has
 abbrev pub Grown : Grants → Grants → Type 0
 Grown index more = (filter : List ℕ) (key : ℕ) → is_some (tree.get index (filter, key)) ≡ true → is_some (tree.get more (filter, key)) ≡ true
+
+-- where there is an index, the sessions stand in the order of their numbers
+abbrev pub AreInOrder : Option Grants → List Seat → Type 0
+AreInOrder None seats = Unit {0}
+AreInOrder (Some index) seats = (top : ℕ) × Rises 0 top seats

@@ -1,5 +1,6 @@
 pub mod Asking
 pub mod Both
+pub mod Called
 pub mod Changes
 pub mod Connecting
 pub mod Counting

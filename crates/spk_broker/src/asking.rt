@@ -1,11 +1,11 @@
 //! What the rules ask of connections and sessions by now.
-ghost use Rattle.std.specs.Prelude.{◌≡◌, Some, None, is_some, count_by, IfOk};
+ghost use Rattle.std.specs.Prelude.{◌≡◌, Some, None, is_some, count_by, IfOk, true};
 ghost use Rattle.std.specs.List.{flat_map, list_any, position};
 ghost use Rattle.std.specs.Option.{option_and_then, option_map_or};
 ghost use Rattle.spk_session.specs.Step.{is_spent};
 ghost use Rattle.spk_broker_rules.specs.Step.{conn_at, drops_in, is_away, is_guest, is_kept_of, knows, older_in, seat_at, silent_at, sits, welcome_in};
 ghost use Rattle.spk_broker_rules.specs.Words.{option_list};
-ghost use Rattle.spk_broker.specs.Asking.{drops_at, guest_here, guests_now, is_joined_by, passes, seats_now, test_at};
+ghost use Rattle.spk_broker.specs.Asking.{SitsAt, drops_at, guest_here, guests_now, is_joined_by, passes, seats_now, test_at};
 ghost use Rattle.spk_broker.specs.View.{desk_now, seat_now};
 
 use crate::desk::Desk;
@@ -116,6 +116,20 @@ pub(crate) fn is_joined(seats: &[Seat], conn: Conn) -> bool
     ensures { result ≡ is_some (seat_at conn (seats_now seats.now)) }
 {
     has_seat(seats, conn)
+}
+
+/// Whether this connection sits at a place.
+pub(crate) fn sits_at(seats: &[Seat], conn: Conn, place: usize) -> bool
+    ensures { result ≡ true → SitsAt conn place seats.now }
+{
+    place < seats.len() && seats[place].sits(conn)
+}
+
+/// Whether the CONNECT of this connection was accepted, looked at a place first.
+pub(crate) fn is_joined_near(seats: &[Seat], conn: Conn, near: usize) -> bool
+    ensures { result ≡ is_some (seat_at conn (seats_now seats.now)) }
+{
+    sits_at(seats, conn, near) || is_joined(seats, conn)
 }
 
 /// Whether the client has a kept session.
@@ -234,5 +248,12 @@ impl Desk {
         ensures { result ≡ knows (desk_now self.now) conn }
     {
         is_guest(&self.guests, conn) || is_joined(&self.seats, conn)
+    }
+
+    /// Whether this connection is open, looked at a place first.
+    pub(crate) fn knows_near(&self, conn: Conn, near: usize) -> bool
+        ensures { result ≡ knows (desk_now self.now) conn }
+    {
+        sits_at(&self.seats, conn, near) || self.knows(conn)
     }
 }

@@ -9,6 +9,7 @@ ghost use Rattle.spk_broker_rules.specs.Step.{is_full, open_count, step};
 use crate::desk::Desk;
 use crate::fault::BrokerFault;
 use crate::guest::Guest;
+use crate::hints::Hints;
 use crate::out::Conn;
 use indexmap::IndexMap;
 use spk_topics::Tree;
@@ -26,6 +27,8 @@ pub struct Broker {
     pub(crate) tree: Option<Tree>,
     /// How many publishes went without an index.
     pub(crate) slow: u8,
+    /// Where connections sat.
+    pub(crate) hints: Hints,
 }
 
 impl Model for Broker {
@@ -60,6 +63,7 @@ impl Broker {
             },
             tree: None,
             slow: 0,
+            hints: Hints::new(alloc),
         }
     }
 

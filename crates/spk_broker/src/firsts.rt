@@ -7,11 +7,11 @@ ghost use Rattle.spk_broker_rules.specs.Plan.{Packet as PacketEvent};
 ghost use Rattle.spk_broker_rules.specs.Step.{Turn, acts, older_in, seat_at, welcome_in};
 ghost use Rattle.spk_broker.specs.Drafts.{draft_view};
 ghost use Rattle.spk_broker.specs.Endings.{IsReady, Leads};
-ghost use Rattle.spk_broker.specs.Filing.{IsIndex};
+ghost use Rattle.spk_broker.specs.Filing.{AreInOrder, IsIndex};
 ghost use Rattle.spk_broker.specs.Sendable.{IsWritable};
 ghost use Rattle.spk_broker.specs.View.{Stands, desk_now, desk_was, stepped};
 
-use crate::asking::is_joined;
+use crate::asking::is_joined_near;
 use crate::desk::Desk;
 use crate::ending::Ending;
 use crate::out::{Conn, Draft};
@@ -62,6 +62,7 @@ impl Desk {
     ) -> Result<Ending, AllocError>
         requires writable { IsWritable (view packet.now) }
         requires index { IsIndex tree.now (desk_now self.old).seats }
+        requires order { AreInOrder tree.now (desk_now self.old).seats }
         requires keeps { (draft_view draft.old).keeps ≡ [] }
         ensures done { IfOk result (λ e. (t : Turn) → Stands self.old draft.old t
             → Leads self.new draft.new e (acts (next_packet conn (view packet.now)) t)) }
@@ -83,9 +84,11 @@ impl Desk {
         draft: &mut Draft,
         tree: &Option<Tree>,
         conn: Conn,
+        near: usize,
         packet: &Packet,
     ) -> Result<Ending, AllocError>
         requires index { IsIndex tree.now (desk_now self.old).seats }
+        requires order { AreInOrder tree.now (desk_now self.old).seats }
         requires keeps { (draft_view draft.old).keeps ≡ [] }
         requires lawful { IsLawful (desk_was self.old) }
         ensures done { IfOk result (λ e. (seen : Seen) (t : Turn)
@@ -100,7 +103,7 @@ impl Desk {
             self.shut(draft, conn)?;
             return Ok(Ending::Nothing);
         }
-        if is_joined(&self.seats, conn) {
+        if is_joined_near(&self.seats, conn, near) {
             let ending = self.further_packet(draft, tree, conn, packet)?;
             return Ok(ending);
         }
@@ -108,12 +111,13 @@ impl Desk {
         Ok(ending)
     }
 
-    /// A packet of this connection came.
+    /// A packet of this connection came. The connection is looked for at a place first.
     pub(crate) fn draft_packet(
         &mut self,
         draft: &mut Draft,
         tree: &Option<Tree>,
         conn: Conn,
+        near: usize,
         packet: &Packet,
         now: u64,
     ) -> Result<Ending, AllocError>
@@ -127,8 +131,8 @@ impl Desk {
         ensures same { desk_was self.new ≡ desk_was self.old }
     {
         self.at(now);
-        self.hear(conn);
-        let ending = self.judge_packet(draft, tree, conn, packet)?;
+        self.hear(conn, near);
+        let ending = self.judge_packet(draft, tree, conn, near, packet)?;
         Ok(ending)
     }
 }

@@ -23,10 +23,11 @@ use spk_packets::Packet;
 use spk_session::Identifiers;
 use std::alloc::{AllocError, Global};
 
-/// What enters once a call is settled: a session that was made, or the line of the kept one that is taken up.
+/// What enters once a call is settled: a session that was made, or the line of the kept one that is taken up. A session is large, and
+/// each function that has one in its frame clears so much memory in each call.
 #[derive(Debug, Drop)]
 pub(crate) enum Entry {
-    Made { conn: Conn, seat: Seat },
+    Made { conn: Conn, seat: Box<Seat> },
     Back { client: String, line: Line },
 }
 
@@ -214,7 +215,7 @@ impl Desk {
             Entry::Made { conn, seat } => {
                 take_guest(&mut self.guests, conn);
                 self.made = seat.key();
-                self.seats.push_reserved(seat);
+                self.seats.push_reserved(Box::into_inner(seat));
             }
             Entry::Back { client, line } => {
                 take_guest(&mut self.guests, line.conn);
@@ -262,10 +263,8 @@ impl Desk {
         )?;
         self.seats.reserve(1)?;
         let client = String::from_str(self.alloc, client)?;
-        Ok(Entry::Made {
-            conn,
-            seat: Seat::new(self.alloc, key, client, kept, line),
-        })
+        let seat = Box::new(self.alloc, Seat::new(self.alloc, key, client, kept, line))?;
+        Ok(Entry::Made { conn, seat })
     }
 
     /// A kept session is about to be taken up: CONNACK, and what it keeps is sent again.

@@ -4,6 +4,7 @@
 
 mod asking;
 mod broker;
+mod calling;
 mod calls;
 mod connecting;
 mod counting;
@@ -16,6 +17,7 @@ mod giving;
 mod granting;
 mod grants;
 mod guest;
+mod hints;
 mod index;
 mod joining;
 mod letter;

@@ -2,10 +2,11 @@
 ghost use Rattle.std.specs.Prelude.{◌≡◌, ◌∷◌, ◌++◌, [], OnOk, true};
 ghost use Rattle.spk_broker_rules.specs.Plan.{At, Drop, Hear, Leave, Say, Tell, shut};
 ghost use Rattle.spk_broker_rules.specs.Step.{Turn, act, acts};
+ghost use Rattle.spk_broker.specs.Asking.{SitsAt};
 ghost use Rattle.spk_broker.specs.View.{Stands, desk_was};
 ghost use Rattle.spk_broker.specs.declared.out.Draft.{Draft};
 
-use crate::asking::place_of;
+use crate::asking::{place_of, sits_at};
 use crate::desk::Desk;
 use crate::out::{Conn, Draft};
 use crate::{guest, turning};
@@ -20,11 +21,25 @@ impl Desk {
         self.clock = self.clock.max(now);
     }
 
-    /// A packet of this connection came.
-    pub(crate) fn hear(&mut self, conn: Conn)
+    /// A packet of the connection that sits at this place came.
+    fn hear_at(&mut self, conn: Conn, place: usize)
+        requires { SitsAt conn place self.old.seats.items }
         ensures done { (x : Draft) (t : Turn) → Stands self.old x t → Stands self.new x (act (Hear conn) t) }
         ensures same { desk_was self.new ≡ desk_was self.old }
     {
+        let clock = self.clock;
+        self.seats[place].hear(conn, clock);
+    }
+
+    /// A packet of this connection came. It is looked for at a place first.
+    pub(crate) fn hear(&mut self, conn: Conn, near: usize)
+        ensures done { (x : Draft) (t : Turn) → Stands self.old x t → Stands self.new x (act (Hear conn) t) }
+        ensures same { desk_was self.new ≡ desk_was self.old }
+    {
+        if sits_at(&self.seats, conn, near) {
+            self.hear_at(conn, near);
+            return;
+        }
         let clock = self.clock;
         guest::hear(&mut self.guests, conn, clock);
         turning::hear(&mut self.seats, conn, clock);

@@ -5,7 +5,7 @@ ghost use Rattle.spk_topics.specs.Text.{topic_refusal};
 ghost use Rattle.spk_broker_rules.specs.Plan.{next_packet, publish, puback};
 ghost use Rattle.spk_broker_rules.specs.Step.{Turn, acts};
 ghost use Rattle.spk_broker.specs.Drafts.{draft_view};
-ghost use Rattle.spk_broker.specs.Filing.{IsIndex};
+ghost use Rattle.spk_broker.specs.Filing.{AreInOrder, IsIndex};
 ghost use Rattle.spk_broker.specs.Parts.{post_view};
 ghost use Rattle.spk_broker.specs.Plain.{is_plain};
 ghost use Rattle.spk_broker.specs.Sendable.{IsWritable};
@@ -52,6 +52,7 @@ impl Desk {
         post: Post,
     ) -> Result<(), AllocError>
         requires index { IsIndex tree.now (desk_now self.old).seats }
+        requires order { AreInOrder tree.now (desk_now self.old).seats }
         requires id { IfSome id (λ n. (n == 0) ≡ false) }
         ensures done { OnOk result ((t : Turn) → Stands self.old draft.old t
             → Stands self.new draft.new (acts (publish conn id (post_view post)) t)) }
@@ -76,6 +77,7 @@ impl Desk {
         packet: &Packet,
     ) -> Result<(), AllocError>
         requires index { IsIndex tree.now (desk_now self.old).seats }
+        requires order { AreInOrder tree.now (desk_now self.old).seats }
         requires writable { IsWritable (view packet.now) }
         requires plain { is_plain (view packet.now) ≡ true }
         requires empty { (draft_view draft.old).keeps ≡ [] }

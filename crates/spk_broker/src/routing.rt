@@ -1,15 +1,18 @@
 //! Routing: each message that waits goes to all sessions before the next.
-ghost use Rattle.std.specs.Prelude.{◌≡◌, ◌+◌, ◌≤◌, length, OnOk, map};
+ghost use Rattle.std.specs.Prelude.{ℕ, ◌≡◌, ◌+◌, ◌≤◌, List, length, IfSome, OnOk, map};
 ghost use Rattle.std.specs.List.{flat_map};
 ghost use Rattle.indexmap.specs.IndexMap.{spare};
+ghost use Rattle.spk_broker_rules.specs.Lawful.{Rises};
 ghost use Rattle.spk_broker_rules.specs.Plan.{Route};
 ghost use Rattle.spk_broker_rules.specs.Step.{Turn, act, route_one, serve};
+ghost use Rattle.spk_broker.specs.Called.{AreCalled, ArePlaces};
 ghost use Rattle.spk_broker.specs.Drafts.{draft_view};
-ghost use Rattle.spk_broker.specs.Filing.{ArePassed, IsIndex};
+ghost use Rattle.spk_broker.specs.Filing.{AreInOrder, ArePassed, IsIndex};
 ghost use Rattle.spk_broker.specs.Parts.{post_view};
 ghost use Rattle.spk_broker.specs.Rounds.{kept_with, left_of_round, with_round};
 ghost use Rattle.spk_broker.specs.View.{Stands, desk_now, desk_was, how_many, seat_now, seat_was};
 
+use crate::calling::{call, places};
 use crate::desk::{Desk, Stored};
 use crate::index::reach;
 use crate::letter::Letter;
@@ -18,7 +21,7 @@ use crate::post::Post;
 use crate::seat::Seat;
 use indexmap::IndexMap;
 use spk_topics::Tree;
-use std::alloc::AllocError;
+use std::alloc::{AllocError, Global};
 
 /// What a routed message does to all sessions. Those that are known to have no grant that fits are passed over.
 fn visit(
@@ -41,6 +44,18 @@ fn visit(
     Ok(())
 }
 
+/// Where those stand that the index found; none where it isn't known, or one of them isn't there any more.
+fn found_places(alloc: Global, seats: &[Seat], found: &Option<Vec<(u64, u8)>>) -> Option<Vec<usize>>
+    ensures places { IfSome result (λ ps. ArePlaces ps.items seats.now) }
+    ensures others { IfSome result (λ ps. (low top : ℕ) (topic : List ℕ) → Rises low top (flat_map seat_now seats.now)
+        → ArePassed found.now topic (flat_map seat_now seats.now) → AreCalled topic ps.items seats.now) }
+{
+    match found {
+        Some(found) => places(alloc, seats, found),
+        None => None,
+    }
+}
+
 /// What a routed message does to all sessions.
 fn round(
     seats: &mut [Seat],
@@ -48,7 +63,8 @@ fn round(
     post: &Post,
     tree: &Option<Tree>,
 ) -> Result<(), AllocError>
-    requires { IsIndex tree.now (flat_map seat_now seats.old) }
+    requires index { IsIndex tree.now (flat_map seat_now seats.old) }
+    requires order { AreInOrder tree.now (flat_map seat_now seats.old) }
     ensures was { map seat_was seats.new ≡ map seat_was seats.old }
     ensures left { OnOk result (flat_map seat_now seats.new ≡
         left_of_round (serve (post_view post.now)) (flat_map seat_now seats.old)) }
@@ -56,7 +72,13 @@ fn round(
         with_round (serve (post_view post.now)) (flat_map seat_now seats.old) (draft_view draft.old)) }
 {
     let found = reach(tree, post.topic.as_str());
-    visit(seats, draft, post, &found)
+    if tree.is_none() {
+        return visit(seats, draft, post, &found);
+    }
+    let Some(places) = found_places(draft.alloc, seats, &found) else {
+        return visit(seats, draft, post, &found);
+    };
+    call(seats, draft, post, &places)
 }
 
 /// Room for what is to be retained, where the message is.
@@ -87,12 +109,14 @@ impl Desk {
         post: Post,
         tree: &Option<Tree>,
     ) -> Result<(), AllocError>
-        requires { IsIndex tree.now (desk_now self.old).seats }
+        requires index { IsIndex tree.now (desk_now self.old).seats }
+        requires order { AreInOrder tree.now (desk_now self.old).seats }
         ensures done { OnOk result ((t : Turn) → Stands self.old draft.old t
             → Stands self.new draft.new (route_one (post_view post) t)) }
         ensures same { desk_was self.new ≡ desk_was self.old }
         ensures fewer { OnOk result (how_many self.new draft.new ≤ how_many self.old draft.old) }
         ensures index { OnOk result (IsIndex tree.now (desk_now self.new).seats) }
+        ensures order { OnOk result (AreInOrder tree.now (desk_now self.new).seats) }
     {
         round(&mut self.seats, draft, &post, tree)?;
         keep(&mut self.retained, draft, post)?;
@@ -101,7 +125,8 @@ impl Desk {
 
     /// Those that wait are routed, each whole before the next.
     pub(crate) fn route(&mut self, draft: &mut Draft, tree: &Option<Tree>) -> Result<(), AllocError>
-        requires { IsIndex tree.now (desk_now self.old).seats }
+        requires index { IsIndex tree.now (desk_now self.old).seats }
+        requires order { AreInOrder tree.now (desk_now self.old).seats }
         ensures done { OnOk result ((t : Turn) → Stands self.old draft.old t
             → Stands self.new draft.new (act Route t)) }
         ensures same { desk_was self.new ≡ desk_was self.old }

@@ -1,12 +1,12 @@
 //! How sessions come out of a call, and how their connections leave.
 ghost use Rattle.std.specs.Prelude.{◌≡◌, ◌++◌, ◌≤◌, OnOk, Some, is_some, map, true, vec_capacity, vec_len};
-ghost use Rattle.std.specs.List.{flat_map};
+ghost use Rattle.std.specs.List.{flat_map, list_any};
 ghost use Rattle.std.specs.Option.{option_map};
 ghost use Rattle.spk_broker_rules.specs.Step.{left_behind, will_at};
 ghost use Rattle.spk_broker_rules.specs.Words.{option_list};
 ghost use Rattle.spk_broker.specs.Drafts.{draft_view};
 ghost use Rattle.spk_broker.specs.Seats.{seat_dropped, seat_heard};
-ghost use Rattle.spk_broker.specs.Settling.{seat_left};
+ghost use Rattle.spk_broker.specs.Settling.{has_ended, seat_left};
 ghost use Rattle.spk_broker.specs.View.{seat_now, seat_was};
 
 use crate::out::{Conn, Draft};
@@ -15,7 +15,7 @@ use std::alloc::AllocError;
 
 impl Seat {
     /// A packet of this connection came.
-    fn hear(&mut self, conn: Conn, clock: u64)
+    pub(crate) fn hear(&mut self, conn: Conn, clock: u64)
         ensures was { self.new.was ≡ self.old.was }
         ensures now { self.new.now ≡ option_map (seat_heard conn clock) self.old.now }
     {
@@ -152,14 +152,18 @@ pub(crate) fn count_drop(seats: &mut [Seat], conn: Conn)
     }
 }
 
-/// What was drafted of each stands.
-fn settle_each(seats: &mut [Seat])
+/// What was drafted of each stands. Whether one of them ended.
+fn settle_each(seats: &mut [Seat]) -> bool
+    ensures ended { result ≡ list_any has_ended seats.new }
     ensures now { flat_map seat_now seats.new ≡ flat_map seat_now seats.old }
     ensures left { flat_map seat_left seats.new ≡ flat_map seat_now seats.old }
 {
+    let mut ended = false;
     for seat in seats.iter_mut() {
         seat.settle();
+        ended = ended | !seat.is_there();
     }
+    ended
 }
 
 /// What was drafted is taken back.
@@ -179,6 +183,7 @@ pub(crate) fn settle(seats: &mut Vec<Seat>)
     ensures capacity { vec_capacity seats.new ≡ vec_capacity seats.old }
     ensures fewer { vec_len seats.new ≤ vec_len seats.old }
 {
-    settle_each(seats);
-    seats.retain(|seat| seat.is_there());
+    if settle_each(seats) {
+        seats.retain(|seat| seat.is_there());
+    }
 }

@@ -1,3 +1,4 @@
+pub mod Begins
 pub mod Desks
 pub mod Each
 pub mod Hubs

@@ -1,11 +1,11 @@
-use Rattle.std.proofs.Common.{◌≡◌, ◌∙◌, Bool, true, false, cond, [], ◌∷◌, refl, ap, map, Option, Some, None, arith, rules, vec_len}
-use Rattle.std.specs.List.{filter, flat_map}
+use Rattle.std.proofs.Common.{◌≡◌, ◌∙◌, sym, Bool, true, false, not, ◌||◌, cond, List, [], ◌∷◌, refl, ap, map, Option, Some, None, arith, rules, vec_len}
+use Rattle.std.specs.List.{filter, flat_map, list_any}
 use Rattle.std.specs.Option.{is_some}
 use Rattle.std.proofs.lemmas.Fn.{filter_same}
 use Rattle.spk_broker_rules.specs.Data as plain
 use Rattle.spk_broker_rules.specs.Words.{option_list}
 use Rattle.spk_broker.specs.Both.{Both}
-use Rattle.spk_broker.specs.Settling.{seat_left}
+use Rattle.spk_broker.specs.Settling.{has_ended, seat_left}
 use Rattle.spk_broker.specs.View.{seat_now, seat_was}
 use Rattle.spk_broker.proofs.Flats.{filter-flat, filter-map}
 use Rattle.spk_broker.proofs.Refilled.{refilled}
@@ -27,18 +27,35 @@ gone-left b e = ap (λ t. cond t (b.was ∷ []) []) e
 here-left : (b : Both) → stays b ≡ true → seat_left b ≡ b.was ∷ []
 here-left b e = ap (λ t. cond t (b.was ∷ []) []) e
 
-pub returns-clause-was : goal.returns-clause-was
-returns-clause-was c =
+-- where nobody ended all stay
+all-stay : (bs : List Both) → list_any has_ended bs ≡ false → filter stays bs ≡ bs
+all-stay [] e = refl
+all-stay (b ∷ bs) e = by (stays b) refl e (λ f. all-stay bs f)
+  where
+    by : (t : Bool) → stays b ≡ t → not t || list_any has_ended bs ≡ false → (list_any has_ended bs ≡ false → filter stays bs ≡ bs) → cond (stays b) (b ∷ filter stays bs) (filter stays bs) ≡ b ∷ bs
+    by true is f rest = ap (λ t. cond t (b ∷ filter stays bs) (filter stays bs)) is ∙ ap (λ l. b ∷ l) (rest f)
+    by false is f rest = absurd (let z : ⊥ = cc in z)
+
+pub returns-then-settle_each-clause-was : goal.returns-then-settle_each-clause-was
+returns-then-settle_each-clause-was c =
     let back = refilled (vec_len c.args.seats.now) c.settle_each.new.seats c.args.seats.now.items (omega arith) (omega arith) in
     let kept = filter_same _ stays _ (λ x b f' k. search rules) _ _ c.retain.ensures.filtered in
     ap (map seat_was) kept ∙ ap (λ l. map seat_was (filter stays l)) back
     ∙ filter-map stays seat_was seat_left here-left gone-left c.settle_each.new.seats
     ∙ c.settle_each.ensures.left ∙ ap (flat_map seat_now) c.deref_mut.ensures.value
 
-pub returns-clause-now : goal.returns-clause-now
-returns-clause-now c =
+pub returns-then-settle_each-clause-now : goal.returns-then-settle_each-clause-now
+returns-then-settle_each-clause-now c =
     let back = refilled (vec_len c.args.seats.now) c.settle_each.new.seats c.args.seats.now.items (omega arith) (omega arith) in
     let kept = filter_same _ stays _ (λ x b f' k. search rules) _ _ c.retain.ensures.filtered in
     ap (flat_map seat_now) kept ∙ ap (λ l. flat_map seat_now (filter stays l)) back
     ∙ filter-flat stays seat_now gone-now c.settle_each.new.seats
     ∙ c.settle_each.ensures.now ∙ ap (flat_map seat_now) c.deref_mut.ensures.value
+
+pub returns-else-settle_each-clause-was : goal.returns-else-settle_each-clause-was
+returns-else-settle_each-clause-was c =
+    let back = refilled (vec_len c.args.seats.now) c.settle_each.new.seats c.args.seats.now.items (omega arith) (omega arith) in
+    let none : list_any has_ended c.settle_each.new.seats ≡ false = sym c.settle_each.ensures.ended ∙ c.if-settle_each.false in
+    ap (map seat_was) back ∙ ap (map seat_was) (sym (all-stay c.settle_each.new.seats none))
+    ∙ filter-map stays seat_was seat_left here-left gone-left c.settle_each.new.seats
+    ∙ c.settle_each.ensures.left ∙ ap (flat_map seat_now) c.deref_mut.ensures.value

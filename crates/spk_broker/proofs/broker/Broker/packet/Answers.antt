@@ -12,7 +12,10 @@ conclude-requires-clause-stands c =
     (record { is = c.self.view_is; kept = c.self.invariant.sound; empty = c.new-draft.ensures; done = c.draft_packet-drafted.ensures.done; same = c.draft_packet-drafted.ensures.same })
 
 pub invariant_of-self : goal.invariant_of-self
-invariant_of-self c = record {
+invariant_of-self c = record { sound = c.self.invariant.sound; index = c.self.invariant.index }
+
+pub invariant_of-self-2 : goal.invariant_of-self-2
+invariant_of-self-2 c = record {
   sound = kept-to (Packet c.args.conn (view c.args.packet.now) c.args.now) c.args.self.now c.self.inside.desk c.draft_packet-drafted.new.self c.conclude.new.self c.new-draft.result c.draft_packet-drafted.new.draft c.draft_packet-drafted.result c.conclude.result
       (record { is = c.self.view_is; kept = c.self.invariant.sound; empty = c.new-draft.ensures; done = c.draft_packet-drafted.ensures.done; same = c.draft_packet-drafted.ensures.same })
       (record { done = c.conclude.ensures.done; sends = c.conclude.ensures.sends; closes = c.conclude.ensures.closes; variant = c.conclude.ensures.variant; same = c.conclude.ensures.same; settled = c.conclude.ensures.settled });

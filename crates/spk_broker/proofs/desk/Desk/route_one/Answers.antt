@@ -10,10 +10,11 @@ use Rattle.spk_broker.specs.Sendable.{are_sendable}
 use Rattle.spk_broker.specs.Rounds.{kept_with, left_of_round, with_round}
 use Rattle.spk_broker_rules.specs.Step.{serve}
 use Rattle.spk_broker.specs.View.{seat_now}
-use Rattle.spk_broker.specs.Filing.{IsIndex}
+use Rattle.spk_broker.specs.Filing.{AreInOrder, IsIndex}
 use Rattle.spk_broker.proofs.Quiet.{kept-index}
 use Rattle.spk_broker.proofs.Refilled.{refilled}
 use Rattle.spk_broker.proofs.Routes.{RoutedOne, one-fewer, one-stands}
+use Rattle.spk_broker.proofs.Visits.{kept-order}
 use Rattle.spk_broker.proofs.desk.Desk.route_one.Goals as goal
 
 abbrev Good : goal.In_ok-keep → Type 0
@@ -47,4 +48,9 @@ returns-clause-fewer c = one-fewer (post_view c.args.post) c.args.self.now (end 
 pub returns-clause-index : goal.returns-clause-index
 returns-clause-index c =
     subst (IsIndex c.args.tree.now) (sym (facts c c.self-2-1.given.0).seats)
-    (kept-index c.args.tree.now (post_view c.args.post) (flat_map seat_now c.args.self.now.seats.items) c.requires)
+    (kept-index c.args.tree.now (post_view c.args.post) (flat_map seat_now c.args.self.now.seats.items) c.requires.index)
+
+pub returns-clause-order : goal.returns-clause-order
+returns-clause-order c =
+    subst (AreInOrder c.args.tree.now) (sym (facts c c.self-2-1.given.0).seats)
+    (kept-order c.args.tree.now (post_view c.args.post) (flat_map seat_now c.args.self.now.seats.items) c.requires.order)

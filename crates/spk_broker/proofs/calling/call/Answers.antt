@@ -1,0 +1,34 @@
+use Rattle.std.proofs.Common.{◌∙◌, ap, get_or, refl}
+use Rattle.spk_broker_rules.specs.Step.{serve}
+use Rattle.spk_broker.specs.Drafts.{draft_view, left_by, served_by}
+use Rattle.spk_broker.specs.Parts.{post_view}
+use Rattle.spk_broker.proofs.Rounds.{was-step}
+use Rattle.spk_broker.proofs.Visits.{calling-end, calling-step}
+use Rattle.spk_broker.proofs.calling.call.Goals as goal
+
+pub returns-in_err-serve-clause-was : goal.returns-in_err-serve-clause-was
+returns-in_err-serve-clause-was c =
+    was-step c.loop-place.seats (get_or c.args.places.now c.loop-place.place-index 0) c.index-seats-place.result _ c.serve.new.self refl c.serve.ensures.was ∙ c.loop-place.invariant.calling.was
+
+pub loop-place-preserved : goal.loop-place-preserved
+loop-place-preserved c =
+    let m = post_view c.args.post.now in
+    let same = c.loop-place.invariant.letter in
+    let x = get_or c.loop-place.seats (get_or c.args.places.now c.loop-place.place-index 0) c.index-seats-place.result in
+    record {
+      letter = c.serve.ensures.letter ∙ same;
+      calling = calling-step m c.args.places.now c.loop-place.place-index c.args.seats.now c.loop-place.seats (draft_view c.args.draft.now) (draft_view c.loop-place.draft) (draft_view c.serve.new.draft)
+          c.index-seats-place.result x c.serve.new.self c.loop-place.invariant.calling c.requires.places c.loop-place-test.true refl c.serve.ensures.was
+          (c.in_ok-serve.ensures.left ∙ ap (λ k. left_by (serve k) x.now) same)
+          (c.in_ok-serve.ensures.drafted ∙ ap (λ k. served_by (serve k) x.now (draft_view c.loop-place.draft)) same);
+    }
+
+pub returns-clause-left : goal.returns-clause-left
+returns-clause-left c =
+    (calling-end (post_view c.args.post.now) c.args.places.now c.loop-place.place-index c.args.seats.now c.loop-place.seats (draft_view c.args.draft.now) (draft_view c.loop-place.draft)
+    c.loop-place.invariant.calling c.loop-place-test.false).0
+
+pub returns-clause-drafted : goal.returns-clause-drafted
+returns-clause-drafted c =
+    (calling-end (post_view c.args.post.now) c.args.places.now c.loop-place.place-index c.args.seats.now c.loop-place.seats (draft_view c.args.draft.now) (draft_view c.loop-place.draft)
+    c.loop-place.invariant.calling c.loop-place-test.false).1

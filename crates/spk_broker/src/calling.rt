@@ -1,0 +1,86 @@
+//! Which sessions a message calls at: those that the index found, each by its number.
+ghost use Rattle.std.specs.Prelude.{ℕ, ◌≡◌, ◌+◌, ◌<◌, IfSome, OnOk, length, map};
+ghost use Rattle.std.specs.List.{flat_map};
+ghost use Rattle.spk_broker_rules.specs.Lawful.{Rises};
+ghost use Rattle.spk_broker_rules.specs.Step.{serve};
+ghost use Rattle.spk_broker.specs.Asking.{passes};
+ghost use Rattle.spk_broker.specs.Called.{AreAllFound, AreCalled, ArePlaces, StandsAt, has_number};
+ghost use Rattle.spk_broker.specs.Drafts.{draft_view};
+ghost use Rattle.spk_broker.specs.Parts.{post_view};
+ghost use Rattle.spk_broker.specs.Rounds.{left_of_round, with_round};
+ghost use Rattle.spk_broker.specs.View.{seat_now, seat_was};
+
+use crate::letter::Letter;
+use crate::out::Draft;
+use crate::post::Post;
+use crate::seat::Seat;
+use std::alloc::{AllocError, Global};
+
+impl Seat {
+    /// Whether it has this number and didn't end.
+    fn has_number(&self, key: u64) -> bool
+        ensures { result ≡ passes (has_number key) self.now }
+    {
+        !self.ended && self.key == key
+    }
+}
+
+/// Where a session of this number may stand: sessions stand in the order of their numbers.
+fn guess(seats: &[Seat], key: u64) -> usize {
+    match seats.binary_search_by_key(&key, |seat| seat.key()) {
+        Ok(place) => place,
+        Err(place) => place,
+    }
+}
+
+/// Where the session of this number stands, if it does and no further ahead than here.
+fn place_from(seats: &[Seat], from: usize, key: u64) -> Option<usize>
+    ensures low { IfSome result (λ p. p < length seats.now) }
+    ensures behind { IfSome result (λ p. from < p + 1) }
+    ensures here { IfSome result (λ p. StandsAt key p seats.now) }
+{
+    let place = guess(seats, key);
+    if place < from || place >= seats.len() || !seats[place].has_number(key) {
+        return None;
+    }
+    Some(place)
+}
+
+/// The places of the sessions that were found; none where one of them isn't there any more, or memory was refused.
+pub(crate) fn places(alloc: Global, seats: &[Seat], found: &[(u64, u8)]) -> Option<Vec<usize>>
+    ensures places { IfSome result (λ ps. ArePlaces ps.items seats.now) }
+    ensures others { IfSome result (λ ps. (low top : ℕ) → Rises low top (flat_map seat_now seats.now) → AreAllFound found.now ps.items seats.now) }
+{
+    let mut places = Vec::new(alloc);
+    let mut from = 0;
+    for entry in found {
+        let place = place_from(seats, from, entry.0)?;
+        if places.push(place).is_err() {
+            return None;
+        }
+        from = place + 1;
+    }
+    Some(places)
+}
+
+/// What a routed message does to the sessions at these places, where it does nothing to any other.
+pub(crate) fn call(
+    seats: &mut [Seat],
+    draft: &mut Draft,
+    post: &Post,
+    places: &[usize],
+) -> Result<(), AllocError>
+    requires places { ArePlaces places.now seats.old }
+    requires others { AreCalled (post_view post.now).topic places.now seats.old }
+    ensures was { map seat_was seats.new ≡ map seat_was seats.old }
+    ensures left { OnOk result (flat_map seat_now seats.new ≡
+        left_of_round (serve (post_view post.now)) (flat_map seat_now seats.old)) }
+    ensures drafted { OnOk result (draft_view draft.new ≡
+        with_round (serve (post_view post.now)) (flat_map seat_now seats.old) (draft_view draft.old)) }
+{
+    let mut letter = Letter::new(post);
+    for place in places {
+        seats[*place].serve(draft, &mut letter)?;
+    }
+    Ok(())
+}
