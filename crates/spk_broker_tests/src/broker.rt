@@ -9,7 +9,7 @@ use std::test::Fail;
 
 /// What comes to the broker.
 #[derive(Drop)]
-enum Event {
+pub(crate) enum Event {
     Opens,
     Says(&'static [u8]),
     /// Bytes of another protocol level.
@@ -20,10 +20,10 @@ enum Event {
     Drops,
 }
 
-type Sends = &'static [(Conn, &'static [u8])];
+pub(crate) type Sends = &'static [(Conn, &'static [u8])];
 
 /// Of which connection, what, and when; then what is sent, and who is closed.
-type Row = (Conn, Event, u64, Sends, &'static [Conn]);
+pub(crate) type Row = (Conn, Event, u64, Sends, &'static [Conn]);
 
 fn call(
     alloc: Global,
@@ -42,7 +42,8 @@ fn call(
         }
         Event::Says(bytes) => match decode(alloc, bytes) {
             Ok((packet, _)) => broker.packet(conn, &packet, now),
-            Err(_) => Err(BrokerFault::NoMemory),
+            Err(PacketFault::NoMemory) => Err(BrokerFault::NoMemory),
+            Err(fault) => broker.fault(conn, fault, now),
         },
         Event::Faults => broker.fault(conn, PacketFault::BadLevel, now),
         Event::Ends => broker.closed(conn, now),
@@ -52,7 +53,7 @@ fn call(
 }
 
 /// The call, made again where memory was refused.
-fn answer(
+pub(crate) fn answer(
     alloc: Global,
     broker: &mut Broker,
     conn: Conn,
@@ -66,7 +67,7 @@ fn answer(
 }
 
 /// Whether exactly this is sent and closed, in this order.
-fn is_right(out: &Out, sends: &[(Conn, &[u8])], closes: &[Conn]) -> bool {
+pub(crate) fn is_right(out: &Out, sends: &[(Conn, &[u8])], closes: &[Conn]) -> bool {
     if out.sends.len() != sends.len() {
         return false;
     }
@@ -79,7 +80,11 @@ fn is_right(out: &Out, sends: &[(Conn, &[u8])], closes: &[Conn]) -> bool {
 }
 
 /// How many rows are right before the first that isn't.
-fn plays(alloc: Global, broker: &mut Broker, rows: &[Row]) -> Result<usize, BrokerFault> {
+pub(crate) fn plays(
+    alloc: Global,
+    broker: &mut Broker,
+    rows: &[Row],
+) -> Result<usize, BrokerFault> {
     for (place, (conn, event, now, sends, closes)) in rows.iter().enumerate() {
         let out = answer(alloc, broker, *conn, event, *now)?;
         if !is_right(&out, sends, closes) {
@@ -90,13 +95,13 @@ fn plays(alloc: Global, broker: &mut Broker, rows: &[Row]) -> Result<usize, Brok
 }
 
 /// CONNECT with clean session 1, keep alive 60 and no client id.
-const HELLO: &[u8] = b"\x10\x0c\x00\x04MQTT\x04\x02\x00\x3c\x00\x00";
+pub(crate) const HELLO: &[u8] = b"\x10\x0c\x00\x04MQTT\x04\x02\x00\x3c\x00\x00";
 /// The client `x` with clean session 1, and with clean session 0.
-const X: &[u8] = b"\x10\x0d\x00\x04MQTT\x04\x02\x00\x3c\x00\x01x";
+pub(crate) const X: &[u8] = b"\x10\x0d\x00\x04MQTT\x04\x02\x00\x3c\x00\x01x";
 
 const X_STAYS: &[u8] = b"\x10\x0d\x00\x04MQTT\x04\x00\x00\x3c\x00\x01x";
 /// CONNACK: accepted, without and with a session present.
-const WELCOME: &[u8] = b"\x20\x02\x00\x00";
+pub(crate) const WELCOME: &[u8] = b"\x20\x02\x00\x00";
 
 const WELCOME_BACK: &[u8] = b"\x20\x02\x01\x00";
 

@@ -2,6 +2,14 @@
 #![tactic(auto)]
 
 #[cfg(test)]
+mod beside_twin;
+#[cfg(test)]
 mod broker;
 #[cfg(test)]
+mod hostile;
+#[cfg(test)]
+mod limits;
+#[cfg(test)]
 mod serve;
+#[cfg(test)]
+mod twin;
