@@ -1,13 +1,13 @@
 -- Streams that are read one piece behind the other.
-use Rattle.std.proofs.Common.{◌≡◌, ℕ, ◌+◌, List, [], ◌∷◌, ◌++◌, map, ◌≤◌, ◌-◌, take, drop, length, Option, Some, None, Result, Ok, Err, OnOk, OnErr, IfErr, inl, inr, ◌≢◌, refl, sym, ◌∙◌, ap, subst, arith, drop-drop, length-drop}
-use Rattle.std.proofs.lemmas.List.{append_assoc, append-nil, take-append-drop}
+use Rattle.std.proofs.Common.{◌≡◌, ℕ, ◌+◌, ◌*◌, List, [], ◌∷◌, ◌++◌, map, ◌≤◌, ◌-◌, take, drop, length, Option, Some, None, Result, Ok, Err, OnOk, OnErr, IfErr, inl, inr, ◌≢◌, refl, sym, ◌∙◌, ap, subst, arith, drop-drop, length-drop}
+use Rattle.std.proofs.lemmas.List.{append_assoc, append-nil, length-append, length-take-le, take-append-drop}
 use Rattle.std.proofs.lemmas.List.Folds.{concat-append}
 use Rattle.std.specs.List.{concat}
 use Rattle.std.specs.Io.KnownBytes.{Consumes, Keeps, IsAtEnd}
 use Rattle.spk_ingress.specs.Frame.{IsOnePacket}
 use Rattle.spk_ingress.specs.declared.frame.Frame.{Frame}
 use Rattle.spk_ingress.specs.declared.frame.Frame.TheVariants as frame
-use Rattle.spk_engines.specs.Reading.{AllPackets, Cuts, Reads, WantsMore, Ends, IsWhole, IsPart, IsFront, IsPiece}
+use Rattle.spk_engines.specs.Reading.{AllPackets, Cuts, Reads, WantsMore, Ends, IsWhole, IsPart, IsFront, IsPiece, ReadsUpTo}
 use Rattle.spk_packets.specs.declared.fault.PacketFault.{PacketFault}
 use Rattle.spk_packets.specs.Fault.{first_of}
 use Rattle.spk_packets.specs.Refusals.{refusals}
@@ -104,6 +104,26 @@ reads_more a b c waits piece rest p q r f g h =
 -- nothing more
 pub reads_same : (a b c : Option (List ℕ)) (waits : List ℕ) (p q : List Frame) → Reads a b waits p q → Consumes b c [] → Reads a c waits p q
 reads_same a b c waits p q f g = (f.0, subst (Consumes a c) (append-nil f.0) (consumes_then a b c f.0 [] f.1 g), f.2)
+
+-- nothing was read yet
+pub upto_none : (a : Option (List ℕ)) → ReadsUpTo 0 a a
+upto_none None = ([], tt, omega arith)
+upto_none (Some l) = ([], refl, omega arith)
+
+-- a piece more
+pub upto_piece : (a b c : Option (List ℕ)) (turn turns n : ℕ) (piece : List ℕ) → ReadsUpTo (65536 * turn) a b → IsPiece b c piece (Some n) → length piece ≡ 65536 → turn + 1 ≤ turns → ReadsUpTo (65536 * turns) a c
+upto_piece a b c turn turns n piece f g e l = (
+  f.0 ++ take n piece,
+  consumes_then a b c f.0 (take n piece) f.1 g.1,
+  (let both : length (f.0 ++ take n piece) ≡ length f.0 + length (take n piece) = length-append f.0 (take n piece) in
+      let part : length (take n piece) ≡ n = length-take-le n piece g.0 in
+      let most : n ≤ length piece = g.0 in
+      let before : length f.0 ≤ 65536 * turn = f.2 in omega arith),
+)
+
+-- nothing more
+pub upto_same : (a b c : Option (List ℕ)) (m n : ℕ) → ReadsUpTo m a b → Consumes b c [] → m ≤ n → ReadsUpTo n a c
+upto_same a b c m n f g l = (f.0, subst (Consumes a c) (append-nil f.0) (consumes_then a b c f.0 [] f.1 g), (let before : length f.0 ≤ m = f.2 in omega arith))
 
 -- of nothing, more is wanted
 pub wants_start : WantsMore []

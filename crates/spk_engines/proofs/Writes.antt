@@ -1,6 +1,6 @@
 -- Items that are written one behind the other.
-use Rattle.std.proofs.Common.{◌≡◌, ℕ, List, [], ◌∷◌, ◌++◌, Option, Some, None, refl, sym, ◌∙◌, ap}
-use Rattle.std.proofs.lemmas.List.{append_assoc, append-nil}
+use Rattle.std.proofs.Common.{◌≡◌, ℕ, ◌+◌, ◌≤◌, length, arith, List, [], ◌∷◌, ◌++◌, Option, Some, None, refl, sym, ◌∙◌, ap}
+use Rattle.std.proofs.lemmas.List.{append_assoc, append-nil, length-append}
 use Rattle.std.specs.Io.KnownBytes.{Appends}
 use Rattle.spk_rings.specs.declared.item.Item.{Item}
 use Rattle.spk_rings.specs.declared.inlet.Inlet.{Inlet}
@@ -44,6 +44,13 @@ writes_item a b t u v i w e = record {
   parts = ap (λ l. l ++ i.bytes) (sym (append-nil w.bytes) ∙ w.parts) ∙ sym (bytes_end w.items i);
   wrote = w.wrote;
 }
+
+-- one item was taken in a turn, or none
+pub took_one : (t u v : List Item) (i : Item) (n k : ℕ) → length t ≤ n + k → u ≡ t → v ≡ u ++ i ∷ [] → length v ≤ n + (k + 1)
+took_one t u v i n k most same more = (let long : length v ≡ length t + 1 = ap length more ∙ length-append u (i ∷ []) ∙ ap (λ l. length l + 1) same in omega arith)
+
+pub took_none : (t v : List Item) (n k : ℕ) → length t ≤ n + k → v ≡ t → length v ≤ n + (k + 1)
+took_none t v n k most same = (let long : length v ≡ length t = ap length same in omega arith)
 
 pub same_then : (a b c : Inlet) → SameInlet a b → SameInlet b c → SameInlet a c
 same_then a b c s t = (t.0 ∙ s.0, t.1 ∙ s.1, t.2 ∙ s.2, t.3 ∙ s.3)

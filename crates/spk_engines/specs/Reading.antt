@@ -27,6 +27,10 @@ pub record Cuts (bytes rest : List ℕ) (put_before put : List Frame) : Type 0 w
 abbrev pub Reads : Option (List ℕ) → Option (List ℕ) → List ℕ → List Frame → List Frame → Type 0
 Reads left_before left rest put_before put = (bytes : List ℕ) × Consumes left_before left bytes × Cuts bytes rest put_before put
 
+-- at most so many bytes were read, where it is known what the reader has left
+abbrev pub ReadsUpTo : ℕ → Option (List ℕ) → Option (List ℕ) → Type 0
+ReadsUpTo most left_before left = (bytes : List ℕ) × Consumes left_before left bytes × (length bytes ≤ most)
+
 -- no packet stands at the front, and more bytes might make it one
 abbrev pub WantsMore : List ℕ → Type 0
 WantsMore rest = first_of (refusals rest) ≡ Some packet.More

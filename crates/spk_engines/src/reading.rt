@@ -1,11 +1,11 @@
 //! The engine that reads.
-ghost use Rattle.std.specs.Prelude.{◌≡◌, List, ℕ, ◌≢◌, ◌<◌, ◌≤◌, [], ◌∷◌, ◌++◌, length, take, drop, vec_len, Some, OnOk, IfOk, IfErr, OnErr};
+ghost use Rattle.std.specs.Prelude.{◌≡◌, List, ℕ, ◌*◌, ◌≢◌, ◌<◌, ◌≤◌, [], ◌∷◌, ◌++◌, length, take, drop, vec_len, Some, OnOk, IfOk, IfErr, OnErr};
 ghost use Rattle.std.specs.Io.KnownBytes.{Consumes, IsAtEnd};
 ghost use Rattle.spk_packets.specs.Fault.{first_of};
 ghost use Rattle.spk_packets.specs.Refusals.{refusals};
 ghost use Rattle.spk_ingress.specs.Frame.{IsOnePacket};
 ghost use Rattle.spk_ingress.specs.Passes.{PutsInto, frames_put};
-ghost use Rattle.spk_engines.specs.Reading.{Cuts, Reads, WantsMore, Ends, IsWhole, IsPart, IsFront, Stops, IsPiece, TakesIn};
+ghost use Rattle.spk_engines.specs.Reading.{Cuts, Reads, WantsMore, Ends, IsWhole, IsPart, IsFront, Stops, IsPiece, ReadsUpTo, TakesIn};
 
 use crate::device::Failures;
 use crate::fault::EngineFault;
@@ -183,6 +183,7 @@ pub fn read_frames<R: Wait, S: Read + Failures>(
     ensures part { OnErr result (IsPart (S.remaining reader.old) (S.remaining reader.new)
         (frames_put pass.old) (frames_put pass.new)) }
     ensures device { IfErr result (λ e. e ≡ EngineFault.Device → S.count reader.old < S.count reader.new) }
+    ensures turns { ReadsUpTo (65536 * turns) (S.remaining reader.old) (S.remaining reader.new) }
 {
     let before = reader.failures();
     let mut waiting = Vec::new(alloc);
@@ -190,7 +191,7 @@ pub fn read_frames<R: Wait, S: Read + Failures>(
         Ok(piece) => piece,
         Err(fault) => return Err(fault),
     };
-    for _ in 0..turns {
+    for _turn in 0..turns {
         let count = match read_piece(reader, &mut piece, before) {
             Ok(Some(count)) => count,
             Ok(None) => continue,

@@ -1,5 +1,5 @@
 //! The engine that writes.
-ghost use Rattle.std.specs.Prelude.{◌≡◌, ◌<◌, ◌≤◌, List, ℕ, [], ◌∷◌, ◌++◌, length, take, drop, Some, None, OnOk, IfOk, IfErr, OnErr};
+ghost use Rattle.std.specs.Prelude.{◌≡◌, ◌+◌, ◌<◌, ◌≤◌, List, ℕ, [], ◌∷◌, ◌++◌, length, take, drop, Some, None, OnOk, IfOk, IfErr, OnErr};
 ghost use Rattle.std.specs.Io.KnownBytes.{Appends};
 ghost use Rattle.spk_rings.specs.Ring.{SameInlet, popped};
 ghost use Rattle.spk_engines.specs.Writing.{Writes, rest_of, IsWithin};
@@ -68,10 +68,11 @@ pub fn write_items<W: Write + Failures>(
     ensures part { OnErr result ((rest : List ℕ)
         × Writes (W.contents writer.old) (W.contents writer.new) (popped inlet.old) (popped inlet.new) rest) }
     ensures device { IfErr result (λ e. e ≡ EngineFault.Device → W.count writer.old < W.count writer.new) }
+    ensures turns { length (popped inlet.new) ≤ length (popped inlet.old) + turns }
 {
     let before = writer.failures();
     let mut current: Option<Underway> = None;
-    for _ in 0..turns {
+    for _turn in 0..turns {
         match current {
             Some(underway) => match write_some(writer, underway, before) {
                 Ok(next) => current = next,

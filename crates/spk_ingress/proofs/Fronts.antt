@@ -1,5 +1,5 @@
 -- What the packet reader answers of bytes that are one packet.
-use Rattle.std.proofs.Common.{◌≡◌, ℕ, ◌<◌, ◌≤◌, List, length, refl, sym, ◌∙◌, ap, arith, take, Result, Ok, Err, subst}
+use Rattle.std.proofs.Common.{◌≡◌, ℕ, ◌<◌, List, length, refl, sym, ap, arith, take, Ok, subst}
 use Rattle.std.proofs.Math.Seq.{take-length}
 use Rattle.spk_packets.specs.Message.{Message}
 use Rattle.spk_packets.specs.Grammar.{Spells}

@@ -1,6 +1,6 @@
 -- Passes that are given back.
-use Rattle.std.proofs.Common.{◌≡◌, ◌≢◌, ℕ, ◌+◌, ◌<◌, Bool, true, false, ◌||◌, eqb, List, [], ◌∷◌, ◌++◌, length, set, get_or, refl, sym, ◌∙◌, ap, arith, inl, inr, subst, length-append}
-use Rattle.std.proofs.lemmas.Bool.{cases_eq, eq-eqb, ne_eqb, or_left, or_right}
+use Rattle.std.proofs.Common.{◌≡◌, ℕ, ◌+◌, ◌<◌, Bool, true, false, ◌||◌, eqb, List, [], ◌∷◌, ◌++◌, length, set, get_or, refl, sym, ◌∙◌, ap, arith, inl, inr, subst, length-append}
+use Rattle.std.proofs.lemmas.Bool.{cases_eq, eq-eqb, ne_eqb, or_left}
 use Rattle.std.proofs.lemmas.List.{get_or-set_same, get_or-set_other, length-set}
 use Rattle.spk_ingress.specs.declared.frame.Frame.{Frame}
 use Rattle.spk_ingress.specs.declared.rule.Message.{Message}
@@ -32,6 +32,14 @@ share_all i taken items put e l = none_left (share_of i taken) (share_of i items
 pub put_into_front : (n : Ingress) (ps : List PutPass) (p : PutPass) → AllPutInto n (ps ++ p ∷ []) → AllPutInto n ps × PutsInto n p
 put_into_front n [] p all = (tt, all.0)
 put_into_front n (q ∷ ps) p all = (let r : AllPutInto n ps × PutsInto n p = put_into_front n ps p all.1 in ((all.0, r.0), r.1))
+
+with_last : (n : Ingress) (ps : List PutPass) (p : PutPass) → AllPutInto n ps → PutsInto n p → AllPutInto n (ps ++ p ∷ [])
+with_last n [] p all one = (one, tt)
+with_last n (q ∷ ps) p all one = (all.0, with_last n ps p all.1 one)
+
+-- one pass more
+pub all_with : (n : Ingress) (ps qs : List PutPass) (p : PutPass) → AllPutInto n ps → PutsInto n p → qs ≡ ps ++ p ∷ [] → AllPutInto n qs
+all_with n ps qs p all one is = subst (λ (l : List PutPass). AllPutInto n l) (sym is) (with_last n ps p all one)
 
 pub taken_middle : (taken : List Message) (ps done : List PutPass) (p : PutPass) → AllTaken taken (ps ++ p ∷ done) → share_of p.sender taken ≡ frames_put p
 taken_middle taken [] done p all = all.0

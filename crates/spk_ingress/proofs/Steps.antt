@@ -1,6 +1,6 @@
 -- Each step of the channel keeps the rule.
-use Rattle.std.proofs.Common.{◌≡◌, ◌≢◌, ℕ, suc, ◌+◌, ◌<◌, ◌≤◌, ◌^◌, ◌⊎◌, Bool, true, false, cond, eqb, List, [], ◌∷◌, ◌++◌, length, set, refl, sym, ◌∙◌, ap, arith, inl, inr, subst, ⊎_elim, append_assoc, length-append}
-use Rattle.std.proofs.lemmas.Bool.{cases_lt, cases_eq, cases_Bool, eq-eqb, ne_eqb}
+use Rattle.std.proofs.Common.{◌≡◌, ◌≢◌, ℕ, ◌+◌, ◌<◌, ◌≤◌, ◌^◌, cond, eqb, List, [], ◌∷◌, ◌++◌, length, set, refl, sym, ◌∙◌, ap, arith, inl, inr, subst, ⊎_elim, append_assoc, length-append}
+use Rattle.std.proofs.lemmas.Bool.{cases_lt, cases_eq, eq-eqb, ne_eqb}
 use mathlib.Core.Option.{some}
 use lib.ListN.{get_elem?}
 use Rattle.crossbeam_channel.specs.Fifo.{Pushes, Pops, Forks, Merges, Learns}
@@ -10,7 +10,7 @@ use Rattle.spk_ingress.specs.declared.rule.Message.{Message}
 use Rattle.spk_ingress.specs.declared.rule.Ended.{Ended}
 use Rattle.spk_ingress.specs.declared.rule.View.{View}
 use Rattle.spk_ingress.specs.declared.rule.View.TheVariants.{Puts, Takes, Spent}
-use Rattle.spk_ingress.specs.Lanes.{share_of, ended, IsCounted, IsEnded, AreEnded, Fits, Carries, IsTaken, HavePut, AreOnTheWay, after_put, with_sender, new_sender, with_ended}
+use Rattle.spk_ingress.specs.Lanes.{share_of, ended, IsCounted, AreEnded, Fits, Carries, IsTaken, HavePut, AreOnTheWay, after_put, with_sender, new_sender, with_ended}
 use Rattle.spk_ingress.proofs.Shares.{share_more, share_same, share_there}
 use Rattle.spk_ingress.proofs.Views.{All, all_set, at_first, at_end}
 

@@ -1,5 +1,5 @@
 -- A frame is taken.
-use Rattle.std.proofs.Common.{◌≡◌, ◌≢◌, ℕ, ◌+◌, ◌<◌, ◌^◌, List, [], ◌∷◌, ◌++◌, length, set, get_or, refl, sym, ◌∙◌, ap, arith, inl, inr, subst, length-append}
+use Rattle.std.proofs.Common.{◌≡◌, ℕ, ◌+◌, ◌<◌, ◌^◌, List, [], ◌∷◌, ◌++◌, length, set, get_or, refl, sym, ◌∙◌, ap, arith, inl, inr, subst, length-append}
 use Rattle.std.proofs.lemmas.List.{get_or-set_same, get_or-set_other}
 use Rattle.std.proofs.lemmas.Bool.{cases_eq}
 use Rattle.spk_ingress.specs.declared.rule.Message.{Message}
@@ -7,7 +7,6 @@ use Rattle.spk_ingress.specs.declared.rule.Ended.{Ended}
 use Rattle.spk_ingress.specs.declared.rule.View.{View}
 use Rattle.spk_ingress.specs.declared.rule.View.TheVariants.{Takes}
 use Rattle.spk_ingress.specs.Lanes.{share_of, IsTaken}
-use Rattle.spk_ingress.specs.Passes.{taken_in}
 use Rattle.spk_ingress.proofs.Shares.{share_more, share_same}
 
 -- what the taker's view is afterwards

@@ -1,5 +1,5 @@
 -- Bytes that are one packet (MQTT 3.1.1, chapters 2 and 3).
-use Rattle.std.specs.Prelude.{◌≡◌, ℕ, ◌<◌, List, length, take}
+use Rattle.std.specs.Prelude.{ℕ, ◌<◌, List, length, take}
 use Rattle.spk_packets.specs.Message.{Message}
 use Rattle.spk_packets.specs.Grammar.{Spells}
 use Rattle.spk_packets.specs.Fault.{IsNamed, first_of}

@@ -1,4 +1,5 @@
-ghost use Rattle.std.specs.Prelude.{IfSome, IfOk};
+ghost use Rattle.std.specs.Prelude.{◌≡◌, ◌+◌, length, IfSome, IfOk};
+ghost use Rattle.std.specs.Thread.{IsSync};
 ghost use Rattle.spk_ingress.specs.Passes.{PutsInto, TakesFrom, AllPutInto};
 
 use crate::{Frame, FrameFault, Ingress, OpenFault, PutPass, SettleFault, TakePass};
@@ -215,4 +216,78 @@ fn through_threads<R: Threads + Wait + Sync>(
     );
     let passes = Vec::from_array(alloc, [first, second]).ok()?;
     ingress.settle(rt, alloc, passes, taker).ok()
+}
+
+/// Takes the last pass away.
+#[tactic(auto, using(crate::proofs::Settling::put_into_front))]
+fn next_of(ingress: &Ingress, passes: &mut Vec<PutPass>) -> Option<PutPass>
+    requires { AllPutInto ingress.now passes.old.items }
+    ensures pass { IfSome result (λ p. PutsInto ingress.now p) }
+    ensures others { IfSome result (λ _. AllPutInto ingress.now passes.new.items) }
+    ensures fewer { IfSome result (λ _. length passes.old.items ≡ length passes.new.items + 1) }
+{
+    passes.pop()
+}
+
+/// The passes, and one behind them.
+#[tactic(auto, using(crate::proofs::Settling::all_with))]
+fn with(ingress: &Ingress, mut passes: Vec<PutPass>, pass: PutPass) -> Option<Vec<PutPass>>
+    requires { AllPutInto ingress.now passes.items × PutsInto ingress.now pass }
+    ensures { IfSome result (λ ps. AllPutInto ingress.now ps.items) }
+{
+    passes.push(pass).ok()?;
+    Some(passes)
+}
+
+/// Each pass puts so many frames, on a thread of its own.
+fn put_by_threads<R: Threads + Wait + Sync>(
+    rt: &R,
+    alloc: Global,
+    ingress: &Ingress,
+    mut passes: Vec<PutPass>,
+    count: u64,
+) -> Option<Vec<PutPass>>
+    requires { AllPutInto ingress.now passes.items }
+    ensures { IfSome result (λ ps. AllPutInto ingress.now ps.items) }
+{
+    let Some(pass) = next_of(ingress, &mut passes) else {
+        return Some(Vec::new(alloc));
+    };
+    let (pass, others) = thread::join(
+        rt,
+        move || -> PutPass
+            requires { PutsInto ingress.now pass }
+            ensures { PutsInto ingress.entry.now result }
+        { put_many(rt, ingress, pass, count) },
+        move || -> Option<Vec<PutPass>>
+            requires { IsSync R.row × AllPutInto ingress.now passes.items }
+            ensures { IfSome result (λ ps. AllPutInto ingress.entry.now ps.items) }
+        { put_by_threads(rt, alloc, ingress, passes, count) },
+    );
+    with(ingress, others?, pass)
+}
+
+/// What 17 senders put, 100 frames each through room for eight, while another thread takes them: how many came of each.
+fn through_many_threads<R: Threads + Wait + Sync>(rt: &R, alloc: Global) -> Option<Vec<u64>> {
+    let (ingress, passes, taker) = Ingress::open(rt, alloc, 8, 17).ok()?;
+    let shared = &ingress;
+    let (passes, taker) = thread::join(
+        rt,
+        move || -> Option<Vec<PutPass>>
+            requires { IsSync R.row × AllPutInto shared.now passes.items }
+            ensures { IfSome result (λ ps. AllPutInto shared.entry.now ps.items) }
+        { put_by_threads(rt, alloc, shared, passes, 100) },
+        move || -> TakePass
+            requires { TakesFrom shared.now taker }
+            ensures { TakesFrom shared.entry.now result }
+        { take_many(rt, shared, taker, 1_700) },
+    );
+    ingress.settle(rt, alloc, passes?, taker).ok()
+}
+
+#[test]
+fn seventeen_threads_put_what_another_takes(rt: HostRuntime) -> Result<(), Fail> {
+    let counts = through_many_threads(&rt, rt.alloc()).ok_or("unsettled")?;
+    assert_eq!(rt; counts.as_slice(), [100u64; 17].as_slice());
+    Ok(())
 }

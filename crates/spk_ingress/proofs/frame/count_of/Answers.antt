@@ -1,4 +1,4 @@
-use Rattle.std.proofs.Common.{◌≡◌, ◌≤◌, ℕ, List, length, sym, ◌∙◌, ap, arith, subst, IfOk, IfErr}
+use Rattle.std.proofs.Common.{◌≡◌, sym, subst, IfOk, IfErr}
 use Rattle.spk_packets.specs.declared.fault.PacketFault.TheVariants.{NoMemory}
 use Rattle.spk_ingress.proofs.Fronts.{front_count, memory_alone}
 use Rattle.spk_ingress.proofs.frame.count_of.Goals as goal

@@ -1,4 +1,4 @@
-use Rattle.std.proofs.Common.{◌≡◌, ◌+◌, ◌<◌, ◌^◌, ℕ, length, refl, arith}
+use Rattle.std.proofs.Common.{◌≡◌, length, refl, arith}
 use Rattle.spk_ingress.specs.Passes.{frames_put}
 use Rattle.spk_ingress.proofs.Steps.{puts_at}
 use Rattle.spk_ingress.proofs.channel.Ingress.put.Goals as goal

@@ -1,6 +1,6 @@
-use Rattle.std.proofs.Common.{◌≡◌, ◌+◌, ◌<◌, ℕ, true, false, true≢false, List, [], ◌∷◌, ◌++◌, length, refl, sym, ◌∙◌, ap, arith, subst, append_assoc, length-append}
+use Rattle.std.proofs.Common.{◌≡◌, ◌+◌, ◌<◌, true≢false, [], ◌∷◌, ◌++◌, length, sym, ◌∙◌, ap, arith, subst, append_assoc, length-append}
 use Rattle.spk_ingress.specs.Lanes.{share_of}
-use Rattle.spk_ingress.specs.Passes.{PutsInto, AllPutInto, AllTaken, IsMarked, frames_taken, frames_put}
+use Rattle.spk_ingress.specs.Passes.{PutsInto, AllPutInto, AllTaken, frames_taken, frames_put}
 use Rattle.spk_ingress.specs.declared.channel.PutPass.{PutPass}
 use Rattle.spk_ingress.proofs.Settling.{put_into_front, taken_middle, marked_more}
 use Rattle.spk_ingress.proofs.channel.Ingress.takes_all.Goals as goal

@@ -1,4 +1,4 @@
-use Rattle.std.proofs.Common.{◌≡◌, ℕ, List, ◌++◌, length}
+use Rattle.std.proofs.Common.{◌≡◌, List, ◌++◌, length}
 use Rattle.spk_ingress.specs.Passes.{TakesFrom, AllPutInto, AllTaken, IsMarked, frames_taken}
 use Rattle.spk_ingress.specs.declared.channel.PutPass.{PutPass}
 use Rattle.spk_ingress.proofs.channel.Ingress.takes_all.Given as goal

@@ -1,4 +1,4 @@
-use Rattle.std.proofs.Common.{◌≡◌, ◌≤◌, ℕ, List, length, sym, ◌∙◌, ap, arith, subst}
+use Rattle.std.proofs.Common.{ℕ, List, length, sym, ◌∙◌, ap, arith, subst}
 use Rattle.spk_packets.specs.Grammar.{Spells}
 use Rattle.spk_ingress.proofs.Fronts.{spells_whole}
 use Rattle.spk_ingress.specs.declared.fault.FrameFault.TheVariants as fault

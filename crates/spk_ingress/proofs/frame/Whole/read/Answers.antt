@@ -1,4 +1,4 @@
-use Rattle.std.proofs.Common.{◌≡◌, ◌≤◌, ℕ, List, length, sym, ◌∙◌, ap, arith, subst, Ok}
+use Rattle.std.proofs.Common.{ℕ, List, length, sym, ◌∙◌, arith, subst}
 use Rattle.spk_packets.specs.Grammar.{Spells}
 use Rattle.spk_packets.specs.View.{view}
 use Rattle.spk_ingress.proofs.Fronts.{spells_whole, whole_view, memory_alone}
