@@ -8,12 +8,14 @@ use spk_world::{Event, World};
 use std::alloc::Global;
 use std::process::Abort;
 
-/// The node N of the group G, with the metric `t` 7 (alias 1).
+/// The node N of the group G, with the metrics `t` 7 (alias 1) and `s` "on" (alias 2).
 fn setup(alloc: Global) -> Option<(EdgeConfig, Registry)> {
     let mut registry = Registry::new(alloc);
     let _alias = registry
         .add_metric(Owner::Node, "t", 3, Some(Value::Signed(7)))
         .ok()?;
+    let on = Value::Words(String::from_str(alloc, "on").ok()?);
+    let _alias = registry.add_metric(Owner::Node, "s", 12, Some(on)).ok()?;
     let config = EdgeConfig {
         group: String::from_str(alloc, "G").ok()?,
         node: String::from_str(alloc, "N").ok()?,
@@ -54,6 +56,23 @@ fn an_edge_node_is_cut(rt: HostRuntime) {
     assert!(rt; node.lost() == 0 && node.kept() == 0);
 }
 
+/// A node, and the text that its second metric has.
+fn node_and_text(alloc: Global) -> Option<(EdgeNode, Option<Value>)> {
+    let text = Value::Words(String::from_str(alloc, "on").ok()?);
+    Some((node(alloc)?, Some(text)))
+}
+
+#[test]
+fn a_text_that_is_there_already_isnt_copied(rt: HostRuntime) {
+    let Some((mut node, text)) = node_and_text(rt.alloc()) else {
+        return;
+    };
+    let same = node.change(8, 2, &text);
+    assert!(rt; same.is_ok_and(|out| out.packets.is_empty()));
+    let drained = node.drain(9);
+    assert!(rt; drained.is_ok_and(|out| out.packets.is_empty()));
+}
+
 fn host_config(alloc: Global) -> Option<HostConfig> {
     Some(HostConfig {
         name: String::from_str(alloc, "H0").ok()?,
@@ -78,6 +97,7 @@ fn a_host_session_ends(rt: HostRuntime) {
     };
     host.ended();
     assert!(rt; host.nodes().is_empty() && host.view("G", "N").is_none());
+    assert_eq!(rt; host.phase("G", "N"), spk_sequence::Phase::Unknown);
     assert!(rt; matches!(host.tick(5), Err(HostFault::WrongPhase)));
 }
 

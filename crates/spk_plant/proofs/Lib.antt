@@ -1,4 +1,5 @@
 pub mod Places
 pub mod Starts
 pub mod Ends
+pub mod Faults
 pub mod Runs

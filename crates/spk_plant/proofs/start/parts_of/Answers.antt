@@ -2,6 +2,7 @@ use Rattle.std.proofs.Common.{◌≡◌, ◌∙◌, ◌+◌, length, refl, ap, s
 use Rattle.spk_host.specs.Inputs.{new_host}
 use Rattle.spk_plant.specs.Plan.{host_config}
 use Rattle.spk_plant.specs.Start.{AreRings, AreStarts}
+use Rattle.spk_plant.proofs.Faults.{no_edges}
 use Rattle.spk_plant.proofs.Starts.{parts_are}
 use Rattle.spk_plant.proofs.start.parts_of.Goals as goal
 
@@ -19,3 +20,7 @@ returns-clause-parts g c =
     refl c.in-Ok-open.ensures.taker.0 c.in-Ok-open.ensures.taker.1
     (c.in-Ok.ensures.host ∙ (ap (λ x. new_host (host_config x c.as_str-2.result.now p.wait p.width)) c.as_str.ensures.value
     ∙ ap (λ x. new_host (host_config (string_bytes p.group) x p.wait p.width)) c.as_str-2.ensures.value))
+
+pub returns-in-Err-starts_of-clause-fault : goal.returns-in-Err-starts_of-clause-fault
+returns-in-Err-starts_of-clause-fault g c =
+    no_edges c.args.plan c.in-Err-starts_of.fault c.as_str-3.result.now c.as_str-4.result.now c.as_str-3.ensures.value c.as_str-4.ensures.value c.in-Err-starts_of.ensures.fault
