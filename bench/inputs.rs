@@ -56,6 +56,47 @@ pub fn payload(metrics: u64, is_birth: bool) -> Vec<u8> {
     out
 }
 
+/// The payload of a node's message: of its birth, with bdSeq, or of data, whose number stands in two bytes whatever it is.
+fn numbered(metrics: u64, is_birth: bool, seq: u8) -> Vec<u8> {
+    let mut out = Vec::new();
+    number(&mut out, 1, NOW);
+    if is_birth {
+        let mut bd = Vec::new();
+        bytes(&mut bd, 1, b"bdSeq");
+        number(&mut bd, 3, NOW);
+        number(&mut bd, 4, 8);
+        number(&mut bd, 11, 0);
+        bytes(&mut out, 2, &bd);
+    }
+    for n in 0..metrics {
+        bytes(&mut out, 2, &metric(n, is_birth));
+    }
+    out.extend_from_slice(&[3 << 3, seq | 128, seq >> 7]);
+    out
+}
+
+fn publish_of(kind: &str, node: usize, payload: &[u8]) -> Vec<u8> {
+    let mut body = Vec::new();
+    text(&mut body, format!("spBv1.0/Plant 4/{kind}/Node {node}").as_bytes());
+    body.extend_from_slice(payload);
+    packet(0x30, &body)
+}
+
+/// CONNACK and SUBACK, and the births of so many nodes.
+pub fn births(nodes: usize, metrics: u64) -> Vec<u8> {
+    let mut out = vec![0x20, 2, 0, 0, 0x90, 3, 0, 1, 1];
+    for node in 0..nodes {
+        out.extend_from_slice(&publish_of("NBIRTH", node, &numbered(metrics, true, 0)));
+    }
+    out
+}
+
+/// 256 packets of data of a node, equally long, numbered from 1 on to 255 and then 0.
+pub fn data(node: usize, metrics: u64) -> Vec<u8> {
+    let one = |n: u64| publish_of("NDATA", node, &numbered(metrics, false, (n + 1) as u8));
+    (0..256).flat_map(one).collect()
+}
+
 fn text(out: &mut Vec<u8>, text: &[u8]) {
     out.extend_from_slice(&(text.len() as u16).to_be_bytes());
     out.extend_from_slice(text);

@@ -27,6 +27,7 @@ extern "C" {
     fn spk_bench_edge_change(rounds: u64) -> u64;
     fn spk_bench_edge_births(rounds: u64) -> u64;
     fn spk_bench_edge_drain(rounds: u64) -> u64;
+    fn spk_bench_host(first: *const u8, length: usize, data: *const u8, data_length: usize, rounds: u64) -> u64;
     fn spk_bench_world(nodes: u8, hosts: u8, events: u64) -> u64;
     fn cpp_payload_decode(bytes: *const u8, length: usize, rounds: u64) -> u64;
     fn cpp_payload_encode(bytes: *const u8, length: usize, rounds: u64) -> u64;
@@ -181,6 +182,35 @@ fn edge_rows(rows: &mut Vec<Row>) {
     }
 }
 
+/// Data of one node among so many, beside the decode of their payloads alone.
+fn host_rows(rows: &mut Vec<Row>) {
+    for (nodes, metrics) in [(1, 1), (1, 32), (1000, 1), (1000, 32)] {
+        let (first, data) = (inputs::births(nodes, metrics), inputs::data(nodes / 2, metrics));
+        let payload = inputs::payload(metrics, false);
+        rows.push(Row {
+            name: format!("Host::packet, NDATA of {metrics}, 1 of {nodes} nodes"),
+            calls: 1,
+            export: "spk_bench_host",
+            ours: Box::new(move |rounds| {
+                // The lengths are those of the bytes, which the closure keeps.
+                let consumed = unsafe { spk_bench_host(first.as_ptr(), first.len(), data.as_ptr(), data.len(), rounds) };
+                assert_eq!(consumed, rounds, "messages consumed");
+                consumed
+            }),
+            peers: Vec::new(),
+        });
+        if nodes == 1 {
+            rows.push(Row {
+                name: format!("Host::packet's payload, {metrics}, decode alone"),
+                calls: 1,
+                export: "spk_bench_payload_decode",
+                ours: on_bytes(spk_bench_payload_decode, &payload),
+                peers: Vec::new(),
+            });
+        }
+    }
+}
+
 fn rows() -> Vec<Row> {
     let mut rows = Vec::new();
     payload_rows(&mut rows);
@@ -188,6 +218,7 @@ fn rows() -> Vec<Row> {
     topic_rows(&mut rows);
     order_rows(&mut rows);
     edge_rows(&mut rows);
+    host_rows(&mut rows);
     rows
 }
 

@@ -3,6 +3,7 @@
 #![tactic(auto)]
 
 mod edge;
+mod host;
 mod order;
 mod packets;
 mod payloads;
@@ -10,6 +11,7 @@ mod topics;
 mod world;
 
 pub use edge::{spk_bench_edge_births, spk_bench_edge_change, spk_bench_edge_drain};
+pub use host::spk_bench_host;
 pub use order::{spk_bench_hand_births, spk_bench_hand_in_line, spk_bench_hand_with_holes};
 pub use packets::{spk_bench_feed, spk_bench_packet_decode, spk_bench_packet_encode};
 pub use payloads::{spk_bench_payload_decode, spk_bench_payload_encode};
