@@ -19,3 +19,5 @@ mod refused;
 mod twin;
 #[cfg(test)]
 mod view;
+#[cfg(test)]
+mod wide;

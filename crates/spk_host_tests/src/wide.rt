@@ -1,0 +1,136 @@
+//! Wide payloads with fields that Sparkplug's schema doesn't name, of each wire type, in the payload and in its metrics: a host reads past
+//! them. The bytes are by hand from MQTT 3.1.1 (chapter 3), the schema, and protobuf's encoding.
+use crate::bytes::{publish, put_field, put_part};
+use spk_host::{Host, HostConfig, HostFault, Out};
+use spk_host_rules::Shown;
+use spk_payload::Value;
+use spk_sequence::{Step, Width};
+use std::alloc::{AllocError, Global};
+use std::test::Fail;
+
+/// How many metrics the birth has, beside its bdSeq.
+const COUNT: u64 = 400;
+
+/// Fields 20 and 2047: a number, eight bytes, three bytes, four bytes, no bytes.
+const UNKNOWN: &[u8] =
+    b"\xa0\x01\x05\xa1\x01\x01\x02\x03\x04\x05\x06\x07\x08\xa2\x01\x03xyz\xa5\x01\x01\x02\x03\x04\xfa\x7f\x00";
+
+/// A metric's metadata, its properties, and an alias that is a text.
+const BESIDE: &[u8] = b"\x42\x02\x08\x01\x4a\x00\x12\x01a";
+
+/// A metric of UInt32 by its alias, of a birth with its name, between fields that don't count.
+fn put_metric(
+    alloc: Global,
+    bytes: &mut Vec<u8>,
+    is_birth: bool,
+    alias: u64,
+    value: u64,
+) -> Result<(), AllocError> {
+    let mut metric = Vec::new(alloc);
+    metric.extend_from_slice(UNKNOWN)?;
+    if is_birth {
+        let name = format!(in alloc; "m{alias}")?;
+        put_part(&mut metric, 0x0a, name.as_bytes())?;
+    }
+    put_field(&mut metric, 0x10, alias)?;
+    metric.extend_from_slice(BESIDE)?;
+    put_field(&mut metric, 0x20, 7)?;
+    put_field(&mut metric, 0x50, value)?;
+    metric.extend_from_slice(UNKNOWN)?;
+    put_part(bytes, 0x12, metric.as_slice())
+}
+
+/// An NBIRTH of all metrics, or NDATA of each, its value so much more than its alias, with a uuid and a body of 20,000 bytes.
+fn wide(alloc: Global, is_birth: bool, number: u64, more: u64) -> Result<Vec<u8>, AllocError> {
+    let mut payload = Vec::new(alloc);
+    payload.extend_from_slice(UNKNOWN)?;
+    put_field(&mut payload, 0x08, 100)?;
+    if is_birth {
+        payload.extend_from_slice(b"\x12\x0b\x0a\x05bdSeq \x08X\x00")?;
+    }
+    for alias in 0..COUNT {
+        let value = alias.saturating_add(more);
+        put_metric(alloc, &mut payload, is_birth, alias, value)?;
+    }
+    payload.extend_from_slice(b"\x22\x03abc")?;
+    let mut body = Vec::new(alloc);
+    body.resize(20_000, 0xff)?;
+    put_part(&mut payload, 0x2a, body.as_slice())?;
+    put_field(&mut payload, 0x18, number)?;
+    payload.extend_from_slice(UNKNOWN)?;
+    let topic = if is_birth {
+        "spBv1.0/G/NBIRTH/N"
+    } else {
+        "spBv1.0/G/NDATA/N"
+    };
+    publish(alloc, topic, None, payload.as_slice())
+}
+
+fn text(alloc: Global, words: &str) -> Result<String, AllocError> {
+    match String::from_str(alloc, words) {
+        Ok(text) => Ok(text),
+        Err(_) => String::from_str(alloc, words),
+    }
+}
+
+/// A host within a session.
+fn begun(alloc: Global) -> Result<Host, Fail> {
+    let config = HostConfig {
+        name: text(alloc, "H")?,
+        group: text(alloc, "G")?,
+        wait: 2000,
+        keep: 0,
+        width: Width::new(64).ok_or("width")?,
+    };
+    let mut host = Host::new(alloc, config)?;
+    if let Err(HostFault::NoMemory) = host.connected(5) {
+        host.connected(5)?;
+    }
+    Ok(host)
+}
+
+/// A host is told an NBIRTH or NDATA.
+fn told(
+    alloc: Global,
+    host: &mut Host,
+    is_birth: bool,
+    number: u64,
+    more: u64,
+) -> Result<Out, Fail> {
+    let packet = match wide(alloc, is_birth, number, more) {
+        Ok(packet) => packet,
+        Err(_) => wide(alloc, is_birth, number, more)?,
+    };
+    match host.packet(packet.as_slice(), 9) {
+        Err(HostFault::NoMemory) => Ok(host.packet(packet.as_slice(), 9)?),
+        answer => Ok(answer?),
+    }
+}
+
+/// What is shown of a metric of the node, as a number.
+fn shown(host: &Host, name: &str) -> Option<u64> {
+    let view = host.view("G", "N")?;
+    match view.metric(name)?.shown() {
+        Shown::Typed(Value::Unsigned(number)) => Some(*number),
+        _ => None,
+    }
+}
+
+#[test]
+fn fields_that_the_schema_does_not_name_are_read_past(rt: HostRuntime) -> Result<(), Fail> {
+    let mut host = begun(rt.alloc())?;
+    for (is_birth, number, more) in [(true, 0, 1), (false, 1, 7)] {
+        let out = told(rt.alloc(), &mut host, is_birth, number, more)?;
+        assert_eq!(rt; out.steps.as_slice(), [Step::Consumed(1)].as_slice());
+        assert_eq!(rt; out.consumed.len(), 1);
+        assert_eq!(rt; out.rebirths.len(), 0);
+        let values = (
+            shown(&host, "m0"),
+            shown(&host, "m200"),
+            shown(&host, "m399"),
+        );
+        assert_eq!(rt; values, (Some(more), Some(200 + more), Some(399 + more)));
+    }
+    assert_eq!(rt; shown(&host, "m400"), None);
+    Ok(())
+}
