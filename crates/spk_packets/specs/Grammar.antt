@@ -1,5 +1,5 @@
 -- Which bytes spell which control packet: MQTT 3.1.1 (OASIS, 2014), chapters 2 and 3, at QoS 0 and 1.
-use Rattle.std.specs.Prelude.{◌≡◌, ℕ, ◌+◌, ◌*◌, ◌%◌, ◌<◌, ◌≤◌, Bool, true, false, List, [], ◌∷◌, ◌++◌, length, Option, Some, None, ◌==◌, ◌||◌, nat_le}
+use Rattle.std.specs.Prelude.{◌≡◌, ℕ, ◌+◌, ◌*◌, ◌%◌, ◌/◌, ◌<◌, ◌≤◌, Bool, true, false, List, [], ◌∷◌, ◌++◌, length, Option, Some, None, ◌==◌, ◌||◌, nat_le}
 use Rattle.std.specs.List.{list_any, list_all}
 use Rattle.std.specs.Str.{IsUtf8}
 use Rattle.spk_packets.specs.Message.{WillData, Message, Connect, ConnAck, Publish, PubAck, Subscribe, SubAck, Unsubscribe, UnsubAck, PingReq, PingResp, Disconnect}
@@ -38,6 +38,15 @@ AreSevens (b ∷ c ∷ bs) n = (128 ≤ b) × ((high : ℕ) × (n ≡ b % 128 + 
 -- At most four bytes. A longer form than needed spells it too (own rule).
 abbrev pub IsLength : List ℕ → ℕ → Type 0
 IsLength text n = (length text ≤ 4) × AreSevens text n
+
+-- The types of packets that keep texts, a payload or a list: CONNECT, PUBLISH, SUBSCRIBE, SUBACK, UNSUBSCRIBE (section 2.2.1).
+abbrev pub is_keeping : ℕ → Bool
+is_keeping type = type == 1 || type == 3 || type == 8 || type == 9 || type == 10
+
+-- whether bytes begin a packet of such a type: no other takes memory to be read
+abbrev pub keeps : List ℕ → Bool
+keeps [] = false
+keeps (first ∷ rest) = is_keeping (first / 16)
 
 -- One after the other, each spelled.
 abbrev pub AreEach : {X : Type 0} → (List ℕ → X → Type 0) → List ℕ → List X → Type 0

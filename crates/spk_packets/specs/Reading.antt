@@ -45,6 +45,20 @@ kind_of b = if nat_lt b 16 then Err BadType else if nat_le 240 b then Err BadTyp
     else if b == 112 then Err QosTwo
     else Err BadFlags
 
+-- whether a packet of this kind keeps a text, a payload or a list
+abbrev pub keeps_kind : Kind → Bool
+keeps_kind kinds.Connect = true
+keeps_kind kinds.ConnAck = false
+keeps_kind (kinds.Publish dup qos retain) = true
+keeps_kind kinds.PubAck = false
+keeps_kind kinds.Subscribe = true
+keeps_kind kinds.SubAck = true
+keeps_kind kinds.Unsubscribe = true
+keeps_kind kinds.UnsubAck = false
+keeps_kind kinds.PingReq = false
+keeps_kind kinds.PingResp = false
+keeps_kind kinds.Disconnect = false
+
 -- ---- the remaining length
 
 -- the number and how many bytes it takes, of at most this many

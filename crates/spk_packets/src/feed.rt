@@ -1,9 +1,9 @@
 //! A stream of packets that comes in any pieces.
 
-ghost use Rattle.std.specs.Prelude.{◌≡◌, ◌≢◌, ◌↔◌, ◌⊎◌, ℕ, ◌+◌, ◌<◌, ◌≤◌, List, [], ◌++◌, length, drop, vec_len, Some, MatchOption, IfOk, IfErr, OnOk, OnErr};
-ghost use Rattle.spk_packets.specs.Fault.{first_of, IsNamed};
+ghost use Rattle.std.specs.Prelude.{◌≡◌, ◌≢◌, ◌↔◌, ◌⊎◌, ℕ, ◌+◌, ◌*◌, ◌<◌, ◌≤◌, List, [], ◌++◌, length, drop, vec_len, Some, MatchOption, IfOk, IfErr, IsTrue, OnOk, OnErr, false};
+ghost use Rattle.spk_packets.specs.Fault.{first_of, is_of_bytes, IsNamed};
 ghost use Rattle.spk_packets.specs.Message.{Message};
-ghost use Rattle.spk_packets.specs.Grammar.{Spells};
+ghost use Rattle.spk_packets.specs.Grammar.{Spells, keeps};
 ghost use Rattle.spk_packets.specs.Refusals.{refusals};
 ghost use Rattle.spk_packets.specs.Stream.{most_waiting, TakesPacket, IsGiven};
 ghost use Rattle.spk_packets.specs.View.{view};
@@ -32,7 +32,7 @@ impl Model for Feed {
 
     ghost view = { λ f. drop f.start f.buffer.items };
 
-    ghost invariant = { λ f. (f.start ≤ vec_len f.buffer) × (vec_len f.buffer ≤ f.start + most_waiting) };
+    ghost invariant = { λ f. (2 * f.start ≤ vec_len f.buffer) × (vec_len f.buffer ≤ f.start + most_waiting) };
 }
 
 /// What waits.
@@ -47,7 +47,7 @@ fn rest(buffer: &[u8], start: usize) -> &[u8]
 fn pass(buffer: &mut Vec<u8>, start: usize) -> usize
     requires { start ≤ vec_len buffer.old }
     ensures rest { drop result buffer.new.items ≡ drop start buffer.old.items }
-    ensures within { result ≤ vec_len buffer.new }
+    ensures half { 2 * result ≤ vec_len buffer.new }
     ensures len { vec_len buffer.new + start ≡ vec_len buffer.old + result }
 {
     let len = buffer.len();
@@ -101,6 +101,8 @@ impl Feed {
         ensures only { (front rest : List ℕ) (p : Message) → Spells front p → self.old ≡ front ++ rest → IsGiven result p }
         ensures refused { IfErr result (λ e. IsNamed e (first_of (refusals self.old)) × (e ≢ PacketFault.More)) }
         ensures err { OnErr result (self.new ≡ self.old) }
+        // A packet that keeps no text, payload or list takes no memory.
+        ensures memory { IfErr result (λ e. is_of_bytes e ≡ false → IsTrue (keeps self.old)) }
     {
         match decode(self.alloc, rest(self.buffer.as_slice(), self.start)) {
             Ok((packet, n)) => {

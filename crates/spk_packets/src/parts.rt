@@ -1,6 +1,7 @@
 //! Numbers, identifiers, counted bytes and texts at the front of a body (sections 1.5.2, 1.5.3 and 2.3.1).
 
-ghost use Rattle.spk_packets.specs.Fault.{Gives};
+ghost use Rattle.std.specs.Prelude.{IfErr, IsTrue};
+ghost use Rattle.spk_packets.specs.Fault.{Gives, is_of_bytes};
 ghost use Rattle.spk_packets.specs.Reading.{number_at, id_at, counted_at, text_at, ended};
 
 use crate::fault::PacketFault;
@@ -8,7 +9,8 @@ use crate::fault::PacketFault;
 /// Two bytes, the most significant first, and what follows.
 #[tactic(auto, unfolding(crate::specs::Reading::number_at))]
 pub(crate) fn number(bytes: &[u8]) -> Result<(u16, &[u8]), PacketFault>
-    ensures { Gives (λ x. (x.0, x.1.now)) result (number_at bytes.now) }
+    ensures given { Gives (λ x. (x.0, x.1.now)) result (number_at bytes.now) }
+    ensures bytes { IfErr result (λ e. IsTrue (is_of_bytes e)) }
 {
     match bytes {
         [high, low, rest @ ..] => Ok((u16::from(*high) * 256 + u16::from(*low), rest)),
@@ -19,7 +21,8 @@ pub(crate) fn number(bytes: &[u8]) -> Result<(u16, &[u8]), PacketFault>
 /// A packet identifier, which isn't 0.
 #[tactic(auto, unfolding(crate::specs::Reading::id_at))]
 pub(crate) fn id(bytes: &[u8]) -> Result<(u16, &[u8]), PacketFault>
-    ensures { Gives (λ x. (x.0, x.1.now)) result (id_at bytes.now) }
+    ensures given { Gives (λ x. (x.0, x.1.now)) result (id_at bytes.now) }
+    ensures bytes { IfErr result (λ e. IsTrue (is_of_bytes e)) }
 {
     let (id, rest) = number(bytes)?;
     if id == 0 {
@@ -59,7 +62,8 @@ pub(crate) fn text(bytes: &[u8]) -> Result<(&str, &[u8]), PacketFault>
 /// Nothing is left.
 #[tactic(auto, unfolding(crate::specs::Reading::ended))]
 pub(crate) fn end(rest: &[u8]) -> Result<(), PacketFault>
-    ensures { Gives (λ x. x) result (ended tt rest.now) }
+    ensures given { Gives (λ x. x) result (ended tt rest.now) }
+    ensures bytes { IfErr result (λ e. IsTrue (is_of_bytes e)) }
 {
     if rest.is_empty() {
         Ok(())

@@ -1,11 +1,11 @@
 //! Reading a packet at the front of bytes (chapter 2).
 
-ghost use Rattle.std.specs.Prelude.{◌≡◌, ℕ, ◌≤◌, length, take, IfOk, IfErr, OnOk, Ok, None};
-ghost use Rattle.spk_packets.specs.Fault.{Gives, IsNamed, first_of};
+ghost use Rattle.std.specs.Prelude.{◌≡◌, ℕ, ◌≤◌, length, take, IfOk, IfErr, IsTrue, OnOk, Ok, None, false};
+ghost use Rattle.spk_packets.specs.Fault.{Gives, IsNamed, first_of, is_of_bytes};
 ghost use Rattle.spk_packets.specs.Message.{Message};
-ghost use Rattle.spk_packets.specs.Grammar.{IsLength, Spells};
+ghost use Rattle.spk_packets.specs.Grammar.{IsLength, Spells, keeps};
 ghost use Rattle.spk_packets.specs.Refusals.{refusals, length_refusals};
-ghost use Rattle.spk_packets.specs.Reading.{length_at, cut_at, body_at, packet_at, ended};
+ghost use Rattle.spk_packets.specs.Reading.{length_at, cut_at, body_at, packet_at, ended, keeps_kind};
 ghost use Rattle.spk_packets.specs.View.{view, front_view};
 
 use crate::connect::connect;
@@ -26,6 +26,7 @@ pub(crate) const LARGEST: usize = 1_048_576;
 fn sevens(bytes: &[u8]) -> Result<(u32, usize), PacketFault>
     ensures given { result ≡ length_at bytes.now }
     ensures short { IfOk result (λ x. x.1 ≤ 4) }
+    ensures bytes { IfErr result (λ e. IsTrue (is_of_bytes e)) }
 {
     match bytes {
         [a, ..] if *a < 128 => Ok((u32::from(*a), 1)),
@@ -47,7 +48,9 @@ fn sevens(bytes: &[u8]) -> Result<(u32, usize), PacketFault>
 /// The kind, the body, and how many bytes the packet takes.
 #[tactic(auto, unfolding(crate::specs::Reading::cut_at))]
 fn cut(bytes: &[u8]) -> Result<(Kind, &[u8], usize), PacketFault>
-    ensures { Gives (λ x. (x.0, (x.1.now, x.2))) result (cut_at bytes.now) }
+    ensures given { Gives (λ x. (x.0, (x.1.now, x.2))) result (cut_at bytes.now) }
+    ensures kept { IfOk result (λ x. keeps_kind x.0 ≡ keeps bytes.now) }
+    ensures bytes { IfErr result (λ e. IsTrue (is_of_bytes e)) }
 {
     let [first, rest @ ..] = bytes else {
         return Err(PacketFault::More);
@@ -69,7 +72,8 @@ fn cut(bytes: &[u8]) -> Result<(Kind, &[u8], usize), PacketFault>
 #[inline(never)]
 #[tactic(auto, unfolding(crate::specs::Reading::body_at, crate::specs::Reading::ended))]
 fn packet(alloc: Global, kind: Kind, body: &[u8]) -> Result<Packet, PacketFault>
-    ensures { Gives view result (body_at kind body.now) }
+    ensures given { Gives view result (body_at kind body.now) }
+    ensures memory { IfErr result (λ e. is_of_bytes e ≡ false → IsTrue (keeps_kind kind)) }
 {
     match kind {
         Kind::Connect => connect(alloc, body),
@@ -93,7 +97,8 @@ fn packet(alloc: Global, kind: Kind, body: &[u8]) -> Result<Packet, PacketFault>
 /// A packet without a body.
 #[tactic(auto, unfolding(crate::specs::Reading::ended))]
 fn bare(packet: Packet, body: &[u8]) -> Result<Packet, PacketFault>
-    ensures { Gives view result (ended (view packet) body.now) }
+    ensures given { Gives view result (ended (view packet) body.now) }
+    ensures bytes { IfErr result (λ e. IsTrue (is_of_bytes e)) }
 {
     end(body)?;
     Ok(packet)
@@ -101,7 +106,8 @@ fn bare(packet: Packet, body: &[u8]) -> Result<Packet, PacketFault>
 
 #[tactic(auto, unfolding(crate::specs::Reading::packet_at))]
 fn front(alloc: Global, bytes: &[u8]) -> Result<(Packet, usize), PacketFault>
-    ensures { Gives front_view result (packet_at bytes.now) }
+    ensures given { Gives front_view result (packet_at bytes.now) }
+    ensures memory { IfErr result (λ e. is_of_bytes e ≡ false → IsTrue (keeps bytes.now)) }
 {
     let (kind, body, whole) = cut(bytes)?;
     Ok((packet(alloc, kind, body)?, whole))
@@ -130,6 +136,8 @@ pub fn decode(alloc: Global, bytes: &[u8]) -> Result<(Packet, usize), PacketFaul
     ensures refused { IfErr result (λ e. IsNamed e (first_of (refusals bytes.now))) }
     // What is read has none: where one holds, nothing is read.
     ensures not_refused { OnOk result (first_of (refusals bytes.now) ≡ None) }
+    // A packet that keeps no text, payload or list takes no memory.
+    ensures memory { IfErr result (λ e. is_of_bytes e ≡ false → IsTrue (keeps bytes.now)) }
 {
     front(alloc, bytes)
 }

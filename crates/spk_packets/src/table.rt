@@ -1,9 +1,10 @@
 //! The first byte of each packet: its type and its flags (sections 2.2.1 and 2.2.2).
 
-ghost use Rattle.std.specs.Prelude.{◌≡◌, Ok};
+ghost use Rattle.std.specs.Prelude.{◌≡◌, ◌/◌, Ok, IfOk, IfErr, IsTrue};
 ghost use Rattle.spk_packets.specs.declared.table.Kind.TheVariants.{Publish};
-ghost use Rattle.spk_packets.specs.Fault.{Gives};
-ghost use Rattle.spk_packets.specs.Reading.{kind_of};
+ghost use Rattle.spk_packets.specs.Fault.{Gives, is_of_bytes};
+ghost use Rattle.spk_packets.specs.Grammar.{is_keeping};
+ghost use Rattle.spk_packets.specs.Reading.{keeps_kind, kind_of};
 
 use crate::fault::PacketFault;
 
@@ -32,7 +33,9 @@ fn publish(dup: bool, qos: u8, retain: bool) -> Result<Kind, PacketFault>
 /// What the first byte says, or why no packet of QoS 0 or 1 begins with it.
 #[tactic(auto, unfolding(crate::specs::Reading::kind_of))]
 pub(crate) fn judged(first: u8) -> Result<Kind, PacketFault>
-    ensures { Gives (λ x. x) result (kind_of first) }
+    ensures given { Gives (λ x. x) result (kind_of first) }
+    ensures kept { IfOk result (λ k. keeps_kind k ≡ is_keeping (first / 16)) }
+    ensures bytes { IfErr result (λ e. IsTrue (is_of_bytes e)) }
 {
     match first {
         0x00..=0x0f | 0xf0..=0xff => Err(PacketFault::BadType),

@@ -1,7 +1,7 @@
 -- What the bytes of a payload mean (Sparkplug 3.0.0, chapter 6, "Google Protocol Buffer Schema"), by queries on
 -- field lists. Of a repeated single field the last entry counts (protobuf encoding, "Last One Wins"), and an
 -- entry whose number or wire type isn't the schema's is passed over.
-use Rattle.std.specs.Prelude.{◌≡◌, ℕ, ◌%◌, ◌^◌, Bool, not, List, [], ◌∷◌, All, Option, Some, None, IfSome, ◌==◌, if◌then◌else◌}
+use Rattle.std.specs.Prelude.{◌≡◌, ℕ, ◌%◌, ◌^◌, Bool, true, false, ◌||◌, is_some, not, List, [], ◌∷◌, All, Option, Some, None, IfSome, ◌==◌, if◌then◌else◌}
 use Rattle.std.specs.Option.{option_map, option_or}
 use Rattle.std.specs.List.{filter_map}
 use Rattle.std.specs.Str.{IsUtf8}
@@ -16,6 +16,20 @@ pub data Content : Type 0 where
   Octets : List ℕ → Content
   Other : Content
 
+-- whether a value is a text or bytes: to copy any other takes no memory
+abbrev pub is_text_or_bytes : Content → Bool
+is_text_or_bytes (Int n) = false
+is_text_or_bytes (Long n) = false
+is_text_or_bytes (Flag b) = false
+is_text_or_bytes (Words bytes) = true
+is_text_or_bytes (Octets bytes) = true
+is_text_or_bytes Other = false
+
+-- whether there is one, and it is a text or bytes
+abbrev pub has_text_or_bytes : Option Content → Bool
+has_text_or_bytes None = false
+has_text_or_bytes (Some content) = is_text_or_bytes content
+
 -- A metric, without where it lies in memory.
 pub record MetricData : Type 0 where
   pub name : Option (List ℕ)
@@ -26,6 +40,10 @@ pub record MetricData : Type 0 where
   pub transient : Option Bool
   pub null : Option Bool
   pub value : Option Content
+
+-- whether a metric has a name, or a text or bytes as its value: to copy any other takes no memory
+abbrev pub is_texted : MetricData → Bool
+is_texted m = is_some m.name || has_text_or_bytes m.value
 
 -- A payload, without where it lies in memory.
 pub record PayloadData : Type 0 where

@@ -1,6 +1,6 @@
 -- What a value is by its datatype (Sparkplug 3.0.0, 6.4.16 "Datatype Details"). Which field a datatype is read
 -- from, and the readings of a narrow signed number from one byte or two, are the project's own.
-use Rattle.std.specs.Prelude.{ℕ, suc, ℤ, pos, negsuc, ◌-ℤ◌, ◌-◌, ◌*◌, ◌^◌, ◌<◌, Bool, List, Option, Some, None, nat_lt, option_and_then, ◌==◌, if◌then◌else◌}
+use Rattle.std.specs.Prelude.{ℕ, suc, ℤ, pos, negsuc, ◌-ℤ◌, ◌-◌, ◌*◌, ◌^◌, ◌<◌, Bool, true, false, List, Option, Some, None, nat_lt, option_and_then, ◌==◌, if◌then◌else◌}
 use Rattle.std.specs.Option.{option_map}
 use Rattle.spk_payload.specs.declared.typing.Value.{Value}
 use Rattle.spk_payload.specs.declared.typing.Value.TheVariants as value
@@ -21,6 +21,14 @@ typed_view (value.Unsigned n) = Unsigned n
 typed_view (value.Flag b) = Truth b
 typed_view (value.Words s) = Text (string_bytes s)
 typed_view (value.Octets v) = Bytes v.items
+
+-- whether a value is a text or bytes: to write or copy any other takes no memory
+abbrev pub is_text_or_bytes : Typed → Bool
+is_text_or_bytes (Signed z) = false
+is_text_or_bytes (Unsigned n) = false
+is_text_or_bytes (Truth b) = false
+is_text_or_bytes (Text bytes) = true
+is_text_or_bytes (Bytes bytes) = true
 
 -- ---- what stands in a field of the value
 

@@ -1,6 +1,8 @@
 //! Copies of values, metrics and payloads.
 
-ghost use Rattle.std.specs.Prelude.{◌≡◌, IfOk, map, option_map, string_bytes};
+ghost use Rattle.std.specs.Prelude.{◌≡◌, IfOk, IsTrue, OnErr, is_some, map, option_map, string_bytes};
+ghost use Rattle.spk_payload.specs.Meaning.{has_text_or_bytes, is_text_or_bytes, is_texted};
+ghost use Rattle.spk_payload.specs.Typing as typing;
 ghost use Rattle.spk_payload.specs.Typing.{typed_view};
 ghost use Rattle.spk_payload.specs.View.{content_of, metric_view, payload_view};
 
@@ -16,7 +18,8 @@ fn copied_text(alloc: Global, text: &String) -> Result<String, AllocError>
 }
 
 fn copied_name(alloc: Global, name: &Option<String>) -> Result<Option<String>, AllocError>
-    ensures { IfOk result (λ n. option_map string_bytes n ≡ option_map string_bytes name.now) }
+    ensures same { IfOk result (λ n. option_map string_bytes n ≡ option_map string_bytes name.now) }
+    ensures memory { OnErr result (IsTrue (is_some (option_map string_bytes name.now))) }
 {
     match name {
         Some(name) => Ok(Some(copied_text(alloc, name)?)),
@@ -25,7 +28,8 @@ fn copied_name(alloc: Global, name: &Option<String>) -> Result<Option<String>, A
 }
 
 fn copied_value(alloc: Global, value: &Option<Raw>) -> Result<Option<Raw>, AllocError>
-    ensures { IfOk result (λ v. option_map content_of v ≡ option_map content_of value.now) }
+    ensures same { IfOk result (λ v. option_map content_of v ≡ option_map content_of value.now) }
+    ensures memory { OnErr result (IsTrue (has_text_or_bytes (option_map content_of value.now))) }
 {
     match value {
         Some(raw) => Ok(Some(raw.copy(alloc)?)),
@@ -36,7 +40,9 @@ fn copied_value(alloc: Global, value: &Option<Raw>) -> Result<Option<Raw>, Alloc
 impl Raw {
     /// An equal value.
     pub fn copy(&self, alloc: Global) -> Result<Raw, AllocError>
-        ensures { IfOk result (λ raw. content_of raw ≡ content_of self.now) }
+        ensures same { IfOk result (λ raw. content_of raw ≡ content_of self.now) }
+        // Numbers, truth values and what has no known value take no memory.
+        ensures memory { OnErr result (IsTrue (is_text_or_bytes (content_of self.now))) }
     {
         match self {
             Raw::Int(number) => Ok(Raw::Int(*number)),
@@ -52,7 +58,9 @@ impl Raw {
 impl Value {
     /// An equal value.
     pub fn copy(&self, alloc: Global) -> Result<Value, AllocError>
-        ensures { IfOk result (λ value. typed_view value ≡ typed_view self.now) }
+        ensures same { IfOk result (λ value. typed_view value ≡ typed_view self.now) }
+        // Numbers and truth values take no memory.
+        ensures memory { OnErr result (IsTrue (typing.is_text_or_bytes (typed_view self.now))) }
     {
         match self {
             Value::Signed(number) => Ok(Value::Signed(*number)),
@@ -67,7 +75,9 @@ impl Value {
 impl Metric {
     /// An equal metric.
     pub fn copy(&self, alloc: Global) -> Result<Metric, AllocError>
-        ensures { IfOk result (λ metric. metric_view metric ≡ metric_view self.now) }
+        ensures same { IfOk result (λ metric. metric_view metric ≡ metric_view self.now) }
+        // Without a name, and without a text or bytes as its value, it takes no memory.
+        ensures memory { OnErr result (IsTrue (is_texted (metric_view self.now))) }
     {
         let name = copied_name(alloc, &self.name)?;
         let value = copied_value(alloc, &self.value)?;

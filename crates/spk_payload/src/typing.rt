@@ -1,6 +1,6 @@
 //! What a value is by its datatype.
 
-ghost use Rattle.std.specs.Prelude.{◌≡◌, ◌⊎◌, ◌*◌, ◌^◌, ◌≤◌, Option, Some, None, Err, IfOk, IfErr, MatchResult, option_map};
+ghost use Rattle.std.specs.Prelude.{◌≡◌, ◌⊎◌, ◌*◌, ◌^◌, ◌≤◌, Option, Some, None, Err, IfOk, IfErr, IsTrue, MatchResult, option_map};
 ghost use Rattle.spk_payload.specs.Meaning.{Int, Long};
 ghost use Rattle.spk_payload.specs.Typing as spec;
 ghost use Rattle.spk_payload.specs.View.{content_of, Writes};
@@ -148,7 +148,8 @@ fn long_of_unsigned(value: &Value) -> Option<Raw>
 
 #[tactic(auto)]
 fn written_as(alloc: Global, datatype: u32, value: &Value) -> Result<Raw, PayloadFault>
-    ensures { Writes result (spec.written_of datatype (spec.typed_view value.now)) }
+    ensures given { Writes result (spec.written_of datatype (spec.typed_view value.now)) }
+    ensures memory { IfErr result (λ f. f ≡ PayloadFault.NoMemory → IsTrue (spec.is_text_or_bytes (spec.typed_view value.now))) }
 {
     match datatype {
         1 => int_of_signed(1 << 7, value).ok_or(PayloadFault::Mistyped),
@@ -187,6 +188,8 @@ pub fn written(alloc: Global, datatype: u32, value: &Value) -> Result<Raw, Paylo
         → result ≡ Err PayloadFault.Mistyped }
     ensures fault { IfErr result (λ f. (f ≡ PayloadFault.NoMemory)
         ⊎ ((f ≡ PayloadFault.Mistyped) × (spec.written_of datatype (spec.typed_view value.now) ≡ None))) }
+    // A number or a truth value takes no memory.
+    ensures memory { IfErr result (λ f. f ≡ PayloadFault.NoMemory → IsTrue (spec.is_text_or_bytes (spec.typed_view value.now))) }
 {
     written_as(alloc, datatype, value)
 }
