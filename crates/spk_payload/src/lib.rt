@@ -18,6 +18,8 @@ pub use typing::{Value, typed, written};
 pub use writing::encode;
 
 #[cfg(test)]
+mod large_tests;
+#[cfg(test)]
 mod tests;
 #[cfg(test)]
 mod typing_tests;

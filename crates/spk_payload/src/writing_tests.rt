@@ -6,7 +6,7 @@ use std::process::Abort;
 use std::test::Fail;
 
 /// The bytes of the payload. Where memory was refused the call is made again.
-fn encoded(rt: &(impl Abort + AllocGlobal), payload: &Payload) -> Vec<u8> {
+pub(crate) fn encoded(rt: &(impl Abort + AllocGlobal), payload: &Payload) -> Vec<u8> {
     match encode(rt.alloc(), payload) {
         Err(PayloadFault::NoMemory) => encode(rt.alloc(), payload).expect(
             rt,
@@ -17,7 +17,7 @@ fn encoded(rt: &(impl Abort + AllocGlobal), payload: &Payload) -> Vec<u8> {
 }
 
 /// A copy of the payload. Where memory was refused the call is made again.
-fn copied(rt: &(impl Abort + AllocGlobal), payload: &Payload) -> Payload {
+pub(crate) fn copied(rt: &(impl Abort + AllocGlobal), payload: &Payload) -> Payload {
     match payload.copy(rt.alloc()) {
         Err(_) => payload.copy(rt.alloc()).expect(rt, "memory is there again"),
         Ok(copy) => copy,
