@@ -15,4 +15,5 @@ pub mod NamedLemmas
 pub mod NodeLemmas
 pub mod SparkLemmas
 pub mod TreeLemmas
+pub mod UnusedLemmas
 pub mod WalkLemmas

@@ -12,4 +12,5 @@ pub mod Rows
 pub mod Spark
 pub mod SparkReading
 pub mod Text
+pub mod Unused
 pub mod Walk

@@ -3,6 +3,7 @@ ghost use Rattle.std.specs.Prelude.{◌≡◌, ◌≢◌, ◌<◌, ℕ, Some, No
 ghost use Rattle.std.specs.String.{string_bytes};
 ghost use Rattle.spk_topics.specs.Edges.{IsLeafIn, SetsChildIn, SetsUpIn};
 ghost use Rattle.spk_topics.specs.Nodes.{child_of, edge_of, links_of, rows_of, up_of};
+ghost use Rattle.spk_topics.specs.Unused.{IsUnusedIn, next_unused_of};
 
 use crate::fault::TopicFault;
 use crate::node::Edge;
@@ -15,6 +16,7 @@ impl Nodes {
         ensures root { IsTrue result → number ≢ 0 }
         ensures within { IsTrue result → number < vec_len self.now.list }
         ensures up { IsTrue result → up_of self.now number ≡ None }
+        ensures all { IsUnusedIn self.now number → IsTrue result }
     {
         number != 0 && number < self.list.len() && self.list[number].up.is_none()
     }
@@ -57,6 +59,7 @@ impl Nodes {
         ensures rows { rows_of self.new ≡ rows_of self.old }
         ensures child { child_of self.new ≡ child_of self.old }
         ensures up { SetsUpIn self.old self.new number (Some (edge_of edge)) }
+        ensures first { self.new.unused ≡ next_unused_of self.old number }
         ensures len { vec_len self.new.list ≡ vec_len self.old.list }
     {
         let node = &mut self.list[number];
@@ -83,6 +86,8 @@ impl Nodes {
         ensures leaf { IfSome result (λ edge. IsLeafIn self.old number) }
         ensures edge { IfSome result (λ edge. up_of self.old number ≡ Some (edge_of edge)) }
         ensures up { IfSome result (λ edge. SetsUpIn self.old self.new number None) }
+        ensures first { IfSome result (λ edge. self.new.unused ≡ Some number) }
+        ensures next { IfSome result (λ edge. next_unused_of self.new number ≡ self.old.unused) }
         ensures none { IfNone result (up_of self.new ≡ up_of self.old) }
         ensures len { vec_len self.new.list ≡ vec_len self.old.list }
     {

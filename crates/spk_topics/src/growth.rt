@@ -5,6 +5,7 @@ ghost use Rattle.spk_topics.specs.Levels.{levels};
 ghost use Rattle.spk_topics.specs.Nodes.{IsWhole, child_of, rows_of, up_of};
 ghost use Rattle.spk_topics.specs.Paths.{descend};
 ghost use Rattle.spk_topics.specs.Rows.{Absent, grants_of};
+ghost use Rattle.spk_topics.specs.Unused.{IsUnusedIn};
 
 use crate::fault::TopicFault;
 use crate::levels::cut;
@@ -85,6 +86,7 @@ impl Nodes {
         ensures root { IfOk result (λ n. n ≢ 0) }
         ensures up { IfOk result (λ n. up_of self.new n ≡ None) }
         ensures within { IfOk result (λ n. n < vec_len self.new.list) }
+        ensures again { (n : ℕ) → self.old.unused ≡ Some n → IsUnusedIn self.old n → vec_len self.new.list ≡ vec_len self.old.list }
         ensures longer { vec_len self.old.list ≤ vec_len self.new.list }
         ensures fault { IfErr result (λ e. e ≡ TopicFault.NoMemory) }
     {

@@ -5,6 +5,7 @@ use Rattle.spk_topics.specs.declared.node.Edge.{Edge}
 use Rattle.spk_topics.specs.Nodes.{edge_of, up_of}
 use Rattle.spk_topics.proofs.NodeLemmas.{same_rows}
 use Rattle.spk_topics.proofs.EdgeLemmas.{node_children_stay, node_up_set, up_at}
+use Rattle.spk_topics.proofs.UnusedLemmas.{next_here}
 use Rattle.spk_topics.proofs.nodes.Nodes.take_edge.Goals as goal
 
 pub returns-clause-rows : goal.returns-clause-rows
@@ -23,6 +24,11 @@ returns-clause-edge c =
     let within : c.args.number < length items = omega (arith, c.args.self.now.list.ok.0) in
     up_at items c.args.number node (slice_get_read items (length items) c.args.number node refl within c.index_mut-node.ensures.value)
     ∙ ap (option_map edge_of) (sym c.in_ok-edge.ensures.value)
+
+pub returns-clause-next : goal.returns-clause-next
+returns-clause-next c =
+    let inside = c.is_leaf.ensures.within c.if-not-is_leaf.false in
+    next_here c.args.self.now.list.items c.args.number _ (omega (arith, c.args.self.now.list.ok.0))
 
 pub returns-clause-up : goal.returns-clause-up
 returns-clause-up c =
