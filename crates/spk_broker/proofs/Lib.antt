@@ -28,6 +28,8 @@ pub mod Ruled
 pub mod Sendables
 pub mod Sending
 pub mod Standing
+pub mod Stayers
+pub mod Touched
 pub mod Visits
 pub mod Walks
 pub mod Wholes

@@ -9,7 +9,7 @@ use Rattle.spk_broker_rules.specs.Data as plain
 use Rattle.spk_broker_rules.specs.Plan.{Act, Seen, first_packet, next_packet, packet, shut}
 use Rattle.spk_broker_rules.specs.Step.{Turn, acts, seat_at}
 use Rattle.spk_broker.specs.Asking.{seats_now}
-use Rattle.spk_broker.specs.Endings.{Leads}
+use Rattle.spk_broker.specs.Endings.{Leads, ended}
 use Rattle.spk_broker.specs.declared.desk.Desk.{Desk}
 use Rattle.spk_broker.specs.declared.ending.Ending.{Ending}
 use Rattle.spk_broker.specs.declared.ending.Ending.TheVariants.{Nothing}
@@ -39,3 +39,7 @@ joined-is d x t conn s = ap (λ (b : plain.Broker). is_some (seat_at conn b.seat
 -- nothing follows
 pub leads-plain : (d : Desk) (x : Draft) (t : Turn) → Stands d x t → Leads d x Nothing t
 leads-plain d x t s = record { before = t; stands = s; is = refl }
+
+-- what changes nothing more
+pub leads-same : (d : Desk) (x : Draft) (t : Turn) (e : Ending) → ((b : plain.Broker) → ended e b ≡ b) → Stands d x t → Leads d x e t
+leads-same d x t e same s = record { before = t; stands = s; is = ap (λ (b : plain.Broker). record t { broker = b }) (same t.broker) }

@@ -12,7 +12,9 @@ use Rattle.spk_broker_rules.specs.Plan.{Act, At, Drop, Fault, Queue, Refused, Ro
 use Rattle.spk_broker_rules.specs.Step.{Turn, act, acts, drops_in, seat_at, silent_at}
 use Rattle.spk_broker.specs.Asking.{seats_now}
 use Rattle.spk_broker.specs.declared.desk.Desk.{Desk}
+use Rattle.spk_broker.specs.declared.ending.Ending.{Ending}
 use Rattle.spk_broker.specs.declared.out.Draft.{Draft}
+use Rattle.spk_broker.specs.Endings.{Leads}
 use Rattle.spk_broker.specs.View.{Stands, desk_now, ends, stepped}
 
 pub acts-append : (xs ys : List Act) (t : Turn) → acts (xs ++ ys) t ≡ acts ys (acts xs t)
@@ -62,10 +64,10 @@ fault-stands d1 d2 x1 x2 conn now f t b s e done =
 
 -- ---- publishes
 
-pub publish-stands : (d2 : Desk) (x2 : Draft) (conn : ℕ) (id : Option ℕ) (post : plain.Post) (t : Turn) (b : Bool) → is_some (topic_refusal post.topic) ≡ b
-    → Stands d2 x2 (acts (cond b (shut conn) (puback conn id ++ Queue post ∷ Route ∷ [])) t) → Stands d2 x2 (acts (publish conn id post) t)
-publish-stands d2 x2 conn id post t b e done =
-    subst (λ u. Stands d2 x2 u) (ap (λ c. acts (cond c (shut conn) (puback conn id ++ Queue post ∷ Route ∷ [])) t) (sym e)) done
+pub publish-leads : (d2 : Desk) (x2 : Draft) (ending : Ending) (conn : ℕ) (id : Option ℕ) (post : plain.Post) (t : Turn) (b : Bool) → is_some (topic_refusal post.topic) ≡ b
+    → Leads d2 x2 ending (acts (cond b (shut conn) (puback conn id ++ Queue post ∷ Route ∷ [])) t) → Leads d2 x2 ending (acts (publish conn id post) t)
+publish-leads d2 x2 ending conn id post t b e done =
+    subst (λ u. Leads d2 x2 ending u) (ap (λ c. acts (cond c (shut conn) (puback conn id ++ Queue post ∷ Route ∷ [])) t) (sym e)) done
 
 -- ---- filters taken back
 

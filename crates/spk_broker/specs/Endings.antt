@@ -5,21 +5,31 @@ use Rattle.spk_broker_rules.specs.Data as plain
 use Rattle.spk_broker_rules.specs.Plan.{Ack}
 use Rattle.spk_broker_rules.specs.Step.{Turn, act, begun}
 use Rattle.spk_broker.specs.Entering.{HasRoom, IsWhole, entered}
+use Rattle.spk_broker.specs.Touched.{AreTouched}
 use Rattle.spk_broker.specs.View.{Stands}
 use Rattle.spk_broker.specs.declared.desk.Desk.{Desk}
 use Rattle.spk_broker.specs.declared.ending.Ending.{Ending}
-use Rattle.spk_broker.specs.declared.ending.Ending.TheVariants.{Nothing, Enters, Acked}
+use Rattle.spk_broker.specs.declared.ending.Ending.TheVariants.{Nothing, Few, Enters, Acked}
 use Rattle.spk_broker.specs.declared.out.Draft.{Draft}
 use Rattle.spk_broker.specs.declared.seat.Seat.{Seat}
 
 abbrev pub ended : Ending → plain.Broker → plain.Broker
 ended Nothing b = b
+ended (Few places) b = b
 ended (Enters entry) b = entered entry b
 ended (Acked conn id) b = (act (Ack conn id) (begun b)).broker
 
 -- an entry is whole and finds room
+abbrev pub IsFit : Ending → Vec Seat Global → Type 0
+IsFit Nothing seats = Unit {0}
+IsFit (Few places) seats = Unit {0}
+IsFit (Enters entry) seats = IsWhole entry × HasRoom entry seats
+IsFit (Acked conn id) seats = Unit {0}
+
+-- that, and where few sessions are said to have changed, all others are as before the call
 abbrev pub IsReady : Ending → Vec Seat Global → Type 0
 IsReady Nothing seats = Unit {0}
+IsReady (Few places) seats = AreTouched places.items seats.items
 IsReady (Enters entry) seats = IsWhole entry × HasRoom entry seats
 IsReady (Acked conn id) seats = Unit {0}
 

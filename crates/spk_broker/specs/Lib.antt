@@ -20,4 +20,5 @@ pub mod Sendable
 pub mod Sent
 pub mod Settling
 pub mod Sitting
+pub mod Touched
 pub mod View

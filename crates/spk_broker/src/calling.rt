@@ -8,6 +8,7 @@ ghost use Rattle.spk_broker.specs.Called.{AreAllFound, AreCalled, ArePlaces, Sta
 ghost use Rattle.spk_broker.specs.Drafts.{draft_view};
 ghost use Rattle.spk_broker.specs.Parts.{post_view};
 ghost use Rattle.spk_broker.specs.Rounds.{left_of_round, with_round};
+ghost use Rattle.spk_broker.specs.Touched.{AreVisited};
 ghost use Rattle.spk_broker.specs.View.{seat_now, seat_was};
 
 use crate::letter::Letter;
@@ -77,6 +78,7 @@ pub(crate) fn call(
         left_of_round (serve (post_view post.now)) (flat_map seat_now seats.old)) }
     ensures drafted { OnOk result (draft_view draft.new ≡
         with_round (serve (post_view post.now)) (flat_map seat_now seats.old) (draft_view draft.old)) }
+    ensures visited { OnOk result (AreVisited places.now seats.old seats.new) }
 {
     let mut letter = Letter::new(post);
     for place in places {

@@ -1,11 +1,17 @@
 //! How a packet ends: what changes a settled session, once nothing can fail any more.
-ghost use Rattle.std.specs.Prelude.{◌≡◌, ◌≤◌, length, map, is_ok, IfErr, IfOk, OnErr, OnOk};
+ghost use Rattle.std.specs.Prelude.{◌≡◌, ◌≤◌, ◌∷◌, [], List, Vec, length, map, is_ok, IfErr, IfOk, IfSome, OnErr, OnOk};
+ghost use Rattle.std.specs.declared.alloc.Global.{Global};
+ghost use Rattle.spk_broker_rules.specs.Data as plain;
 ghost use Rattle.spk_broker_rules.specs.Lawful.{IsLawful};
 ghost use Rattle.spk_broker_rules.specs.Step.{Turn};
 ghost use Rattle.spk_broker.specs.declared.fault.BrokerFault.TheVariants as BrokerFault;
+ghost use Rattle.spk_broker.specs.declared.seat.Seat.{Seat};
+ghost use Rattle.spk_broker.specs.Both.{Both};
 ghost use Rattle.spk_broker.specs.Drafts.{draft_view};
-ghost use Rattle.spk_broker.specs.Endings.{IsReady, ended};
+ghost use Rattle.indexmap.specs.IndexMap.{spare};
+ghost use Rattle.spk_broker.specs.Endings.{IsFit, IsReady, ended};
 ghost use Rattle.spk_broker.specs.Sent.{sent_view};
+ghost use Rattle.spk_broker.specs.Touched.{AreTouched, AreVisited};
 ghost use Rattle.spk_broker.specs.View.{IsSettled, Stands, desk_was};
 
 use crate::desk::Desk;
@@ -18,8 +24,31 @@ use std::alloc::AllocError;
 #[derive(Debug, Drop)]
 pub(crate) enum Ending {
     Nothing,
+    /// Nothing, and only the sessions at these places may have changed.
+    Few(Vec<usize>),
     Enters(Entry),
     Acked { conn: Conn, id: u16 },
+}
+
+impl Ending {
+    /// Nothing follows a message. Where it's known at which places it called, and where the one sits that sent it, only the
+    /// sessions there may have changed. Where memory is refused that isn't kept.
+    pub(crate) fn few(places: Option<Vec<usize>>, sender: Option<usize>) -> Ending
+        ensures nothing { (b : plain.Broker) → ended result b ≡ b }
+        ensures ready { (old : List Both) (seats : Vec Seat Global) → IfSome sender (λ p. AreTouched (p ∷ []) old)
+            → IfSome places (λ ps. AreVisited ps.items old seats.items) → IsReady result seats }
+    {
+        let Some(sender) = sender else {
+            return Ending::Nothing;
+        };
+        let Some(mut places) = places else {
+            return Ending::Nothing;
+        };
+        if places.push(sender).is_err() {
+            return Ending::Nothing;
+        }
+        Ending::Few(places)
+    }
 }
 
 impl Desk {
@@ -27,14 +56,30 @@ impl Desk {
     fn end(&mut self, ending: Ending)
         requires settled { IsSettled self.old }
         requires lawful { IsLawful (desk_was self.old) }
-        requires ready { IsReady ending self.old.seats }
+        requires fit { IsFit ending self.old.seats }
         ensures done { desk_was self.new ≡ ended ending (desk_was self.old) }
         ensures settled { IsSettled self.new }
     {
         match ending {
-            Ending::Nothing => {}
+            Ending::Nothing | Ending::Few(_) => {}
             Ending::Enters(entry) => self.enter(entry),
             Ending::Acked { conn, id } => self.ack(conn, id),
+        }
+    }
+
+    /// What was drafted stands. Where few sessions may have changed, no other one is looked at.
+    fn settle_by(&mut self, draft: Draft, ending: &Ending) -> Out
+        requires room { length (draft_view draft).keeps ≤ spare self.old.retained }
+        requires ready { IsReady ending.now self.old.seats }
+        ensures done { (t : Turn) → Stands self.old draft t → desk_was self.new ≡ t.broker }
+        ensures settled { IsSettled self.new }
+        ensures sends { map sent_view result.sends.items ≡ (draft_view draft).sends }
+        ensures closes { result.closes.items ≡ (draft_view draft).closes }
+        ensures fit { IsFit ending.now self.new.seats }
+    {
+        match ending {
+            Ending::Few(places) => self.settle_at(draft, places),
+            _ => self.settle(draft),
         }
     }
 
@@ -59,7 +104,7 @@ impl Desk {
             self.undo();
             return Err(BrokerFault::NoMemory);
         };
-        let out = self.settle(draft);
+        let out = self.settle_by(draft, &ending);
         self.end(ending);
         Ok(out)
     }

@@ -1,5 +1,5 @@
 //! Which packet it is: the first one of a connection, or a further one.
-ghost use Rattle.std.specs.Prelude.{◌≡◌, [], true, is_some, IfOk};
+ghost use Rattle.std.specs.Prelude.{◌≡◌, ◌∷◌, [], true, is_some, IfOk, IfSome};
 ghost use Rattle.spk_packets.specs.View.{view};
 ghost use Rattle.spk_broker_rules.specs.Lawful.{IsLawful};
 ghost use Rattle.spk_broker_rules.specs.Plan.{Seen, client_in, first_packet, next_packet, packet as packet_acts};
@@ -9,12 +9,14 @@ ghost use Rattle.spk_broker.specs.Drafts.{draft_view};
 ghost use Rattle.spk_broker.specs.Endings.{IsReady, Leads};
 ghost use Rattle.spk_broker.specs.Filing.{AreInOrder, IsIndex};
 ghost use Rattle.spk_broker.specs.Sendable.{IsWritable};
-ghost use Rattle.spk_broker.specs.View.{Stands, desk_now, desk_was, stepped};
+ghost use Rattle.spk_broker.specs.Touched.{AreTouched};
+ghost use Rattle.spk_broker.specs.View.{IsSettled, Stands, desk_now, desk_was, stepped};
 
 use crate::asking::is_joined_near;
 use crate::desk::Desk;
 use crate::ending::Ending;
 use crate::out::{Conn, Draft};
+use crate::post::Post;
 use spk_packets::{Packet, is_writable};
 use spk_topics::Tree;
 use std::alloc::AllocError;
@@ -52,15 +54,17 @@ impl Desk {
         Ok(Ending::Enters(entry))
     }
 
-    /// A further packet.
+    /// A further packet. Its sender sits at this place, where that is known.
     fn further_packet(
         &mut self,
         draft: &mut Draft,
         tree: &Option<Tree>,
         conn: Conn,
+        sender: Option<usize>,
         packet: &Packet,
     ) -> Result<Ending, AllocError>
         requires writable { IsWritable (view packet.now) }
+        requires touched { IfSome sender (λ p. AreTouched (p ∷ []) self.old.seats.items) }
         requires index { IsIndex tree.now (desk_now self.old).seats }
         requires order { AreInOrder tree.now (desk_now self.old).seats }
         requires keeps { (draft_view draft.old).keeps ≡ [] }
@@ -71,8 +75,19 @@ impl Desk {
     {
         match packet {
             Packet::PubAck { id } => Ok(Ending::Acked { conn, id: *id }),
+            Packet::Publish {
+                qos,
+                retain,
+                topic,
+                id,
+                payload,
+                ..
+            } => {
+                let post = Post::of(topic, payload, *qos, *retain)?;
+                self.publish(draft, tree, conn, sender, *id, post)
+            }
             _ => {
-                self.next_packet(draft, tree, conn, packet)?;
+                self.next_packet(draft, conn, packet)?;
                 Ok(Ending::Nothing)
             }
         }
@@ -85,8 +100,10 @@ impl Desk {
         tree: &Option<Tree>,
         conn: Conn,
         near: usize,
+        sender: Option<usize>,
         packet: &Packet,
     ) -> Result<Ending, AllocError>
+        requires touched { IfSome sender (λ p. AreTouched (p ∷ []) self.old.seats.items) }
         requires index { IsIndex tree.now (desk_now self.old).seats }
         requires order { AreInOrder tree.now (desk_now self.old).seats }
         requires keeps { (draft_view draft.old).keeps ≡ [] }
@@ -104,7 +121,7 @@ impl Desk {
             return Ok(Ending::Nothing);
         }
         if is_joined_near(&self.seats, conn, near) {
-            let ending = self.further_packet(draft, tree, conn, packet)?;
+            let ending = self.further_packet(draft, tree, conn, sender, packet)?;
             return Ok(ending);
         }
         let ending = self.first_packet(draft, conn, packet)?;
@@ -125,14 +142,15 @@ impl Desk {
         requires stands { (t : Turn) × Stands self.old draft.old t }
         requires keeps { (draft_view draft.old).keeps ≡ [] }
         requires lawful { IsLawful (desk_was self.old) }
+        requires settled { IsSettled self.old }
         ensures done { IfOk result (λ e. (t : Turn) → Stands self.old draft.old t
             → Leads self.new draft.new e (stepped (PacketEvent conn (view packet.now) now) t)) }
         ensures ready { IfOk result (λ e. IsReady e self.new.seats) }
         ensures same { desk_was self.new ≡ desk_was self.old }
     {
         self.at(now);
-        self.hear(conn, near);
-        let ending = self.judge_packet(draft, tree, conn, near, packet)?;
+        let sender = self.hear(conn, near);
+        let ending = self.judge_packet(draft, tree, conn, near, sender, packet)?;
         Ok(ending)
     }
 }

@@ -1,17 +1,20 @@
 //! Packets of a connection whose CONNECT was accepted.
-ghost use Rattle.std.specs.Prelude.{◌≡◌, ◌==◌, IfSome, OnOk, true, false, is_some, []};
+ghost use Rattle.std.specs.Prelude.{◌≡◌, ◌==◌, ◌∷◌, IfOk, IfSome, OnOk, true, false, is_some, []};
 ghost use Rattle.spk_packets.specs.View.{view};
 ghost use Rattle.spk_topics.specs.Text.{topic_refusal};
 ghost use Rattle.spk_broker_rules.specs.Plan.{next_packet, publish, puback};
 ghost use Rattle.spk_broker_rules.specs.Step.{Turn, acts};
 ghost use Rattle.spk_broker.specs.Drafts.{draft_view};
+ghost use Rattle.spk_broker.specs.Endings.{IsReady, Leads};
 ghost use Rattle.spk_broker.specs.Filing.{AreInOrder, IsIndex};
 ghost use Rattle.spk_broker.specs.Parts.{post_view};
 ghost use Rattle.spk_broker.specs.Plain.{is_plain};
 ghost use Rattle.spk_broker.specs.Sendable.{IsWritable};
+ghost use Rattle.spk_broker.specs.Touched.{AreTouched};
 ghost use Rattle.spk_broker.specs.View.{Stands, desk_now, desk_was};
 
 use crate::desk::Desk;
+use crate::ending::Ending;
 use crate::out::{Conn, Draft};
 use crate::post::Post;
 use spk_packets::Packet;
@@ -42,42 +45,43 @@ impl Desk {
         Ok(())
     }
 
-    /// A publish is acknowledged, then routed; one on no topic name closes the connection (section 3.3).
-    fn publish(
+    /// A publish is acknowledged, then routed; one on no topic name closes the connection (section 3.3). Its sender sits at
+    /// this place, where that is known.
+    pub(crate) fn publish(
         &mut self,
         draft: &mut Draft,
         tree: &Option<Tree>,
         conn: Conn,
+        sender: Option<usize>,
         id: Option<u16>,
         post: Post,
-    ) -> Result<(), AllocError>
+    ) -> Result<Ending, AllocError>
         requires index { IsIndex tree.now (desk_now self.old).seats }
         requires order { AreInOrder tree.now (desk_now self.old).seats }
         requires id { IfSome id (λ n. (n == 0) ≡ false) }
-        ensures done { OnOk result ((t : Turn) → Stands self.old draft.old t
-            → Stands self.new draft.new (acts (publish conn id (post_view post)) t)) }
+        requires touched { IfSome sender (λ p. AreTouched (p ∷ []) self.old.seats.items) }
+        ensures done { IfOk result (λ e. (t : Turn) → Stands self.old draft.old t
+            → Leads self.new draft.new e (acts (publish conn id (post_view post)) t)) }
+        ensures ready { IfOk result (λ e. IsReady e self.new.seats) }
         ensures same { desk_was self.new ≡ desk_was self.old }
     {
         if is_no_topic(post.topic.as_str()) {
             self.shut(draft, conn)?;
-            return Ok(());
+            return Ok(Ending::Nothing);
         }
         self.puback(draft, conn, id)?;
         draft.queue(post)?;
-        self.route(draft, tree)?;
-        Ok(())
+        let ending = self.route_near(draft, tree, sender)?;
+        Ok(ending)
     }
 
-    /// A further packet, but for PUBACK.
+    /// A further packet, but for PUBLISH and PUBACK.
     pub(crate) fn next_packet(
         &mut self,
         draft: &mut Draft,
-        tree: &Option<Tree>,
         conn: Conn,
         packet: &Packet,
     ) -> Result<(), AllocError>
-        requires index { IsIndex tree.now (desk_now self.old).seats }
-        requires order { AreInOrder tree.now (desk_now self.old).seats }
         requires writable { IsWritable (view packet.now) }
         requires plain { is_plain (view packet.now) ≡ true }
         requires empty { (draft_view draft.old).keeps ≡ [] }
@@ -86,17 +90,6 @@ impl Desk {
         ensures same { desk_was self.new ≡ desk_was self.old }
     {
         match packet {
-            Packet::Publish {
-                qos,
-                retain,
-                topic,
-                id,
-                payload,
-                ..
-            } => {
-                let post = Post::of(topic, payload, *qos, *retain)?;
-                self.publish(draft, tree, conn, *id, post)
-            }
             Packet::Subscribe { id, filters } => {
                 self.subscribe(draft, conn, *id, filters)?;
                 Ok(())

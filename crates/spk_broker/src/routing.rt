@@ -1,5 +1,5 @@
 //! Routing: each message that waits goes to all sessions before the next.
-ghost use Rattle.std.specs.Prelude.{ℕ, ◌≡◌, ◌+◌, ◌≤◌, List, length, IfSome, OnOk, map};
+ghost use Rattle.std.specs.Prelude.{ℕ, ◌≡◌, ◌+◌, ◌≤◌, ◌∷◌, [], List, length, IfOk, IfSome, OnOk, map};
 ghost use Rattle.std.specs.List.{flat_map};
 ghost use Rattle.indexmap.specs.IndexMap.{spare};
 ghost use Rattle.spk_broker_rules.specs.Lawful.{Rises};
@@ -7,13 +7,16 @@ ghost use Rattle.spk_broker_rules.specs.Plan.{Route};
 ghost use Rattle.spk_broker_rules.specs.Step.{Turn, act, route_one, serve};
 ghost use Rattle.spk_broker.specs.Called.{AreCalled, ArePlaces};
 ghost use Rattle.spk_broker.specs.Drafts.{draft_view};
+ghost use Rattle.spk_broker.specs.Endings.{IsReady, Leads};
 ghost use Rattle.spk_broker.specs.Filing.{AreInOrder, ArePassed, IsIndex};
 ghost use Rattle.spk_broker.specs.Parts.{post_view};
 ghost use Rattle.spk_broker.specs.Rounds.{kept_with, left_of_round, with_round};
+ghost use Rattle.spk_broker.specs.Touched.{AreTouched, AreVisited};
 ghost use Rattle.spk_broker.specs.View.{Stands, desk_now, desk_was, how_many, seat_now, seat_was};
 
 use crate::calling::{call, places};
 use crate::desk::{Desk, Stored};
+use crate::ending::Ending;
 use crate::index::reach;
 use crate::letter::Letter;
 use crate::out::Draft;
@@ -56,13 +59,13 @@ fn found_places(alloc: Global, seats: &[Seat], found: &Option<Vec<(u64, u8)>>) -
     }
 }
 
-/// What a routed message does to all sessions.
+/// What a routed message does to all sessions. Answers the places at which it called, where it looked at no others.
 fn round(
     seats: &mut [Seat],
     draft: &mut Draft,
     post: &Post,
     tree: &Option<Tree>,
-) -> Result<(), AllocError>
+) -> Result<Option<Vec<usize>>, AllocError>
     requires index { IsIndex tree.now (flat_map seat_now seats.old) }
     requires order { AreInOrder tree.now (flat_map seat_now seats.old) }
     ensures was { map seat_was seats.new ≡ map seat_was seats.old }
@@ -70,15 +73,19 @@ fn round(
         left_of_round (serve (post_view post.now)) (flat_map seat_now seats.old)) }
     ensures drafted { OnOk result (draft_view draft.new ≡
         with_round (serve (post_view post.now)) (flat_map seat_now seats.old) (draft_view draft.old)) }
+    ensures visited { IfOk result (λ o. IfSome o (λ ps. AreVisited ps.items seats.old seats.new)) }
 {
     let found = reach(tree, post.topic.as_str());
     if tree.is_none() {
-        return visit(seats, draft, post, &found);
+        visit(seats, draft, post, &found)?;
+        return Ok(None);
     }
     let Some(places) = found_places(draft.alloc, seats, &found) else {
-        return visit(seats, draft, post, &found);
+        visit(seats, draft, post, &found)?;
+        return Ok(None);
     };
-    call(seats, draft, post, &places)
+    call(seats, draft, post, &places)?;
+    Ok(Some(places))
 }
 
 /// Room for what is to be retained, where the message is.
@@ -102,13 +109,13 @@ fn keep(
 }
 
 impl Desk {
-    /// One message, routed whole.
+    /// One message, routed whole. Answers the places at which it called, where it looked at no others.
     fn route_one(
         &mut self,
         draft: &mut Draft,
         post: Post,
         tree: &Option<Tree>,
-    ) -> Result<(), AllocError>
+    ) -> Result<Option<Vec<usize>>, AllocError>
         requires index { IsIndex tree.now (desk_now self.old).seats }
         requires order { AreInOrder tree.now (desk_now self.old).seats }
         ensures done { OnOk result ((t : Turn) → Stands self.old draft.old t
@@ -117,10 +124,11 @@ impl Desk {
         ensures fewer { OnOk result (how_many self.new draft.new ≤ how_many self.old draft.old) }
         ensures index { OnOk result (IsIndex tree.now (desk_now self.new).seats) }
         ensures order { OnOk result (AreInOrder tree.now (desk_now self.new).seats) }
+        ensures visited { IfOk result (λ o. IfSome o (λ ps. AreVisited ps.items self.old.seats.items self.new.seats.items)) }
     {
-        round(&mut self.seats, draft, &post, tree)?;
+        let places = round(&mut self.seats, draft, &post, tree)?;
         keep(&mut self.retained, draft, post)?;
-        Ok(())
+        Ok(places)
     }
 
     /// Those that wait are routed, each whole before the next.
@@ -135,5 +143,32 @@ impl Desk {
             self.route_one(draft, post, tree)?;
         }
         Ok(())
+    }
+
+    /// Those that wait are routed, each whole before the next. Answers which sessions may have changed since the call began,
+    /// where no other but the sender's at this place had, and where one message waited alone.
+    pub(crate) fn route_near(
+        &mut self,
+        draft: &mut Draft,
+        tree: &Option<Tree>,
+        sender: Option<usize>,
+    ) -> Result<Ending, AllocError>
+        requires index { IsIndex tree.now (desk_now self.old).seats }
+        requires order { AreInOrder tree.now (desk_now self.old).seats }
+        requires touched { IfSome sender (λ p. AreTouched (p ∷ []) self.old.seats.items) }
+        ensures done { IfOk result (λ e. (t : Turn) → Stands self.old draft.old t
+            → Leads self.new draft.new e (act Route t)) }
+        ensures ready { IfOk result (λ e. IsReady e self.new.seats) }
+        ensures same { desk_was self.new ≡ desk_was self.old }
+    {
+        let Some(post) = draft.waiting.pop_front() else {
+            return Ok(Ending::Nothing);
+        };
+        let places = self.route_one(draft, post, tree)?;
+        if draft.waiting.is_empty() {
+            return Ok(Ending::few(places, sender));
+        }
+        self.route(draft, tree)?;
+        Ok(Ending::Nothing)
     }
 }

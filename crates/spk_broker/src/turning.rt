@@ -1,5 +1,5 @@
 //! How sessions come out of a call, and how their connections leave.
-ghost use Rattle.std.specs.Prelude.{◌≡◌, ◌++◌, ◌≤◌, OnOk, Some, is_some, map, true, vec_capacity, vec_len};
+ghost use Rattle.std.specs.Prelude.{◌≡◌, ◌++◌, ◌≤◌, OnOk, Some, is_some, map, false, true, vec_capacity, vec_len};
 ghost use Rattle.std.specs.List.{flat_map, list_any};
 ghost use Rattle.std.specs.Option.{option_map};
 ghost use Rattle.spk_broker_rules.specs.Step.{left_behind, will_at};
@@ -7,6 +7,7 @@ ghost use Rattle.spk_broker_rules.specs.Words.{option_list};
 ghost use Rattle.spk_broker.specs.Drafts.{draft_view};
 ghost use Rattle.spk_broker.specs.Seats.{seat_dropped, seat_heard};
 ghost use Rattle.spk_broker.specs.Settling.{has_ended, seat_left};
+ghost use Rattle.spk_broker.specs.Touched.{AreTouched};
 ghost use Rattle.spk_broker.specs.View.{seat_now, seat_was};
 
 use crate::out::{Conn, Draft};
@@ -113,6 +114,16 @@ impl Seat {
         }
     }
 
+    /// What was drafted stands, unless it ended. Whether it ended.
+    fn settle_ended(&mut self) -> bool
+        ensures ended { result ≡ has_ended self.new }
+        ensures now { self.new.now ≡ self.old.now }
+        ensures left { seat_left self.new ≡ option_list self.old.now }
+    {
+        self.settle();
+        !self.is_there()
+    }
+
     /// What was drafted is taken back.
     fn undo(&mut self)
         ensures was { self.new.was ≡ self.old.was }
@@ -173,6 +184,32 @@ pub(crate) fn undo(seats: &mut [Seat])
 {
     for seat in seats.iter_mut() {
         seat.undo();
+    }
+}
+
+/// What was drafted of those at these places stands. Whether one of them ended.
+fn settle_places(seats: &mut [Seat], places: &[usize]) -> bool
+    requires { AreTouched places.now seats.old }
+    ensures ended { result ≡ false → list_any has_ended seats.new ≡ false }
+    ensures now { flat_map seat_now seats.new ≡ flat_map seat_now seats.old }
+    ensures left { flat_map seat_left seats.new ≡ flat_map seat_now seats.old }
+{
+    let mut ended = false;
+    for place in places {
+        let gone = seats[*place].settle_ended();
+        ended = ended | gone;
+    }
+    ended
+}
+
+/// What was drafted stands, where only the sessions at these places may have changed; which of them ended is gone.
+pub(crate) fn settle_at(seats: &mut Vec<Seat>, places: &[usize])
+    requires { AreTouched places.now seats.old.items }
+    ensures was { map seat_was seats.new.items ≡ flat_map seat_now seats.old.items }
+    ensures now { flat_map seat_now seats.new.items ≡ flat_map seat_now seats.old.items }
+{
+    if settle_places(seats, places) {
+        seats.retain(|seat| seat.is_there());
     }
 }
 

@@ -3,6 +3,7 @@ use Rattle.spk_broker_rules.specs.Step.{serve}
 use Rattle.spk_broker.specs.Drafts.{draft_view, left_by, served_by}
 use Rattle.spk_broker.specs.Parts.{post_view}
 use Rattle.spk_broker.proofs.Rounds.{was-step}
+use Rattle.spk_broker.proofs.Touched.{apart-step, visited}
 use Rattle.spk_broker.proofs.Visits.{calling-end, calling-step}
 use Rattle.spk_broker.proofs.calling.call.Goals as goal
 
@@ -21,6 +22,7 @@ loop-place-preserved c =
           c.index-seats-place.result x c.serve.new.self c.loop-place.invariant.calling c.requires.places c.loop-place-test.true refl c.serve.ensures.was
           (c.in_ok-serve.ensures.left ∙ ap (λ k. left_by (serve k) x.now) same)
           (c.in_ok-serve.ensures.drafted ∙ ap (λ k. served_by (serve k) x.now (draft_view c.loop-place.draft)) same);
+      apart = apart-step c.args.places.now c.loop-place.place-index c.args.seats.now c.loop-place.seats c.serve.new.self c.loop-place-test.true c.loop-place.invariant.apart;
     }
 
 pub returns-clause-left : goal.returns-clause-left
@@ -32,3 +34,6 @@ pub returns-clause-drafted : goal.returns-clause-drafted
 returns-clause-drafted c =
     (calling-end (post_view c.args.post.now) c.args.places.now c.loop-place.place-index c.args.seats.now c.loop-place.seats (draft_view c.args.draft.now) (draft_view c.loop-place.draft)
     c.loop-place.invariant.calling c.loop-place-test.false).1
+
+pub returns-clause-visited : goal.returns-clause-visited
+returns-clause-visited c = visited c.args.places.now c.args.seats.now c.loop-place.seats c.loop-place.invariant.calling.was c.requires.places c.loop-place.invariant.apart

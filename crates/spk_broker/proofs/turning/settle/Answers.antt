@@ -1,40 +1,12 @@
-use Rattle.std.proofs.Common.{◌≡◌, ◌∙◌, sym, Bool, true, false, not, ◌||◌, cond, List, [], ◌∷◌, refl, ap, map, Option, Some, None, arith, rules, vec_len}
+use Rattle.std.proofs.Common.{◌≡◌, ◌∙◌, sym, false, ap, map, arith, rules, vec_len}
 use Rattle.std.specs.List.{filter, flat_map, list_any}
-use Rattle.std.specs.Option.{is_some}
 use Rattle.std.proofs.lemmas.Fn.{filter_same}
-use Rattle.spk_broker_rules.specs.Data as plain
-use Rattle.spk_broker_rules.specs.Words.{option_list}
-use Rattle.spk_broker.specs.Both.{Both}
 use Rattle.spk_broker.specs.Settling.{has_ended, seat_left}
 use Rattle.spk_broker.specs.View.{seat_now, seat_was}
 use Rattle.spk_broker.proofs.Flats.{filter-flat, filter-map}
 use Rattle.spk_broker.proofs.Refilled.{refilled}
+use Rattle.spk_broker.proofs.Stayers.{all-stay, gone-left, gone-now, here-left, stays}
 use Rattle.spk_broker.proofs.turning.settle.Goals as goal
-
-abbrev stays : Both → Bool
-stays b = is_some b.now
-
-gone-now : (b : Both) → stays b ≡ false → seat_now b ≡ []
-gone-now b e = by b.now e
-  where
-    by : (o : Option plain.Seat) → is_some o ≡ false → option_list o ≡ []
-    by None h = refl
-    by (Some s) h = absurd (let z : ⊥ = cc in z)
-
-gone-left : (b : Both) → stays b ≡ false → seat_left b ≡ []
-gone-left b e = ap (λ t. cond t (b.was ∷ []) []) e
-
-here-left : (b : Both) → stays b ≡ true → seat_left b ≡ b.was ∷ []
-here-left b e = ap (λ t. cond t (b.was ∷ []) []) e
-
--- where nobody ended all stay
-all-stay : (bs : List Both) → list_any has_ended bs ≡ false → filter stays bs ≡ bs
-all-stay [] e = refl
-all-stay (b ∷ bs) e = by (stays b) refl e (λ f. all-stay bs f)
-  where
-    by : (t : Bool) → stays b ≡ t → not t || list_any has_ended bs ≡ false → (list_any has_ended bs ≡ false → filter stays bs ≡ bs) → cond (stays b) (b ∷ filter stays bs) (filter stays bs) ≡ b ∷ bs
-    by true is f rest = ap (λ t. cond t (b ∷ filter stays bs) (filter stays bs)) is ∙ ap (λ l. b ∷ l) (rest f)
-    by false is f rest = absurd (let z : ⊥ = cc in z)
 
 pub returns-then-settle_each-clause-was : goal.returns-then-settle_each-clause-was
 returns-then-settle_each-clause-was c =

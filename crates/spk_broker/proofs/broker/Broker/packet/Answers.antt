@@ -53,3 +53,6 @@ draft_packet-drafted-requires-clause-stands c = begun-for c.self.inside.desk c.n
 
 pub draft_packet-drafted-requires-clause-lawful : goal.draft_packet-drafted-requires-clause-lawful
 draft_packet-drafted-requires-clause-lawful c = c.self.invariant.sound.lawful
+
+pub draft_packet-drafted-requires-clause-settled : goal.draft_packet-drafted-requires-clause-settled
+draft_packet-drafted-requires-clause-settled c = c.self.invariant.sound.settled

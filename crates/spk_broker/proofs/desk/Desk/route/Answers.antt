@@ -16,6 +16,16 @@ loop-post-preserved c = record {
       (ap (λ (l : List Post). map post_view l) c.in-Some.ensures.items) refl c.in_ok-route_one.ensures.done c.loop-post.invariant.leads;
 }
 
+pub loop-post-preserved-in_ok-route_one : goal.loop-post-preserved-in_ok-route_one
+loop-post-preserved-in_ok-route_one c = record {
+  same = c.route_one.ensures.same ∙ c.loop-post.invariant.same;
+  index = c.in_ok-route_one.ensures.index;
+  order = c.in_ok-route_one.ensures.order;
+  leads = leads-on c.args.self.now c.loop-post.self c.route_one.new.self c.args.draft.now c.loop-post.draft (record c.loop-post.draft { waiting = c.pop_front.new.self }) c.route_one.new.draft
+      (post_view c.in-Some.post) (map post_view c.pop_front.new.self.items)
+      (ap (λ (l : List Post). map post_view l) c.in-Some.ensures.items) refl c.in_ok-route_one.ensures.done c.loop-post.invariant.leads;
+}
+
 pub returns-clause-done : goal.returns-clause-done
 returns-clause-done c =
     let same : map post_view c.loop-post.draft.waiting.items ≡ map post_view c.pop_front.new.self.items = ap (λ (l : List Post). map post_view l) c.in_default.ensures.items in

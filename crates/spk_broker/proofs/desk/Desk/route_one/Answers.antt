@@ -14,6 +14,7 @@ use Rattle.spk_broker.specs.Filing.{AreInOrder, IsIndex}
 use Rattle.spk_broker.proofs.Quiet.{kept-index}
 use Rattle.spk_broker.proofs.Refilled.{refilled}
 use Rattle.spk_broker.proofs.Routes.{RoutedOne, one-fewer, one-stands}
+use Rattle.spk_broker.proofs.Touched.{visited-as}
 use Rattle.spk_broker.proofs.Visits.{kept-order}
 use Rattle.spk_broker.proofs.desk.Desk.route_one.Goals as goal
 
@@ -27,10 +28,10 @@ facts : (c : goal.In_ok-keep) (good : Good c) → RoutedOne (post_view c.args.po
 facts c good =
     let m = post_view c.args.post in
     let lent = c.deref_mut.ensures.value in
-    let round = c.in_ok-round.ensures in
+    let round = c.in_ok-places.ensures in
     let back : (end c good).seats.items ≡ c.round.new.seats = refilled (vec_len c.args.self.now.seats) c.round.new.seats c.args.self.now.seats.items (omega arith) (omega arith) in
     let drafted = round.drafted ∙ ap (λ l. with_round (serve m) (flat_map seat_now l) (draft_view c.args.draft.now)) lent in
-    let keeps : (draft_view c.round.new.draft).keeps ≡ (draft_view c.args.draft.now).keeps = ap (λ (x : Drafted). x.keeps) c.in_ok-round.ensures.drafted in
+    let keeps : (draft_view c.round.new.draft).keeps ≡ (draft_view c.args.draft.now).keeps = ap (λ (x : Drafted). x.keeps) c.in_ok-places.ensures.drafted in
     record {
       shape = refl;
       seats = ap (flat_map seat_now) back ∙ round.left ∙ ap (λ l. left_of_round (serve m) (flat_map seat_now l)) lent;
@@ -54,3 +55,9 @@ pub returns-clause-order : goal.returns-clause-order
 returns-clause-order c =
     subst (AreInOrder c.args.tree.now) (sym (facts c c.self-2-1.given.0).seats)
     (kept-order c.args.tree.now (post_view c.args.post) (flat_map seat_now c.args.self.now.seats.items) c.requires.order)
+
+pub returns-clause-visited : goal.returns-clause-visited
+returns-clause-visited c =
+    let lent = c.deref_mut.ensures.value in
+    let back : (end c c.self-2-1.given.0).seats.items ≡ c.round.new.seats = refilled (vec_len c.args.self.now.seats) c.round.new.seats c.args.self.now.seats.items (omega arith) (omega arith) in
+    visited-as c.in_ok-places.places _ _ _ _ lent (sym back) c.in_ok-places.ensures.visited

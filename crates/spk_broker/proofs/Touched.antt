@@ -1,0 +1,221 @@
+-- Sessions at a few places are changed, and all others are as before the call.
+use Rattle.std.proofs.Common.{◌≡◌, ℕ, zero, suc, ◌+◌, ◌<◌, ◌≤◌, Bool, true, false, not, ◌||◌, cond, eqb, List, [], ◌∷◌, ◌++◌, length, map, get_or, set, refl, sym, ap, ◌∙◌, subst, Option, Some, None, arith, true≢false, Vec, Global}
+use Rattle.std.specs.List.{flat_map, list_any}
+use Rattle.std.specs.Option.{IfSome, is_some}
+use Rattle.std.proofs.lemmas.List.{get_or-set_other, get_or-set_same, length-set}
+use Rattle.std.proofs.lemmas.Bool.{cases_eq, cases_lt}
+use mathlib.Core.Logic.{⊎_elim}
+use Rattle.spk_broker_rules.specs.Data as plain
+use Rattle.spk_broker_rules.specs.Words.{option_list}
+use Rattle.spk_broker_rules.proofs.Lists.{eqb-is}
+use Rattle.spk_broker.specs.Asking.{seats_now}
+use Rattle.spk_broker.specs.Both.{Both}
+use Rattle.spk_broker.specs.Called.{ArePlaces, is_place}
+use Rattle.spk_broker.specs.Entering.{whole}
+use Rattle.spk_broker.specs.Settling.{has_ended, seat_left}
+use Rattle.spk_broker.specs.Touched.{AreTouched, AreVisited}
+use Rattle.spk_broker.specs.View.{seat_now, seat_was}
+use Rattle.spk_broker.proofs.Changes.{whole-at}
+use Rattle.spk_broker.proofs.Visits.{calling-length, place-is}
+
+-- ---- places
+
+-- another place than one of these
+pub no-place : (ps : List ℕ) (k i : ℕ) → k < length ps → is_place i ps ≡ false → i ≡ get_or ps k 0 → ⊥
+no-place ps k i low out e = true≢false (sym (place-is ps k i low (sym e)) ∙ out)
+
+-- where a place stands among these
+pub place-at : (i : ℕ) (ps : List ℕ) → is_place i ps ≡ true → (k : ℕ) × (k < length ps) × (get_or ps k 0 ≡ i)
+place-at i [] e = absurd (true≢false (sym e))
+place-at i (p ∷ ps) e = by (eqb p i) refl e (λ f. place-at i ps f)
+  where
+    by : (b : Bool) → eqb p i ≡ b → b || is_place i ps ≡ true → (is_place i ps ≡ true → (k : ℕ) × (k < length ps) × (get_or ps k 0 ≡ i))
+        → (k : ℕ) × (k < length (p ∷ ps)) × (get_or (p ∷ ps) k 0 ≡ i)
+    by true is f rest = (zero, omega arith, eqb-is p i is)
+    by false is f rest = let at = rest f in let low = at.1 in (suc at.0, omega (arith, low), at.2)
+
+-- one place more
+more-low : (ps : List ℕ) (p n : ℕ) → ((k : ℕ) → k < length ps → get_or ps k 0 < n) → p < n → (k : ℕ) → k < length (ps ++ p ∷ []) → get_or (ps ++ p ∷ []) k 0 < n
+more-low [] p n low here zero lt = here
+more-low [] p n low here (suc k) lt = absurd (omega (arith, lt))
+more-low (q ∷ ps) p n low here zero lt = low zero (omega arith)
+more-low (q ∷ ps) p n low here (suc k) lt = more-low ps p n (λ j less. low (suc j) (omega (arith, less))) here k (omega (arith, lt))
+
+more-out : (ps : List ℕ) (p i : ℕ) → is_place i (ps ++ p ∷ []) ≡ false → (is_place i ps ≡ false) × (is_place i (p ∷ []) ≡ false)
+more-out [] p i e = (refl, e)
+more-out (q ∷ ps) p i e = by (eqb q i) e (λ f. more-out ps p i f)
+  where
+    by : (b : Bool) → b || is_place i (ps ++ p ∷ []) ≡ false → (is_place i (ps ++ p ∷ []) ≡ false → (is_place i ps ≡ false) × (is_place i (p ∷ []) ≡ false))
+        → (b || is_place i ps ≡ false) × (is_place i (p ∷ []) ≡ false)
+    by true f rest = absurd (true≢false f)
+    by false f rest = rest f
+
+-- what is read where something stands
+same-read : {X : Type 0} (xs : List X) (i : ℕ) (d e : X) → i < length xs → get_or xs i d ≡ get_or xs i e
+same-read [] i d e lt = absurd (omega (arith, lt))
+same-read (x ∷ xs) zero d e lt = refl
+same-read (x ∷ xs) (suc i) d e lt = same-read xs i d e (omega (arith, lt))
+
+-- ---- who was changed
+
+-- one session of a settled desk
+pub touched-one : (bs : List Both) (p : ℕ) (x : Both) → seats_now bs ≡ map seat_was bs → p < length bs → AreTouched (p ∷ []) (set bs p x)
+touched-one bs p x e low =
+    let long = length-set bs p x in
+    record {
+      low = first;
+      rest = λ i d lt out.
+          subst (λ (b : Both). b ≡ whole b.was) (sym (get_or-set_other bs p i x d (no-place (p ∷ []) 0 i (omega arith) out)))
+          (whole-at bs i d e (omega (arith, long, lt)));
+    }
+  where
+    first : (k : ℕ) → k < length (p ∷ []) → get_or (p ∷ []) k 0 < length (set bs p x)
+    first zero lt = let long = length-set bs p x in omega (arith, long, low)
+    first (suc k) lt = absurd (omega (arith, lt))
+
+-- and then those at which a message called
+pub touched-more : (ps : List ℕ) (p : ℕ) (old new : List Both) → AreTouched (p ∷ []) old → AreVisited ps old new → AreTouched (ps ++ p ∷ []) new
+touched-more ps p old new t v =
+    let long = v.long in
+    let here = t.low 0 (omega arith) in
+    record {
+      low = more-low ps p (length new) v.low (omega (arith, here, long));
+      rest = λ i d lt out.
+          let outs = more-out ps p i out in
+          subst (λ (b : Both). b ≡ whole b.was) (sym (v.rest i d outs.0)) (t.rest i d (omega (arith, lt, long)) outs.1);
+    }
+
+pub few-touched : (sender : Option ℕ) (places : Option (Vec ℕ Global)) (p : ℕ) (ps : Vec ℕ Global) (more : List ℕ) (old new : List Both) → sender ≡ Some p → places ≡ Some ps → more ≡ ps.items ++ p ∷ []
+    → IfSome sender (λ q. AreTouched (q ∷ []) old) → IfSome places (λ (l : Vec ℕ Global). AreVisited l.items old new) → AreTouched more new
+few-touched sender places p ps more old new e f m here there =
+    subst (λ l. AreTouched l new) (sym m)
+    (touched-more ps.items p old new (subst (λ o. IfSome o (λ q. AreTouched (q ∷ []) old)) e here)
+    (subst (λ o. IfSome o (λ (l : Vec ℕ Global). AreVisited l.items old new)) f there))
+
+-- ---- a message calls at places
+
+abbrev pub IsApart : List ℕ → List Both → List Both → Type 0
+IsApart ps old new = (i : ℕ) (d : Both) → is_place i ps ≡ false → get_or new i d ≡ get_or old i d
+
+pub apart-start : (ps : List ℕ) (bs : List Both) → IsApart ps bs bs
+apart-start ps bs i d out = refl
+
+pub apart-step : (ps : List ℕ) (j : ℕ) (start cur : List Both) (x : Both) → j < length ps → IsApart ps start cur → IsApart ps start (set cur (get_or ps j 0) x)
+apart-step ps j start cur x low h i d out = get_or-set_other cur (get_or ps j 0) i x d (no-place ps j i low out) ∙ h i d out
+
+pub visited : (ps : List ℕ) (old new : List Both) → map seat_was new ≡ map seat_was old → ArePlaces ps old → IsApart ps old new → AreVisited ps old new
+visited ps old new was places apart =
+    let long = calling-length new old was in
+    record {
+      long = long;
+      low = λ k lt. let low = places.low k lt in omega (arith, low, long);
+      rest = apart;
+    }
+
+pub visited-as : (o : Option (Vec ℕ Global)) (a b c d : List Both) → a ≡ b → c ≡ d → IfSome o (λ ps. AreVisited ps.items a c) → IfSome o (λ ps. AreVisited ps.items b d)
+visited-as o a b c d e f h =
+    subst (λ x. IfSome o (λ ps. AreVisited ps.items b x)) f (subst (λ x. IfSome o (λ ps. AreVisited ps.items x c)) e h)
+
+-- ---- the sessions at places are settled
+
+-- those at the first j places are
+pub record Settling (ps : List ℕ) (j : ℕ) (start cur : List Both) (ended : Bool) : Type 0 where
+  pub long : length cur ≡ length start
+  pub now : (i : ℕ) (d : Both) → i < length start → (get_or cur i d).now ≡ (get_or start i d).now
+  pub left : (k : ℕ) (d : Both) → k < j → k < length ps → seat_left (get_or cur (get_or ps k 0) d) ≡ option_list (get_or start (get_or ps k 0) d).now
+  pub apart : IsApart ps start cur
+  pub there : ended ≡ false → (k : ℕ) (d : Both) → k < j → k < length ps → is_some (get_or cur (get_or ps k 0) d).now ≡ true
+
+pub settling-start : (ps : List ℕ) (start : List Both) → Settling ps 0 start start false
+settling-start ps start = record {
+  long = refl;
+  now = λ i d lt. refl;
+  left = λ k d lt low. absurd (omega (arith, lt));
+  apart = apart-start ps start;
+  there = λ e k d lt low. absurd (omega (arith, lt));
+}
+
+either-false : (a b : Bool) → a || b ≡ false → (a ≡ false) × (b ≡ false)
+either-false true b e = absurd (true≢false e)
+either-false false b e = (refl, e)
+
+stays-there : (o : Option plain.Seat) → not (is_some o) ≡ false → is_some o ≡ true
+stays-there None e = absurd (true≢false e)
+stays-there (Some s) e = refl
+
+-- what is read after one was written
+set-cases : (cur : List Both) (p : ℕ) (new : Both) (i : ℕ) (d : Both) → p < length cur → (P : Both → Type 0) → (i ≡ p → P new) → ((i ≡ p → ⊥) → P (get_or cur i d)) → P (get_or (set cur p new) i d)
+set-cases cur p new i d below P here other =
+    ⊎_elim
+    (λ e. subst (λ n. P (get_or (set cur p new) n d)) (sym e) (subst P (sym (get_or-set_same cur p new d below)) (here e)))
+    (λ ne. subst P (sym (get_or-set_other cur p i new d ne)) (other ne))
+    (cases_eq i p)
+
+pub settling-step : (ps : List ℕ) (j : ℕ) (start cur : List Both) (ended gone : Bool) (e new : Both) → Settling ps j start cur ended → AreTouched ps start → j < length ps
+    → new.now ≡ (get_or cur (get_or ps j 0) e).now → seat_left new ≡ option_list (get_or cur (get_or ps j 0) e).now → gone ≡ has_ended new
+    → Settling ps (j + 1) start (set cur (get_or ps j 0) new) (ended || gone)
+settling-step ps j start cur ended gone e new c t low now left is =
+    let p = get_or ps j 0 in
+    let long = c.long in
+    let plow = t.low j low in
+    let below : p < length cur = omega (arith, long, plow) in
+    let one : (d : Both) → new.now ≡ (get_or start p d).now = λ d. now ∙ c.now p e plow ∙ ap (λ (b : Both). b.now) (same-read start p e d plow) in
+    record {
+      long = length-set cur p new ∙ long;
+      now = λ i d lt. set-cases cur p new i d below (λ b. b.now ≡ (get_or start i d).now)
+          (λ same. subst (λ n. new.now ≡ (get_or start n d).now) (sym same) (one d)) (λ ne. c.now i d lt);
+      left = λ k d lt klow. set-cases cur p new (get_or ps k 0) d below (λ b. seat_left b ≡ option_list (get_or start (get_or ps k 0) d).now)
+          (λ same. subst (λ n. seat_left new ≡ option_list (get_or start n d).now) (sym same) (left ∙ ap option_list (sym now ∙ one d)))
+          (λ ne. ⊎_elim (λ old. c.left k d old klow) (λ ge. let last : k ≡ j = omega (arith, ge, lt) in absurd (ne (ap (λ q. get_or ps q 0) last))) (cases_lt k j));
+      apart = apart-step ps j start cur new low c.apart;
+      there = λ f k d lt klow.
+          let parts = either-false ended gone f in
+          set-cases cur p new (get_or ps k 0) d below (λ b. is_some b.now ≡ true)
+          (λ same. stays-there new.now (sym is ∙ parts.1))
+          (λ ne. ⊎_elim (λ old. c.there parts.0 k d old klow) (λ ge. let last : k ≡ j = omega (arith, ge, lt) in absurd (ne (ap (λ q. get_or ps q 0) last))) (cases_lt k j));
+    }
+
+-- ---- at the end
+
+flat-at : {X Y : Type 0} (f g : X → List Y) (xs ys : List X) → length xs ≡ length ys → ((i : ℕ) (d : X) → i < length xs → f (get_or xs i d) ≡ g (get_or ys i d)) → flat_map f xs ≡ flat_map g ys
+flat-at f g [] [] e h = refl
+flat-at f g [] (y ∷ ys) e h = absurd (omega (arith, e))
+flat-at f g (x ∷ xs) [] e h = absurd (omega (arith, e))
+flat-at f g (x ∷ xs) (y ∷ ys) e h =
+    ap (λ l. l ++ flat_map f xs) (h zero x (omega arith)) ∙ ap (λ l. g y ++ l) (flat-at f g xs ys (omega (arith, e)) (λ i d lt. h (suc i) d (omega (arith, lt))))
+
+any-none : {X : Type 0} (p : X → Bool) (xs : List X) → ((i : ℕ) (d : X) → i < length xs → p (get_or xs i d) ≡ false) → list_any p xs ≡ false
+any-none p [] h = refl
+any-none p (x ∷ xs) h = ap (λ b. b || list_any p xs) (h zero x (omega arith)) ∙ any-none p xs (λ i d lt. h (suc i) d (omega (arith, lt)))
+
+-- what holds of those at places, and of those that are as before the call, holds of each
+each : (ps : List ℕ) (i : ℕ) (P : Type 0) → (is_place i ps ≡ true → P) → (is_place i ps ≡ false → P) → P
+each ps i P here other = by (is_place i ps) refl
+  where
+    by : (b : Bool) → is_place i ps ≡ b → P
+    by true e = here e
+    by false e = other e
+
+pub settled-now : (ps : List ℕ) (j : ℕ) (start cur : List Both) (ended : Bool) → Settling ps j start cur ended → flat_map seat_now cur ≡ flat_map seat_now start
+settled-now ps j start cur ended c =
+    let long = c.long in
+    flat-at seat_now seat_now cur start c.long (λ i d lt. ap option_list (c.now i d (omega (arith, lt, long))))
+
+pub settled-left : (ps : List ℕ) (j : ℕ) (start cur : List Both) (ended : Bool) → Settling ps j start cur ended → AreTouched ps start → length ps ≤ j → flat_map seat_left cur ≡ flat_map seat_now start
+settled-left ps j start cur ended c t whole-list =
+    let long = c.long in
+    flat-at seat_left seat_now cur start c.long
+    (λ i d lt. each ps i (seat_left (get_or cur i d) ≡ option_list (get_or start i d).now)
+    (λ in-it. let at = place-at i ps in-it in let low = at.1 in
+    subst (λ n. seat_left (get_or cur n d) ≡ option_list (get_or start n d).now) at.2 (c.left at.0 d (omega (arith, low, whole-list)) low))
+    (λ out. let rest = t.rest i d (omega (arith, lt, long)) out in
+    ap seat_left (c.apart i d out ∙ rest) ∙ sym (ap (λ (b : Both). option_list b.now) rest)))
+
+pub settled-there : (ps : List ℕ) (j : ℕ) (start cur : List Both) (ended : Bool) → Settling ps j start cur ended → AreTouched ps start → length ps ≤ j → ended ≡ false → list_any has_ended cur ≡ false
+settled-there ps j start cur ended c t whole-list none =
+    let long = c.long in
+    any-none has_ended cur
+    (λ i d lt. each ps i (has_ended (get_or cur i d) ≡ false)
+    (λ in-it. let at = place-at i ps in-it in let low = at.1 in
+    subst (λ n. has_ended (get_or cur n d) ≡ false) at.2 (ap not (c.there none at.0 d (omega (arith, low, whole-list)) low)))
+    (λ out. ap has_ended (c.apart i d out ∙ t.rest i d (omega (arith, lt, long)) out)))
