@@ -1,3 +1,5 @@
 pub mod Moments
 pub mod Opens
 pub mod Plants
+pub mod Standing
+pub mod Since

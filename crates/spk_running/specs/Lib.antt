@@ -1,2 +1,3 @@
 pub mod Places
 pub mod Moments
+pub mod Standing

@@ -1,6 +1,7 @@
 //! Laws on what `run_plant` promises: functions that do nothing, whose contracts speak of a plan and a report.
-ghost use Rattle.std.specs.Prelude.{◌≡◌, ℕ, ◌-◌, ◌*◌, ◌<◌, ◌≤◌, List, [], length, map, Some};
+ghost use Rattle.std.specs.Prelude.{◌≡◌, ℕ, ◌-◌, ◌*◌, ◌<◌, ◌≤◌, true, false, List, [], ◌++◌, length, map, Some};
 ghost use Rattle.std.specs.List.{flat_map, slice_get};
+ghost use Rattle.spk_broker_body.specs.Data.{Entry};
 ghost use Rattle.spk_edge.specs.Along.{messages_from};
 ghost use Rattle.spk_edge.specs.View.{message_view};
 ghost use Rattle.spk_edge_rules.specs.Run.{opened, run_of};
@@ -16,6 +17,7 @@ ghost use Rattle.spk_relay.specs.Shown.{IsFew, count_numbered};
 ghost use Rattle.spk_relay.specs.Speech.{IsPlant};
 ghost use Rattle.spk_running.specs.Moments.{KeepsOrder};
 ghost use Rattle.spk_running.specs.Places.{due_at, inputs_at, is_topic_at, published_at, setup_at, shown_at};
+ghost use Rattle.spk_running.specs.Standing.{IsSubscribed, have_nodes_ended, rings_at, since_at};
 
 /// A plan and a report as `run_plant` has them (its clauses `can`, `made` and `ran`): the log of that report is one of a plant whose
 /// edge nodes are the plan's, with the inputs that the report has of each.
@@ -66,4 +68,39 @@ pub fn running()
     spk_relay::laws::headline();
     spk_relay::laws::shown();
     spk_relay::laws::running();
+}
+
+/// Where the report says that the broker didn't close the host (`is_cut` is false), for every width of 1 to 96 and whatever the threads
+/// did. `before` are the entries of the log up to a moment, and `later` those from it on.
+pub fn uncut()
+    // the host's ring stands at every moment, until the end of each edge node was taken
+    ensures standing { (p : Plan) (r : Report) → (ran : RunsAs p r) → r.is_cut ≡ false → (later before : List Entry) →
+        ran.log ≡ later ++ before → have_nodes_ended p before ≡ false → rings_at p before ≡ true }
+
+    // once the host is subscribed to a node's numbered messages, it stays so
+    ensures subscribed { (p : Plan) (r : Report) (k : ℕ) → CanRun p → IsMade p → (ran : RunsAs p r) → k < length p.nodes.items →
+        r.is_cut ≡ false → (later middle before : List Entry) → ran.log ≡ later ++ (middle ++ before) →
+        IsSubscribed p k before → IsSubscribed p k (middle ++ before) }
+
+    // so all of them that are taken from then on, while the node's connection stands, are due to the host
+    ensures due { (p : Plan) (r : Report) (k : ℕ) → CanRun p → IsMade p → (ran : RunsAs p r) → k < length p.nodes.items →
+        r.is_cut ≡ false → (later before : List Entry) → ran.log ≡ later ++ before → IsSubscribed p k before →
+        due_at p ran.log k ≡ since_at p k later before ++ due_at p before k }
+
+    // and where no send to the host was refused, its ring got each of them
+    ensures shown { (p : Plan) (r : Report) (k : ℕ) → CanRun p → IsMade p → (ran : RunsAs p r) → k < length p.nodes.items →
+        r.is_cut ≡ false → r.refused ≡ 0 → (later before : List Entry) → ran.log ≡ later ++ before → IsSubscribed p k before →
+        shown_at p ran.log k ≡ since_at p k later before ++ due_at p before k }
+{
+    spk_broker_rules::laws::any_list();
+    spk_broker_rules::laws::routing();
+    spk_broker_rules::laws::plain_publish();
+    spk_broker_rules::laws::staying();
+    spk_broker_rules::laws::filters();
+    spk_broker_rules::laws::knowing();
+    spk_broker_rules::laws::joining();
+    spk_broker_rules::laws::drops();
+    spk_relay::laws::few();
+    spk_relay::laws::shown();
+    plant();
 }
