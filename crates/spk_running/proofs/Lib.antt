@@ -3,3 +3,4 @@ pub mod Opens
 pub mod Plants
 pub mod Standing
 pub mod Since
+pub mod Placed

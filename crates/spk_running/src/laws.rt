@@ -16,6 +16,7 @@ ghost use Rattle.spk_plant.specs.declared.report.Report.{Report};
 ghost use Rattle.spk_relay.specs.Shown.{IsFew, count_numbered};
 ghost use Rattle.spk_relay.specs.Speech.{IsPlant};
 ghost use Rattle.spk_running.specs.Moments.{KeepsOrder};
+ghost use Rattle.spk_running.specs.Placed.{ArePlacedAt};
 ghost use Rattle.spk_running.specs.Places.{due_at, inputs_at, is_topic_at, published_at, setup_at, shown_at};
 ghost use Rattle.spk_running.specs.Standing.{IsSubscribed, have_nodes_ended, rings_at, since_at};
 
@@ -103,4 +104,22 @@ pub fn uncut()
     spk_relay::laws::few();
     spk_relay::laws::shown();
     plant();
+}
+
+/// The positions that the host was given of a node, by the lists of the report alone: by what `given` says that it heard, by `accepted`
+/// and by `taken`, without the log.
+pub fn placed()
+    // those lists give the positions that the host's ring got
+    ensures shown { (p : Plan) (r : Report) (k : ℕ) → CanRun p → IsMade p → (ran : RunsAs p r) → k < length p.nodes.items →
+        ArePlacedAt p r k (shown_at p ran.log k) }
+
+    // and no others
+    ensures only { (p : Plan) (r : Report) (k : ℕ) (one other : List ℕ) → ArePlacedAt p r k one → ArePlacedAt p r k other →
+        one ≡ other }
+{
+    spk_packets::laws::prefix_free();
+    spk_packets::laws::spelling_spells();
+    plant();
+    running();
+    spk_relay::laws::shown();
 }
