@@ -4,3 +4,4 @@ pub mod Plants
 pub mod Standing
 pub mod Since
 pub mod Placed
+pub mod Deaths

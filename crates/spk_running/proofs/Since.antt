@@ -167,7 +167,7 @@ module _ (f : Facts) (limit edges k : ℕ) (on : List ℕ → Bool) (small : lim
       (room_of limit edges (later ++ before)).closed edges ≡ false → Subscribes limit edges on (room_of limit edges before) → Subscribes limit edges on (room_of limit edges (later ++ before))
   stays later before log says places uncut s =
       let hears = hears-since later before s.conn log says places uncut
-          (subscribes-hears before (log-back limit edges later before log) (says-back on k edges later before says) (places-back limit edges later before places) s) in
+      (subscribes-hears before (log-back limit edges later before log) (says-back on k edges later before says) (places-back limit edges later before places) s) in
       record { conn = s.conn; has = hears-at (room_of limit edges (later ++ before)) s.conn hears; granted = hears.listens_to }
 
   -- ---- what is due

@@ -2,3 +2,4 @@ pub mod Places
 pub mod Moments
 pub mod Standing
 pub mod Placed
+pub mod Deaths

@@ -13,8 +13,10 @@ ghost use Rattle.spk_plant.specs.Plan.{CanRun, IsMade, host_in};
 ghost use Rattle.spk_plant.specs.Report.{RunsAs};
 ghost use Rattle.spk_plant.specs.declared.report.NodeReport.{NodeReport};
 ghost use Rattle.spk_plant.specs.declared.report.Report.{Report};
+ghost use Rattle.spk_relay.specs.Given.{IsHeard};
 ghost use Rattle.spk_relay.specs.Shown.{IsFew, count_numbered};
 ghost use Rattle.spk_relay.specs.Speech.{IsPlant};
+ghost use Rattle.spk_running.specs.Deaths.{AreDeathsOf};
 ghost use Rattle.spk_running.specs.Moments.{KeepsOrder};
 ghost use Rattle.spk_running.specs.Placed.{ArePlacedAt};
 ghost use Rattle.spk_running.specs.Places.{due_at, inputs_at, is_topic_at, published_at, setup_at, shown_at};
@@ -122,4 +124,16 @@ pub fn placed()
     plant();
     running();
     spk_relay::laws::shown();
+}
+
+/// The deaths that the host was told of a node, however what it was told is read at positions.
+pub fn deaths()
+    // each is read as the death of the one session with its bdSeq: the node opened no other session that has it
+    ensures { (p : Plan) (r : Report) (k : ℕ) → CanRun p → RunsAs p r → k < length p.nodes.items → (positions : List ℕ) →
+        (h : IsHeard (setup_at p k) (published_at p r k) p.wait p.width positions
+        (node_calls (asked (told_in r.given.items)) (setup_at p k).config.group (setup_at p k).config.node)) →
+        AreDeathsOf (setup_at p k) (opened (run_of (setup_at p k) (inputs_at r k))) h.inputs
+        (node_calls (asked (told_in r.given.items)) (setup_at p k).config.group (setup_at p k).config.node) }
+{
+    plant();
 }

@@ -20,7 +20,7 @@ returns-clause-shown c = λ p r k can made ran below.
     let plant = c.plant.ensures.is_plant p r can made ran in
     let others = c.shown.ensures.others p.width (length p.nodes.items) k (setup_at p) (inputs_at r) (host_in p) told ran.log below plant in
     let places = places-of (packets c) (256 - 2 * p.width) (length p.nodes.items) (is_topic_at p k) k s.config.group s.config.node r.taken.items ran.log []
-        (map heard_in r.given.items) ran.logged.is_log others (ran.logged.taken ∙ sym (append-nil (taken_of ran.log))) ran.host.told in
+    (map heard_in r.given.items) ran.logged.is_log others (ran.logged.taken ∙ sym (append-nil (taken_of ran.log))) ran.host.told in
     subst (λ (counts : List ℕ). ArePlaced (is_topic_at p k) k s.config.group s.config.node r.taken.items told (reverse counts) (shown_at p ran.log k)) (sym ran.logged.accepted)
     (places.placed (read-messages s (published_at p r k) heard.inputs told (shown_at p ran.log k) s.config.group s.config.node heard.read heard.shown))
 

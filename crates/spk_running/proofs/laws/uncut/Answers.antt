@@ -96,8 +96,8 @@ returns-clause-due c = λ p r k can made ran below uncut later before is s.
     let a = subst (Along p k) is (along c p r k can made ran below) in
     ap (λ l. Rattle.spk_running.specs.Places.due_at p l k) is
     ∙ all-due (facts c) (256 - 2 * p.width) (length p.nodes.items) k (is_topic_at p k) (small p.width) later before a.log a.says a.places
-      (open-at p r ran uncut Rattle.std.proofs.Common.[] (later ++ before) is)
-      (subst (Going (256 - 2 * p.width) (length p.nodes.items) k) is (going c p r k can made ran below)) s
+    (open-at p r ran uncut Rattle.std.proofs.Common.[] (later ++ before) is)
+    (subst (Going (256 - 2 * p.width) (length p.nodes.items) k) is (going c p r k can made ran below)) s
 
 pub returns-clause-shown : goal.returns-clause-shown
 returns-clause-shown c = λ p r k can made ran below uncut none later before is s.
