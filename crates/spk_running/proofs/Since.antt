@@ -13,11 +13,12 @@ use Rattle.spk_broker_body.specs.Data.{Input, Says, Breaks, Cuts, Ends, Entry, T
 use Rattle.spk_broker_body.specs.Log.{IsLog, room_of, taken_of}
 use Rattle.spk_broker_body.specs.Step.{behind, called, called_on, client_of, conn_at, is_dropped, known, may_open, next_conn, opened, packet_on}
 use Rattle.spk_relay.specs.Due.{due, hears_on, is_heard}
-use Rattle.spk_relay.specs.Shown.{AllMaySay, HasPlaces, MaySay, count_numbered, is_numbered, is_publish_on}
+use Rattle.spk_relay.specs.Shown.{AllMaySay, HasPlaces, MaySay, count_numbered, is_numbered, is_publish_on, shown}
 use Rattle.spk_relay.proofs.Base.{Base, Hears, base-opened, client-within, hears-called, hears-opened, joined-known}
 use Rattle.spk_relay.proofs.Facts.{Facts}
 use Rattle.spk_relay.proofs.Few.{state-of}
 use Rattle.spk_relay.proofs.Moves.{known-is, known-some}
+use Rattle.spk_relay.proofs.State.{Kept}
 use Rattle.spk_running.specs.Standing.{Subscribes, taken_since}
 use Rattle.spk_running.proofs.Standing.{closed-last}
 
@@ -169,6 +170,15 @@ module _ (f : Facts) (limit edges k : ℕ) (on : List ℕ → Bool) (small : lim
       let hears = hears-since later before s.conn log says places uncut
       (subscribes-hears before (log-back limit edges later before log) (says-back on k edges later before says) (places-back limit edges later before places) s) in
       record { conn = s.conn; has = hears-at (room_of limit edges (later ++ before)) s.conn hears; granted = hears.listens_to }
+
+  -- whoever was shown something is subscribed
+  pub begun : (l : List Entry) → IsLog limit edges l → AllMaySay on k edges l → HasPlaces limit edges l → (room_of limit edges l).closed edges ≡ false → (room_of limit edges l).over ≡ false →
+      is_some (conn_at limit (room_of limit edges l) k) ≡ true → (shown on k edges l ≡ [] → ⊥) → Subscribes limit edges on (room_of limit edges l)
+  begun l log says places uncut ringing there some = record { conn = start.conn; has = hears-at (room_of limit edges l) start.conn start.hears; granted = start.hears.listens_to }
+    where
+      start : Kept limit on edges (room_of limit edges l) (shown on k edges l) (count_numbered on k l) (Rattle.spk_relay.specs.Shown.is_relaying on k l)
+      start = (state-of f limit edges on k small l log says places).kept
+          (record { standing = uncut; ringing = ringing; unfinished = λ done. no-yes (sym (ap is_some done.1) ∙ there) }) (inl some)
 
   -- ---- what is due
 

@@ -136,16 +136,17 @@ pub closed-before : (limit edges h : ℕ) (later before : List Entry) → (room_
 closed-before limit edges h [] before e = e
 closed-before limit edges h (x ∷ later) before e = closed-before limit edges h later before (closed-last limit edges h x (later ++ before) e)
 
+-- not all of them have
+pub ringing : (limit edges : ℕ) (l : List Entry) → have_ended edges (taken_of l) ≡ false → (room_of limit edges l).over ≡ false
+ringing limit edges l going = elim (cases_Bool (room_of limit edges l).over) [
+  | inl over ↦ absurd (true≢false (sym (over-ended limit edges l over) ∙ going))
+  | inr never ↦ never
+]
+
 -- a ring that stands
 pub stands : (limit edges h : ℕ) (l : List Entry) → (room_of limit edges l).closed h ≡ false → have_ended edges (taken_of l) ≡ false →
     not (is_dropped (room_of limit edges l).over (room_of limit edges l).closed h) ≡ true
-stands limit edges h l uncut going = not_from_false _ (or_from (room_of limit edges l).over ((room_of limit edges l).closed h) ringing uncut)
-  where
-    ringing : (room_of limit edges l).over ≡ false
-    ringing = elim (cases_Bool (room_of limit edges l).over) [
-      | inl over ↦ absurd (true≢false (sym (over-ended limit edges l over) ∙ going))
-      | inr never ↦ never
-    ]
+stands limit edges h l uncut going = not_from_false _ (or_from (room_of limit edges l).over ((room_of limit edges l).closed h) (ringing limit edges l going) uncut)
 
 -- ---- a node's end is the last of its frames
 

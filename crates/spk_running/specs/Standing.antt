@@ -17,6 +17,10 @@ room_at p l = room_of (256 - 2 * p.width) (length p.nodes.items) l
 abbrev pub rings_at : Plan → List Entry → Bool
 rings_at p l = not (is_dropped (room_at p l).over (room_at p l).closed (length p.nodes.items))
 
+-- the connection of the client at place k stands then
+abbrev pub has_connection_at : Plan → List Entry → ℕ → Bool
+has_connection_at p l k = is_some (conn_at (256 - 2 * p.width) (room_at p l) k)
+
 -- each edge node's end was taken by then
 abbrev pub have_nodes_ended : Plan → List Entry → Bool
 have_nodes_ended p l = have_ended (length p.nodes.items) (taken_of l)

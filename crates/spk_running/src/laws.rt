@@ -20,7 +20,7 @@ ghost use Rattle.spk_running.specs.Deaths.{AreDeathsOf};
 ghost use Rattle.spk_running.specs.Moments.{KeepsOrder};
 ghost use Rattle.spk_running.specs.Placed.{ArePlacedAt};
 ghost use Rattle.spk_running.specs.Places.{due_at, inputs_at, is_topic_at, published_at, setup_at, shown_at};
-ghost use Rattle.spk_running.specs.Standing.{IsSubscribed, have_nodes_ended, rings_at, since_at};
+ghost use Rattle.spk_running.specs.Standing.{IsSubscribed, has_connection_at, have_nodes_ended, rings_at, since_at};
 
 /// A plan and a report as `run_plant` has them (its clauses `can`, `made` and `ran`): the log of that report is one of a plant whose
 /// edge nodes are the plan's, with the inputs that the report has of each.
@@ -84,6 +84,11 @@ pub fn uncut()
     ensures subscribed { (p : Plan) (r : Report) (k : ℕ) → CanRun p → IsMade p → (ran : RunsAs p r) → k < length p.nodes.items →
         r.is_cut ≡ false → (later middle before : List Entry) → ran.log ≡ later ++ (middle ++ before) →
         IsSubscribed p k before → IsSubscribed p k (middle ++ before) }
+
+    // and it is, where its ring got one of them, the node's connection stands and not all edge nodes have ended
+    ensures begun { (p : Plan) (r : Report) (k : ℕ) → CanRun p → IsMade p → (ran : RunsAs p r) → k < length p.nodes.items →
+        r.is_cut ≡ false → (later before : List Entry) → ran.log ≡ later ++ before → have_nodes_ended p before ≡ false →
+        has_connection_at p before k ≡ true → (shown_at p before k ≡ [] → ⊥) → IsSubscribed p k before }
 
     // so all of them that are taken from then on, while the node's connection stands, are due to the host
     ensures due { (p : Plan) (r : Report) (k : ℕ) → CanRun p → IsMade p → (ran : RunsAs p r) → k < length p.nodes.items →

@@ -12,8 +12,8 @@ use Rattle.spk_relay.specs.Shown.{AllMaySay, HasPlaces}
 use Rattle.spk_relay.specs.Speech.{IsPlant}
 use Rattle.spk_relay.proofs.Facts.{Facts}
 use Rattle.spk_running.specs.Places.{inputs_at, is_topic_at, setup_at}
-use Rattle.spk_running.proofs.Since.{Going, all-due, log-back, places-back, says-back, stays}
-use Rattle.spk_running.proofs.Standing.{closed-before, rings-on, stands}
+use Rattle.spk_running.proofs.Since.{Going, all-due, begun, log-back, places-back, says-back, stays}
+use Rattle.spk_running.proofs.Standing.{closed-before, ringing, rings-on, stands}
 use Rattle.spk_running.proofs.laws.uncut.Goals as goal
 
 small : (width : ℕ) → 256 - 2 * width ≤ 65535
@@ -90,6 +90,12 @@ returns-clause-subscribed c = λ p r k can made ran below uncut later middle bef
     let a = back p k later (middle ++ before) (subst (Along p k) is (along c p r k can made ran below)) in
     stays (facts c) (256 - 2 * p.width) (length p.nodes.items) k (is_topic_at p k) (small p.width) middle before a.log a.says a.places
     (open-at p r ran uncut later (middle ++ before) is) s
+
+pub returns-clause-begun : goal.returns-clause-begun
+returns-clause-begun c = λ p r k can made ran below uncut later before is going there some.
+    let a = back p k later before (subst (Along p k) is (along c p r k can made ran below)) in
+    begun (facts c) (256 - 2 * p.width) (length p.nodes.items) k (is_topic_at p k) (small p.width) before a.log a.says a.places
+    (open-at p r ran uncut later before is) (ringing (256 - 2 * p.width) (length p.nodes.items) before going) there some
 
 pub returns-clause-due : goal.returns-clause-due
 returns-clause-due c = λ p r k can made ran below uncut later before is s.
