@@ -21,8 +21,3 @@ pub use gauge::Gauge;
 pub use outcome::Outcome;
 pub use owner::Owner;
 pub use registry::{Alias, Registry};
-
-#[cfg(test)]
-mod births_tests;
-#[cfg(test)]
-mod tests;

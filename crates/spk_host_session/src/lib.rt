@@ -14,6 +14,3 @@ pub use fault::HostFault;
 pub use packets::acknowledgement;
 pub use requests::{rebirth, request_bytes};
 pub use session::HostSession;
-
-#[cfg(test)]
-mod tests;

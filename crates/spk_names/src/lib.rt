@@ -4,7 +4,5 @@
 
 pub mod laws;
 mod names;
-#[cfg(test)]
-mod tests;
 
 pub use names::Names;

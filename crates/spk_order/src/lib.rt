@@ -4,7 +4,5 @@
 
 mod order;
 mod slots;
-#[cfg(test)]
-mod tests;
 
 pub use order::{Handed, NoMemory, Order};

@@ -16,12 +16,3 @@ pub use metric::{Metric, Raw};
 pub use payload::{Payload, decode};
 pub use typing::{Value, typed, written};
 pub use writing::encode;
-
-#[cfg(test)]
-mod large_tests;
-#[cfg(test)]
-mod tests;
-#[cfg(test)]
-mod typing_tests;
-#[cfg(test)]
-mod writing_tests;

@@ -12,6 +12,3 @@ mod writing;
 pub use fault::WireFault;
 pub use field::{Field, Fields, Wire};
 pub use writing::{put_bytes, put_varint, varint_size};
-
-#[cfg(test)]
-mod tests;

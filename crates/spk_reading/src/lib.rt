@@ -11,7 +11,4 @@ mod said;
 pub use fault::ReadFault;
 pub use reading::read;
 
-#[cfg(test)]
-mod tests;
-
 pub use said::{Content, Heard, Numbered, Subject};

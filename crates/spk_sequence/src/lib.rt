@@ -9,8 +9,6 @@ mod message;
 mod phase;
 mod sequence;
 mod slots;
-#[cfg(test)]
-mod tests;
 mod width;
 
 pub use answer::{Gap, Match, Step};

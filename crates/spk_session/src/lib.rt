@@ -10,8 +10,6 @@ mod identifiers;
 pub mod laws;
 mod session;
 mod table;
-#[cfg(test)]
-mod tests;
 
 pub use answer::{Sort, Verdict};
 pub use budget::Budget;

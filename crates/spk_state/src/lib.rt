@@ -6,8 +6,6 @@ mod fault;
 pub mod laws;
 mod primary;
 mod state;
-#[cfg(test)]
-mod tests;
 
 pub use fault::StateFault;
 pub use primary::{Heard, Primary};

@@ -7,8 +7,6 @@ mod change;
 mod fault;
 pub mod laws;
 mod store;
-#[cfg(test)]
-mod tests;
 
 pub use change::Change;
 pub use fault::StoreFault;

@@ -1,4 +1,4 @@
-use crate::Order;
+use spk_order::Order;
 use spk_sequence::{Kind, Match, Step, Width};
 use std::test::Fail;
 

@@ -1,8 +1,8 @@
 ghost use Rattle.std.specs.Prelude.{◌≤◌};
 
-use super::*;
 use spk_device::Owner;
 use spk_payload::Value;
+use spk_store::{Change, Store, StoreFault};
 use std::process::Abort;
 use std::test::Fail;
 

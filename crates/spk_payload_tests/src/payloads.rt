@@ -1,5 +1,5 @@
 //! Payloads read.
-use super::*;
+use spk_payload::{Metric, Payload, PayloadFault, Raw, decode};
 use spk_protobuf::WireFault;
 use std::process::Abort;
 
@@ -207,8 +207,13 @@ fn no_prefix_means_the_whole(rt: HostRuntime) {
 
 #[test]
 fn faults_have_their_numbers(rt: HostRuntime) {
-    assert_eq!(rt; PayloadFault::NoMemory.number(), 1);
-    assert_eq!(rt; PayloadFault::Wire(WireFault::Truncated).number(), 2);
-    assert_eq!(rt; PayloadFault::Wire(WireFault::WireType).number(), 6);
-    assert_eq!(rt; PayloadFault::NotText.number(), 7);
+    let table = [
+        (PayloadFault::NoMemory, 1),
+        (PayloadFault::Wire(WireFault::Truncated), 2),
+        (PayloadFault::Wire(WireFault::WireType), 6),
+        (PayloadFault::NotText, 7),
+    ];
+    for (fault, number) in &table {
+        assert_eq!(rt; fault.number(), *number);
+    }
 }

@@ -1,6 +1,6 @@
 //! Payloads written, and copied.
-use super::*;
-use crate::tests::{BIRTH, DRAINED, FLOAT, NODE_BIRTH, NODE_DATA, REBIRTH, decoded};
+use crate::payloads::{BIRTH, DRAINED, FLOAT, NODE_BIRTH, NODE_DATA, REBIRTH, decoded};
+use spk_payload::{Metric, Payload, PayloadFault, Raw, encode, written};
 use std::alloc::AllocError;
 use std::process::Abort;
 use std::test::Fail;

@@ -1,7 +1,7 @@
-use crate::tests::{
+use crate::devices::{
     Row, assert_device, assert_metric, assert_metrics, assert_set, fault, with_devices,
 };
-use crate::{Alias, DeviceFault, Outcome, Owner, Refusal, Registry};
+use spk_device::{Alias, DeviceFault, Outcome, Owner, Refusal, Registry};
 use spk_payload::{Metric, Raw, Value};
 use std::process::Abort;
 

@@ -1,4 +1,4 @@
-use crate::{Heard, Primary, State, StateFault};
+use spk_state::{Heard, Primary, State, StateFault};
 use std::alloc::AllocGlobal;
 use std::process::Abort;
 use std::test::Fail;

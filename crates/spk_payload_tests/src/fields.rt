@@ -1,4 +1,4 @@
-use super::*;
+use spk_protobuf::{Field, Fields, Wire, WireFault, put_bytes, put_varint};
 use std::process::Abort;
 use std::test::Fail;
 

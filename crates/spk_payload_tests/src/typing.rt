@@ -1,6 +1,6 @@
 //! Values by datatype, both ways.
-use super::*;
-use crate::tests::decoded;
+use crate::payloads::decoded;
+use spk_payload::{Metric, PayloadFault, Raw, Value, typed, written};
 use std::process::Abort;
 
 #[test]

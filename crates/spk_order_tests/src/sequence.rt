@@ -1,4 +1,4 @@
-use crate::{Gap, Kind, Match, Phase, Sequence, Step, Width};
+use spk_sequence::{Gap, Kind, Match, Phase, Sequence, Step, Width};
 use std::test::Fail;
 
 /// A call: a birth's number, stamp and bdSeq, another message's number at a moment, with

@@ -1,6 +1,6 @@
 //! Worked packets as tables, their bytes by hand from MQTT 3.1.1 (chapter 3) and Sparkplug's schema. Out of memory is a right answer
 //! wherever memory is asked for: the call is made again.
-use crate::{Content, Heard, Numbered, ReadFault, Subject, read};
+use spk_reading::{Content, Heard, Numbered, ReadFault, Subject, read};
 use spk_sequence::Kind;
 use std::alloc::Global;
 use std::test::Fail;

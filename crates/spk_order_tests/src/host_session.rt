@@ -1,6 +1,6 @@
 //! Whole sessions and requests, their bytes by hand from MQTT 3.1.1 (chapter 3) and Sparkplug 3.0.0 (chapters 5 and 6). Out of memory is a right
 //! answer wherever memory is asked for: the call is made again.
-use crate::{HostConfig, HostFault, HostSession, acknowledgement, rebirth};
+use spk_host_session::{HostConfig, HostFault, HostSession, acknowledgement, rebirth};
 use spk_sequence::Width;
 use std::alloc::Global;
 use std::test::Fail;

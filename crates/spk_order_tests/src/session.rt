@@ -1,4 +1,4 @@
-use crate::{Budget, Identifiers, Session, SessionFault, Sort, Verdict};
+use spk_session::{Budget, Identifiers, Session, SessionFault, Sort, Verdict};
 use std::test::Fail;
 
 /// How many ids may be in use.

@@ -1,7 +1,6 @@
 //! Payloads of 100,000 metrics and of a megabyte, their bytes by hand from the schema.
-use super::*;
-use crate::tests::decoded;
-use crate::writing_tests::{copied, encoded};
+use crate::payloads::decoded;
+use crate::writing::{copied, encoded};
 use std::alloc::{AllocError, Global};
 use std::test::Fail;
 

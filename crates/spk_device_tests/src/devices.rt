@@ -1,4 +1,4 @@
-use crate::{Alias, DeviceFault, Gauge, Outcome, Owner, Refusal, Registry};
+use spk_device::{Alias, DeviceFault, Gauge, Outcome, Owner, Refusal, Registry};
 use spk_payload::Value;
 use std::process::Abort;
 

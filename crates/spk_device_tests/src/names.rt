@@ -1,4 +1,4 @@
-use crate::Names;
+use spk_names::Names;
 use std::process::Abort;
 
 /// Enters a name. Where a growth was refused, nothing has changed, and the same call may be made again.

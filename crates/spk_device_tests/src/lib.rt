@@ -1,0 +1,12 @@
+//! Tests of names, of the registry of an edge node and of its store, over public calls alone. They stand apart since a crate with
+//! tests is proved twice.
+#![tactic(auto)]
+
+#[cfg(test)]
+mod births;
+#[cfg(test)]
+mod devices;
+#[cfg(test)]
+mod names;
+#[cfg(test)]
+mod store;
