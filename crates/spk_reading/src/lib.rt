@@ -10,5 +10,4 @@ mod said;
 
 pub use fault::ReadFault;
 pub use reading::read;
-
 pub use said::{Content, Heard, Numbered, Subject};
