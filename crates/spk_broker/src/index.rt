@@ -26,6 +26,19 @@ const SLOW: u8 = 16;
 /// The most sessions among which each one's number is looked for.
 const MOST_FOUND: usize = 128;
 
+/// The most levels that the filters of an index have together (own rule). A level takes a node of some 170 bytes in the tree and a
+/// text, so that no client can ask for more than some 50 megabytes by what it subscribes to.
+const MOST_LEVELS: usize = 200_000;
+
+/// How many levels a filter has (section 4.7.1.1).
+fn levels(filter: &str) -> usize {
+    let bytes = filter.as_bytes().iter();
+    bytes
+        .filter(|byte| **byte == b'/')
+        .count()
+        .saturating_add(1)
+}
+
 /// The numbers of the sessions that the index finds for a topic; none where there is no index, where memory was
 /// refused, or where they are more than pay.
 pub(crate) fn reach(tree: &Option<Tree>, topic: &str) -> Option<Vec<(u64, u8)>>
@@ -44,39 +57,44 @@ pub(crate) fn reach(tree: &Option<Tree>, topic: &str) -> Option<Vec<(u64, u8)>>
     }
 }
 
-/// One more grant of a session in the index. False where memory was refused.
-fn file_one(tree: &mut Tree, key: u64, grant: &Grant) -> bool
+/// One more grant of a session in the index. False where memory was refused, or its filter has more levels than are left.
+fn file_one(tree: &mut Tree, left: &mut usize, key: u64, grant: &Grant) -> bool
     ensures filed { result ≡ true → is_some (finite.get tree.new (string_bytes grant.now.filter, key)) ≡ true }
     ensures more { Grown tree.old tree.new }
 {
     granted();
+    let Some(rest) = left.checked_sub(levels(grant.filter.as_str())) else {
+        return false;
+    };
     let Ok(filter) = Filter::read(grant.filter.as_str()) else {
         return false;
     };
+    *left = rest;
     tree.grant(&filter, key, grant.qos).is_ok()
 }
 
-/// The grants of a session in the index. False where memory was refused.
-fn file_seat(tree: &mut Tree, seat: &Seat) -> bool
+/// The grants of a session in the index. False where memory was refused, or they have more levels than are left.
+fn file_seat(tree: &mut Tree, left: &mut usize, seat: &Seat) -> bool
     ensures filed { result ≡ true → AreFiled tree.new (seat_now seat.now) }
     ensures more { Grown tree.old tree.new }
 {
     let key = seat.key();
     for grant in seat.grants() {
-        if !file_one(tree, key, grant) {
+        if !file_one(tree, left, key, grant) {
             return false;
         }
     }
     true
 }
 
-/// An index of the grants of all sessions; none where memory was refused.
+/// An index of the grants of all sessions; none where memory was refused, or where their filters have too many levels.
 pub(crate) fn index(alloc: Global, seats: &[Seat]) -> Option<Tree>
     ensures { IsIndex result (flat_map seat_now seats.now) }
 {
     let mut tree = Tree::new(alloc);
+    let mut left = MOST_LEVELS;
     for seat in seats {
-        if !file_seat(&mut tree, seat) {
+        if !file_seat(&mut tree, &mut left, seat) {
             return None;
         }
     }

@@ -45,6 +45,7 @@ fn start<'s, E, R: Threads + Wait + Sync>(
         });
     if writer.is_err() {
         place.shut(rt);
+        place.leave(rt);
     }
     let reader = Builder::new().stack_size(STACK).spawn_scoped(
         scope,

@@ -63,7 +63,7 @@ fn write_batch(stream: &TcpStream, batch: &[u8], item: &Option<Item>) -> bool {
 }
 
 /// Writes what comes out of the ring until its other end is gone and it is empty, or the socket fails. Where there is
-/// nothing to write it is parked. Then it shuts the socket, so that the client's reader ends too.
+/// nothing to write it is parked. Then it shuts the socket, so that the client's reader ends too, and nobody else needs it.
 pub(crate) fn write_client<R: Wait>(
     rt: &R,
     alloc: Global,
@@ -88,4 +88,5 @@ pub(crate) fn write_client<R: Wait>(
         }
     }
     let _ = stream.shutdown(Shutdown::Both);
+    place.leave(rt);
 }

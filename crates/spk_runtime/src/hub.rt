@@ -21,6 +21,9 @@ const LIMIT: u16 = 128;
 /// How many frames are taken before writers are woken.
 const ROUND: usize = 64;
 
+/// How long a client whose connection is over may read what was sent to it, in milliseconds (own rule). Then its socket is shut.
+const GRACE: u64 = 5_000;
+
 /// How far a client is.
 #[derive(Clone, Copy, Debug, PartialEq, Eq)]
 enum Phase {
@@ -51,6 +54,8 @@ pub(crate) struct Hub<'a> {
     seat_of: Vec<usize>,
     /// Whose writers are to be woken.
     touched: Vec<usize>,
+    /// Whose connection is over, and when their sockets are shut, in the order of these moments. It has room for each client once.
+    leaving: VecDeque<(usize, u64)>,
     /// Sends that weren't taken, of which the broker isn't told yet.
     untold: VecDeque<(Conn, Sort)>,
     places: &'a [Place],
@@ -80,6 +85,7 @@ impl<'a> Hub<'a> {
             seats,
             seat_of: Vec::with_capacity(alloc, count)?,
             touched: Vec::with_capacity(alloc, count)?,
+            leaving: VecDeque::with_capacity(alloc, count)?,
             untold: VecDeque::new(alloc),
             places,
             now: 0,
@@ -122,13 +128,33 @@ impl<'a> Hub<'a> {
         }
     }
 
-    /// The connection is over: its ring is dropped, and its writer sends what is left.
+    /// The connection is over: its ring is dropped, and its writer sends what is left, for a while.
     fn over(&mut self, place: usize) {
         if let Some(seat) = self.seats.get_mut(place) {
+            if seat.phase != Phase::Over {
+                let until = self.now.saturating_add(GRACE);
+                let _ = self.leaving.push_back((place, until));
+            }
             seat.phase = Phase::Over;
             seat.outlet = None;
         }
         self.touch(place);
+    }
+
+    /// Shuts the sockets of those who had time enough to read what was sent to them: a writer that waits in one goes on.
+    fn shut_late<R: Wait>(&mut self, rt: &R) {
+        for _ in 0..self.places.len() {
+            let Some((place, until)) = self.leaving.front().copied() else {
+                return;
+            };
+            if until > self.now {
+                return;
+            }
+            let _ = self.leaving.pop_front();
+            if let Some(line) = self.places.get(place) {
+                line.shut(rt);
+            }
+        }
     }
 
     fn place_of(&self, conn: Conn) -> Option<usize> {
@@ -249,9 +275,6 @@ impl<'a> Hub<'a> {
             Frame::Cut => self.cut(rt, place)?,
             Frame::End => {
                 self.over(place);
-                if let Some(line) = self.places.get(place) {
-                    line.leave(rt);
-                }
                 return Ok(1);
             }
         }
@@ -280,6 +303,7 @@ impl<'a> Hub<'a> {
         if moved {
             let result = self.broker.tick(self.now);
             self.answer(rt, result)?;
+            self.shut_late(rt);
         }
         Ok(ends)
     }

@@ -42,7 +42,7 @@ impl Place {
         }
     }
 
-    /// The client's end: nobody needs the socket any more.
+    /// The writer's end: nobody shuts the socket from outside any more.
     pub(crate) fn leave<R: Wait>(&self, rt: &R) {
         *self.stream.lock(rt) = None;
     }
