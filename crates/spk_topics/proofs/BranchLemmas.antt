@@ -1,6 +1,12 @@
 -- Where the levels of a node lead after a change of its first branch or of the others.
-use Rattle.std.proofs.Common.{◌≡◌, ℕ, List, Bool, true, false, refl, sym, ap, ◌∙◌, cond, Option, Some, None}
+use Rattle.std.proofs.Common.{◌≡◌, ℕ, List, [], ◌∷◌, Bool, true, false, refl, sym, ap, ◌∙◌, cond, Option, Some, None}
+use Rattle.std.specs.Prelude.{String, is_none}
+use Rattle.std.specs.BTreeMap.{BTreeMap, get_by_text}
+use Rattle.std.specs.Map.{lookup}
+use Rattle.std.specs.Ordering.{is_eq, nat_cmp}
+use Rattle.std.specs.Cmp.Lexicographic.{slice_cmp}
 use Rattle.std.specs.Str.{bytes_eq}
+use Rattle.std.proofs.lemmas.Map.Text.{is_eq-slice_cmp}
 use Rattle.std.proofs.lemmas.Bool.{false≢true}
 use Rattle.std.specs.String.{string_bytes}
 use Rattle.spk_topics.specs.declared.node.Branch.{Branch}
@@ -54,3 +60,23 @@ dropped first after old new level is h l = by_test (has_level first level) refl 
     by_test : (b : Bool) → has_level first level ≡ b → after ≡ cond b None first → next_by after new l ≡ cond (bytes_eq level l) None (next_by first old l)
     by_test true has is = ap (λ o. next_by o new l) is ∙ first_dropped first old new level has h l
     by_test false has is = ap (λ o. next_by o new l) is ∙ others_set first old new level None has h l
+
+-- ---- a level that leads on
+
+abbrev LeadsOn : Ways → Type 0
+LeadsOn ways = (level : List ℕ) × (n : ℕ) × (ways level ≡ Some n)
+
+pub leads_by_first : (first : Option Branch) (others : Ways) → is_none first ≡ false → LeadsOn (next_by first others)
+leads_by_first None others h = cc
+leads_by_first (Some first) others h =
+    (string_bytes first.level, first.number, ap (λ b. cond b (Some first.number) (others (string_bytes first.level))) (bytes_self (string_bytes first.level)))
+
+first_entry : {Y : Type 0} (entries : List (String Y × ℕ)) → (entries ≡ [] → ⊥) → LeadsOn (λ level. lookup (λ k. is_eq (slice_cmp nat_cmp level (string_bytes k))) entries)
+first_entry [] h = absurd (h refl)
+first_entry (e ∷ entries) h =
+    let level = string_bytes e.0 in
+    (level, e.1, ap (λ b. cond b (Some e.1) (lookup (λ k. is_eq (slice_cmp nat_cmp level (string_bytes k))) entries)) (is_eq-slice_cmp level level ∙ bytes_self level))
+
+pub leads_by_others : {Y : Type 0} (first : Option Branch) (others : BTreeMap (String Y) ℕ) → is_none first ≡ true → (others.entries ≡ [] → ⊥) → LeadsOn (next_by first (get_by_text others))
+leads_by_others None others h full = first_entry others.entries full
+leads_by_others (Some first) others h full = cc

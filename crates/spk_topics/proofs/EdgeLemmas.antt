@@ -9,9 +9,9 @@ use Rattle.std.proofs.lemmas.Bool.{eqb-true}
 use Rattle.std.proofs.lemmas.List.{length-map, map-set}
 use Rattle.std.proofs.lemmas.Option.{slice_get-map, slice_get_read, slice_get_within}
 use Rattle.spk_topics.specs.declared.node.Node.{Node}
-use Rattle.spk_topics.specs.Edges.{SetsChild, SetsUp}
+use Rattle.spk_topics.specs.Edges.{SetsChild, SetsUp, SetsNext}
 use Rattle.spk_topics.specs.Nodes.{row_of, link_of, next_by, next_of, edge_of}
-use Rattle.spk_topics.specs.Paths.{Child, Link, child_in, up_in}
+use Rattle.spk_topics.specs.Paths.{Child, Link, child_in, up_in, next_in}
 use Rattle.spk_topics.proofs.NodeLemmas.{rows_in, links_in}
 
 -- ---- one link changes
@@ -37,6 +37,11 @@ up_set links n x h p =
     ap (λ o. option_and_then (λ (link : Link). link.1) o) (set_at links n x h p)
     ∙ then_cond (λ (link : Link). link.1) (nat_eq p n) x (slice_get links p)
 
+next_set : (links : List Link) (n : ℕ) (x : Link) → n < length links → (p : ℕ) → next_in (set links n x) p ≡ cond (nat_eq p n) x.2 (next_in links p)
+next_set links n x h p =
+    ap (λ o. option_and_then (λ (link : Link). link.2) o) (set_at links n x h p)
+    ∙ then_cond (λ (link : Link). link.2) (nat_eq p n) x (slice_get links p)
+
 -- what stays at one place stays everywhere
 stays : {B : Type 0} (f : ℕ → B) (n p : ℕ) (y : B) (b : Bool) → nat_eq p n ≡ b → y ≡ f n → cond b y (f p) ≡ f p
 stays f n p y true e h = h ∙ ap f (sym (eqb-true p n e))
@@ -44,6 +49,9 @@ stays f n p y false e h = refl
 
 up_same : (links : List Link) (n : ℕ) (x : Link) → n < length links → x.1 ≡ up_in links n → up_in (set links n x) ≡ up_in links
 up_same links n x h e = λ i p. (up_set links n x h p ∙ stays (up_in links) n p x.1 (nat_eq p n) refl e) i
+
+next_same : (links : List Link) (n : ℕ) (x : Link) → n < length links → x.2 ≡ next_in links n → next_in (set links n x) ≡ next_in links
+next_same links n x h e = λ i p. (next_set links n x h p ∙ stays (next_in links) n p x.2 (nat_eq p n) refl e) i
 
 child_same : (links : List Link) (n : ℕ) (x : Link) → n < length links → ((l : List ℕ) → x.0 l ≡ child_in links n l) → child_in (set links n x) ≡ child_in links
 child_same links n x h e = λ i p l. (child_set links n x h p l ∙ stays (λ q. child_in links q l) n p (x.0 l) (nat_eq p n) refl (e l)) i
@@ -73,6 +81,9 @@ child_at nodes n s l h = ap (λ o. option_and_then (λ (link : Link). link.0 l) 
 pub up_at : (nodes : List Node) (n : ℕ) (s : Node) → IsAt nodes n s → up_in (links_in nodes) n ≡ option_map edge_of s.up
 up_at nodes n s h = ap (λ o. option_and_then (λ (link : Link). link.1) o) (link_at nodes n s h)
 
+pub next_at : (nodes : List Node) (n : ℕ) (s : Node) → IsAt nodes n s → next_in (links_in nodes) n ≡ s.next_unused
+next_at nodes n s h = ap (λ o. option_and_then (λ (link : Link). link.2) o) (link_at nodes n s h)
+
 within : (nodes : List Node) (n : ℕ) → n < length nodes → n < length (links_in nodes)
 within nodes n h = omega (arith, length-map nodes link_of)
 
@@ -80,6 +91,11 @@ pub node_ups_stay : (nodes : List Node) (n : ℕ) (s t : Node) → n < length no
 node_ups_stay nodes n s t h is e =
     ap up_in (map-set link_of nodes n t)
     ∙ up_same (links_in nodes) n (link_of t) (within nodes n h) (ap (option_map edge_of) e ∙ sym (up_at nodes n s (slice_get_read nodes (length nodes) n s refl h is)))
+
+pub node_nexts_stay : (nodes : List Node) (n : ℕ) (s t : Node) → n < length nodes → s ≡ get_or nodes n s → t.next_unused ≡ s.next_unused → next_in (links_in (set nodes n t)) ≡ next_in (links_in nodes)
+node_nexts_stay nodes n s t h is e =
+    ap next_in (map-set link_of nodes n t)
+    ∙ next_same (links_in nodes) n (link_of t) (within nodes n h) (e ∙ sym (next_at nodes n s (slice_get_read nodes (length nodes) n s refl h is)))
 
 pub node_children_stay : (nodes : List Node) (n : ℕ) (s t : Node) → n < length nodes → s ≡ get_or nodes n s → t.first_child ≡ s.first_child → t.other_children ≡ s.other_children → child_in (links_in (set nodes n t)) ≡ child_in (links_in nodes)
 node_children_stay nodes n s t h is e k =
@@ -98,10 +114,13 @@ node_child_set nodes n s t level c h is e =
 pub node_up_set : (nodes : List Node) (n : ℕ) (t : Node) → n < length nodes → SetsUp (up_in (links_in nodes)) (up_in (links_in (set nodes n t))) n (option_map edge_of t.up)
 node_up_set nodes n t h = subst (λ ls. SetsUp (up_in (links_in nodes)) (up_in ls) n (option_map edge_of t.up)) (sym (map-set link_of nodes n t)) (up_set (links_in nodes) n (link_of t) (within nodes n h))
 
+pub node_next_set : (nodes : List Node) (n : ℕ) (t : Node) → n < length nodes → SetsNext (next_in (links_in nodes)) (next_in (links_in (set nodes n t))) n t.next_unused
+node_next_set nodes n t h = subst (λ ls. SetsNext (next_in (links_in nodes)) (next_in ls) n t.next_unused) (sym (map-set link_of nodes n t)) (next_set (links_in nodes) n (link_of t) (within nodes n h))
+
 -- ---- one node more
 
 abbrev pub no_link : Link
-no_link = ((λ _. None), None)
+no_link = ((λ _. None), None, None)
 
 child_push_at : (links : List Link) (p : ℕ) (l : List ℕ) → child_in (links ++ no_link ∷ []) p l ≡ child_in links p l
 child_push_at [] zero l = refl
@@ -124,6 +143,23 @@ up_push links = λ i p. up_push_at links p i
 pub up_past : (links : List Link) → up_in links (length links) ≡ None
 up_past [] = refl
 up_past (y ∷ ls) = up_past ls
+
+next_push_at : (links : List Link) (p : ℕ) → next_in (links ++ no_link ∷ []) p ≡ next_in links p
+next_push_at [] zero = refl
+next_push_at [] (suc p) = refl
+next_push_at (y ∷ ls) zero = refl
+next_push_at (y ∷ ls) (suc p) = next_push_at ls p
+
+pub next_push : (links : List Link) → next_in (links ++ no_link ∷ []) ≡ next_in links
+next_push links = λ i p. next_push_at links p i
+
+pub next_past : (links : List Link) → next_in links (length links) ≡ None
+next_past [] = refl
+next_past (y ∷ ls) = next_past ls
+
+-- no edge leads to a node that isn't there
+pub up_nowhere : (nodes : List Node) (n : ℕ) → slice_get nodes n ≡ None → up_in (links_in nodes) n ≡ None
+up_nowhere nodes n h = ap (λ o. option_and_then (λ (link : Link). link.1) o) (slice_get-map link_of nodes n ∙ ap (option_map link_of) h)
 
 -- a node to which an edge leads is there
 pub up_within : (links : List Link) (n : ℕ) (e : ℕ × List ℕ) → up_in links n ≡ Some e → n < length links

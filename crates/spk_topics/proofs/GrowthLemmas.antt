@@ -1,10 +1,10 @@
 -- What stays while a tree of levels grows.
 use Rattle.std.proofs.Common.{◌≡◌, ℕ, List, [], ◌∷◌, ◌++◌, ap, sym, ◌∙◌, subst, Some, None, length, append_assoc}
 use Rattle.spk_topics.specs.Rows.{Row, grants_of, Absent}
-use Rattle.spk_topics.specs.Paths.{Child, Up, Link, child_in, up_in, descend, IsTree}
+use Rattle.spk_topics.specs.Paths.{Child, Up, Link, child_in, up_in, next_in, Next, descend, IsTree}
 use Rattle.spk_topics.specs.Edges.{SetsChild, SetsUp, Grows}
 use Rattle.spk_topics.proofs.ListLemmas.{absent_push, grants_push}
-use Rattle.spk_topics.proofs.EdgeLemmas.{no_link, child_push, up_push, up_past}
+use Rattle.spk_topics.proofs.EdgeLemmas.{no_link, child_push, up_push, up_past, next_push, next_past}
 use Rattle.spk_topics.proofs.PathLemmas.{descend_kept, descend-push}
 use Rattle.spk_topics.proofs.TreeLemmas.{tree_push, tree_grown, grows_grown, set_here}
 
@@ -28,6 +28,9 @@ module _ (rows r : List Row) (links l : List Link) (er : r ≡ rows ++ ([], []) 
   pub pushed_up : up_in l ≡ up_in links
   pushed_up = ap up_in el ∙ up_push links
 
+  pub pushed_next : next_in l ≡ next_in links
+  pushed_next = ap next_in el ∙ next_push links
+
   pub pushed_tree : IsTree rows (child_in links) (up_in links) → IsTree r (child_in l) (up_in l)
   pushed_tree t = tree_same (rows ++ ([], []) ∷ []) r (child_in links) (child_in l) (up_in links) (up_in l) (tree_push rows (child_in links) (up_in links) t) er pushed_child pushed_up
 
@@ -40,6 +43,9 @@ module _ (rows r : List Row) (links l : List Link) (er : r ≡ rows ++ ([], []) 
 
   pub pushed_last : up_in l (length links) ≡ None
   pushed_last = ap (λ (u : Up). u (length links)) pushed_up ∙ up_past links
+
+  pub pushed_names_none : next_in l (length links) ≡ None
+  pushed_names_none = ap (λ (u : Next). u (length links)) pushed_next ∙ next_past links
 
 -- ---- an edge more, in two steps
 

@@ -17,3 +17,5 @@ pub mod SparkLemmas
 pub mod TreeLemmas
 pub mod UnusedLemmas
 pub mod WalkLemmas
+pub mod WholeChanges
+pub mod WholeLemmas

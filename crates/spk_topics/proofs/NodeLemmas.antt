@@ -1,5 +1,6 @@
 -- The rows of nodes, and what the grants hold where nothing is granted.
-use Rattle.std.proofs.Common.{◌≡◌, ◌⊎◌, ℕ, ◌<◌, List, [], Bool, true, false, refl, ap, sym, ◌∙◌, subst, cond, inl, inr, length, set, get_or, arith, map, Some, None}
+use Rattle.std.proofs.Common.{◌≡◌, ◌⊎◌, ℕ, ◌<◌, List, [], Bool, true, false, refl, ap, sym, ◌∙◌, subst, cond, inl, inr, length, set, get_or, get_or-set_same, arith, map, Option, Some, None}
+use Rattle.std.specs.Cmp.{eq_by_cmp_equiv, nat_cmp_total}
 use Rattle.std.specs.Prelude.{slice_get, not}
 use Rattle.std.specs.Option.{option_map}
 use Rattle.std.specs.Ordering.{eq_by_cmp, is_eq, nat_cmp}
@@ -9,13 +10,14 @@ use Rattle.std.specs.String.{string_bytes}
 use Rattle.std.specs.BTreeMap as tree
 use Rattle.std.specs.FinMap.{get, insert, remove, same_map, get-remove, get-from_entries}
 use Rattle.std.proofs.lemmas.Option.{slice_get-map, slice_get-get_or, slice_get_within}
-use Rattle.std.proofs.lemmas.List.{length-map, map-set}
+use Rattle.std.proofs.lemmas.List.{length-map, length-set, map-set}
 use Rattle.std.proofs.Math.Seq.{map-set_same}
 use Rattle.spk_topics.specs.declared.node.Node.{Node}
 use Rattle.spk_topics.specs.Grants.{Grants, grant_cmp}
 use Rattle.spk_topics.specs.Rows.{Row, flat, grants_of, Absent, IsPlace, SetsRow}
 use Rattle.spk_topics.specs.Nodes.{row_of, link_of}
 use Rattle.spk_topics.specs.Paths.{Link}
+use Rattle.spk_topics.specs.Whole.{HasGrants}
 use Rattle.std.specs.Str.{bytes_eq}
 use Rattle.spk_topics.proofs.FitLemmas.{bytes_self, bytes_same}
 use Rattle.spk_topics.proofs.BoolLemmas.{not_true, not_false}
@@ -67,6 +69,18 @@ node_given nodes f i s t key qos p is filter h =
     ap grants_of (rows_set nodes i t ∙ ap (λ g. set (rows_in nodes) i (g, t.grants.entries)) filter)
     ∙ one_given (rows_in nodes) f i p.row t.grants.entries key qos p.only p.there p.fits
     (subst (λ (r : Row). (j : ℕ) → held t.grants.entries j ≡ cond (is_eq (nat_cmp key j)) (Some qos) (held r.1 j)) (sym same) h)
+
+-- it has grants then
+pub node_filled : (nodes : List Node) (f : List ℕ) (i : ℕ) (t : Node) (key qos : ℕ) (o : Option ℕ) → IsPlace (rows_in nodes) f i → tree.get nat_cmp t.grants key ≡ cond (is_eq (nat_cmp key key)) (Some qos) o
+    → HasGrants (rows_in (set nodes i t)) i
+node_filled nodes f i t key qos o p h =
+    let inside : i < length nodes = in_rows nodes i p.row p.there in
+    let at : slice_get (set nodes i t) i ≡ Some t = slice_get-get_or (set nodes i t) i t (omega (arith, inside, length-set nodes i t)) ∙ ap (λ x. Some x) (get_or-set_same nodes i t t inside) in
+    let full : held t.grants.entries key ≡ Some qos = h ∙ ap (λ b. cond b (Some qos) o) ((eq_by_cmp_equiv nat_cmp_total).refl key) in
+    record { row = row_of t; there = slice_get-map row_of (set nodes i t) i ∙ ap (option_map row_of) at; granted = λ e. differ (sym (ap (λ es. held es key) e) ∙ full) }
+  where
+    differ : None ≡ Some qos → ⊥
+    differ e = cc
 
 -- the grants once a node has a key less
 pub node_taken : (nodes : List Node) (f : List ℕ) (i : ℕ) (s t : Node) (key : ℕ) → IsPlace (rows_in nodes) f i → s ≡ get_or nodes i s → string_bytes t.filter ≡ f

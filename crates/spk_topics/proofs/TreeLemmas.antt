@@ -65,6 +65,17 @@ tree_after rows new child up f n t e s = record { routed = side s; above = t.abo
     side (inl same) = subst Routed (sym same) t.routed
     side (inr (es, same)) = subst Routed (sym same) (λ i row h. here es i row (set_sees rows n (f, es) i row h))
 
+-- a row loses its text, and has no grants
+pub tree_emptied : (rows new : List Row) (child : Child) (up : Up) (n : ℕ) → IsTree rows child up → new ≡ set rows n ([], []) → IsTree new child up
+tree_emptied rows new child up n t e = record { routed = subst Routed (sym e) (λ i row h. side i row (set_sees rows n ([], []) i row h)); above = t.above; below = t.below; root = t.root }
+  where
+    Routed : List Row → Type 0
+    Routed rs = (i : ℕ) (row : Row) → slice_get rs i ≡ Some row → (row.1 ≡ []) ⊎ (descend child 0 (levels row.0) ≡ Some i)
+
+    side : (i : ℕ) (row : Row) → ((i ≡ n) × (([], []) ≡ row)) ⊎ ((i ≡ n → ⊥) × (slice_get rows i ≡ Some row)) → (row.1 ≡ []) ⊎ (descend child 0 (levels row.0) ≡ Some i)
+    side i row (inl (at, is)) = inl (ap (λ (r : Row). r.1) (sym is))
+    side i row (inr (off, h)) = t.routed i row h
+
 -- one empty row more
 pub tree_push : (rows : List Row) (child : Child) (up : Up) → IsTree rows child up → IsTree (rows ++ ([], []) ∷ []) child up
 tree_push rows child up t = record { routed = λ i row h. side i row (push_sees rows ([], []) i row h); above = t.above; below = t.below; root = t.root }
@@ -88,10 +99,10 @@ edge_self n level = and_both _ _ (nat_self n) (bytes_self level)
 pub set_here : (old new : Child) (n : ℕ) (level : List ℕ) (c : Option ℕ) → SetsChild old new n level c → new n level ≡ c
 set_here old new n level c s = s n level ∙ ap (λ b. cond b c (old n level)) (edge_self n level)
 
-up_here : (old new : Up) (n : ℕ) (u : Option (ℕ × List ℕ)) → SetsUp old new n u → new n ≡ u
+pub up_here : (old new : Up) (n : ℕ) (u : Option (ℕ × List ℕ)) → SetsUp old new n u → new n ≡ u
 up_here old new n u s = s n ∙ ap (λ b. cond b u (old n)) (nat_self n)
 
-up_there : (old new : Up) (n : ℕ) (u : Option (ℕ × List ℕ)) (x : ℕ) → SetsUp old new n u → (x ≡ n → ⊥) → new x ≡ old x
+pub up_there : (old new : Up) (n : ℕ) (u : Option (ℕ × List ℕ)) (x : ℕ) → SetsUp old new n u → (x ≡ n → ⊥) → new x ≡ old x
 up_there old new n u x s off = s x ∙ side (nat_eq x n) refl
   where
     side : (b : Bool) → nat_eq x n ≡ b → cond b u (old x) ≡ old x
@@ -155,7 +166,7 @@ module _ (rows : List Row) (child new : Child) (up new_up : Up) (p : ℕ) (level
   cut_kept q l x off h =
       set_there child new p level None q l s (λ a k. off (one x n (sym h ∙ ap (λ y. child y l) a ∙ ap (child p) (sym k) ∙ t.below p level n edge))) ∙ h
 
-  cut_descend : (m : ℕ) (ls : List (List ℕ)) (i : ℕ) → (i ≡ n → ⊥) → descend child m ls ≡ Some i → descend new m ls ≡ Some i
+  pub cut_descend : (m : ℕ) (ls : List (List ℕ)) (i : ℕ) → (i ≡ n → ⊥) → descend child m ls ≡ Some i → descend new m ls ≡ Some i
   cut_descend m [] i off h = h
   cut_descend m (l ∷ ls) i off h =
       let f : First child m l ls i = first_level child m l ls i h in
@@ -209,9 +220,7 @@ module _ (rows : List Row) (child new : Child) (up new_up : Up) (p : ℕ) (level
       side i row h (inr e) = side_off i row e (off i row h (nat_eq i n) refl)
 
 -- a node is taken off the tree in two steps
-pub freed : (rows after : List Row) (child one_child new_child : Child) (up one_up new_up : Up) (n p : ℕ) (level text : List ℕ) → IsTree rows child up → IsLeaf rows child n → up n ≡ Some (p, level)
-    → one_child ≡ child → SetsUp up one_up n None → text ≡ level → SetsChild one_child new_child p text None → new_up ≡ one_up → after ≡ rows → IsTree after new_child new_up
-freed rows after child one_child new_child up one_up new_up n p level text t leaf edge same_child u same_text s same_up same_rows =
-    let cut : SetsChild child new_child p level None = subst (λ x. SetsChild child new_child p x None) same_text (subst (λ (y : Child). SetsChild y new_child p text None) same_child s) in
-    subst (λ (r : List Row). IsTree r new_child new_up) (sym same_rows)
-    (subst (λ (v : Up). IsTree rows new_child v) (sym same_up) (tree_cut rows child new_child up one_up p level n t leaf edge cut u))
+pub freed : (rows after : List Row) (child new_child : Child) (up new_up : Up) (n p : ℕ) (level : List ℕ) → IsTree rows child up → IsLeaf rows child n → up n ≡ Some (p, level)
+    → SetsUp up new_up n None → SetsChild child new_child p level None → after ≡ set rows n ([], []) → IsTree after new_child new_up
+freed rows after child new_child up new_up n p level t leaf edge u s emptied =
+    tree_emptied rows after new_child new_up n (tree_cut rows child new_child up new_up p level n t leaf edge s u) emptied

@@ -206,3 +206,8 @@ pub way_barred : (rows : List Row) (topic : List ℕ) (child : Child) (up : Up) 
 way_barred rows topic child up level rest found t dollar e k q r =
     let (m, ks, edge, leads, fits) = barred_goes child r.place level rest (levels r.row.0) (levels topic) r.matching.fits e (λ w. r.matching.allowed (w, dollar)) (some_entry rows topic child up k q r t) in
     inr (record { node = m; levels = ks; among = among_some (child 0 level) m edge; leads = leads; fits = fits })
+
+-- all levels are left, and the root is the front
+pub way_begun : (rows : List Row) (topic : List ℕ) (child : Child) (up : Up) (found : ℕ → Option ℕ) → IsTree rows child up → IsOnTheWay rows topic child found (0 ∷ []) (levels topic)
+way_begun rows topic child up found t k q r =
+    inr (record { node = 0; levels = levels r.row.0; among = (0, omega arith, refl); leads = some_entry rows topic child up k q r t; fits = r.matching.fits })

@@ -14,3 +14,4 @@ pub mod SparkReading
 pub mod Text
 pub mod Unused
 pub mod Walk
+pub mod Whole

@@ -5,7 +5,8 @@ use Rattle.std.specs.Str.{bytes_eq}
 use Rattle.std.specs.String.{string_bytes}
 use Rattle.std.specs.BTreeMap.{get_by_text}
 use Rattle.spk_topics.specs.Rows.{Row}
-use Rattle.spk_topics.specs.Paths.{Child, Up, Link, child_in, up_in, IsTree}
+use Rattle.spk_topics.specs.Paths.{Child, Up, Next, Link, child_in, up_in, next_in}
+use Rattle.spk_topics.specs.Whole.{Whole, WholeBut}
 use Rattle.spk_topics.specs.declared.node.Branch.{Branch}
 use Rattle.spk_topics.specs.declared.node.Edge.{Edge}
 use Rattle.spk_topics.specs.declared.node.Node.{Node}
@@ -32,7 +33,7 @@ abbrev pub next_of : Node → List ℕ → Option ℕ
 next_of node level = next_by node.first_child (get_by_text node.other_children) level
 
 abbrev pub link_of : Node → Link
-link_of node = (next_of node, option_map edge_of node.up)
+link_of node = (next_of node, option_map edge_of node.up, node.next_unused)
 
 abbrev pub rows_of : Nodes → List Row
 rows_of nodes = map row_of nodes.list.items
@@ -46,5 +47,11 @@ child_of nodes = child_in (links_of nodes)
 abbrev pub up_of : Nodes → Up
 up_of nodes = up_in (links_of nodes)
 
+abbrev pub next_unused_of : Nodes → Next
+next_unused_of nodes = next_in (links_of nodes)
+
 abbrev pub IsWhole : Nodes → Type 0
-IsWhole nodes = IsTree (rows_of nodes) (child_of nodes) (up_of nodes)
+IsWhole nodes = Whole (rows_of nodes) (child_of nodes) (up_of nodes) (next_unused_of nodes) nodes.unused
+
+abbrev pub IsWholeBut : Nodes → ℕ → Type 0
+IsWholeBut nodes at = WholeBut (rows_of nodes) (child_of nodes) (up_of nodes) (next_unused_of nodes) nodes.unused at

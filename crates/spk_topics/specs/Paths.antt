@@ -11,15 +11,22 @@ Child = ℕ → List ℕ → Option ℕ
 abbrev pub Up : Type 0
 Up = ℕ → Option (ℕ × List ℕ)
 
--- the edges of one node: down by level, and up
+-- of a node that isn't used: the next one that isn't
+abbrev pub Next : Type 0
+Next = ℕ → Option ℕ
+
+-- the edges of one node, down by level and up, and the next unused one
 abbrev pub Link : Type 0
-Link = (List ℕ → Option ℕ) × Option (ℕ × List ℕ)
+Link = (List ℕ → Option ℕ) × Option (ℕ × List ℕ) × Option ℕ
 
 abbrev pub child_in : List Link → Child
 child_in links n level = option_and_then (λ (link : Link). link.0 level) (slice_get links n)
 
 abbrev pub up_in : List Link → Up
 up_in links n = option_and_then (λ (link : Link). link.1) (slice_get links n)
+
+abbrev pub next_in : List Link → Next
+next_in links n = option_and_then (λ (link : Link). link.2) (slice_get links n)
 
 -- the node to which levels lead from a node
 abbrev pub descend : Child → ℕ → List (List ℕ) → Option ℕ

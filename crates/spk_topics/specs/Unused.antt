@@ -1,13 +1,23 @@
--- The nodes of a tree of levels that aren't used: each names the next.
-use Rattle.std.specs.Prelude.{◌≡◌, ◌≢◌, ◌<◌, ℕ, Option, None, length, option_and_then, slice_get}
-use Rattle.spk_topics.specs.Nodes.{up_of}
-use Rattle.spk_topics.specs.declared.node.Node.{Node}
-use Rattle.spk_topics.specs.declared.nodes.Nodes.{Nodes}
-
--- the next one of an unused node
-abbrev pub next_unused_of : Nodes → ℕ → Option ℕ
-next_unused_of nodes n = option_and_then (λ (node : Node). node.next_unused) (slice_get nodes.list.items n)
+-- The nodes of a tree of levels that aren't used: they are empty, and each names the next.
+use Rattle.std.specs.Prelude.{◌≡◌, ◌≢◌, ◌<◌, ◌↔◌, ℕ, List, [], ◌∷◌, Option, Some, None, Contains, length, slice_get}
+use Rattle.spk_topics.specs.Paths.{Up, Next}
+use Rattle.spk_topics.specs.Rows.{Row}
 
 -- the node is there, isn't the root, and no edge leads to it
-abbrev pub IsUnusedIn : Nodes → ℕ → Type 0
-IsUnusedIn nodes n = (n ≢ 0) × (n < length nodes.list.items) × (up_of nodes n ≡ None)
+abbrev pub IsUnused : List Row → Up → ℕ → Type 0
+IsUnused rows up n = (n ≢ 0) × (n < length rows) × (up n ≡ None)
+
+-- the first node is the list's first, each one names the next one of the list, the last one none, and none comes twice
+abbrev pub IsChain : Next → Option ℕ → List ℕ → Type 0
+IsChain next first [] = first ≡ None
+IsChain next first (n ∷ rest) = (first ≡ Some n) × (¬ Contains rest n) × IsChain next (next n) rest
+
+-- the chain has the nodes that aren't used, all of them and no others
+pub record HasUnused (rows : List Row) (up : Up) (next : Next) (first : Option ℕ) : Type 0 where
+  pub chain : List ℕ
+  pub linked : IsChain next first chain
+  pub exact : (n : ℕ) → Contains chain n ↔ IsUnused rows up n
+
+-- a node to which no edge leads has no text and no grants
+abbrev pub AreEmpty : List Row → Up → Type 0
+AreEmpty rows up = (n : ℕ) (row : Row) → slice_get rows n ≡ Some row → up n ≡ None → row ≡ ([], [])

@@ -1,9 +1,7 @@
 //! The edges of single nodes of the tree of levels.
-ghost use Rattle.std.specs.Prelude.{◌≡◌, ◌≢◌, ◌<◌, ℕ, Some, None, IsTrue, IfErr, IfSome, IfNone, OnOk, OnErr, vec_len};
-ghost use Rattle.std.specs.String.{string_bytes};
-ghost use Rattle.spk_topics.specs.Edges.{IsLeafIn, SetsChildIn, SetsUpIn};
-ghost use Rattle.spk_topics.specs.Nodes.{child_of, edge_of, links_of, rows_of, up_of};
-ghost use Rattle.spk_topics.specs.Unused.{IsUnusedIn, next_unused_of};
+ghost use Rattle.std.specs.Prelude.{◌≡◌, ◌<◌, [], Some, None, IsTrue, IfErr, IfSome, IfNone, OnOk, OnErr, false, slice_set, vec_len};
+ghost use Rattle.spk_topics.specs.Edges.{IsLeafIn, SetsChildIn, SetsNextIn, SetsUpIn, StaysIn};
+ghost use Rattle.spk_topics.specs.Nodes.{child_of, edge_of, links_of, next_unused_of, rows_of, up_of};
 
 use crate::fault::TopicFault;
 use crate::node::Edge;
@@ -11,16 +9,6 @@ use crate::nodes::Nodes;
 use std::alloc::Global;
 
 impl Nodes {
-    /// Whether a node is there, isn't the root, and no edge leads to it.
-    pub(crate) fn is_unused(&self, number: usize) -> bool
-        ensures root { IsTrue result → number ≢ 0 }
-        ensures within { IsTrue result → number < vec_len self.now.list }
-        ensures up { IsTrue result → up_of self.now number ≡ None }
-        ensures all { IsUnusedIn self.now number → IsTrue result }
-    {
-        number != 0 && number < self.list.len() && self.list[number].up.is_none()
-    }
-
     /// Lets a level lead from a node to a child.
     pub(crate) fn add_child(
         &mut self,
@@ -32,6 +20,8 @@ impl Nodes {
         requires { number < vec_len self.old.list }
         ensures rows { rows_of self.new ≡ rows_of self.old }
         ensures up { up_of self.new ≡ up_of self.old }
+        ensures next { next_unused_of self.new ≡ next_unused_of self.old }
+        ensures unused { self.new.unused ≡ self.old.unused }
         ensures child { OnOk result (SetsChildIn self.old self.new number level.now (Some child)) }
         ensures len { vec_len self.new.list ≡ vec_len self.old.list }
         ensures fault { IfErr result (λ e. e ≡ TopicFault.NoMemory) }
@@ -48,6 +38,8 @@ impl Nodes {
         requires { number < vec_len self.old.list }
         ensures rows { rows_of self.new ≡ rows_of self.old }
         ensures up { up_of self.new ≡ up_of self.old }
+        ensures next { next_unused_of self.new ≡ next_unused_of self.old }
+        ensures unused { self.new.unused ≡ self.old.unused }
         ensures child { SetsChildIn self.old self.new number level.now None }
     {
         self.list[number].drop_child(level);
@@ -59,6 +51,7 @@ impl Nodes {
         ensures rows { rows_of self.new ≡ rows_of self.old }
         ensures child { child_of self.new ≡ child_of self.old }
         ensures up { SetsUpIn self.old self.new number (Some (edge_of edge)) }
+        ensures next { SetsNextIn self.old self.new number None }
         ensures first { self.new.unused ≡ next_unused_of self.old number }
         ensures len { vec_len self.new.list ≡ vec_len self.old.list }
     {
@@ -72,6 +65,7 @@ impl Nodes {
     fn is_leaf(&self, number: usize) -> bool
         ensures within { IsTrue result → number < vec_len self.now.list }
         ensures leaf { IsTrue result → IsLeafIn self.now number }
+        ensures stays { result ≡ false → StaysIn self.now number }
     {
         match self.node(number) {
             Some(node) => node.is_bare(),
@@ -79,25 +73,28 @@ impl Nodes {
         }
     }
 
-    /// Takes its edge from a node that has no grants and no child. From now on it is the first unused one.
+    /// Takes its edge from a node that has no grants and no child, and its text. From now on it is the first
+    /// unused one.
     pub(crate) fn take_edge(&mut self, number: usize) -> Option<Edge>
-        ensures rows { rows_of self.new ≡ rows_of self.old }
-        ensures child { child_of self.new ≡ child_of self.old }
+        ensures within { IfSome result (λ edge. number < vec_len self.old.list) }
         ensures leaf { IfSome result (λ edge. IsLeafIn self.old number) }
         ensures edge { IfSome result (λ edge. up_of self.old number ≡ Some (edge_of edge)) }
+        ensures rows { IfSome result (λ edge. rows_of self.new ≡ slice_set (rows_of self.old) number ([], [])) }
+        ensures child { child_of self.new ≡ child_of self.old }
         ensures up { IfSome result (λ edge. SetsUpIn self.old self.new number None) }
+        ensures next { IfSome result (λ edge. SetsNextIn self.old self.new number self.old.unused) }
         ensures first { IfSome result (λ edge. self.new.unused ≡ Some number) }
-        ensures next { IfSome result (λ edge. next_unused_of self.new number ≡ self.old.unused) }
-        ensures none { IfNone result (up_of self.new ≡ up_of self.old) }
+        ensures stays { IfNone result (StaysIn self.old number) }
+        ensures same { IfNone result (rows_of self.new ≡ rows_of self.old) }
+        ensures same_links { IfNone result (links_of self.new ≡ links_of self.old) }
+        ensures same_unused { IfNone result (self.new.unused ≡ self.old.unused) }
         ensures len { vec_len self.new.list ≡ vec_len self.old.list }
     {
         if !self.is_leaf(number) {
             return None;
         }
         let first = self.unused;
-        let node = &mut self.list[number];
-        let edge = node.up.take()?;
-        node.next_unused = first;
+        let edge = self.list[number].free(first)?;
         self.unused = Some(number);
         Some(edge)
     }

@@ -1,11 +1,10 @@
 //! How the tree of levels grows for a filter, and loses the nodes that carry nothing any more.
-ghost use Rattle.std.specs.Prelude.{◌≡◌, ◌≢◌, ◌<◌, ◌≤◌, ℕ, List, Some, None, IfOk, IfErr, OnOk, vec_len};
-ghost use Rattle.spk_topics.specs.Edges.{GrowsTo};
+ghost use Rattle.std.specs.Prelude.{◌≡◌, ◌<◌, ◌≤◌, ℕ, List, Some, None, IfOk, IfErr, IfSome, MatchOption, OnErr, OnOk, vec_len};
+ghost use Rattle.spk_topics.specs.Edges.{GrowsTo, used_of};
 ghost use Rattle.spk_topics.specs.Levels.{levels};
-ghost use Rattle.spk_topics.specs.Nodes.{IsWhole, child_of, rows_of, up_of};
+ghost use Rattle.spk_topics.specs.Nodes.{IsWhole, IsWholeBut, child_of, rows_of};
 ghost use Rattle.spk_topics.specs.Paths.{descend};
 ghost use Rattle.spk_topics.specs.Rows.{Absent, grants_of};
-ghost use Rattle.spk_topics.specs.Unused.{IsUnusedIn};
 
 use crate::fault::TopicFault;
 use crate::levels::cut;
@@ -18,7 +17,8 @@ impl Nodes {
     /// fails, the edges that it made are gone again.
     pub(crate) fn grow(&mut self, alloc: Global, filter: &str) -> Result<usize, TopicFault>
         requires { IsWhole self.old }
-        ensures whole { IsWhole self.new }
+        ensures whole { IfOk result (λ n. IsWholeBut self.new n) }
+        ensures err { OnErr result (IsWhole self.new) }
         ensures same { grants_of (rows_of self.new) ≡ grants_of (rows_of self.old) }
         ensures absent { (f : List ℕ) → Absent (rows_of self.old) f → Absent (rows_of self.new) f }
         ensures led { IfOk result (λ n. descend (child_of self.new) 0 (levels filter.now) ≡ Some n) }
@@ -58,9 +58,10 @@ impl Nodes {
 
     // The node to which a level leads from a node, by a new edge if it leads nowhere yet.
     fn child_for(&mut self, alloc: Global, number: usize, level: &str) -> Result<usize, TopicFault>
-        requires whole { IsWhole self.old }
+        requires whole { IsWholeBut self.old number }
         requires within { number < vec_len self.old.list }
-        ensures whole { IsWhole self.new }
+        ensures whole { IfOk result (λ n. IsWholeBut self.new n) }
+        ensures err { OnErr result (IsWholeBut self.new number) }
         ensures grows { GrowsTo self.old self.new }
         ensures led { IfOk result (λ n. child_of self.new number level.now ≡ Some n) }
         ensures within { IfOk result (λ n. n < vec_len self.new.list) }
@@ -76,24 +77,19 @@ impl Nodes {
         }
     }
 
-    // A node beside the root to which no edge leads.
+    // The first unused node, or a new one.
     fn unused_node(&mut self, alloc: Global) -> Result<usize, TopicFault>
-        requires whole { IsWhole self.old }
-        requires rooted { 0 < vec_len self.old.list }
-        ensures whole { IsWhole self.new }
+        requires { 0 < vec_len self.old.list }
+        ensures whole { (at : ℕ) → IsWholeBut self.old at → IsWholeBut self.new at }
         ensures grows { GrowsTo self.old self.new }
         ensures child { child_of self.new ≡ child_of self.old }
-        ensures root { IfOk result (λ n. n ≢ 0) }
-        ensures up { IfOk result (λ n. up_of self.new n ≡ None) }
-        ensures within { IfOk result (λ n. n < vec_len self.new.list) }
-        ensures again { (n : ℕ) → self.old.unused ≡ Some n → IsUnusedIn self.old n → vec_len self.new.list ≡ vec_len self.old.list }
+        ensures first { IfOk result (λ n. self.new.unused ≡ Some n) }
+        ensures again { (n : ℕ) → self.old.unused ≡ Some n → vec_len self.new.list ≡ vec_len self.old.list }
         ensures longer { vec_len self.old.list ≤ vec_len self.new.list }
         ensures fault { IfErr result (λ e. e ≡ TopicFault.NoMemory) }
     {
         if let Some(number) = self.unused {
-            if self.is_unused(number) {
-                return Ok(number);
-            }
+            return Ok(number);
         }
         let number = self.list.len();
         self.push(alloc)?;
@@ -101,7 +97,7 @@ impl Nodes {
         Ok(number)
     }
 
-    // Lets a level that leads nowhere yet lead from a node to an unused one.
+    // Lets a level that leads nowhere yet lead from a node to the first unused one.
     fn link(
         &mut self,
         alloc: Global,
@@ -109,16 +105,15 @@ impl Nodes {
         level: &str,
         child: usize,
     ) -> Result<(), TopicFault>
-        requires whole { IsWhole self.old }
+        requires whole { IsWholeBut self.old number }
         requires within { number < vec_len self.old.list }
         requires leads_nowhere { child_of self.old number level.now ≡ None }
-        requires child_within { child < vec_len self.old.list }
-        requires child_root { child ≢ 0 }
-        requires child_up { up_of self.old child ≡ None }
-        ensures whole { IsWhole self.new }
+        requires first { self.old.unused ≡ Some child }
+        ensures whole { OnOk result (IsWholeBut self.new child) }
+        ensures err { OnErr result (IsWholeBut self.new number) }
         ensures grows { GrowsTo self.old self.new }
         ensures led { OnOk result (child_of self.new number level.now ≡ Some child) }
-        ensures len { vec_len self.new.list ≡ vec_len self.old.list }
+        ensures within { OnOk result (child < vec_len self.new.list) }
         ensures fault { IfErr result (λ e. e ≡ TopicFault.NoMemory) }
     {
         let text = String::from_str(alloc, level)?;
@@ -134,24 +129,24 @@ impl Nodes {
     /// Takes a node off the tree if it carries nothing, and then those above it as far as they carry
     /// nothing any more. It takes no memory.
     pub(crate) fn prune(&mut self, number: usize)
-        requires { IsWhole self.old }
+        requires { IsWholeBut self.old number }
         ensures whole { IsWhole self.new }
-        ensures rows { rows_of self.new ≡ rows_of self.old }
+        ensures same { grants_of (rows_of self.new) ≡ grants_of (rows_of self.old) }
+        ensures absent { (f : List ℕ) → Absent (rows_of self.old) f → Absent (rows_of self.new) f }
     {
         let mut number = number;
-        for _ in 0..self.list.len() {
-            match self.free_leaf(number) {
-                Some(parent) => number = parent,
-                None => return,
-            }
+        while let Some(parent) = self.free_leaf(number) {
+            number = parent;
         }
     }
 
     // Takes a node off the tree if it has no grants and no child, and says which one was above it.
     fn free_leaf(&mut self, number: usize) -> Option<usize>
-        requires { IsWhole self.old }
-        ensures whole { IsWhole self.new }
-        ensures rows { rows_of self.new ≡ rows_of self.old }
+        requires { IsWholeBut self.old number }
+        ensures whole { MatchOption result (IsWhole self.new) (λ parent. IsWholeBut self.new parent) }
+        ensures same { grants_of (rows_of self.new) ≡ grants_of (rows_of self.old) }
+        ensures absent { (f : List ℕ) → Absent (rows_of self.old) f → Absent (rows_of self.new) f }
+        ensures fewer { IfSome result (λ parent. used_of self.new < used_of self.old) }
     {
         let edge = self.take_edge(number)?;
         self.drop_child(edge.parent, edge.level.as_str());

@@ -1,10 +1,11 @@
 //! A node of the tree of levels: the grants of one filter, and the edges to the nodes below it.
-ghost use Rattle.std.specs.Prelude.{◌≡◌, ◌≢◌, ◌⊎◌, [], ℕ, List, IfOk, OnOk, OnErr, IfErr, IsTrue, false, Some, None, is_none, is_some, cond};
+ghost use Rattle.std.specs.Prelude.{◌≡◌, ◌≢◌, ◌⊎◌, [], ℕ, List, IfOk, IfSome, IfNone, OnOk, OnErr, IfErr, IsTrue, false, Some, None, is_none, is_some, cond};
+ghost use Rattle.std.specs.Option.{option_map};
 ghost use Rattle.std.specs.Ordering.{nat_cmp, is_eq};
 ghost use Rattle.std.specs.Str.{bytes_eq};
 ghost use Rattle.std.specs.String.{string_bytes};
 ghost use Rattle.std.specs.BTreeMap.{get};
-ghost use Rattle.spk_topics.specs.Nodes.{has_level, link_of, next_of, row_of};
+ghost use Rattle.spk_topics.specs.Nodes.{edge_of, has_level, link_of, next_of, row_of};
 
 use crate::fault::TopicFault;
 use std::alloc::Global;
@@ -50,7 +51,7 @@ impl Node {
     /// Without grants and edges.
     pub(crate) fn new(alloc: Global) -> Node
         ensures row { row_of result ≡ ([], []) }
-        ensures link { link_of result ≡ ((λ _. None), None) }
+        ensures link { link_of result ≡ ((λ _. None), None, None) }
     {
         Node {
             filter: String::new(alloc),
@@ -66,8 +67,28 @@ impl Node {
     pub(crate) fn is_bare(&self) -> bool
         ensures grants { IsTrue result → self.now.grants.entries ≡ [] }
         ensures children { IsTrue result → (l : List ℕ) → next_of self.now l ≡ None }
+        ensures full { result ≡ false → (self.now.grants.entries ≢ []) ⊎ ((l : List ℕ) × (n : ℕ) × (next_of self.now l ≡ Some n)) }
     {
         self.grants.is_empty() && self.first_child.is_none() && self.other_children.is_empty()
+    }
+
+    /// Takes the edge that leads here, and the text of the last filter. The node is unused, and names the next one.
+    pub(crate) fn free(&mut self, next: Option<usize>) -> Option<Edge>
+        ensures row { IfSome result (λ edge. row_of self.new ≡ ([], self.old.grants.entries)) }
+        ensures up { IfSome result (λ edge. self.new.up ≡ None) }
+        ensures next { IfSome result (λ edge. self.new.next_unused ≡ next) }
+        ensures edge { IfSome result (λ edge. option_map edge_of self.old.up ≡ Some (edge_of edge)) }
+        ensures first { self.new.first_child ≡ self.old.first_child }
+        ensures others { self.new.other_children ≡ self.old.other_children }
+        ensures none { IfNone result (self.old.up ≡ None) }
+        ensures same { IfNone result (row_of self.new ≡ row_of self.old) }
+        ensures same_link { IfNone result (link_of self.new ≡ link_of self.old) }
+    {
+        let edge = self.up.take()?;
+        let alloc = *self.filter.allocator();
+        self.filter = String::new(alloc);
+        self.next_unused = next;
+        Some(edge)
     }
 
     /// Whether some key has a grant of the filter.
@@ -160,6 +181,7 @@ impl Node {
     ) -> Result<(), TopicFault>
         ensures row { row_of self.new ≡ row_of self.old }
         ensures up { self.new.up ≡ self.old.up }
+        ensures next { self.new.next_unused ≡ self.old.next_unused }
         ensures ok { OnOk result ((l : List ℕ) → next_of self.new l ≡ cond (bytes_eq level.now l) (Some number) (next_of self.old l)) }
         ensures fault { IfErr result (λ e. e ≡ TopicFault.NoMemory) }
         ensures err { OnErr result (link_of self.new ≡ link_of self.old) }
@@ -180,6 +202,7 @@ impl Node {
     pub(crate) fn drop_child(&mut self, level: &str)
         ensures row { row_of self.new ≡ row_of self.old }
         ensures up { self.new.up ≡ self.old.up }
+        ensures next { self.new.next_unused ≡ self.old.next_unused }
         ensures children { (l : List ℕ) → next_of self.new l ≡ cond (bytes_eq level.now l) None (next_of self.old l) }
     {
         self.drop_first(level);
@@ -190,6 +213,7 @@ impl Node {
     fn drop_first(&mut self, level: &str)
         ensures row { row_of self.new ≡ row_of self.old }
         ensures up { self.new.up ≡ self.old.up }
+        ensures next { self.new.next_unused ≡ self.old.next_unused }
         ensures first { self.new.first_child ≡ cond (has_level self.old.first_child level.now) None self.old.first_child }
         ensures others { self.new.other_children ≡ self.old.other_children }
     {

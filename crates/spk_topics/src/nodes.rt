@@ -6,6 +6,7 @@ ghost use Rattle.spk_topics.specs.Levels.{levels};
 ghost use Rattle.spk_topics.specs.Nodes.{IsWhole, child_of, links_of, rows_of};
 ghost use Rattle.spk_topics.specs.Paths.{descend};
 ghost use Rattle.spk_topics.specs.Rows.{Absent, IsPlace, Row, SetsRow, grants_of};
+ghost use Rattle.spk_topics.specs.Whole.{HasGrants};
 
 use crate::fault::TopicFault;
 use crate::levels::cut;
@@ -27,6 +28,7 @@ impl Nodes {
     pub(crate) fn new(alloc: Global) -> Nodes
         ensures rows { rows_of result ≡ [] }
         ensures links { links_of result ≡ [] }
+        ensures unused { result.unused ≡ None }
     {
         Nodes {
             list: Vec::new(alloc),
@@ -37,8 +39,9 @@ impl Nodes {
     /// One more node, without grants and edges.
     pub(crate) fn push(&mut self, alloc: Global) -> Result<(), TopicFault>
         ensures rows { OnOk result (rows_of self.new ≡ rows_of self.old ++ ([], []) ∷ []) }
-        ensures links { OnOk result (links_of self.new ≡ links_of self.old ++ ((λ _. None), None) ∷ []) }
+        ensures links { OnOk result (links_of self.new ≡ links_of self.old ++ ((λ _. None), None, None) ∷ []) }
         ensures fault { IfErr result (λ e. e ≡ TopicFault.NoMemory) }
+        ensures unused { self.new.unused ≡ self.old.unused }
         ensures err { OnErr result (self.new.list.items ≡ self.old.list.items) }
     {
         match self.list.push(Node::new(alloc)) {
@@ -105,7 +108,9 @@ impl Nodes {
         ensures is_new { IfOk result (λ is_new. is_new ≡ is_none (map.get (grants_of (rows_of self.old)) (filter.now, key))) }
         ensures ok { OnOk result (grants_of (rows_of self.new) ≡ map.insert (grants_of (rows_of self.old)) (filter.now, key) qos) }
         ensures rows { SetsRow (rows_of self.old) (rows_of self.new) filter.now place }
+        ensures filled { OnOk result (HasGrants (rows_of self.new) place) }
         ensures links { links_of self.new ≡ links_of self.old }
+        ensures unused { self.new.unused ≡ self.old.unused }
         ensures fault { IfErr result (λ e. e ≡ TopicFault.NoMemory) }
         ensures err { OnErr result (rows_of self.new ≡ rows_of self.old) }
         ensures fails_new { OnErr result (map.get (grants_of (rows_of self.old)) (filter.now, key) ≡ None) }
@@ -123,6 +128,7 @@ impl Nodes {
         ensures gone { grants_of (rows_of self.new) ≡ map.remove (grants_of (rows_of self.old)) (filter.now, key) }
         ensures rows { SetsRow (rows_of self.old) (rows_of self.new) filter.now place }
         ensures links { links_of self.new ≡ links_of self.old }
+        ensures unused { self.new.unused ≡ self.old.unused }
     {
         let node = &mut self.list[place];
         if node.filter.as_str() != filter {

@@ -3,7 +3,7 @@ ghost use Rattle.std.specs.Prelude.{◌≡◌, ◌≢◌, ◌<◌, ℕ, slice_ge
 ghost use Rattle.std.specs.FinMap as map;
 ghost use Rattle.spk_topics.specs.Grants.{Finds};
 ghost use Rattle.spk_topics.specs.Levels.{levels};
-ghost use Rattle.spk_topics.specs.Nodes.{IsWhole, child_of, rows_of};
+ghost use Rattle.spk_topics.specs.Nodes.{IsWhole, IsWholeBut, child_of, rows_of};
 ghost use Rattle.spk_topics.specs.Paths.{descend};
 ghost use Rattle.spk_topics.specs.Rows.{Absent, IsPlace, grants_of};
 
@@ -126,7 +126,8 @@ fn grant_in(
 // The node of a filter's grants, or a new one for them.
 fn place_for(alloc: Global, nodes: &mut Nodes, filter: &str) -> Result<usize, TopicFault>
     requires { IsWhole nodes.old }
-    ensures whole { IsWhole nodes.new }
+    ensures whole { IfOk result (λ n. IsWholeBut nodes.new n) }
+    ensures err { OnErr result (IsWhole nodes.new) }
     ensures same { grants_of (rows_of nodes.new) ≡ grants_of (rows_of nodes.old) }
     ensures place { IfOk result (IsPlace (rows_of nodes.new) filter.now) }
     ensures led { IfOk result (λ n. descend (child_of nodes.new) 0 (levels filter.now) ≡ Some n) }

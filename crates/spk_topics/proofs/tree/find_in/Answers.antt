@@ -11,4 +11,4 @@ pub returns-in-Ok-clause-ok : goal.returns-in-Ok-clause-ok
 returns-in-Ok-clause-ok c =
     let rows = rows_of c.args.nodes.now in
     subst (Finds (grants_of rows) c.args.topic.now) (sym c.in-Ok.ensures.ok)
-    (finds rows c.args.topic.now c.in_ok-found.found (apart_single rows (apart_of rows (child_of c.args.nodes.now) (up_of c.args.nodes.now) c.requires)) c.in-Ok.ensures.ordered c.in_ok-found.ensures.ok)
+    (finds rows c.args.topic.now c.in_ok-found.found (apart_single rows (apart_of rows (child_of c.args.nodes.now) (up_of c.args.nodes.now) c.requires.sound.tree)) c.in-Ok.ensures.ordered c.in_ok-found.ensures.ok)

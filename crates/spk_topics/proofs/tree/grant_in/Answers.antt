@@ -1,10 +1,8 @@
-use Rattle.std.proofs.Common.{ap, refl, Ok, Err, Result}
+use Rattle.std.proofs.Common.{Ok, Err, Result}
 use Rattle.std.specs.Prelude.{OnErr}
-use Rattle.spk_topics.specs.Nodes.{rows_of, child_of, up_of}
-use Rattle.spk_topics.specs.Paths.{child_in, up_in}
-use Rattle.spk_topics.proofs.GrowthLemmas.{tree_same}
+use Rattle.spk_topics.specs.Nodes.{rows_of, links_of}
 use Rattle.spk_topics.proofs.NodeLemmas.{get-absent}
-use Rattle.spk_topics.proofs.TreeLemmas.{tree_after}
+use Rattle.spk_topics.proofs.WholeChanges.{whole_but_same, whole_filled}
 use Rattle.spk_topics.proofs.tree.grant_in.Goals as goal
 
 either_way : {A E : Type 0} (r : Result A E) (P : Type 0) → P → OnErr r P
@@ -16,6 +14,10 @@ returns-in_err-place-clause-fails_new c = either_way c.from_residual.result _ (g
 
 pub returns-in-Ok-clause-whole : goal.returns-in-Ok-clause-whole
 returns-in-Ok-clause-whole c =
-    tree_same (rows_of c.put_at.new.self) (rows_of c.put_at.new.self) (child_of c.place_for.new.nodes) (child_of c.put_at.new.self) (up_of c.place_for.new.nodes) (up_of c.put_at.new.self)
-    (tree_after (rows_of c.place_for.new.nodes) (rows_of c.put_at.new.self) (child_of c.place_for.new.nodes) (up_of c.place_for.new.nodes) c.args.filter.now c.in_ok-place.place c.in_ok-place.ensures.whole c.in_ok-place.ensures.led c.put_at.ensures.rows)
-    refl (ap child_in c.put_at.ensures.links) (ap up_in c.put_at.ensures.links)
+    whole_filled (rows_of c.place_for.new.nodes) (rows_of c.put_at.new.self) (links_of c.place_for.new.nodes) (links_of c.put_at.new.self) c.place_for.new.nodes.unused c.put_at.new.self.unused c.args.filter.now c.in_ok-place.place
+    c.put_at.ensures.links c.put_at.ensures.unused c.in_ok-place.ensures.led c.put_at.ensures.rows c.in-Ok.ensures.filled c.in_ok-place.ensures.whole
+
+pub prune-requires : goal.prune-requires
+prune-requires c =
+    whole_but_same (rows_of c.place_for.new.nodes) (rows_of c.put_at.new.self) (links_of c.place_for.new.nodes) (links_of c.put_at.new.self) c.place_for.new.nodes.unused c.put_at.new.self.unused c.in_ok-place.place
+    c.in-Err.ensures.err c.put_at.ensures.links c.put_at.ensures.unused c.in_ok-place.ensures.whole

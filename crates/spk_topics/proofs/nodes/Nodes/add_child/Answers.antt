@@ -1,6 +1,6 @@
 use Rattle.std.proofs.Common.{arith, Some}
 use Rattle.spk_topics.proofs.NodeLemmas.{same_rows, same_links}
-use Rattle.spk_topics.proofs.EdgeLemmas.{node_ups_stay, node_child_set}
+use Rattle.spk_topics.proofs.EdgeLemmas.{node_ups_stay, node_nexts_stay, node_child_set}
 use Rattle.spk_topics.proofs.nodes.Nodes.add_child.Goals as goal
 
 pub returns-in-Ok-clause-rows : goal.returns-in-Ok-clause-rows
@@ -23,3 +23,11 @@ returns-in-Err-clause-up c =
 
 pub returns-in-Err-clause-err : goal.returns-in-Err-clause-err
 returns-in-Err-clause-err c = same_links c.args.self.now.list.items c.args.number c.index_mut.result.now c.add_child.new.self c.index_mut.ensures.value c.in-Err.ensures.err
+
+pub returns-in-Ok-clause-next : goal.returns-in-Ok-clause-next
+returns-in-Ok-clause-next c =
+    node_nexts_stay c.args.self.now.list.items c.args.number c.index_mut.result.now c.add_child.new.self (omega (arith, c.args.self.now.list.ok.0)) c.index_mut.ensures.value c.in-Ok.ensures.next
+
+pub returns-in-Err-clause-next : goal.returns-in-Err-clause-next
+returns-in-Err-clause-next c =
+    node_nexts_stay c.args.self.now.list.items c.args.number c.index_mut.result.now c.add_child.new.self (omega (arith, c.args.self.now.list.ok.0)) c.index_mut.ensures.value c.in-Err.ensures.next

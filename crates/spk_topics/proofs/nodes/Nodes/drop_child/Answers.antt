@@ -1,6 +1,6 @@
 use Rattle.std.proofs.Common.{arith, None}
 use Rattle.spk_topics.proofs.NodeLemmas.{same_rows}
-use Rattle.spk_topics.proofs.EdgeLemmas.{node_ups_stay, node_child_set}
+use Rattle.spk_topics.proofs.EdgeLemmas.{node_ups_stay, node_nexts_stay, node_child_set}
 use Rattle.spk_topics.proofs.nodes.Nodes.drop_child.Goals as goal
 
 pub returns-clause-rows : goal.returns-clause-rows
@@ -13,3 +13,7 @@ returns-clause-up c =
 pub returns-clause-child : goal.returns-clause-child
 returns-clause-child c =
     node_child_set c.args.self.now.list.items c.args.number c.index_mut.result.now c.drop_child.new.self c.args.level.now None (omega (arith, c.args.self.now.list.ok.0)) c.index_mut.ensures.value c.drop_child.ensures.children
+
+pub returns-clause-next : goal.returns-clause-next
+returns-clause-next c =
+    node_nexts_stay c.args.self.now.list.items c.args.number c.index_mut.result.now c.drop_child.new.self (omega (arith, c.args.self.now.list.ok.0)) c.index_mut.ensures.value c.drop_child.ensures.next

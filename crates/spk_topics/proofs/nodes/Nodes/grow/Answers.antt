@@ -1,14 +1,13 @@
-use Rattle.std.proofs.Common.{◌∷◌, ap, ◌∙◌, sym, subst, List}
+use Rattle.std.proofs.Common.{◌∷◌, ap, ◌∙◌, subst}
 use Rattle.std.specs.Option.{option_map}
 use Rattle.spk_topics.specs.Levels.{levels, levels_left}
 use Rattle.spk_topics.specs.Nodes.{rows_of, child_of}
-use Rattle.spk_topics.specs.Rows.{Row, Absent}
 use Rattle.spk_topics.proofs.GrowthLemmas.{IsUnderWay, way_on, grows_more}
 use Rattle.spk_topics.proofs.nodes.Nodes.grow.Goals as goal
 
 pub returns-in-Err-clause-absent : goal.returns-in-Err-clause-absent
 returns-in-Err-clause-absent c = λ f h.
-    subst (λ (r : List Row). Absent r f) (sym c.prune.ensures.rows)
+    c.prune.ensures.absent f
     (c.in-Err.ensures.grows.absent f (c.loop-left.invariant.grows.absent f (c.in_ok-plant.ensures.grows.absent f h)))
 
 pub returns-clause-absent : goal.returns-clause-absent

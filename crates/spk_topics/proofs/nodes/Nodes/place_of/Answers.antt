@@ -12,7 +12,7 @@ returns-then-has_grants_of-clause-found c =
 
 pub returns-else-has_grants_of-clause-none : goal.returns-else-has_grants_of-clause-none
 returns-else-has_grants_of-clause-none c =
-    absent_there (rows_of c.args.self.now) (child_of c.args.self.now) (up_of c.args.self.now) c.args.filter.now c.in_ok-number.number c.requires (sym c.in_ok-number.ensures)
+    absent_there (rows_of c.args.self.now) (child_of c.args.self.now) (up_of c.args.self.now) c.args.filter.now c.in_ok-number.number c.requires.sound.tree (sym c.in_ok-number.ensures)
     (λ row there same.
     let is : row ≡ row_of c.in_ok-node.node.now = same_row (rows_of c.args.self.now) c.in_ok-number.number row (row_of c.in_ok-node.node.now) there (row_at c.args.self.now.list.items c.in_ok-number.number c.in_ok-node.node.now (sym c.in_ok-node.ensures)) in
     ap (λ (r : Row). r.1) is ∙ c.has_grants_of.ensures.no c.if-has_grants_of.false (ap (λ (r : Row). r.0) (sym is) ∙ same))

@@ -6,7 +6,7 @@ use Rattle.std.specs.FinMap.{get}
 use Rattle.std.specs.BTreeMap as tree
 use Rattle.spk_topics.specs.Rows.{grants_of}
 use Rattle.spk_topics.specs.Nodes.{rows_of}
-use Rattle.spk_topics.proofs.NodeLemmas.{node_given, node_holds, other_node, rows_after, same_rows, same_links}
+use Rattle.spk_topics.proofs.NodeLemmas.{node_filled, node_given, node_holds, other_node, rows_after, same_rows, same_links}
 use Rattle.spk_topics.proofs.nodes.Nodes.put_at.Goals as goal
 
 pub returns-in-Ok-clause-is_new : goal.returns-in-Ok-clause-is_new
@@ -39,3 +39,7 @@ returns-in-Err-clause-fails_new c = either c.in-Err.ensures.fails_new
     either : (string_bytes c.index_mut.result.now.filter ≡ c.args.filter.now → ⊥) ⊎ (tree.get nat_cmp c.index_mut.result.now.grants c.args.key ≡ None) → get (grants_of (rows_of c.args.self.now)) (c.args.filter.now, c.args.key) ≡ None
     either (inl differs) = other_node c.args.self.now.list.items c.args.filter.now c.args.place c.index_mut.result.now c.args.key c.requires c.index_mut.ensures.value differs
     either (inr none) = node_holds c.args.self.now.list.items c.args.filter.now c.args.place c.index_mut.result.now c.args.key c.requires c.index_mut.ensures.value ∙ none
+
+pub returns-in-Ok-clause-filled : goal.returns-in-Ok-clause-filled
+returns-in-Ok-clause-filled c =
+    node_filled c.args.self.now.list.items c.args.filter.now c.args.place c.put.new.self c.args.key c.args.qos (tree.get nat_cmp c.index_mut.result.now.grants c.args.key) c.requires (c.in-Ok.ensures.ok c.args.key)
