@@ -1,5 +1,5 @@
 //! The index of grants: whom a message may concern.
-ghost use Rattle.std.specs.Prelude.{◌≡◌, ℕ, List, IfSome, OnOk, None, Some, is_some, true, string_bytes};
+ghost use Rattle.std.specs.Prelude.{◌≡◌, ◌≤◌, ℕ, List, IfSome, OnOk, None, Some, is_some, true, string_bytes};
 ghost use Rattle.std.specs.List.{flat_map};
 ghost use Rattle.std.specs.FinMap as finite;
 ghost use Rattle.spk_packets.specs.View.{view};
@@ -8,12 +8,14 @@ ghost use Rattle.spk_broker_rules.specs.Step.{serve};
 ghost use Rattle.spk_broker_rules.specs.Words.{best, option_list};
 ghost use Rattle.spk_broker.specs.Drafts.{draft_view, left_by, served_by};
 ghost use Rattle.spk_broker.specs.Filing.{AreFiled, ArePassed, Grown, IsIndex, has_key, is_passed, regrants};
+ghost use Rattle.spk_broker.specs.Sizes.{size_of_all};
 ghost use Rattle.spk_broker.specs.View.{desk_now, seat_now};
 
 use crate::desk::Desk;
 use crate::letter::Letter;
 use crate::out::Draft;
 use crate::seat::{Grant, Seat};
+use crate::sizing::is_small;
 use spk_packets::Packet;
 use spk_topics::laws::{granted, matching};
 use spk_topics::{Filter, Topic, Tree};
@@ -70,8 +72,19 @@ fn file_seat(tree: &mut Tree, seat: &Seat) -> bool
     true
 }
 
-/// An index of the grants of all sessions; none where memory was refused.
+/// An index of the grants of all sessions; none where they are too many, or where memory was refused.
 pub(crate) fn index(alloc: Global, seats: &[Seat]) -> Option<Tree>
+    ensures index { IsIndex result (flat_map seat_now seats.now) }
+    ensures small { IfSome result (λ tree. size_of_all (flat_map seat_now seats.now) ≤ 100000) }
+{
+    if !is_small(seats) {
+        return None;
+    }
+    filed(alloc, seats)
+}
+
+/// An index of the grants of all sessions; none where memory was refused.
+fn filed(alloc: Global, seats: &[Seat]) -> Option<Tree>
     ensures { IsIndex result (flat_map seat_now seats.now) }
 {
     let mut tree = Tree::new(alloc);
