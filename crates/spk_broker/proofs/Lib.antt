@@ -27,6 +27,7 @@ pub mod Routes
 pub mod Ruled
 pub mod Sendables
 pub mod Sending
+pub mod Sizes
 pub mod Standing
 pub mod Stayers
 pub mod Touched

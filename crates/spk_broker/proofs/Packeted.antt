@@ -12,7 +12,7 @@ use Rattle.spk_broker.specs.Asking.{seats_now}
 use Rattle.spk_broker.specs.Endings.{Leads, ended}
 use Rattle.spk_broker.specs.declared.desk.Desk.{Desk}
 use Rattle.spk_broker.specs.declared.ending.Ending.{Ending}
-use Rattle.spk_broker.specs.declared.ending.Ending.TheVariants.{Nothing}
+use Rattle.spk_broker.specs.declared.ending.Ending.TheVariants.{Nothing, One}
 use Rattle.spk_broker.specs.declared.out.Draft.{Draft}
 use Rattle.spk_broker.specs.View.{Stands}
 
@@ -39,6 +39,9 @@ joined-is d x t conn s = ap (λ (b : plain.Broker). is_some (seat_at conn b.seat
 -- nothing follows
 pub leads-plain : (d : Desk) (x : Draft) (t : Turn) → Stands d x t → Leads d x Nothing t
 leads-plain d x t s = record { before = t; stands = s; is = refl }
+
+pub leads-one : (d : Desk) (x : Draft) (t : Turn) (place : ℕ) → Stands d x t → Leads d x (One place) t
+leads-one d x t place s = record { before = t; stands = s; is = refl }
 
 -- what changes nothing more
 pub leads-same : (d : Desk) (x : Draft) (t : Turn) (e : Ending) → ((b : plain.Broker) → ended e b ≡ b) → Stands d x t → Leads d x e t

@@ -1,7 +1,7 @@
 -- Acts one after the other, and what the rules ask of what stands for a turn.
 use Rattle.std.proofs.Common.{◌≡◌, ℕ, zero, suc, ◌+◌, ◌<◌, ◌&&◌, Bool, not, cond, List, [], ◌∷◌, ◌++◌, length, take, get_or, refl, sym, ap, subst, ◌∙◌, arith, Option}
 use Rattle.std.specs.List.{flat_map}
-use Rattle.std.specs.Option.{is_some}
+use Rattle.std.specs.Option.{is_none, is_some}
 use Rattle.spk_packets.specs.declared.fault.PacketFault.{PacketFault}
 use Rattle.spk_topics.specs.Text.{topic_refusal}
 use Rattle.spk_session.specs.Step.{is_spent}
@@ -10,12 +10,13 @@ use Rattle.spk_broker_rules.specs.Data as plain
 use Rattle.spk_packets.specs.Message.{UnsubAck}
 use Rattle.spk_broker_rules.specs.Plan.{Act, At, Drop, Fault, Queue, Refused, Route, Say, Take, Tick, has_bad_filter, is_bad_level, puback, publish, shut, turn_away, unsubscribe}
 use Rattle.spk_broker_rules.specs.Step.{Turn, act, acts, drops_in, seat_at, silent_at}
-use Rattle.spk_broker.specs.Asking.{seats_now}
+use Rattle.spk_broker.specs.Asking.{place_in, seats_now}
 use Rattle.spk_broker.specs.declared.desk.Desk.{Desk}
 use Rattle.spk_broker.specs.declared.ending.Ending.{Ending}
 use Rattle.spk_broker.specs.declared.out.Draft.{Draft}
 use Rattle.spk_broker.specs.Endings.{Leads}
 use Rattle.spk_broker.specs.View.{Stands, desk_now, ends, stepped}
+use Rattle.spk_broker.proofs.Near.{unjoined-in}
 
 pub acts-append : (xs ys : List Act) (t : Turn) → acts (xs ++ ys) t ≡ acts ys (acts xs t)
 acts-append [] ys t = refl
@@ -43,24 +44,23 @@ tick-stands d1 d2 x1 x2 now conns t s e done =
 
 -- ---- drops
 
-pub spent-at : (d : Desk) (x : Draft) (t : Turn) (conn : ℕ) → Stands d x t → is_spent d.limit (drops_in conn (desk_now d)) ≡ is_spent t.broker.limit (drops_in conn t.broker)
-spent-at d x t conn s = ap (λ (b : plain.Broker). is_spent b.limit (drops_in conn b)) s.broker
-
-pub dropped-stands : (d1 d2 : Desk) (x1 x2 : Draft) (conn now : ℕ) (t : Turn) (b : Bool) → Stands d1 x1 (act (Drop conn) (act (At now) t))
-    → is_spent d1.limit (drops_in conn (desk_now d1)) ≡ b → Stands d2 x2 (acts (cond b (shut conn) []) (act (Drop conn) (act (At now) t)))
-    → Stands d2 x2 (stepped (Refused conn sort.QosZero now) t)
-dropped-stands d1 d2 x1 x2 conn now t b s e done =
-    subst (λ u. Stands d2 x2 u) (ap (λ c. acts (cond c (shut conn) []) (act (Drop conn) (act (At now) t))) (sym e ∙ spent-at d1 x1 (act (Drop conn) (act (At now) t)) conn s)) done
+pub dropped-leads : (d1 d2 : Desk) (x1 x2 : Draft) (e : Ending) (conn now : ℕ) (t : Turn) (b : Bool) → Stands d1 x1 (act (Drop conn) (act (At now) t))
+    → is_spent d1.limit (drops_in conn (desk_now d1)) ≡ b → Leads d2 x2 e (acts (cond b (shut conn) []) (act (Drop conn) (act (At now) t)))
+    → Leads d2 x2 e (stepped (Refused conn sort.QosZero now) t)
+dropped-leads d1 d2 x1 x2 e conn now t b s is done =
+    subst (λ u. Leads d2 x2 e u) (ap (λ c. acts (cond c (shut conn) []) (act (Drop conn) (act (At now) t)))
+    (sym is ∙ ap (λ (k : plain.Broker). is_spent k.limit (drops_in conn k)) s.broker)) done
 
 -- ---- bytes that are no packet
 
-pub fault-stands : (d1 d2 : Desk) (x1 x2 : Draft) (conn now : ℕ) (f : PacketFault) (t : Turn) (b : Bool) → Stands d1 x1 (act (At now) t)
-    → is_bad_level f && not (is_some (seat_at conn (seats_now d1.seats.items))) ≡ b → Stands d2 x2 (acts (cond b (turn_away conn 1) (shut conn)) (act (At now) t))
-    → Stands d2 x2 (stepped (Fault conn f now) t)
-fault-stands d1 d2 x1 x2 conn now f t b s e done =
-    subst (λ u. Stands d2 x2 u)
+pub fault-leads : (d1 d2 : Desk) (x1 x2 : Draft) (e : Ending) (conn now : ℕ) (o : Option ℕ) (f : PacketFault) (t : Turn) (b : Bool) → Stands d1 x1 (act (At now) t)
+    → place_in conn d1.seats.items ≡ o → is_bad_level f && is_none o ≡ b → Leads d2 x2 e (acts (cond b (turn_away conn 1) (shut conn)) (act (At now) t))
+    → Leads d2 x2 e (stepped (Fault conn f now) t)
+fault-leads d1 d2 x1 x2 e conn now o f t b s at is done =
+    subst (λ u. Leads d2 x2 e u)
     (ap (λ c. acts (cond c (turn_away conn 1) (shut conn)) (act (At now) t))
-    (sym e ∙ ap (λ (k : plain.Broker). is_bad_level f && not (is_some (seat_at conn k.seats))) s.broker)) done
+    (sym is ∙ ap (λ c. is_bad_level f && c) (unjoined-in conn d1.seats.items o at)
+    ∙ ap (λ (k : plain.Broker). is_bad_level f && not (is_some (seat_at conn k.seats))) s.broker)) done
 
 -- ---- publishes
 
@@ -71,7 +71,7 @@ publish-leads d2 x2 ending conn id post t b e done =
 
 -- ---- filters taken back
 
-pub unsubscribe-stands : (d2 : Desk) (x2 : Draft) (conn id : ℕ) (names : List (List ℕ)) (t : Turn) (b : Bool) → has_bad_filter names ≡ b
-    → Stands d2 x2 (acts (cond b (shut conn) (Take conn names ∷ Say conn (UnsubAck id) ∷ [])) t) → Stands d2 x2 (acts (unsubscribe conn id names) t)
-unsubscribe-stands d2 x2 conn id names t b e done =
-    subst (λ u. Stands d2 x2 u) (ap (λ c. acts (cond c (shut conn) (Take conn names ∷ Say conn (UnsubAck id) ∷ [])) t) (sym e)) done
+pub unsubscribe-leads : (d2 : Desk) (x2 : Draft) (e : Ending) (conn id : ℕ) (names : List (List ℕ)) (t : Turn) (b : Bool) → has_bad_filter names ≡ b
+    → Leads d2 x2 e (acts (cond b (shut conn) (Take conn names ∷ Say conn (UnsubAck id) ∷ [])) t) → Leads d2 x2 e (acts (unsubscribe conn id names) t)
+unsubscribe-leads d2 x2 e conn id names t b is done =
+    subst (λ u. Leads d2 x2 e u) (ap (λ c. acts (cond c (shut conn) (Take conn names ∷ Say conn (UnsubAck id) ∷ [])) t) (sym is)) done

@@ -1,5 +1,5 @@
 -- Sessions at a few places are changed, and all others are as before the call.
-use Rattle.std.proofs.Common.{◌≡◌, ℕ, zero, suc, ◌+◌, ◌<◌, ◌≤◌, Bool, true, false, not, ◌||◌, cond, eqb, List, [], ◌∷◌, ◌++◌, length, map, get_or, set, refl, sym, ap, ◌∙◌, subst, Option, Some, None, arith, true≢false, Vec, Global}
+use Rattle.std.proofs.Common.{◌≡◌, ℕ, zero, suc, ◌+◌, ◌<◌, ◌≤◌, Bool, true, false, not, ◌||◌, eqb, List, [], ◌∷◌, ◌++◌, length, map, get_or, set, refl, sym, ap, ◌∙◌, subst, Option, Some, None, arith, true≢false, Vec, Global}
 use Rattle.std.specs.List.{flat_map, list_any}
 use Rattle.std.specs.Option.{IfSome, is_some}
 use Rattle.std.proofs.lemmas.List.{get_or-set_other, get_or-set_same, length-set}
@@ -8,14 +8,18 @@ use mathlib.Core.Logic.{⊎_elim}
 use Rattle.spk_broker_rules.specs.Data as plain
 use Rattle.spk_broker_rules.specs.Words.{option_list}
 use Rattle.spk_broker_rules.proofs.Lists.{eqb-is}
-use Rattle.spk_broker.specs.Asking.{seats_now}
+use Rattle.spk_broker.specs.Asking.{place_in}
 use Rattle.spk_broker.specs.Both.{Both}
 use Rattle.spk_broker.specs.Called.{ArePlaces, is_place}
 use Rattle.spk_broker.specs.Entering.{whole}
 use Rattle.spk_broker.specs.Settling.{has_ended, seat_left}
-use Rattle.spk_broker.specs.Touched.{AreTouched, AreVisited}
-use Rattle.spk_broker.specs.View.{seat_now, seat_was}
+use Rattle.spk_broker.specs.Touched.{AreTouched, AreVisited, IsAlone, OnlyAt}
+use Rattle.spk_broker.specs.View.{IsSettled, guest_now, guest_was, seat_now, seat_was}
+use Rattle.spk_broker.specs.declared.desk.Desk.{Desk}
+use Rattle.spk_broker.specs.declared.guest.Guest.{Guest}
+use Rattle.spk_broker.specs.declared.seat.Seat.{Seat}
 use Rattle.spk_broker.proofs.Changes.{whole-at}
+use Rattle.spk_broker.proofs.Near.{found-sits}
 use Rattle.spk_broker.proofs.Visits.{calling-length, place-is}
 
 -- ---- places
@@ -58,20 +62,42 @@ same-read (x ∷ xs) (suc i) d e lt = same-read xs i d e (omega (arith, lt))
 
 -- ---- who was changed
 
--- one session of a settled desk
-pub touched-one : (bs : List Both) (p : ℕ) (x : Both) → seats_now bs ≡ map seat_was bs → p < length bs → AreTouched (p ∷ []) (set bs p x)
-touched-one bs p x e low =
+-- one session more than none
+pub touched-set : (bs : List Both) (p : ℕ) (x : Both) → AreTouched (p ∷ []) bs → AreTouched (p ∷ []) (set bs p x)
+touched-set bs p x t =
     let long = length-set bs p x in
     record {
-      low = first;
+      low = λ k lt. let low = t.low k lt in omega (arith, long, low);
       rest = λ i d lt out.
           subst (λ (b : Both). b ≡ whole b.was) (sym (get_or-set_other bs p i x d (no-place (p ∷ []) 0 i (omega arith) out)))
-          (whole-at bs i d e (omega (arith, long, lt)));
+          (t.rest i d (omega (arith, long, lt)) out);
     }
+
+pub only-set : (d0 d1 : Desk) (p : ℕ) (x : Both) → d1.seats.items ≡ set d0.seats.items p x → d1.guests ≡ d0.guests → OnlyAt (p ∷ []) d0 → OnlyAt (p ∷ []) d1
+only-set d0 d1 p x seats guests o = record {
+  seats = subst (AreTouched (p ∷ [])) (sym seats) (touched-set d0.seats.items p x o.seats);
+  guests = subst (λ (g : Vec Guest Global). flat_map guest_now g.items ≡ map guest_was g.items) (sym guests) o.guests;
+}
+
+-- of a settled desk none has changed
+pub settled-alone : (d : Desk) (conn : ℕ) (o : Option ℕ) → IsSettled d → place_in conn d.seats.items ≡ o → IsAlone o d
+settled-alone d conn None e f = tt
+settled-alone d conn (Some p) e f = record {
+  seats = record { low = first; rest = λ i x lt out. whole-at d.seats.items i x (ap (λ (b : plain.Broker). b.seats) e) lt };
+  guests = ap (λ (b : plain.Broker). b.guests) e;
+}
   where
-    first : (k : ℕ) → k < length (p ∷ []) → get_or (p ∷ []) k 0 < length (set bs p x)
-    first zero lt = let long = length-set bs p x in omega (arith, long, low)
+    first : (k : ℕ) → k < length (p ∷ []) → get_or (p ∷ []) k 0 < length d.seats.items
+    first zero lt = (found-sits conn d.seats.items p f).0
     first (suc k) lt = absurd (omega (arith, lt))
+
+-- the same of a desk with the same sessions and connections
+pub alone-as : (o : Option ℕ) (d0 d1 : Desk) → d1.seats ≡ d0.seats → d1.guests ≡ d0.guests → IsAlone o d0 → IsAlone o d1
+alone-as None d0 d1 seats guests h = tt
+alone-as (Some p) d0 d1 seats guests h = record {
+  seats = subst (λ (v : Vec Seat Global). AreTouched (p ∷ []) v.items) (sym seats) h.seats;
+  guests = subst (λ (g : Vec Guest Global). flat_map guest_now g.items ≡ map guest_was g.items) (sym guests) h.guests;
+}
 
 -- and then those at which a message called
 pub touched-more : (ps : List ℕ) (p : ℕ) (old new : List Both) → AreTouched (p ∷ []) old → AreVisited ps old new → AreTouched (ps ++ p ∷ []) new
@@ -85,12 +111,16 @@ touched-more ps p old new t v =
           subst (λ (b : Both). b ≡ whole b.was) (sym (v.rest i d outs.0)) (t.rest i d (omega (arith, lt, long)) outs.1);
     }
 
-pub few-touched : (sender : Option ℕ) (places : Option (Vec ℕ Global)) (p : ℕ) (ps : Vec ℕ Global) (more : List ℕ) (old new : List Both) → sender ≡ Some p → places ≡ Some ps → more ≡ ps.items ++ p ∷ []
-    → IfSome sender (λ q. AreTouched (q ∷ []) old) → IfSome places (λ (l : Vec ℕ Global). AreVisited l.items old new) → AreTouched more new
-few-touched sender places p ps more old new e f m here there =
-    subst (λ l. AreTouched l new) (sym m)
-    (touched-more ps.items p old new (subst (λ o. IfSome o (λ q. AreTouched (q ∷ []) old)) e here)
-    (subst (λ o. IfSome o (λ (l : Vec ℕ Global). AreVisited l.items old new)) f there))
+pub few-touched : (sender : Option ℕ) (places : Option (Vec ℕ Global)) (p : ℕ) (ps : Vec ℕ Global) (more : List ℕ) (old new : Desk) → sender ≡ Some p → places ≡ Some ps → more ≡ ps.items ++ p ∷ []
+    → IsAlone sender old → IfSome places (λ (l : Vec ℕ Global). AreVisited l.items old.seats.items new.seats.items) → new.guests ≡ old.guests → OnlyAt more new
+few-touched sender places p ps more old new e f m here there same =
+    let alone : OnlyAt (p ∷ []) old = subst (λ o. IsAlone o old) e here in
+    record {
+      seats = subst (λ l. AreTouched l new.seats.items) (sym m)
+          (touched-more ps.items p old.seats.items new.seats.items alone.seats
+          (subst (λ o. IfSome o (λ (l : Vec ℕ Global). AreVisited l.items old.seats.items new.seats.items)) f there));
+      guests = subst (λ (g : Vec Guest Global). flat_map guest_now g.items ≡ map guest_was g.items) (sym same) alone.guests;
+    }
 
 -- ---- a message calls at places
 

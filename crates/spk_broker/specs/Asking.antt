@@ -1,6 +1,6 @@
 -- What is asked of connections and sessions by now: of each that hasn't left or ended.
 use Rattle.std.specs.Prelude.{◌≡◌, ◌<◌, ℕ, Bool, true, false, ◌&&◌, List, length, get_or, Option, Some, None, is_some, if◌then◌else◌}
-use Rattle.std.specs.List.{flat_map}
+use Rattle.std.specs.List.{flat_map, position}
 use Rattle.std.specs.Option.{option_map_or}
 use Rattle.std.specs.Str.{bytes_eq}
 use Rattle.spk_broker_rules.specs.Data as plain
@@ -39,6 +39,10 @@ guest_here g = if g.gone then None else Some (record { conn = g.conn; heard = g.
 -- how many sends were dropped on the connection that sits here
 abbrev pub drops_at : plain.Seat → ℕ
 drops_at seat = option_map_or (λ (l : plain.Line). l.drops) seat.here 0
+
+-- where this connection sits by now, if it does
+abbrev pub place_in : ℕ → List Both → Option ℕ
+place_in conn seats = position (passes (sits conn)) seats
 
 -- this connection sits at this place by now
 abbrev pub SitsAt : ℕ → ℕ → List Both → Type 0

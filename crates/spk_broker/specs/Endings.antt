@@ -1,37 +1,40 @@
 -- What follows once a call is settled.
-use Rattle.std.specs.Prelude.{◌≡◌, Vec}
+use Rattle.std.specs.Prelude.{◌≡◌, ◌∷◌, [], Vec}
 use Rattle.std.specs.declared.alloc.Global.{Global}
 use Rattle.spk_broker_rules.specs.Data as plain
 use Rattle.spk_broker_rules.specs.Plan.{Ack}
 use Rattle.spk_broker_rules.specs.Step.{Turn, act, begun}
 use Rattle.spk_broker.specs.Entering.{HasRoom, IsWhole, entered}
-use Rattle.spk_broker.specs.Touched.{AreTouched}
+use Rattle.spk_broker.specs.Touched.{OnlyAt}
 use Rattle.spk_broker.specs.View.{Stands}
 use Rattle.spk_broker.specs.declared.desk.Desk.{Desk}
 use Rattle.spk_broker.specs.declared.ending.Ending.{Ending}
-use Rattle.spk_broker.specs.declared.ending.Ending.TheVariants.{Nothing, Few, Enters, Acked}
+use Rattle.spk_broker.specs.declared.ending.Ending.TheVariants.{Nothing, One, Few, Enters, Acked}
 use Rattle.spk_broker.specs.declared.out.Draft.{Draft}
 use Rattle.spk_broker.specs.declared.seat.Seat.{Seat}
 
 abbrev pub ended : Ending → plain.Broker → plain.Broker
 ended Nothing b = b
+ended (One place) b = b
 ended (Few places) b = b
 ended (Enters entry) b = entered entry b
-ended (Acked conn id) b = (act (Ack conn id) (begun b)).broker
+ended (Acked conn place id) b = (act (Ack conn id) (begun b)).broker
 
 -- an entry is whole and finds room
 abbrev pub IsFit : Ending → Vec Seat Global → Type 0
 IsFit Nothing seats = Unit {0}
+IsFit (One place) seats = Unit {0}
 IsFit (Few places) seats = Unit {0}
 IsFit (Enters entry) seats = IsWhole entry × HasRoom entry seats
-IsFit (Acked conn id) seats = Unit {0}
+IsFit (Acked conn place id) seats = Unit {0}
 
--- that, and where few sessions are said to have changed, all others are as before the call
-abbrev pub IsReady : Ending → Vec Seat Global → Type 0
-IsReady Nothing seats = Unit {0}
-IsReady (Few places) seats = AreTouched places.items seats.items
-IsReady (Enters entry) seats = IsWhole entry × HasRoom entry seats
-IsReady (Acked conn id) seats = Unit {0}
+-- that, and where sessions are named, the call has changed no other one, and no connection without CONNECT
+abbrev pub IsReady : Ending → Desk → Type 0
+IsReady Nothing desk = Unit {0}
+IsReady (One place) desk = OnlyAt (place ∷ []) desk
+IsReady (Few places) desk = OnlyAt places.items desk
+IsReady (Enters entry) desk = IsWhole entry × HasRoom entry desk.seats
+IsReady (Acked conn place id) desk = OnlyAt (place ∷ []) desk
 
 -- the desk and the draft stand for a turn that is this one once the rest is done
 pub record Leads (desk : Desk) (draft : Draft) (ending : Ending) (turn : Turn) : Type 0 where

@@ -20,5 +20,6 @@ pub mod Sendable
 pub mod Sent
 pub mod Settling
 pub mod Sitting
+pub mod Sizes
 pub mod Touched
 pub mod View

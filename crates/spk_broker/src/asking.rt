@@ -1,11 +1,12 @@
 //! What the rules ask of connections and sessions by now.
-ghost use Rattle.std.specs.Prelude.{◌≡◌, Some, None, is_some, count_by, IfOk, true};
-ghost use Rattle.std.specs.List.{flat_map, list_any, position};
+ghost use Rattle.std.specs.Prelude.{◌≡◌, ◌≤◌, Some, None, is_some, count_by, length, IfOk, true};
+ghost use Rattle.std.specs.List.{filter, find, flat_map, list_any, position};
 ghost use Rattle.std.specs.Option.{option_and_then, option_map_or};
 ghost use Rattle.spk_session.specs.Step.{is_spent};
-ghost use Rattle.spk_broker_rules.specs.Step.{conn_at, drops_in, is_away, is_guest, is_kept_of, knows, older_in, seat_at, silent_at, sits, welcome_in};
+ghost use Rattle.spk_broker_rules.specs.Lawful.{places};
+ghost use Rattle.spk_broker_rules.specs.Step.{conn_at, drops_in, is_away, is_guest, is_kept_of, knows, older_in, silent_at, sits, welcome_in};
 ghost use Rattle.spk_broker_rules.specs.Words.{option_list};
-ghost use Rattle.spk_broker.specs.Asking.{SitsAt, drops_at, guest_here, guests_now, is_joined_by, passes, seats_now, test_at};
+ghost use Rattle.spk_broker.specs.Asking.{SitsAt, drops_at, guest_here, guests_now, is_joined_by, passes, place_in, seats_now, test_at};
 ghost use Rattle.spk_broker.specs.View.{desk_now, seat_now};
 
 use crate::desk::Desk;
@@ -92,7 +93,7 @@ impl Seat {
 
 /// Where this connection sits.
 pub(crate) fn place_of(seats: &[Seat], conn: Conn) -> Option<usize>
-    ensures { result ≡ position (passes (sits conn)) seats.now }
+    ensures { result ≡ place_in conn seats.now }
 {
     seats.iter().position(|seat| seat.sits(conn))
 }
@@ -104,32 +105,22 @@ pub(crate) fn away_place(seats: &[Seat], client: &str) -> Option<usize>
     seats.iter().position(|seat| seat.is_away(client))
 }
 
-/// Whether a seat is this connection's.
-fn has_seat(seats: &[Seat], conn: Conn) -> bool
-    ensures { result ≡ list_any (passes (sits conn)) seats.now }
-{
-    seats.iter().any(|seat| seat.sits(conn))
-}
-
-/// Whether the CONNECT of this connection was accepted.
-pub(crate) fn is_joined(seats: &[Seat], conn: Conn) -> bool
-    ensures { result ≡ is_some (seat_at conn (seats_now seats.now)) }
-{
-    has_seat(seats, conn)
-}
-
 /// Whether this connection sits at a place.
-pub(crate) fn sits_at(seats: &[Seat], conn: Conn, place: usize) -> bool
+fn sits_at(seats: &[Seat], conn: Conn, place: usize) -> bool
     ensures { result ≡ true → SitsAt conn place seats.now }
 {
     place < seats.len() && seats[place].sits(conn)
 }
 
-/// Whether the CONNECT of this connection was accepted, looked at a place first.
-pub(crate) fn is_joined_near(seats: &[Seat], conn: Conn, near: usize) -> bool
-    ensures { result ≡ is_some (seat_at conn (seats_now seats.now)) }
+/// Where this connection sits, looked for at a place first: it sits at no more than one.
+pub(crate) fn place_near(seats: &[Seat], conn: Conn, near: usize) -> Option<usize>
+    requires { length (filter (sits conn) (seats_now seats.now)) ≤ 1 }
+    ensures { result ≡ place_in conn seats.now }
 {
-    sits_at(seats, conn, near) || is_joined(seats, conn)
+    if sits_at(seats, conn, near) {
+        return Some(near);
+    }
+    place_of(seats, conn)
 }
 
 /// Whether the client has a kept session.
@@ -215,45 +206,42 @@ pub(crate) fn is_guest(guests: &[Guest], conn: Conn) -> bool
     has_guest(guests, conn)
 }
 
-/// How many sends were dropped on a connection that sits.
-fn seat_drops(seats: &[Seat], conn: Conn) -> u16
-    ensures { result ≡ option_map_or drops_at (seat_at conn (seats_now seats.now)) 0 }
+/// How many sends were dropped on an open connection without an accepted CONNECT.
+fn guest_drops(guests: &[Guest], conn: Conn) -> u16
+    ensures { result ≡ option_map_or (λ g. g.drops) (find (is_guest conn) (guests_now guests.now)) 0 }
 {
-    match place_of(seats, conn) {
-        Some(place) => seats[place].drops(),
+    match guest_place(guests, conn) {
+        Some(place) => guests[place].drops,
         None => 0,
     }
 }
 
 impl Desk {
-    /// How many sends were dropped on this connection.
-    fn drops(&self, conn: Conn) -> u16
-        ensures { result ≡ drops_in conn (desk_now self.now) }
+    /// How many sends were dropped on this connection, which sits at this place, if it does.
+    fn drops(&self, conn: Conn, place: Option<usize>) -> u16
+        requires { place_in conn self.now.seats.items ≡ place }
+        ensures { places conn (desk_now self.now) ≤ 1 → result ≡ drops_in conn (desk_now self.now) }
     {
-        match guest_place(&self.guests, conn) {
-            Some(place) => self.guests[place].drops,
-            None => seat_drops(&self.seats, conn),
+        match place {
+            Some(place) => self.seats[place].drops(),
+            None => guest_drops(&self.guests, conn),
         }
     }
 
     /// Whether as many sends were dropped on this connection as close it; limit 0 acts as 1 (own rule).
-    pub(crate) fn is_spent(&self, conn: Conn) -> bool
-        ensures { result ≡ is_spent self.now.limit (drops_in conn (desk_now self.now)) }
+    pub(crate) fn is_spent(&self, conn: Conn, place: Option<usize>) -> bool
+        requires { place_in conn self.now.seats.items ≡ place }
+        ensures { places conn (desk_now self.now) ≤ 1
+            → result ≡ is_spent self.now.limit (drops_in conn (desk_now self.now)) }
     {
-        self.drops(conn) >= self.limit.max(1)
+        self.drops(conn, place) >= self.limit.max(1)
     }
 
-    /// Whether this connection is open.
-    pub(crate) fn knows(&self, conn: Conn) -> bool
+    /// Whether this connection is open, which sits at this place, if it does.
+    pub(crate) fn knows(&self, conn: Conn, place: Option<usize>) -> bool
+        requires { place_in conn self.now.seats.items ≡ place }
         ensures { result ≡ knows (desk_now self.now) conn }
     {
-        is_guest(&self.guests, conn) || is_joined(&self.seats, conn)
-    }
-
-    /// Whether this connection is open, looked at a place first.
-    pub(crate) fn knows_near(&self, conn: Conn, near: usize) -> bool
-        ensures { result ≡ knows (desk_now self.now) conn }
-    {
-        sits_at(&self.seats, conn, near) || self.knows(conn)
+        is_guest(&self.guests, conn) || place.is_some()
     }
 }

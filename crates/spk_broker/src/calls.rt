@@ -25,12 +25,13 @@ impl Broker {
         ensures fault { IfErr result (IsUnknown (knows self.old conn)) }
         ensures err { OnErr result (self.new ≡ self.old) }
     {
-        if !self.desk.knows(conn) {
+        let place = self.hints.seek(&self.desk, conn);
+        if !self.desk.knows(conn, place) {
             return Err(BrokerFault::NoSuchConn);
         }
         let mut draft = Draft::new(self.desk.alloc);
-        let drafted = self.desk.draft_closed(&mut draft, conn, now);
-        self.desk.finish(drafted, draft)
+        let drafted = self.desk.draft_closed(&mut draft, conn, place, now);
+        self.desk.conclude(drafted, draft)
     }
 
     /// Bytes of a connection are no packet: a first packet of another protocol level gets CONNACK code 1 (section
@@ -46,12 +47,13 @@ impl Broker {
         ensures fault { IfErr result (IsUnknown (knows self.old conn)) }
         ensures err { OnErr result (self.new ≡ self.old) }
     {
-        if !self.desk.knows(conn) {
+        let place = self.hints.seek(&self.desk, conn);
+        if !self.desk.knows(conn, place) {
             return Err(BrokerFault::NoSuchConn);
         }
         let mut draft = Draft::new(self.desk.alloc);
-        let drafted = self.desk.draft_fault(&mut draft, conn, fault, now);
-        self.desk.finish(drafted, draft)
+        let drafted = self.desk.draft_fault(&mut draft, conn, place, fault, now);
+        self.desk.conclude(drafted, draft)
     }
 
     /// Time has passed: connections that were silent for more than one and a half times their keep alive are closed
@@ -82,11 +84,12 @@ impl Broker {
         ensures fault { IfErr result (IsUnknown (knows self.old conn)) }
         ensures err { OnErr result (self.new ≡ self.old) }
     {
-        if !self.desk.knows(conn) {
+        let place = self.hints.seek(&self.desk, conn);
+        if !self.desk.knows(conn, place) {
             return Err(BrokerFault::NoSuchConn);
         }
         let mut draft = Draft::new(self.desk.alloc);
-        let drafted = self.desk.draft_refused(&mut draft, conn, sort, now);
-        self.desk.finish(drafted, draft)
+        let drafted = self.desk.draft_refused(&mut draft, conn, place, sort, now);
+        self.desk.conclude(drafted, draft)
     }
 }

@@ -1,17 +1,15 @@
 //! How a packet ends: what changes a settled session, once nothing can fail any more.
-ghost use Rattle.std.specs.Prelude.{◌≡◌, ◌≤◌, ◌∷◌, [], List, Vec, length, map, is_ok, IfErr, IfOk, IfSome, OnErr, OnOk};
-ghost use Rattle.std.specs.declared.alloc.Global.{Global};
+ghost use Rattle.std.specs.Prelude.{◌≡◌, ◌≤◌, length, map, is_ok, IfErr, IfOk, IfSome, OnErr, OnOk};
 ghost use Rattle.spk_broker_rules.specs.Data as plain;
 ghost use Rattle.spk_broker_rules.specs.Lawful.{IsLawful};
 ghost use Rattle.spk_broker_rules.specs.Step.{Turn};
 ghost use Rattle.spk_broker.specs.declared.fault.BrokerFault.TheVariants as BrokerFault;
-ghost use Rattle.spk_broker.specs.declared.seat.Seat.{Seat};
-ghost use Rattle.spk_broker.specs.Both.{Both};
+ghost use Rattle.spk_broker.specs.declared.desk.Desk.{Desk};
 ghost use Rattle.spk_broker.specs.Drafts.{draft_view};
 ghost use Rattle.indexmap.specs.IndexMap.{spare};
 ghost use Rattle.spk_broker.specs.Endings.{IsFit, IsReady, ended};
 ghost use Rattle.spk_broker.specs.Sent.{sent_view};
-ghost use Rattle.spk_broker.specs.Touched.{AreTouched, AreVisited};
+ghost use Rattle.spk_broker.specs.Touched.{AreVisited, IsAlone};
 ghost use Rattle.spk_broker.specs.View.{IsSettled, Stands, desk_was};
 
 use crate::desk::Desk;
@@ -20,23 +18,39 @@ use crate::joining::Entry;
 use crate::out::{Conn, Draft, Out};
 use std::alloc::AllocError;
 
-/// What follows once a call is settled. It takes no memory.
+/// What follows once a call is settled. It takes no memory. Where it names places, only the sessions there may have changed, and
+/// no connection without CONNECT.
 #[derive(Debug, Drop)]
 pub(crate) enum Ending {
     Nothing,
+    /// Nothing, and only the session at this place may have changed.
+    One(usize),
     /// Nothing, and only the sessions at these places may have changed.
     Few(Vec<usize>),
     Enters(Entry),
-    Acked { conn: Conn, id: u16 },
+    /// The connection at this place acknowledged a message. Only its session may have changed.
+    Acked { conn: Conn, place: usize, id: u16 },
 }
 
 impl Ending {
+    /// Nothing follows, and only the session at this place may have changed, where it is known.
+    pub(crate) fn alone(place: Option<usize>) -> Ending
+        ensures nothing { (b : plain.Broker) → ended result b ≡ b }
+        ensures ready { (d : Desk) → IsAlone place d → IsReady result d }
+    {
+        match place {
+            Some(place) => Ending::One(place),
+            None => Ending::Nothing,
+        }
+    }
+
     /// Nothing follows a message. Where it's known at which places it called, and where the one sits that sent it, only the
     /// sessions there may have changed. Where memory is refused that isn't kept.
     pub(crate) fn few(places: Option<Vec<usize>>, sender: Option<usize>) -> Ending
         ensures nothing { (b : plain.Broker) → ended result b ≡ b }
-        ensures ready { (old : List Both) (seats : Vec Seat Global) → IfSome sender (λ p. AreTouched (p ∷ []) old)
-            → IfSome places (λ ps. AreVisited ps.items old seats.items) → IsReady result seats }
+        ensures ready { (old new : Desk) → IsAlone sender old
+            → IfSome places (λ ps. AreVisited ps.items old.seats.items new.seats.items)
+            → new.guests ≡ old.guests → IsReady result new }
     {
         let Some(sender) = sender else {
             return Ending::Nothing;
@@ -61,16 +75,16 @@ impl Desk {
         ensures settled { IsSettled self.new }
     {
         match ending {
-            Ending::Nothing | Ending::Few(_) => {}
+            Ending::Nothing | Ending::One(_) | Ending::Few(_) => {}
             Ending::Enters(entry) => self.enter(entry),
-            Ending::Acked { conn, id } => self.ack(conn, id),
+            Ending::Acked { conn, place, id } => self.ack(conn, place, id),
         }
     }
 
     /// What was drafted stands. Where few sessions may have changed, no other one is looked at.
     fn settle_by(&mut self, draft: Draft, ending: &Ending) -> Out
         requires room { length (draft_view draft).keeps ≤ spare self.old.retained }
-        requires ready { IsReady ending.now self.old.seats }
+        requires ready { IsReady ending.now self.old }
         ensures done { (t : Turn) → Stands self.old draft t → desk_was self.new ≡ t.broker }
         ensures settled { IsSettled self.new }
         ensures sends { map sent_view result.sends.items ≡ (draft_view draft).sends }
@@ -78,7 +92,9 @@ impl Desk {
         ensures fit { IsFit ending.now self.new.seats }
     {
         match ending {
+            Ending::One(place) => self.settle_at(draft, &[*place]),
             Ending::Few(places) => self.settle_at(draft, places),
+            Ending::Acked { place, .. } => self.settle_at(draft, &[*place]),
             _ => self.settle(draft),
         }
     }
@@ -90,7 +106,7 @@ impl Desk {
         draft: Draft,
     ) -> Result<Out, BrokerFault>
         requires stands { OnOk drafted ((t : Turn) × Stands self.old draft t) }
-        requires ready { IfOk drafted (λ e. IsReady e self.old.seats) }
+        requires ready { IfOk drafted (λ e. IsReady e self.old) }
         ensures done { IfOk drafted (λ e. OnOk result ((t : Turn) → Stands self.old draft t
             → desk_was self.new ≡ ended e t.broker)) }
         ensures sends { IfOk result (λ out. map sent_view out.sends.items ≡ (draft_view draft).sends) }

@@ -1,15 +1,18 @@
 //! What each event drafts, but for packets.
-ghost use Rattle.std.specs.Prelude.{◌≡◌, ◌≤◌, ◌∷◌, [], OnOk, true, false, ◌&&◌, not, is_some};
+ghost use Rattle.std.specs.Prelude.{◌≡◌, ◌≤◌, ◌∷◌, [], IfOk, OnOk, true, false, ◌&&◌, is_none};
 ghost use Rattle.std.specs.List.{flat_map};
 ghost use Rattle.spk_packets.specs.Message.{ConnAck};
 ghost use Rattle.spk_broker_rules.specs.Plan.{Closed, Fault, Leave, Refused, Route, Say, Tell, Tick, is_bad_level, shut, turn_away};
-ghost use Rattle.spk_broker_rules.specs.Step.{Turn, acts, seat_at};
+ghost use Rattle.spk_broker_rules.specs.Step.{Turn, acts};
 ghost use Rattle.spk_session.specs.declared.answer.Sort.TheVariants as Sort;
-ghost use Rattle.spk_broker.specs.Asking.{seats_now};
+ghost use Rattle.spk_broker.specs.Asking.{place_in};
+ghost use Rattle.spk_broker.specs.Endings.{IsReady, Leads};
+ghost use Rattle.spk_broker.specs.Touched.{IsAlone};
 ghost use Rattle.spk_broker.specs.View.{Stands, desk_was, ends, stepped};
 
-use crate::asking::{is_joined, silent};
+use crate::asking::silent;
 use crate::desk::Desk;
+use crate::ending::Ending;
 use crate::out::{Conn, Draft};
 use spk_packets::{Packet, PacketFault};
 use spk_session::Sort;
@@ -23,6 +26,13 @@ fn is_bad_level(fault: PacketFault) -> bool
         PacketFault::BadLevel => true,
         _ => false,
     }
+}
+
+/// Whether bytes that are no packet get CONNACK code 1: those of a connection that sits nowhere.
+fn is_of_other_level(fault: PacketFault, place: Option<usize>) -> bool
+    ensures { result ≡ (is_bad_level fault && is_none place) }
+{
+    is_bad_level(fault) && place.is_none()
 }
 
 impl Desk {
@@ -47,50 +57,51 @@ impl Desk {
         Ok(())
     }
 
-    /// The connection ended without the broker.
+    /// The connection ended without the broker. It sits at this place, if it does.
     pub(crate) fn draft_closed(
         &mut self,
         draft: &mut Draft,
         conn: Conn,
+        place: Option<usize>,
         now: u64,
-    ) -> Result<(), AllocError>
-        ensures done { OnOk result ((t : Turn) → Stands self.old draft.old t
-            → Stands self.new draft.new (stepped (Closed conn now) t)) }
+    ) -> Result<Ending, AllocError>
+        requires place { place_in conn self.old.seats.items ≡ place }
+        requires alone { IsAlone place self.old }
+        ensures done { IfOk result (λ e. (t : Turn) → Stands self.old draft.old t
+            → Leads self.new draft.new e (stepped (Closed conn now) t)) }
+        ensures ready { IfOk result (λ e. IsReady e self.new) }
         ensures same { desk_was self.new ≡ desk_was self.old }
     {
         self.at(now);
-        self.leave(draft, conn, true)?;
-        self.route(draft, &None)?;
-        Ok(())
-    }
-
-    /// Whether bytes that are no packet get CONNACK code 1.
-    fn is_of_other_level(&self, conn: Conn, fault: PacketFault) -> bool
-        ensures { result ≡ (is_bad_level fault && not (is_some (seat_at conn (seats_now self.now.seats.items)))) }
-    {
-        is_bad_level(fault) && !is_joined(&self.seats, conn)
+        self.leave_at(draft, conn, place, true)?;
+        let ending = self.route_near(draft, &None, place)?;
+        Ok(ending)
     }
 
     /// Bytes that are no packet: of another protocol level they get CONNACK code 1, where the connection has no
-    /// accepted CONNECT; else the connection is closed.
+    /// accepted CONNECT; else the connection is closed. It sits at this place, if it does.
     pub(crate) fn draft_fault(
         &mut self,
         draft: &mut Draft,
         conn: Conn,
+        place: Option<usize>,
         fault: PacketFault,
         now: u64,
-    ) -> Result<(), AllocError>
-        ensures done { OnOk result ((t : Turn) → Stands self.old draft.old t
-            → Stands self.new draft.new (stepped (Fault conn fault now) t)) }
+    ) -> Result<Ending, AllocError>
+        requires place { place_in conn self.old.seats.items ≡ place }
+        requires alone { IsAlone place self.old }
+        ensures done { IfOk result (λ e. (t : Turn) → Stands self.old draft.old t
+            → Leads self.new draft.new e (stepped (Fault conn fault now) t)) }
+        ensures ready { IfOk result (λ e. IsReady e self.new) }
         ensures same { desk_was self.new ≡ desk_was self.old }
     {
         self.at(now);
-        if self.is_of_other_level(conn, fault) {
+        if is_of_other_level(fault, place) {
             self.turn_away(draft, conn, 1)?;
-            return Ok(());
+            return Ok(Ending::Nothing);
         }
-        self.shut(draft, conn)?;
-        Ok(())
+        let ending = self.shut_at(draft, conn, place)?;
+        Ok(ending)
     }
 
     /// These connections end, and the caller is told to close them.
@@ -120,38 +131,55 @@ impl Desk {
     }
 
     /// A PUBLISH of QoS 0 is dropped, and as many drops as close the connection close it (own rule).
-    fn draft_dropped(&mut self, draft: &mut Draft, conn: Conn, now: u64) -> Result<(), AllocError>
-        ensures done { OnOk result ((t : Turn) → Stands self.old draft.old t
-            → Stands self.new draft.new (stepped (Refused conn Sort.QosZero now) t)) }
+    fn draft_dropped(
+        &mut self,
+        draft: &mut Draft,
+        conn: Conn,
+        place: Option<usize>,
+        now: u64,
+    ) -> Result<Ending, AllocError>
+        requires place { place_in conn self.old.seats.items ≡ place }
+        requires alone { IsAlone place self.old }
+        ensures done { IfOk result (λ e. (t : Turn) → Stands self.old draft.old t
+            → Leads self.new draft.new e (stepped (Refused conn Sort.QosZero now) t)) }
+        ensures ready { IfOk result (λ e. IsReady e self.new) }
         ensures same { desk_was self.new ≡ desk_was self.old }
     {
         self.at(now);
-        self.count_drop(conn);
-        if !self.is_spent(conn) {
-            return Ok(());
+        self.count_drop(conn, place);
+        if !self.is_spent(conn, place) {
+            return Ok(Ending::alone(place));
         }
-        self.shut(draft, conn)?;
-        Ok(())
+        let ending = self.shut_at(draft, conn, place)?;
+        Ok(ending)
     }
 
-    /// A send to this connection couldn't be taken; any but a PUBLISH of QoS 0 closes it (own rule).
+    /// A send to this connection couldn't be taken; any but a PUBLISH of QoS 0 closes it (own rule). It sits at this place, if
+    /// it does.
     pub(crate) fn draft_refused(
         &mut self,
         draft: &mut Draft,
         conn: Conn,
+        place: Option<usize>,
         sort: Sort,
         now: u64,
-    ) -> Result<(), AllocError>
-        ensures done { OnOk result ((t : Turn) → Stands self.old draft.old t
-            → Stands self.new draft.new (stepped (Refused conn sort now) t)) }
+    ) -> Result<Ending, AllocError>
+        requires place { place_in conn self.old.seats.items ≡ place }
+        requires alone { IsAlone place self.old }
+        ensures done { IfOk result (λ e. (t : Turn) → Stands self.old draft.old t
+            → Leads self.new draft.new e (stepped (Refused conn sort now) t)) }
+        ensures ready { IfOk result (λ e. IsReady e self.new) }
         ensures same { desk_was self.new ≡ desk_was self.old }
     {
         match sort {
-            Sort::QosZero => self.draft_dropped(draft, conn, now),
+            Sort::QosZero => {
+                let ending = self.draft_dropped(draft, conn, place, now)?;
+                Ok(ending)
+            }
             Sort::Other => {
                 self.at(now);
-                self.shut(draft, conn)?;
-                Ok(())
+                let ending = self.shut_at(draft, conn, place)?;
+                Ok(ending)
             }
         }
     }

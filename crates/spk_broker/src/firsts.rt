@@ -1,18 +1,18 @@
 //! Which packet it is: the first one of a connection, or a further one.
-ghost use Rattle.std.specs.Prelude.{◌≡◌, ◌∷◌, [], true, is_some, IfOk, IfSome};
+ghost use Rattle.std.specs.Prelude.{◌≡◌, ◌∷◌, [], Some, is_some, IfOk};
 ghost use Rattle.spk_packets.specs.View.{view};
 ghost use Rattle.spk_broker_rules.specs.Lawful.{IsLawful};
 ghost use Rattle.spk_broker_rules.specs.Plan.{Seen, client_in, first_packet, next_packet, packet as packet_acts};
 ghost use Rattle.spk_broker_rules.specs.Plan.{Packet as PacketEvent};
 ghost use Rattle.spk_broker_rules.specs.Step.{Turn, acts, older_in, seat_at, welcome_in};
+ghost use Rattle.spk_broker.specs.Asking.{place_in};
 ghost use Rattle.spk_broker.specs.Drafts.{draft_view};
 ghost use Rattle.spk_broker.specs.Endings.{IsReady, Leads};
 ghost use Rattle.spk_broker.specs.Filing.{AreInOrder, IsIndex};
 ghost use Rattle.spk_broker.specs.Sendable.{IsWritable};
-ghost use Rattle.spk_broker.specs.Touched.{AreTouched};
-ghost use Rattle.spk_broker.specs.View.{IsSettled, Stands, desk_now, desk_was, stepped};
+ghost use Rattle.spk_broker.specs.Touched.{IsAlone, OnlyAt};
+ghost use Rattle.spk_broker.specs.View.{Stands, desk_now, desk_was, stepped};
 
-use crate::asking::is_joined_near;
 use crate::desk::Desk;
 use crate::ending::Ending;
 use crate::out::{Conn, Draft};
@@ -35,7 +35,7 @@ impl Desk {
             → seen.older ≡ older_in (client_in (view packet.now)) t.broker.seats
             → seen.welcome ≡ welcome_in (client_in (view packet.now)) t.broker.seats → Stands self.old draft.old t
             → Leads self.new draft.new e (acts (first_packet seen conn (view packet.now)) t)) }
-        ensures ready { IfOk result (λ e. IsReady e self.new.seats) }
+        ensures ready { IfOk result (λ e. IsReady e self.new) }
         ensures same { desk_was self.new ≡ desk_was self.old }
     {
         let Packet::Connect {
@@ -54,27 +54,32 @@ impl Desk {
         Ok(Ending::Enters(entry))
     }
 
-    /// A further packet. Its sender sits at this place, where that is known.
+    /// A further packet. Its sender sits at this place.
     fn further_packet(
         &mut self,
         draft: &mut Draft,
         tree: &Option<Tree>,
         conn: Conn,
-        sender: Option<usize>,
+        place: usize,
         packet: &Packet,
     ) -> Result<Ending, AllocError>
         requires writable { IsWritable (view packet.now) }
-        requires touched { IfSome sender (λ p. AreTouched (p ∷ []) self.old.seats.items) }
+        requires place { place_in conn self.old.seats.items ≡ Some place }
+        requires only { OnlyAt (place ∷ []) self.old }
         requires index { IsIndex tree.now (desk_now self.old).seats }
         requires order { AreInOrder tree.now (desk_now self.old).seats }
         requires keeps { (draft_view draft.old).keeps ≡ [] }
         ensures done { IfOk result (λ e. (t : Turn) → Stands self.old draft.old t
             → Leads self.new draft.new e (acts (next_packet conn (view packet.now)) t)) }
-        ensures ready { IfOk result (λ e. IsReady e self.new.seats) }
+        ensures ready { IfOk result (λ e. IsReady e self.new) }
         ensures same { desk_was self.new ≡ desk_was self.old }
     {
         match packet {
-            Packet::PubAck { id } => Ok(Ending::Acked { conn, id: *id }),
+            Packet::PubAck { id } => Ok(Ending::Acked {
+                conn,
+                place,
+                id: *id,
+            }),
             Packet::Publish {
                 qos,
                 retain,
@@ -84,26 +89,27 @@ impl Desk {
                 ..
             } => {
                 let post = Post::of(topic, payload, *qos, *retain)?;
-                self.publish(draft, tree, conn, sender, *id, post)
+                self.publish(draft, tree, conn, place, *id, post)
             }
             _ => {
-                self.next_packet(draft, conn, packet)?;
-                Ok(Ending::Nothing)
+                let ending = self.next_packet(draft, conn, place, packet)?;
+                Ok(ending)
             }
         }
     }
 
-    /// What is done with a packet: one that can't be written closes the connection as its bytes would.
+    /// What is done with a packet of a connection, which sits at this place, if it does: one that can't be written closes the
+    /// connection as its bytes would.
     fn judge_packet(
         &mut self,
         draft: &mut Draft,
         tree: &Option<Tree>,
         conn: Conn,
-        near: usize,
-        sender: Option<usize>,
+        place: Option<usize>,
         packet: &Packet,
     ) -> Result<Ending, AllocError>
-        requires touched { IfSome sender (λ p. AreTouched (p ∷ []) self.old.seats.items) }
+        requires place { place_in conn self.old.seats.items ≡ place }
+        requires alone { IsAlone place self.old }
         requires index { IsIndex tree.now (desk_now self.old).seats }
         requires order { AreInOrder tree.now (desk_now self.old).seats }
         requires keeps { (draft_view draft.old).keeps ≡ [] }
@@ -113,44 +119,45 @@ impl Desk {
             → seen.older ≡ older_in (client_in (view packet.now)) t.broker.seats
             → seen.welcome ≡ welcome_in (client_in (view packet.now)) t.broker.seats → Stands self.old draft.old t
             → Leads self.new draft.new e (acts (packet_acts seen conn (view packet.now)) t)) }
-        ensures ready { IfOk result (λ e. IsReady e self.new.seats) }
+        ensures ready { IfOk result (λ e. IsReady e self.new) }
         ensures same { desk_was self.new ≡ desk_was self.old }
     {
         if !is_writable(packet) {
-            self.shut(draft, conn)?;
-            return Ok(Ending::Nothing);
+            let ending = self.shut_at(draft, conn, place)?;
+            return Ok(ending);
         }
-        if is_joined_near(&self.seats, conn, near) {
-            let ending = self.further_packet(draft, tree, conn, sender, packet)?;
+        if let Some(place) = place {
+            let ending = self.further_packet(draft, tree, conn, place, packet)?;
             return Ok(ending);
         }
         let ending = self.first_packet(draft, conn, packet)?;
         Ok(ending)
     }
 
-    /// A packet of this connection came. The connection is looked for at a place first.
+    /// A packet of this connection came, which sits at this place, if it does.
     pub(crate) fn draft_packet(
         &mut self,
         draft: &mut Draft,
         tree: &Option<Tree>,
         conn: Conn,
-        near: usize,
+        place: Option<usize>,
         packet: &Packet,
         now: u64,
     ) -> Result<Ending, AllocError>
+        requires place { place_in conn self.old.seats.items ≡ place }
+        requires alone { IsAlone place self.old }
         requires index { IsIndex tree.now (desk_now self.old).seats }
         requires stands { (t : Turn) × Stands self.old draft.old t }
         requires keeps { (draft_view draft.old).keeps ≡ [] }
         requires lawful { IsLawful (desk_was self.old) }
-        requires settled { IsSettled self.old }
         ensures done { IfOk result (λ e. (t : Turn) → Stands self.old draft.old t
             → Leads self.new draft.new e (stepped (PacketEvent conn (view packet.now) now) t)) }
-        ensures ready { IfOk result (λ e. IsReady e self.new.seats) }
+        ensures ready { IfOk result (λ e. IsReady e self.new) }
         ensures same { desk_was self.new ≡ desk_was self.old }
     {
         self.at(now);
-        let sender = self.hear(conn, near);
-        let ending = self.judge_packet(draft, tree, conn, near, sender, packet)?;
+        self.hear(conn, place);
+        let ending = self.judge_packet(draft, tree, conn, place, packet)?;
         Ok(ending)
     }
 }

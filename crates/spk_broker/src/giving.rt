@@ -1,21 +1,23 @@
 //! SUBSCRIBE (sections 3.8 and 3.9).
-ghost use Rattle.std.specs.Prelude.{ℕ, ◌≡◌, ◌∷◌, [], List, OnOk, Some, is_some, map};
-ghost use Rattle.std.specs.List.{list_any, position};
+ghost use Rattle.std.specs.Prelude.{ℕ, ◌≡◌, ◌∷◌, [], List, IfOk, OnOk, Some, is_some, map};
+ghost use Rattle.std.specs.List.{list_any};
 ghost use Rattle.spk_packets.specs.Message.{SubAck, Subscribe};
 ghost use Rattle.spk_packets.specs.View.{request_view};
 ghost use Rattle.spk_topics.specs.Text.{filter_refusal};
 ghost use Rattle.spk_broker_rules.specs.Data as plain;
 ghost use Rattle.spk_broker_rules.specs.Plan.{Give, subscribe};
-ghost use Rattle.spk_broker_rules.specs.Step.{Turn, act, acts, other_grants, seat_at, sits};
-ghost use Rattle.spk_broker.specs.Asking.{passes};
+ghost use Rattle.spk_broker_rules.specs.Step.{Turn, act, acts, other_grants, seat_at};
+ghost use Rattle.spk_broker.specs.Asking.{place_in};
 ghost use Rattle.spk_broker.specs.Drafts.{draft_view};
+ghost use Rattle.spk_broker.specs.Endings.{IsReady, Leads};
 ghost use Rattle.spk_broker.specs.Granting.{granting_view, grown_by};
 ghost use Rattle.spk_broker.specs.Sendable.{IsWritable};
+ghost use Rattle.spk_broker.specs.Touched.{OnlyAt};
 ghost use Rattle.spk_broker.specs.View.{Stands, desk_was};
 
-use crate::asking::place_of;
 use crate::counting::granted;
 use crate::desk::Desk;
+use crate::ending::Ending;
 use crate::granting::Granting;
 use crate::out::{Conn, Draft};
 use crate::subscribing::is_bad_filter;
@@ -48,12 +50,13 @@ impl Desk {
         granting: Granting,
     ) -> Result<(), AllocError>
         requires writable { IsWritable (SubAck id granting.codes.items) }
-        requires place { position (passes (sits conn)) self.old.seats.items ≡ Some place }
+        requires place { place_in conn self.old.seats.items ≡ Some place }
         requires keeps { (draft_view draft.old).keeps ≡ [] }
         ensures done { OnOk result ((t : Turn) (seat : plain.Seat) (entries : List (List ℕ × ℕ)) → Stands self.old draft.old t
             → seat_at conn t.broker.seats ≡ Some seat
             → granting_view granting ≡ grown_by (other_grants seat t.broker.seats) seat.grants entries
             → Stands self.new draft.new (act (Give conn id entries) t)) }
+        ensures only { OnOk result (OnlyAt (place ∷ []) self.old → OnlyAt (place ∷ []) self.new) }
         ensures same { desk_was self.new ≡ desk_was self.old }
     {
         let Granting {
@@ -67,50 +70,52 @@ impl Desk {
         Ok(())
     }
 
-    /// The session of a connection gets grants.
+    /// The session of the connection at a place gets grants.
     fn give(
         &mut self,
         draft: &mut Draft,
         conn: Conn,
+        place: usize,
         id: u16,
         entries: &[Request],
     ) -> Result<(), AllocError>
         requires writable { IsWritable (Subscribe id (map request_view entries.now)) }
+        requires place { place_in conn self.old.seats.items ≡ Some place }
         requires keeps { (draft_view draft.old).keeps ≡ [] }
         ensures done { OnOk result ((t : Turn) → Stands self.old draft.old t
             → Stands self.new draft.new (act (Give conn id (map request_view entries.now)) t)) }
+        ensures only { OnOk result (OnlyAt (place ∷ []) self.old → OnlyAt (place ∷ []) self.new) }
         ensures same { desk_was self.new ≡ desk_was self.old }
     {
-        match place_of(&self.seats, conn) {
-            Some(place) => {
-                let granting = granted(self.alloc, &self.seats, place, entries)?;
-                self.give_at(draft, conn, place, id, granting)?;
-                Ok(())
-            }
-            None => Ok(()),
-        }
+        let granting = granted(self.alloc, &self.seats, place, entries)?;
+        self.give_at(draft, conn, place, id, granting)?;
+        Ok(())
     }
 
-    /// A SUBSCRIBE of a connection whose CONNECT was accepted; a text that is no topic filter closes the connection.
+    /// A SUBSCRIBE of the connection at a place; a text that is no topic filter closes the connection.
     pub(crate) fn subscribe(
         &mut self,
         draft: &mut Draft,
         conn: Conn,
+        place: usize,
         id: u16,
         entries: &[Request],
-    ) -> Result<(), AllocError>
+    ) -> Result<Ending, AllocError>
         requires writable { IsWritable (Subscribe id (map request_view entries.now)) }
+        requires place { place_in conn self.old.seats.items ≡ Some place }
+        requires only { OnlyAt (place ∷ []) self.old }
         requires keeps { (draft_view draft.old).keeps ≡ [] }
-        ensures done { OnOk result ((t : Turn) → Stands self.old draft.old t
-            → Stands self.new draft.new (acts (subscribe conn id (map request_view entries.now)) t)) }
+        ensures done { IfOk result (λ e. (t : Turn) → Stands self.old draft.old t
+            → Leads self.new draft.new e (acts (subscribe conn id (map request_view entries.now)) t)) }
+        ensures ready { IfOk result (λ e. IsReady e self.new) }
         ensures same { desk_was self.new ≡ desk_was self.old }
     {
         if has_bad_entry(entries) {
-            self.shut(draft, conn)?;
-            return Ok(());
+            let ending = self.shut_at(draft, conn, Some(place))?;
+            return Ok(ending);
         }
-        self.give(draft, conn, id, entries)?;
-        self.route(draft, &None)?;
-        Ok(())
+        self.give(draft, conn, place, id, entries)?;
+        let ending = self.route_near(draft, &None, Some(place))?;
+        Ok(ending)
     }
 }

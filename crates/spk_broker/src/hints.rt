@@ -1,10 +1,12 @@
 //! Where connections sit: what is kept here is looked at first and never believed, so that it may be out of date.
-ghost use Rattle.std.specs.Prelude.{◌≡◌, true};
-ghost use Rattle.std.specs.List.{list_any};
+ghost use Rattle.std.specs.Prelude.{◌≡◌, ◌≤◌, length};
+ghost use Rattle.std.specs.List.{filter};
 ghost use Rattle.spk_broker_rules.specs.Step.{sits};
-ghost use Rattle.spk_broker.specs.Asking.{SitsAt, passes};
+ghost use Rattle.spk_broker.specs.Asking.{place_in, seats_now};
+ghost use Rattle.spk_broker.specs.Touched.{IsAlone};
+ghost use Rattle.spk_broker.specs.View.{IsSound};
 
-use crate::asking::{place_of, sits_at};
+use crate::asking::place_near;
 use crate::desk::Desk;
 use crate::out::Conn;
 use crate::seat::Seat;
@@ -60,25 +62,25 @@ impl Hints {
     }
 
     /// Where the connection sits, if it does.
-    fn seek_in(&mut self, seats: &[Seat], conn: Conn) -> usize
-        ensures { list_any (passes (sits conn)) seats.now ≡ true → SitsAt conn result seats.now }
+    fn seek_in(&mut self, seats: &[Seat], conn: Conn) -> Option<usize>
+        requires { length (filter (sits conn) (seats_now seats.now)) ≤ 1 }
+        ensures { result ≡ place_in conn seats.now }
     {
         let near = self.guess(seats, conn);
-        if sits_at(seats, conn, near) {
-            return near;
-        }
-        match place_of(seats, conn) {
-            Some(place) => {
+        let place = place_near(seats, conn, near);
+        if let Some(place) = place {
+            if place != near {
                 self.learn(conn, seats[place].key());
-                place
             }
-            None => near,
         }
+        place
     }
 
-    /// Where the connection sits at this desk, if it does.
-    pub(crate) fn seek(&mut self, desk: &Desk, conn: Conn) -> usize
-        ensures { list_any (passes (sits conn)) desk.now.seats.items ≡ true → SitsAt conn result desk.now.seats.items }
+    /// Where the connection sits between calls, if it does.
+    pub(crate) fn seek(&mut self, desk: &Desk, conn: Conn) -> Option<usize>
+        requires { IsSound desk.now }
+        ensures place { result ≡ place_in conn desk.now.seats.items }
+        ensures alone { IsAlone result desk.now }
     {
         self.seek_in(&desk.seats, conn)
     }

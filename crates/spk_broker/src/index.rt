@@ -1,5 +1,5 @@
 //! The index of grants: whom a message may concern.
-ghost use Rattle.std.specs.Prelude.{◌≡◌, ℕ, List, IfSome, OnOk, None, Some, is_some, true, string_bytes};
+ghost use Rattle.std.specs.Prelude.{◌≡◌, ◌≤◌, ℕ, List, IfSome, OnOk, None, Some, is_some, true, string_bytes};
 ghost use Rattle.std.specs.List.{flat_map};
 ghost use Rattle.std.specs.FinMap as finite;
 ghost use Rattle.spk_packets.specs.View.{view};
@@ -8,12 +8,14 @@ ghost use Rattle.spk_broker_rules.specs.Step.{serve};
 ghost use Rattle.spk_broker_rules.specs.Words.{best, option_list};
 ghost use Rattle.spk_broker.specs.Drafts.{draft_view, left_by, served_by};
 ghost use Rattle.spk_broker.specs.Filing.{AreFiled, ArePassed, Grown, IsIndex, has_key, is_passed, regrants};
+ghost use Rattle.spk_broker.specs.Sizes.{size_of_all};
 ghost use Rattle.spk_broker.specs.View.{desk_now, seat_now};
 
 use crate::desk::Desk;
 use crate::letter::Letter;
 use crate::out::Draft;
 use crate::seat::{Grant, Seat};
+use crate::sizing::is_small;
 use spk_packets::Packet;
 use spk_topics::laws::{granted, matching};
 use spk_topics::{Filter, Topic, Tree};
@@ -25,19 +27,6 @@ const SLOW: u8 = 16;
 
 /// The most sessions among which each one's number is looked for.
 const MOST_FOUND: usize = 128;
-
-/// The most levels that the filters of an index have together (own rule). A level takes a node of some 170 bytes in the tree and a
-/// text, so that no client can ask for more than some 50 megabytes by what it subscribes to.
-const MOST_LEVELS: usize = 200_000;
-
-/// How many levels a filter has (section 4.7.1.1).
-fn levels(filter: &str) -> usize {
-    let bytes = filter.as_bytes().iter();
-    bytes
-        .filter(|byte| **byte == b'/')
-        .count()
-        .saturating_add(1)
-}
 
 /// The numbers of the sessions that the index finds for a topic; none where there is no index, where memory was
 /// refused, or where they are more than pay.
@@ -57,44 +46,50 @@ pub(crate) fn reach(tree: &Option<Tree>, topic: &str) -> Option<Vec<(u64, u8)>>
     }
 }
 
-/// One more grant of a session in the index. False where memory was refused, or its filter has more levels than are left.
-fn file_one(tree: &mut Tree, left: &mut usize, key: u64, grant: &Grant) -> bool
+/// One more grant of a session in the index. False where memory was refused.
+fn file_one(tree: &mut Tree, key: u64, grant: &Grant) -> bool
     ensures filed { result ≡ true → is_some (finite.get tree.new (string_bytes grant.now.filter, key)) ≡ true }
     ensures more { Grown tree.old tree.new }
 {
     granted();
-    let Some(rest) = left.checked_sub(levels(grant.filter.as_str())) else {
-        return false;
-    };
     let Ok(filter) = Filter::read(grant.filter.as_str()) else {
         return false;
     };
-    *left = rest;
     tree.grant(&filter, key, grant.qos).is_ok()
 }
 
-/// The grants of a session in the index. False where memory was refused, or they have more levels than are left.
-fn file_seat(tree: &mut Tree, left: &mut usize, seat: &Seat) -> bool
+/// The grants of a session in the index. False where memory was refused.
+fn file_seat(tree: &mut Tree, seat: &Seat) -> bool
     ensures filed { result ≡ true → AreFiled tree.new (seat_now seat.now) }
     ensures more { Grown tree.old tree.new }
 {
     let key = seat.key();
     for grant in seat.grants() {
-        if !file_one(tree, left, key, grant) {
+        if !file_one(tree, key, grant) {
             return false;
         }
     }
     true
 }
 
-/// An index of the grants of all sessions; none where memory was refused, or where their filters have too many levels.
+/// An index of the grants of all sessions; none where they are too many, or where memory was refused.
 pub(crate) fn index(alloc: Global, seats: &[Seat]) -> Option<Tree>
+    ensures index { IsIndex result (flat_map seat_now seats.now) }
+    ensures small { IfSome result (λ tree. size_of_all (flat_map seat_now seats.now) ≤ 100000) }
+{
+    if !is_small(seats) {
+        return None;
+    }
+    filed(alloc, seats)
+}
+
+/// An index of the grants of all sessions; none where memory was refused.
+fn filed(alloc: Global, seats: &[Seat]) -> Option<Tree>
     ensures { IsIndex result (flat_map seat_now seats.now) }
 {
     let mut tree = Tree::new(alloc);
-    let mut left = MOST_LEVELS;
     for seat in seats {
-        if !file_seat(&mut tree, &mut left, seat) {
+        if !file_seat(&mut tree, seat) {
             return None;
         }
     }

@@ -1,5 +1,5 @@
 //! A CONNECT is accepted (sections 3.1.2.4 and 3.1.4): all memory is asked for first, and what enters then needs none.
-ghost use Rattle.std.specs.Prelude.{ℕ, ◌≡◌, ◌==◌, not, ◌++◌, ◌<◌, ◌∷◌, [], IfOk, IfSome, OnOk, None, Some, false, true, map, string_bytes, vec_capacity, vec_len};
+ghost use Rattle.std.specs.Prelude.{ℕ, ◌≡◌, ◌==◌, not, ◌++◌, ◌<◌, ◌≤◌, ◌∷◌, [], length, IfOk, IfSome, OnOk, None, Some, false, true, map, string_bytes, vec_capacity, vec_len};
 ghost use Rattle.std.specs.List.{filter, find, position};
 ghost use Rattle.spk_broker_rules.specs.Lawful.{IsLawful, Rises};
 ghost use Rattle.spk_broker_rules.specs.Plan.{Ack, Forget};
@@ -14,7 +14,7 @@ ghost use Rattle.spk_broker.specs.Parts.{copy_view, line_now, line_was};
 ghost use Rattle.spk_broker.specs.Sent.{outgoing};
 ghost use Rattle.spk_broker.specs.View.{IsSettled, Stands, desk_now, desk_was, guest_was, seat_was};
 
-use crate::asking::{away_place, place_of};
+use crate::asking::{away_place, place_near};
 use crate::desk::Desk;
 use crate::guest::Guest;
 use crate::out::{Conn, Draft};
@@ -132,12 +132,13 @@ fn take_up_in(seats: &mut [Seat], client: &str, line: Line)
     }
 }
 
-/// The session of a connection has no message of this identifier any more.
-fn ack_in(seats: &mut [Seat], conn: Conn, id: u16)
-    requires { seats_now seats.old ≡ map seat_was seats.old }
+/// The session of a connection, looked for at one place first, has no message of this identifier any more.
+fn ack_in(seats: &mut [Seat], conn: Conn, near: usize, id: u16)
+    requires settled { seats_now seats.old ≡ map seat_was seats.old }
+    requires few { length (filter (sits conn) (seats_now seats.old)) ≤ 1 }
     ensures { IsChanged seats.old seats.new (sits conn) (acked id) }
 {
-    match place_of(seats, conn) {
+    match place_near(seats, conn, near) {
         Some(place) => seats[place].acked(id),
         None => {}
     }
@@ -192,14 +193,14 @@ fn end_away(seats: &mut [Seat], client: &str)
 }
 
 impl Desk {
-    /// The session of a connection has no message of this identifier any more (section 4.3.2).
-    pub(crate) fn ack(&mut self, conn: Conn, id: u16)
+    /// The session of a connection, looked for at one place first, has no message of this identifier any more (section 4.3.2).
+    pub(crate) fn ack(&mut self, conn: Conn, near: usize, id: u16)
         requires settled { IsSettled self.old }
         requires lawful { IsLawful (desk_was self.old) }
         ensures done { desk_was self.new ≡ (act (Ack conn id) (begun (desk_was self.old))).broker }
         ensures settled { IsSettled self.new }
     {
-        ack_in(&mut self.seats, conn, id);
+        ack_in(&mut self.seats, conn, near, id);
     }
 
     /// What was prepared enters. It takes no memory.

@@ -33,6 +33,7 @@ mod routing;
 mod seat;
 mod serving;
 mod settling;
+mod sizing;
 mod subscribing;
 mod turning;
 

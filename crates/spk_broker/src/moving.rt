@@ -1,16 +1,18 @@
 //! Drafted acts: the clock, what was heard and dropped, and connections that leave.
-ghost use Rattle.std.specs.Prelude.{◌≡◌, ◌∷◌, ◌++◌, [], IfSome, OnOk, map, true};
+ghost use Rattle.std.specs.Prelude.{◌≡◌, ◌∷◌, ◌++◌, [], IfOk, OnOk, Some, true};
 ghost use Rattle.spk_broker_rules.specs.Plan.{At, Drop, Hear, Leave, Say, Tell, shut};
 ghost use Rattle.spk_broker_rules.specs.Step.{Turn, act, acts};
-ghost use Rattle.spk_broker.specs.Asking.{SitsAt, seats_now};
-ghost use Rattle.spk_broker.specs.Touched.{AreTouched};
-ghost use Rattle.spk_broker.specs.View.{Stands, desk_was, seat_was};
+ghost use Rattle.spk_broker.specs.Asking.{place_in};
+ghost use Rattle.spk_broker.specs.Endings.{IsReady, Leads};
+ghost use Rattle.spk_broker.specs.Touched.{IsAlone, OnlyAt};
+ghost use Rattle.spk_broker.specs.View.{Stands, desk_was};
 ghost use Rattle.spk_broker.specs.declared.out.Draft.{Draft};
 
-use crate::asking::{place_of, sits_at};
+use crate::asking::place_of;
 use crate::desk::Desk;
+use crate::ending::Ending;
+use crate::guest;
 use crate::out::{Conn, Draft};
-use crate::{guest, turning};
 use std::alloc::AllocError;
 
 impl Desk {
@@ -19,46 +21,85 @@ impl Desk {
         ensures done { (x : Draft) (t : Turn) → Stands self.old x t → Stands self.new x (act (At now) t) }
         ensures same { desk_was self.new ≡ desk_was self.old }
         ensures seats { self.new.seats ≡ self.old.seats }
+        ensures guests { self.new.guests ≡ self.old.guests }
     {
         self.clock = self.clock.max(now);
     }
 
     /// A packet of the connection that sits at this place came.
     fn hear_at(&mut self, conn: Conn, place: usize)
-        requires { SitsAt conn place self.old.seats.items }
+        requires { place_in conn self.old.seats.items ≡ Some place }
         ensures done { (x : Draft) (t : Turn) → Stands self.old x t → Stands self.new x (act (Hear conn) t) }
         ensures same { desk_was self.new ≡ desk_was self.old }
-        ensures touched { seats_now self.old.seats.items ≡ map seat_was self.old.seats.items → AreTouched (place ∷ []) self.new.seats.items }
+        ensures place { place_in conn self.new.seats.items ≡ Some place }
+        ensures alone { OnlyAt (place ∷ []) self.old → OnlyAt (place ∷ []) self.new }
     {
         let clock = self.clock;
         self.seats[place].hear(conn, clock);
     }
 
-    /// A packet of this connection came. It is looked for at a place first. Answers that place where it sits there: then no
-    /// other session has changed.
-    pub(crate) fn hear(&mut self, conn: Conn, near: usize) -> Option<usize>
+    /// A packet of this connection came, which sits at this place, if it does.
+    pub(crate) fn hear(&mut self, conn: Conn, place: Option<usize>)
+        requires { place_in conn self.old.seats.items ≡ place }
         ensures done { (x : Draft) (t : Turn) → Stands self.old x t → Stands self.new x (act (Hear conn) t) }
         ensures same { desk_was self.new ≡ desk_was self.old }
-        ensures touched { seats_now self.old.seats.items ≡ map seat_was self.old.seats.items
-            → IfSome result (λ p. AreTouched (p ∷ []) self.new.seats.items) }
+        ensures place { place_in conn self.new.seats.items ≡ place }
+        ensures alone { IsAlone place self.old → IsAlone place self.new }
     {
-        if sits_at(&self.seats, conn, near) {
-            self.hear_at(conn, near);
-            return Some(near);
+        match place {
+            Some(place) => self.hear_at(conn, place),
+            None => {
+                let clock = self.clock;
+                guest::hear(&mut self.guests, conn, clock);
+            }
         }
-        let clock = self.clock;
-        guest::hear(&mut self.guests, conn, clock);
-        turning::hear(&mut self.seats, conn, clock);
-        None
     }
 
-    /// A send to this connection was dropped.
-    pub(crate) fn count_drop(&mut self, conn: Conn)
+    /// A send to the connection that sits at this place was dropped.
+    fn drop_at(&mut self, conn: Conn, place: usize)
+        requires { place_in conn self.old.seats.items ≡ Some place }
         ensures done { (x : Draft) (t : Turn) → Stands self.old x t → Stands self.new x (act (Drop conn) t) }
         ensures same { desk_was self.new ≡ desk_was self.old }
+        ensures place { place_in conn self.new.seats.items ≡ Some place }
+        ensures alone { OnlyAt (place ∷ []) self.old → OnlyAt (place ∷ []) self.new }
     {
-        guest::count_drop(&mut self.guests, conn);
-        turning::count_drop(&mut self.seats, conn);
+        self.seats[place].count_drop(conn);
+    }
+
+    /// A send to this connection was dropped, which sits at this place, if it does.
+    pub(crate) fn count_drop(&mut self, conn: Conn, place: Option<usize>)
+        requires { place_in conn self.old.seats.items ≡ place }
+        ensures done { (x : Draft) (t : Turn) → Stands self.old x t → Stands self.new x (act (Drop conn) t) }
+        ensures same { desk_was self.new ≡ desk_was self.old }
+        ensures place { place_in conn self.new.seats.items ≡ place }
+        ensures alone { IsAlone place self.old → IsAlone place self.new }
+    {
+        match place {
+            Some(place) => self.drop_at(conn, place),
+            None => guest::count_drop(&mut self.guests, conn),
+        }
+    }
+
+    /// This connection leaves, which sits at this place, if it does; its will waits or is discarded.
+    pub(crate) fn leave_at(
+        &mut self,
+        draft: &mut Draft,
+        conn: Conn,
+        place: Option<usize>,
+        wills: bool,
+    ) -> Result<(), AllocError>
+        requires { place_in conn self.old.seats.items ≡ place }
+        ensures done { OnOk result ((t : Turn) → Stands self.old draft.old t
+            → Stands self.new draft.new (act (Leave conn wills) t)) }
+        ensures same { desk_was self.new ≡ desk_was self.old }
+        ensures alone { OnOk result (IsAlone place self.old → IsAlone place self.new) }
+    {
+        let Some(place) = place else {
+            guest::leave(&mut self.guests, conn);
+            return Ok(());
+        };
+        self.seats[place].leave(draft, wills)?;
+        Ok(())
     }
 
     /// This connection leaves; its will waits or is discarded.
@@ -72,11 +113,8 @@ impl Desk {
             → Stands self.new draft.new (act (Leave conn wills) t)) }
         ensures same { desk_was self.new ≡ desk_was self.old }
     {
-        let Some(place) = place_of(&self.seats, conn) else {
-            guest::leave(&mut self.guests, conn);
-            return Ok(());
-        };
-        self.seats[place].leave(draft, wills)?;
+        let place = place_of(&self.seats, conn);
+        self.leave_at(draft, conn, place, wills)?;
         Ok(())
     }
 
@@ -90,5 +128,25 @@ impl Desk {
         draft.tell(conn)?;
         self.route(draft, &None)?;
         Ok(())
+    }
+
+    /// The same of a connection that sits at this place, if it does, and that alone has changed.
+    pub(crate) fn shut_at(
+        &mut self,
+        draft: &mut Draft,
+        conn: Conn,
+        place: Option<usize>,
+    ) -> Result<Ending, AllocError>
+        requires place { place_in conn self.old.seats.items ≡ place }
+        requires alone { IsAlone place self.old }
+        ensures done { IfOk result (λ e. (t : Turn) → Stands self.old draft.old t
+            → Leads self.new draft.new e (acts (shut conn) t)) }
+        ensures ready { IfOk result (λ e. IsReady e self.new) }
+        ensures same { desk_was self.new ≡ desk_was self.old }
+    {
+        self.leave_at(draft, conn, place, true)?;
+        draft.tell(conn)?;
+        let ending = self.route_near(draft, &None, place)?;
+        Ok(ending)
     }
 }

@@ -26,8 +26,8 @@ impl Broker {
         ensures fault { IfErr result (IsUnknown (knows self.old conn)) }
         ensures err { OnErr result (self.new ≡ self.old) }
     {
-        let near = self.hints.seek(&self.desk, conn);
-        if !self.desk.knows_near(conn, near) {
+        let place = self.hints.seek(&self.desk, conn);
+        if !self.desk.knows(conn, place) {
             return Err(BrokerFault::NoSuchConn);
         }
         let mut draft = Draft::new(self.desk.alloc);
@@ -35,7 +35,7 @@ impl Broker {
         self.tree = next_index(tree, &self.desk, &mut self.slow, packet);
         let drafted = self
             .desk
-            .draft_packet(&mut draft, &self.tree, conn, near, packet, now);
+            .draft_packet(&mut draft, &self.tree, conn, place, packet, now);
         self.desk.conclude(drafted, draft)
     }
 }

@@ -1,16 +1,17 @@
 //! Packets of a connection whose CONNECT was accepted.
-ghost use Rattle.std.specs.Prelude.{◌≡◌, ◌==◌, ◌∷◌, IfOk, IfSome, OnOk, true, false, is_some, []};
+ghost use Rattle.std.specs.Prelude.{◌≡◌, ◌==◌, ◌∷◌, IfOk, IfSome, OnOk, Some, true, false, is_some, []};
 ghost use Rattle.spk_packets.specs.View.{view};
 ghost use Rattle.spk_topics.specs.Text.{topic_refusal};
 ghost use Rattle.spk_broker_rules.specs.Plan.{next_packet, publish, puback};
 ghost use Rattle.spk_broker_rules.specs.Step.{Turn, acts};
+ghost use Rattle.spk_broker.specs.Asking.{place_in};
 ghost use Rattle.spk_broker.specs.Drafts.{draft_view};
 ghost use Rattle.spk_broker.specs.Endings.{IsReady, Leads};
 ghost use Rattle.spk_broker.specs.Filing.{AreInOrder, IsIndex};
 ghost use Rattle.spk_broker.specs.Parts.{post_view};
 ghost use Rattle.spk_broker.specs.Plain.{is_plain};
 ghost use Rattle.spk_broker.specs.Sendable.{IsWritable};
-ghost use Rattle.spk_broker.specs.Touched.{AreTouched};
+ghost use Rattle.spk_broker.specs.Touched.{OnlyAt};
 ghost use Rattle.spk_broker.specs.View.{Stands, desk_now, desk_was};
 
 use crate::desk::Desk;
@@ -46,61 +47,75 @@ impl Desk {
     }
 
     /// A publish is acknowledged, then routed; one on no topic name closes the connection (section 3.3). Its sender sits at
-    /// this place, where that is known.
+    /// this place.
     pub(crate) fn publish(
         &mut self,
         draft: &mut Draft,
         tree: &Option<Tree>,
         conn: Conn,
-        sender: Option<usize>,
+        place: usize,
         id: Option<u16>,
         post: Post,
     ) -> Result<Ending, AllocError>
         requires index { IsIndex tree.now (desk_now self.old).seats }
         requires order { AreInOrder tree.now (desk_now self.old).seats }
         requires id { IfSome id (λ n. (n == 0) ≡ false) }
-        requires touched { IfSome sender (λ p. AreTouched (p ∷ []) self.old.seats.items) }
+        requires place { place_in conn self.old.seats.items ≡ Some place }
+        requires only { OnlyAt (place ∷ []) self.old }
         ensures done { IfOk result (λ e. (t : Turn) → Stands self.old draft.old t
             → Leads self.new draft.new e (acts (publish conn id (post_view post)) t)) }
-        ensures ready { IfOk result (λ e. IsReady e self.new.seats) }
+        ensures ready { IfOk result (λ e. IsReady e self.new) }
         ensures same { desk_was self.new ≡ desk_was self.old }
     {
         if is_no_topic(post.topic.as_str()) {
-            self.shut(draft, conn)?;
-            return Ok(Ending::Nothing);
+            let ending = self.shut_at(draft, conn, Some(place))?;
+            return Ok(ending);
         }
         self.puback(draft, conn, id)?;
         draft.queue(post)?;
-        let ending = self.route_near(draft, tree, sender)?;
+        let ending = self.route_near(draft, tree, Some(place))?;
         Ok(ending)
     }
 
-    /// A further packet, but for PUBLISH and PUBACK.
+    /// A further packet, but for PUBLISH and PUBACK. Its sender sits at this place.
     pub(crate) fn next_packet(
         &mut self,
         draft: &mut Draft,
         conn: Conn,
+        place: usize,
         packet: &Packet,
-    ) -> Result<(), AllocError>
+    ) -> Result<Ending, AllocError>
         requires writable { IsWritable (view packet.now) }
         requires plain { is_plain (view packet.now) ≡ true }
         requires empty { (draft_view draft.old).keeps ≡ [] }
-        ensures done { OnOk result ((t : Turn) → Stands self.old draft.old t
-            → Stands self.new draft.new (acts (next_packet conn (view packet.now)) t)) }
+        requires place { place_in conn self.old.seats.items ≡ Some place }
+        requires only { OnlyAt (place ∷ []) self.old }
+        ensures done { IfOk result (λ e. (t : Turn) → Stands self.old draft.old t
+            → Leads self.new draft.new e (acts (next_packet conn (view packet.now)) t)) }
+        ensures ready { IfOk result (λ e. IsReady e self.new) }
         ensures same { desk_was self.new ≡ desk_was self.old }
     {
         match packet {
             Packet::Subscribe { id, filters } => {
-                self.subscribe(draft, conn, *id, filters)?;
-                Ok(())
+                let ending = self.subscribe(draft, conn, place, *id, filters)?;
+                Ok(ending)
             }
             Packet::Unsubscribe { id, filters } => {
-                self.unsubscribe(draft, conn, *id, filters)?;
-                Ok(())
+                let ending = self.unsubscribe(draft, conn, place, *id, filters)?;
+                Ok(ending)
             }
-            Packet::PingReq => draft.say(conn, &Packet::PingResp),
-            Packet::Disconnect => self.leave(draft, conn, false),
-            _ => self.shut(draft, conn),
+            Packet::PingReq => {
+                draft.say(conn, &Packet::PingResp)?;
+                Ok(Ending::One(place))
+            }
+            Packet::Disconnect => {
+                self.leave_at(draft, conn, Some(place), false)?;
+                Ok(Ending::One(place))
+            }
+            _ => {
+                let ending = self.shut_at(draft, conn, Some(place))?;
+                Ok(ending)
+            }
         }
     }
 }

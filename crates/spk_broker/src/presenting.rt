@@ -9,6 +9,7 @@ ghost use Rattle.spk_broker.specs.Drafts.{draft_view, left_by, served_by};
 ghost use Rattle.spk_broker.specs.Offering.{Offering, offers_at, retained_at};
 ghost use Rattle.spk_broker.specs.Parts.{grant_view, post_view, retained_view, stored_view};
 ghost use Rattle.spk_broker.specs.Sendable.{are_sendable, is_sendable};
+ghost use Rattle.spk_broker.specs.Touched.{OnlyAt};
 ghost use Rattle.spk_broker.specs.View.{desk_was};
 
 use crate::desk::{Desk, Stored};
@@ -67,6 +68,7 @@ impl Desk {
         requires { place < vec_len self.old.seats }
         ensures done { OnOk result ((key : ℕ) (t : Turn) → Offering self.old draft.old place key t → Offering self.new draft.new place key
             (fold (offer key) t (offers_at (slice_get (map retained_view self.old.retained.entries) from) (grant_view grant.now)))) }
+        ensures only { OnOk result (OnlyAt (place ∷ []) self.old → OnlyAt (place ∷ []) self.new) }
         ensures retained { self.new.retained ≡ self.old.retained }
         ensures len { vec_len self.new.seats ≡ vec_len self.old.seats }
         ensures same { desk_was self.new ≡ desk_was self.old }
@@ -90,6 +92,7 @@ impl Desk {
         requires { place < vec_len self.old.seats }
         ensures done { OnOk result ((key : ℕ) (t : Turn) → Offering self.old draft.old place key t → Offering self.new draft.new place key
             (fold (offer key) t (offers_to (map retained_view self.old.retained.entries) (grant_view grant.now)))) }
+        ensures only { OnOk result (OnlyAt (place ∷ []) self.old → OnlyAt (place ∷ []) self.new) }
         ensures retained { self.new.retained ≡ self.old.retained }
         ensures len { vec_len self.new.seats ≡ vec_len self.old.seats }
         ensures same { desk_was self.new ≡ desk_was self.old }
@@ -110,6 +113,7 @@ impl Desk {
         requires { place < vec_len self.old.seats }
         ensures done { OnOk result ((key : ℕ) (t : Turn) → Offering self.old draft.old place key t → Offering self.new draft.new place key
             (fold (offer key) t (flat_map (offers_to (map retained_view self.old.retained.entries)) (map grant_view given.now)))) }
+        ensures only { OnOk result (OnlyAt (place ∷ []) self.old → OnlyAt (place ∷ []) self.new) }
         ensures same { desk_was self.new ≡ desk_was self.old }
     {
         for grant in given {

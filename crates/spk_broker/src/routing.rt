@@ -1,5 +1,5 @@
 //! Routing: each message that waits goes to all sessions before the next.
-ghost use Rattle.std.specs.Prelude.{ℕ, ◌≡◌, ◌+◌, ◌≤◌, ◌∷◌, [], List, length, IfOk, IfSome, OnOk, map};
+ghost use Rattle.std.specs.Prelude.{ℕ, ◌≡◌, ◌+◌, ◌≤◌, List, length, IfOk, IfSome, OnOk, map};
 ghost use Rattle.std.specs.List.{flat_map};
 ghost use Rattle.indexmap.specs.IndexMap.{spare};
 ghost use Rattle.spk_broker_rules.specs.Lawful.{Rises};
@@ -11,7 +11,7 @@ ghost use Rattle.spk_broker.specs.Endings.{IsReady, Leads};
 ghost use Rattle.spk_broker.specs.Filing.{AreInOrder, ArePassed, IsIndex};
 ghost use Rattle.spk_broker.specs.Parts.{post_view};
 ghost use Rattle.spk_broker.specs.Rounds.{kept_with, left_of_round, with_round};
-ghost use Rattle.spk_broker.specs.Touched.{AreTouched, AreVisited};
+ghost use Rattle.spk_broker.specs.Touched.{AreVisited, IsAlone};
 ghost use Rattle.spk_broker.specs.View.{Stands, desk_now, desk_was, how_many, seat_now, seat_was};
 
 use crate::calling::{call, places};
@@ -125,6 +125,7 @@ impl Desk {
         ensures index { OnOk result (IsIndex tree.now (desk_now self.new).seats) }
         ensures order { OnOk result (AreInOrder tree.now (desk_now self.new).seats) }
         ensures visited { IfOk result (λ o. IfSome o (λ ps. AreVisited ps.items self.old.seats.items self.new.seats.items)) }
+        ensures guests { self.new.guests ≡ self.old.guests }
     {
         let places = round(&mut self.seats, draft, &post, tree)?;
         keep(&mut self.retained, draft, post)?;
@@ -146,27 +147,27 @@ impl Desk {
     }
 
     /// Those that wait are routed, each whole before the next. Answers which sessions may have changed since the call began,
-    /// where no other but the sender's at this place had, and where one message waited alone.
+    /// where no other but that at this place had, and where none waits or one alone.
     pub(crate) fn route_near(
         &mut self,
         draft: &mut Draft,
         tree: &Option<Tree>,
-        sender: Option<usize>,
+        place: Option<usize>,
     ) -> Result<Ending, AllocError>
         requires index { IsIndex tree.now (desk_now self.old).seats }
         requires order { AreInOrder tree.now (desk_now self.old).seats }
-        requires touched { IfSome sender (λ p. AreTouched (p ∷ []) self.old.seats.items) }
+        requires alone { IsAlone place self.old }
         ensures done { IfOk result (λ e. (t : Turn) → Stands self.old draft.old t
             → Leads self.new draft.new e (act Route t)) }
-        ensures ready { IfOk result (λ e. IsReady e self.new.seats) }
+        ensures ready { IfOk result (λ e. IsReady e self.new) }
         ensures same { desk_was self.new ≡ desk_was self.old }
     {
         let Some(post) = draft.waiting.pop_front() else {
-            return Ok(Ending::Nothing);
+            return Ok(Ending::alone(place));
         };
         let places = self.route_one(draft, post, tree)?;
         if draft.waiting.is_empty() {
-            return Ok(Ending::few(places, sender));
+            return Ok(Ending::few(places, place));
         }
         self.route(draft, tree)?;
         Ok(Ending::Nothing)

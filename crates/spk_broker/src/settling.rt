@@ -5,7 +5,7 @@ ghost use Rattle.spk_broker_rules.specs.Step.{Turn};
 ghost use Rattle.spk_broker.specs.declared.fault.BrokerFault.TheVariants as BrokerFault;
 ghost use Rattle.spk_broker.specs.Drafts.{draft_view};
 ghost use Rattle.spk_broker.specs.Sent.{sent_view};
-ghost use Rattle.spk_broker.specs.Touched.{AreTouched};
+ghost use Rattle.spk_broker.specs.Touched.{OnlyAt};
 ghost use Rattle.spk_broker.specs.View.{IsSettled, Stands, desk_was};
 
 use crate::desk::Desk;
@@ -36,16 +36,16 @@ impl Desk {
         }
     }
 
-    /// What was drafted stands, where only the sessions at these places may have changed. It takes no memory.
+    /// What was drafted stands, where the call has changed only the sessions at these places, and no connection without
+    /// CONNECT. It takes no memory.
     pub(crate) fn settle_at(&mut self, draft: Draft, places: &[usize]) -> Out
         requires room { length (draft_view draft).keeps ≤ spare self.old.retained }
-        requires touched { AreTouched places.now self.old.seats.items }
+        requires only { OnlyAt places.now self.old }
         ensures done { (t : Turn) → Stands self.old draft t → desk_was self.new ≡ t.broker }
         ensures settled { IsSettled self.new }
         ensures sends { map sent_view result.sends.items ≡ (draft_view draft).sends }
         ensures closes { result.closes.items ≡ (draft_view draft).closes }
     {
-        guest::settle(&mut self.guests);
         turning::settle_at(&mut self.seats, places);
         retain_all(&mut self.retained, draft.keeps);
         self.clock_before = self.clock;

@@ -1,20 +1,22 @@
 //! UNSUBSCRIBE and SUBSCRIBE (sections 3.8 to 3.11).
-ghost use Rattle.std.specs.Prelude.{ℕ, ◌≡◌, ◌∷◌, [], OnOk, is_some, map, string_bytes};
+ghost use Rattle.std.specs.Prelude.{ℕ, ◌≡◌, ◌∷◌, [], IfOk, OnOk, Some, is_some, map, string_bytes};
 ghost use Rattle.std.specs.List.{list_any};
 ghost use Rattle.spk_packets.specs.Message.{Unsubscribe};
 ghost use Rattle.spk_topics.specs.Text.{filter_refusal};
 ghost use Rattle.spk_broker_rules.specs.Lawful.{Rises};
 ghost use Rattle.spk_broker_rules.specs.Plan.{Take, has_bad_filter, unsubscribe};
 ghost use Rattle.spk_broker_rules.specs.Step.{Turn, act, acts, seat_at};
-ghost use Rattle.spk_broker.specs.Asking.{seats_now};
+ghost use Rattle.spk_broker.specs.Asking.{place_in, seats_now};
 ghost use Rattle.spk_broker.specs.Changes.{changed_at};
+ghost use Rattle.spk_broker.specs.Endings.{IsReady, Leads};
 ghost use Rattle.spk_broker.specs.Granting.{without_grants};
 ghost use Rattle.spk_broker.specs.Sendable.{IsWritable};
+ghost use Rattle.spk_broker.specs.Touched.{AreTouched, OnlyAt};
 ghost use Rattle.spk_broker.specs.View.{Stands, desk_was, seat_was};
 ghost use Rattle.spk_broker.specs.declared.out.Draft.{Draft};
 
-use crate::asking::place_of;
 use crate::desk::Desk;
+use crate::ending::Ending;
 use crate::granting::{copied, take_all};
 use crate::out::{Conn, Draft};
 use crate::seat::Seat;
@@ -42,58 +44,62 @@ fn has_bad_filter(names: &[String]) -> bool
     has_one_bad(names)
 }
 
-/// The session of a connection has no grants of these filters any more.
+/// The session of the connection at a place has no grants of these filters any more.
 fn take_in(
     alloc: Global,
     seats: &mut [Seat],
     conn: Conn,
+    place: usize,
     names: &[String],
 ) -> Result<(), AllocError>
+    requires { place_in conn seats.old ≡ Some place }
     ensures was { map seat_was seats.new ≡ map seat_was seats.old }
     ensures now { OnOk result ((low top : ℕ) → Rises low top (seats_now seats.old) → seats_now seats.new ≡
         changed_at (seat_at conn (seats_now seats.old)) (without_grants (map (λ name. string_bytes name) names.now)) (seats_now seats.old)) }
+    ensures touched { AreTouched (place ∷ []) seats.old → AreTouched (place ∷ []) seats.new }
 {
-    match place_of(seats, conn) {
-        Some(place) => {
-            let mut grants = copied(alloc, seats[place].grants())?;
-            take_all(&mut grants, names);
-            seats[place].set_grants(grants);
-            Ok(())
-        }
-        None => Ok(()),
-    }
+    let mut grants = copied(alloc, seats[place].grants())?;
+    take_all(&mut grants, names);
+    seats[place].set_grants(grants);
+    Ok(())
 }
 
 impl Desk {
     /// The grants of these filters are taken back.
-    fn take(&mut self, conn: Conn, names: &[String]) -> Result<(), AllocError>
+    fn take(&mut self, conn: Conn, place: usize, names: &[String]) -> Result<(), AllocError>
+        requires { place_in conn self.old.seats.items ≡ Some place }
         ensures done { OnOk result ((x : Draft) (t : Turn) → Stands self.old x t
             → Stands self.new x (act (Take conn (map (λ name. string_bytes name) names.now)) t)) }
+        ensures only { OnlyAt (place ∷ []) self.old → OnlyAt (place ∷ []) self.new }
         ensures same { desk_was self.new ≡ desk_was self.old }
     {
-        take_in(self.alloc, &mut self.seats, conn, names)?;
+        take_in(self.alloc, &mut self.seats, conn, place, names)?;
         Ok(())
     }
 
-    /// An UNSUBSCRIBE of a connection whose CONNECT was accepted.
+    /// An UNSUBSCRIBE of the connection at a place.
     pub(crate) fn unsubscribe(
         &mut self,
         draft: &mut Draft,
         conn: Conn,
+        place: usize,
         id: u16,
         names: &[String],
-    ) -> Result<(), AllocError>
-        requires { IsWritable (Unsubscribe id (map (λ name. string_bytes name) names.now)) }
-        ensures done { OnOk result ((t : Turn) → Stands self.old draft.old t
-            → Stands self.new draft.new (acts (unsubscribe conn id (map (λ name. string_bytes name) names.now)) t)) }
+    ) -> Result<Ending, AllocError>
+        requires writable { IsWritable (Unsubscribe id (map (λ name. string_bytes name) names.now)) }
+        requires place { place_in conn self.old.seats.items ≡ Some place }
+        requires only { OnlyAt (place ∷ []) self.old }
+        ensures done { IfOk result (λ e. (t : Turn) → Stands self.old draft.old t → Leads self.new draft.new e
+            (acts (unsubscribe conn id (map (λ name. string_bytes name) names.now)) t)) }
+        ensures ready { IfOk result (λ e. IsReady e self.new) }
         ensures same { desk_was self.new ≡ desk_was self.old }
     {
         if has_bad_filter(names) {
-            self.shut(draft, conn)?;
-            return Ok(());
+            let ending = self.shut_at(draft, conn, Some(place))?;
+            return Ok(ending);
         }
-        self.take(conn, names)?;
+        self.take(conn, place, names)?;
         draft.say(conn, &Packet::UnsubAck { id })?;
-        Ok(())
+        Ok(Ending::One(place))
     }
 }

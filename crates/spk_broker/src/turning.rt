@@ -29,7 +29,7 @@ impl Seat {
     }
 
     /// A send to this connection was dropped.
-    fn count_drop(&mut self, conn: Conn)
+    pub(crate) fn count_drop(&mut self, conn: Conn)
         ensures was { self.new.was ≡ self.old.was }
         ensures now { self.new.now ≡ option_map (seat_dropped conn) self.old.now }
     {
@@ -140,26 +140,6 @@ impl Seat {
             line.heard = line.heard_before;
             line.drops = line.drops_before;
         }
-    }
-}
-
-/// A packet of this connection came.
-pub(crate) fn hear(seats: &mut [Seat], conn: Conn, clock: u64)
-    ensures was { map seat_was seats.new ≡ map seat_was seats.old }
-    ensures now { flat_map seat_now seats.new ≡ map (seat_heard conn clock) (flat_map seat_now seats.old) }
-{
-    for seat in seats.iter_mut() {
-        seat.hear(conn, clock);
-    }
-}
-
-/// A send to this connection was dropped.
-pub(crate) fn count_drop(seats: &mut [Seat], conn: Conn)
-    ensures was { map seat_was seats.new ≡ map seat_was seats.old }
-    ensures now { flat_map seat_now seats.new ≡ map (seat_dropped conn) (flat_map seat_now seats.old) }
-{
-    for seat in seats.iter_mut() {
-        seat.count_drop(conn);
     }
 }
 

@@ -177,3 +177,55 @@ fn unacknowledged_message_1025_closes(rt: HostRuntime) -> Result<(), Fail> {
     assert_eq!(rt; unacknowledged(rt.alloc())?, 1_025);
     Ok(())
 }
+
+/// A text of 32,768 levels, the last of which is this one.
+fn deep(alloc: Global, last: &str) -> Result<String, AllocError> {
+    let mut text = String::new(alloc);
+    for _ in 0..32_767 {
+        text.push_str("a/")?;
+    }
+    text.push_str(last)?;
+    Ok(text)
+}
+
+/// A new client with a grant of a filter as deep.
+fn asks_deep(alloc: Global, broker: &mut Broker, last: &str) -> Result<u8, AllocError> {
+    let (conn, _code) = joins(broker, String::new(alloc), true);
+    let mut filters = Vec::new(alloc);
+    filters.push(Request {
+        filter: deep(alloc, last)?,
+        qos: 0,
+    })?;
+    Ok(code(broker, conn, &Packet::Subscribe { id: 1, filters }))
+}
+
+/// Four clients with a filter of 32,768 levels each, more than an index may have together: the least and the most of them that each of 20
+/// publishes reached, on a topic that three of the filters fit.
+fn reached_deep(alloc: Global) -> Result<(usize, usize), AllocError> {
+    let mut broker = Broker::new(alloc, 128);
+    for last in ["a", "+", "#", "b"] {
+        asks_deep(alloc, &mut broker, last)?;
+    }
+    let publish = Packet::Publish {
+        dup: false,
+        qos: 0,
+        retain: false,
+        topic: deep(alloc, "a")?,
+        id: None,
+        payload: Vec::new(alloc),
+    };
+    let mut least = usize::MAX;
+    let mut most = 0;
+    for _ in 0..20 {
+        let reached = count(&mut broker, 1, &publish);
+        least = least.min(reached);
+        most = most.max(reached);
+    }
+    Ok((least, most))
+}
+
+#[test]
+fn a_publish_is_routed_among_more_levels_than_an_index_has(rt: HostRuntime) -> Result<(), Fail> {
+    assert_eq!(rt; reached_deep(rt.alloc())?, (3, 3));
+    Ok(())
+}

@@ -9,14 +9,14 @@ use Rattle.spk_broker.proofs.joining.ack_in.Goals as goal
 
 pub acked-requires : goal.acked-requires
 acked-requires c =
-    whole-at c.args.seats.now c.in-Some.place c.index-seats-place.result c.requires
-    (place-find _ c.args.seats.now c.in-Some.place c.index-seats-place.result (sym c.place_of.ensures ∙ c.in-Some.is)).0
+    whole-at c.args.seats.now c.in-Some.place c.index-seats-place.result c.requires.settled
+    (place-find _ c.args.seats.now c.in-Some.place c.index-seats-place.result (sym c.place_near.ensures ∙ c.in-Some.is)).0
 
 pub returns-in-Some : goal.returns-in-Some
 returns-in-Some c =
     subst (λ (b : Both). IsChanged c.args.seats.now (set c.args.seats.now c.in-Some.place b) (sits c.args.conn) (acked c.args.id)) (sym c.acked.ensures)
-    (change-found (sits c.args.conn) (acked c.args.id) c.args.seats.now c.in-Some.place c.index-seats-place.result c.requires
-    (sym c.place_of.ensures ∙ c.in-Some.is))
+    (change-found (sits c.args.conn) (acked c.args.id) c.args.seats.now c.in-Some.place c.index-seats-place.result c.requires.settled
+    (sym c.place_near.ensures ∙ c.in-Some.is))
 
 pub returns-in-None : goal.returns-in-None
-returns-in-None c = change-lost (sits c.args.conn) (acked c.args.id) c.args.seats.now c.requires (sym c.place_of.ensures ∙ c.in-None.is)
+returns-in-None c = change-lost (sits c.args.conn) (acked c.args.id) c.args.seats.now c.requires.settled (sym c.place_near.ensures ∙ c.in-None.is)

@@ -1,38 +1,48 @@
-use Rattle.std.proofs.Common.{refl}
+use Rattle.std.proofs.Common.{◌≡◌, sym, false, true}
 use Rattle.spk_broker_rules.specs.Plan.{Closed}
-use Rattle.spk_broker.proofs.Finishing.{closes-are, done-is, index-is, kept-is, room-for, sends-are}
+use Rattle.spk_broker.proofs.Finishing.{closes-to, done-to, index-to, kept-to, sends-to, stands-to}
 use Rattle.spk_broker.proofs.broker.Broker.closed.Goals as goal
 
-pub finish-requires : goal.finish-requires
-finish-requires c =
-    room-for (Closed c.args.conn c.args.now) c.args.self.now c.self.inside.desk c.draft_closed-drafted.new.self c.new-draft.result c.draft_closed-drafted.new.draft c.draft_closed-drafted.result
+pub conclude-requires-clause-stands : goal.conclude-requires-clause-stands
+conclude-requires-clause-stands c =
+    stands-to (Closed c.args.conn c.args.now) c.args.self.now c.self.inside.desk c.draft_closed-drafted.new.self c.new-draft.result c.draft_closed-drafted.new.draft c.draft_closed-drafted.result
     (record { is = c.self.view_is; kept = c.self.invariant.sound; empty = c.new-draft.ensures; done = c.draft_closed-drafted.ensures.done; same = c.draft_closed-drafted.ensures.same })
 
-pub invariant_of-self : goal.invariant_of-self
-invariant_of-self c = record {
-  sound = kept-is (Closed c.args.conn c.args.now) c.args.self.now c.self.inside.desk c.draft_closed-drafted.new.self c.finish.new.self c.new-draft.result c.draft_closed-drafted.new.draft c.draft_closed-drafted.result c.finish.result
+pub draft_closed-drafted-requires-clause-place : goal.draft_closed-drafted-requires-clause-place
+draft_closed-drafted-requires-clause-place c = sym c.seek-place.ensures.place
+
+pub draft_closed-drafted-requires-clause-alone : goal.draft_closed-drafted-requires-clause-alone
+draft_closed-drafted-requires-clause-alone c = c.seek-place.ensures.alone
+
+pub knows-requires : goal.knows-requires
+knows-requires c = sym c.seek-place.ensures.place
+
+pub invariant_of-self-2 : goal.invariant_of-self-2
+invariant_of-self-2 c = record {
+  sound = kept-to (Closed c.args.conn c.args.now) c.args.self.now c.self.inside.desk c.draft_closed-drafted.new.self c.conclude.new.self c.new-draft.result c.draft_closed-drafted.new.draft c.draft_closed-drafted.result c.conclude.result
       (record { is = c.self.view_is; kept = c.self.invariant.sound; empty = c.new-draft.ensures; done = c.draft_closed-drafted.ensures.done; same = c.draft_closed-drafted.ensures.same })
-      (record { done = c.finish.ensures.done; sends = c.finish.ensures.sends; closes = c.finish.ensures.closes; variant = c.finish.ensures.variant; same = c.finish.ensures.same; settled = c.finish.ensures.settled });
-  index = index-is c.self.inside.tree (Closed c.args.conn c.args.now) c.args.self.now c.self.inside.desk c.draft_closed-drafted.new.self c.finish.new.self c.new-draft.result c.draft_closed-drafted.new.draft c.draft_closed-drafted.result c.finish.result refl
+      (record { done = c.conclude.ensures.done; sends = c.conclude.ensures.sends; closes = c.conclude.ensures.closes; variant = c.conclude.ensures.variant; same = c.conclude.ensures.same; settled = c.conclude.ensures.settled });
+  index = index-to c.self.inside.tree (Closed c.args.conn c.args.now) c.args.self.now c.self.inside.desk c.draft_closed-drafted.new.self c.conclude.new.self c.new-draft.result c.draft_closed-drafted.new.draft c.draft_closed-drafted.result c.conclude.result
+      (λ (e : false ≡ true). absurd (let z : ⊥ = cc in z))
       (record { is = c.self.view_is; kept = c.self.invariant.sound; empty = c.new-draft.ensures; done = c.draft_closed-drafted.ensures.done; same = c.draft_closed-drafted.ensures.same })
-      (record { done = c.finish.ensures.done; sends = c.finish.ensures.sends; closes = c.finish.ensures.closes; variant = c.finish.ensures.variant; same = c.finish.ensures.same; settled = c.finish.ensures.settled })
+      (record { done = c.conclude.ensures.done; sends = c.conclude.ensures.sends; closes = c.conclude.ensures.closes; variant = c.conclude.ensures.variant; same = c.conclude.ensures.same; settled = c.conclude.ensures.settled })
       c.self.invariant.index;
 }
 
 pub returns-clause-sends : goal.returns-clause-sends
 returns-clause-sends c =
-    sends-are (Closed c.args.conn c.args.now) c.args.self.now c.self.inside.desk c.draft_closed-drafted.new.self c.finish.new.self c.new-draft.result c.draft_closed-drafted.new.draft c.draft_closed-drafted.result c.finish.result
+    sends-to (Closed c.args.conn c.args.now) c.args.self.now c.self.inside.desk c.draft_closed-drafted.new.self c.conclude.new.self c.new-draft.result c.draft_closed-drafted.new.draft c.draft_closed-drafted.result c.conclude.result
     (record { is = c.self.view_is; kept = c.self.invariant.sound; empty = c.new-draft.ensures; done = c.draft_closed-drafted.ensures.done; same = c.draft_closed-drafted.ensures.same })
-    (record { done = c.finish.ensures.done; sends = c.finish.ensures.sends; closes = c.finish.ensures.closes; variant = c.finish.ensures.variant; same = c.finish.ensures.same; settled = c.finish.ensures.settled })
+    (record { done = c.conclude.ensures.done; sends = c.conclude.ensures.sends; closes = c.conclude.ensures.closes; variant = c.conclude.ensures.variant; same = c.conclude.ensures.same; settled = c.conclude.ensures.settled })
 
 pub returns-clause-closes : goal.returns-clause-closes
 returns-clause-closes c =
-    closes-are (Closed c.args.conn c.args.now) c.args.self.now c.self.inside.desk c.draft_closed-drafted.new.self c.finish.new.self c.new-draft.result c.draft_closed-drafted.new.draft c.draft_closed-drafted.result c.finish.result
+    closes-to (Closed c.args.conn c.args.now) c.args.self.now c.self.inside.desk c.draft_closed-drafted.new.self c.conclude.new.self c.new-draft.result c.draft_closed-drafted.new.draft c.draft_closed-drafted.result c.conclude.result
     (record { is = c.self.view_is; kept = c.self.invariant.sound; empty = c.new-draft.ensures; done = c.draft_closed-drafted.ensures.done; same = c.draft_closed-drafted.ensures.same })
-    (record { done = c.finish.ensures.done; sends = c.finish.ensures.sends; closes = c.finish.ensures.closes; variant = c.finish.ensures.variant; same = c.finish.ensures.same; settled = c.finish.ensures.settled })
+    (record { done = c.conclude.ensures.done; sends = c.conclude.ensures.sends; closes = c.conclude.ensures.closes; variant = c.conclude.ensures.variant; same = c.conclude.ensures.same; settled = c.conclude.ensures.settled })
 
 pub returns-clause-done : goal.returns-clause-done
 returns-clause-done c =
-    done-is (Closed c.args.conn c.args.now) c.args.self.now c.self.inside.desk c.draft_closed-drafted.new.self c.finish.new.self c.new-draft.result c.draft_closed-drafted.new.draft c.draft_closed-drafted.result c.finish.result
+    done-to (Closed c.args.conn c.args.now) c.args.self.now c.self.inside.desk c.draft_closed-drafted.new.self c.conclude.new.self c.new-draft.result c.draft_closed-drafted.new.draft c.draft_closed-drafted.result c.conclude.result
     (record { is = c.self.view_is; kept = c.self.invariant.sound; empty = c.new-draft.ensures; done = c.draft_closed-drafted.ensures.done; same = c.draft_closed-drafted.ensures.same })
-    (record { done = c.finish.ensures.done; sends = c.finish.ensures.sends; closes = c.finish.ensures.closes; variant = c.finish.ensures.variant; same = c.finish.ensures.same; settled = c.finish.ensures.settled })
+    (record { done = c.conclude.ensures.done; sends = c.conclude.ensures.sends; closes = c.conclude.ensures.closes; variant = c.conclude.ensures.variant; same = c.conclude.ensures.same; settled = c.conclude.ensures.settled })

@@ -54,5 +54,11 @@ draft_packet-drafted-requires-clause-stands c = begun-for c.self.inside.desk c.n
 pub draft_packet-drafted-requires-clause-lawful : goal.draft_packet-drafted-requires-clause-lawful
 draft_packet-drafted-requires-clause-lawful c = c.self.invariant.sound.lawful
 
-pub draft_packet-drafted-requires-clause-settled : goal.draft_packet-drafted-requires-clause-settled
-draft_packet-drafted-requires-clause-settled c = c.self.invariant.sound.settled
+pub draft_packet-drafted-requires-clause-place : goal.draft_packet-drafted-requires-clause-place
+draft_packet-drafted-requires-clause-place c = sym c.seek-place.ensures.place
+
+pub draft_packet-drafted-requires-clause-alone : goal.draft_packet-drafted-requires-clause-alone
+draft_packet-drafted-requires-clause-alone c = c.seek-place.ensures.alone
+
+pub knows-requires : goal.knows-requires
+knows-requires c = sym c.seek-place.ensures.place

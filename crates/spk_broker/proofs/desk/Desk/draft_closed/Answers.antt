@@ -1,4 +1,14 @@
+use Rattle.std.proofs.Common.{◌∙◌, ap}
+use Rattle.spk_broker.specs.Asking.{place_in}
+use Rattle.spk_broker.proofs.Touched.{alone-as}
 use Rattle.spk_broker.proofs.desk.Desk.draft_closed.Goals as goal
 
+pub leave_at-requires : goal.leave_at-requires
+leave_at-requires c = ap (λ v. place_in c.args.conn v.items) c.at.ensures.seats ∙ c.requires.place
+
+pub route_near-requires-clause-alone : goal.route_near-requires-clause-alone
+route_near-requires-clause-alone c =
+    c.in_ok-leave_at.ensures.alone (alone-as c.args.place c.args.self.now c.at.new.self c.at.ensures.seats c.at.ensures.guests c.requires.alone)
+
 pub returns-clause-done : goal.returns-clause-done
-returns-clause-done c t s = c.in_ok-route.ensures.done _ (c.in_ok-leave.ensures.done _ (c.at.ensures.done c.args.draft.now t s))
+returns-clause-done c t s = c.in_ok-ending.ensures.done _ (c.in_ok-leave_at.ensures.done _ (c.at.ensures.done c.args.draft.now t s))

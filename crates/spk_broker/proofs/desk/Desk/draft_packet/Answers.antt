@@ -1,14 +1,14 @@
-use Rattle.std.proofs.Common.{◌≡◌, refl, subst, sym, ap, ◌∙◌, map, Vec, Global}
+use Rattle.std.proofs.Common.{refl, subst, sym, ap, ◌∙◌}
 use Rattle.spk_packets.specs.View.{view}
 use Rattle.spk_broker_rules.specs.Data as plain
 use Rattle.spk_broker_rules.specs.Lawful.{IsLawful, Rises}
 use Rattle.spk_broker_rules.specs.Plan.{At, Hear, Packet}
 use Rattle.spk_broker_rules.specs.Step.{act, seen}
-use Rattle.spk_broker.specs.Asking.{seats_now}
-use Rattle.spk_broker.specs.View.{desk_now, seat_was}
-use Rattle.spk_broker.specs.declared.seat.Seat.{Seat}
+use Rattle.spk_broker.specs.Asking.{place_in}
+use Rattle.spk_broker.specs.View.{desk_now}
 use Rattle.spk_broker.proofs.Finishing.{index-on}
 use Rattle.spk_broker.proofs.Quiet.{heard-index}
+use Rattle.spk_broker.proofs.Touched.{alone-as}
 use Rattle.spk_broker.proofs.Visits.{some-order}
 use Rattle.spk_broker.proofs.desk.Desk.draft_packet.Goals as goal
 
@@ -16,27 +16,29 @@ pub returns-clause-done : goal.returns-clause-done
 returns-clause-done c t s =
     let t2 = act (Hear c.args.conn) (act (At c.args.now) t) in
     c.in_ok-ending.ensures.done (seen t2.broker (Packet c.args.conn (view c.args.packet.now) c.args.now)) t2 refl refl refl
-    (c.hear-sender.ensures.done c.args.draft.now (act (At c.args.now) t) (c.at.ensures.done c.args.draft.now t s))
+    (c.hear.ensures.done c.args.draft.now (act (At c.args.now) t) (c.at.ensures.done c.args.draft.now t s))
+
+pub hear-requires : goal.hear-requires
+hear-requires c = ap (λ v. place_in c.args.conn v.items) c.at.ensures.seats ∙ c.requires.place
 
 pub judge_packet-requires-clause-index : goal.judge_packet-requires-clause-index
 judge_packet-requires-clause-index c =
     let t = c.requires.stands.0 in
     let s = c.requires.stands.1 in
-    index-on c.args.tree.now c.args.self.now c.hear-sender.new.self c.args.draft.now c.args.draft.now t (act (Hear c.args.conn) (act (At c.args.now) t)) s
-    (c.hear-sender.ensures.done c.args.draft.now (act (At c.args.now) t) (c.at.ensures.done c.args.draft.now t s))
+    index-on c.args.tree.now c.args.self.now c.hear.new.self c.args.draft.now c.args.draft.now t (act (Hear c.args.conn) (act (At c.args.now) t)) s
+    (c.hear.ensures.done c.args.draft.now (act (At c.args.now) t) (c.at.ensures.done c.args.draft.now t s))
     (heard-index c.args.tree.now c.args.conn (act (At c.args.now) t)) c.requires.index
 
 pub judge_packet-requires-clause-lawful : goal.judge_packet-requires-clause-lawful
-judge_packet-requires-clause-lawful c = subst IsLawful (sym (c.hear-sender.ensures.same ∙ c.at.ensures.same)) c.requires.lawful
+judge_packet-requires-clause-lawful c = subst IsLawful (sym (c.hear.ensures.same ∙ c.at.ensures.same)) c.requires.lawful
 
 pub judge_packet-requires-clause-order : goal.judge_packet-requires-clause-order
 judge_packet-requires-clause-order c =
     let t = act (Hear c.args.conn) (act (At c.args.now) c.requires.stands.0) in
-    let s = c.hear-sender.ensures.done c.args.draft.now (act (At c.args.now) c.requires.stands.0) (c.at.ensures.done c.args.draft.now c.requires.stands.0 c.requires.stands.1) in
-    some-order c.args.tree.now (desk_now c.hear-sender.new.self).seats t.broker.made
+    let s = c.hear.ensures.done c.args.draft.now (act (At c.args.now) c.requires.stands.0) (c.at.ensures.done c.args.draft.now c.requires.stands.0 c.requires.stands.1) in
+    some-order c.args.tree.now (desk_now c.hear.new.self).seats t.broker.made
     (subst (Rises 0 t.broker.made) (sym (ap (λ (b : plain.Broker). b.seats) s.broker)) s.lawful.keys)
 
-pub judge_packet-requires-clause-touched : goal.judge_packet-requires-clause-touched
-judge_packet-requires-clause-touched c =
-    c.hear-sender.ensures.touched
-    (subst (λ (v : Vec Seat Global). seats_now v.items ≡ map seat_was v.items) (sym c.at.ensures.seats) (ap (λ (b : plain.Broker). b.seats) c.requires.settled))
+pub judge_packet-requires-clause-alone : goal.judge_packet-requires-clause-alone
+judge_packet-requires-clause-alone c =
+    c.hear.ensures.alone (alone-as c.args.place c.args.self.now c.at.new.self c.at.ensures.seats c.at.ensures.guests c.requires.alone)

@@ -13,6 +13,7 @@ use Rattle.spk_broker.specs.Parts.{grant_view, retained_view}
 use Rattle.spk_broker.specs.View.{Stands, desk_was, seat_was}
 use Rattle.spk_broker.proofs.Alive.{found-alive}
 use Rattle.spk_broker.proofs.Gives.{begins, given_turn, gives}
+use Rattle.spk_broker.proofs.Touched.{only-set}
 use Rattle.spk_broker.proofs.Walks.{same-step}
 use Rattle.spk_broker.proofs.desk.Desk.give_at.Goals as goal
 
@@ -56,3 +57,9 @@ returns-clause-same c =
     let d = c.args.self.now in
     c.offer_all.ensures.same
     ∙ ap (λ l. record (desk_was d) { seats = l }) (same-step seat_was d.seats.items c.args.place c.index_mut.result.now _ c.set_grants.new.self refl (c.set_grants.ensures.was ∙ ap (λ (b : Both). b.was) c.index_mut.ensures.value))
+
+pub returns-clause-only : goal.returns-clause-only
+returns-clause-only c o =
+    let d = c.args.self.now in
+    let end : Desk = record d { seats = with_item d.seats c.args.place c.set_grants.new.self; sendable = c.self-2-1.given.0 } in
+    c.in_ok-offer_all.ensures.only (only-set d end c.args.place c.set_grants.new.self refl refl o)

@@ -6,7 +6,6 @@ use Rattle.spk_broker.specs.Seats.{seat_heard}
 use Rattle.spk_broker.specs.View.{desk_was, seat_was}
 use Rattle.spk_broker.specs.declared.desk.Desk.{Desk}
 use Rattle.spk_broker.proofs.Near.{hear-at-stands}
-use Rattle.spk_broker.proofs.Touched.{touched-one}
 use Rattle.spk_broker.proofs.Walks.{same-step}
 use Rattle.spk_broker.proofs.desk.Desk.hear_at.Goals as goal
 
@@ -21,6 +20,3 @@ pub returns-clause-same : goal.returns-clause-same
 returns-clause-same c =
     let d = c.args.self.now in
     ap (λ l. record (desk_was d) { seats = l }) (same-step seat_was d.seats.items c.args.place c.index_mut.result.now _ c.hear.new.self refl (c.hear.ensures.was ∙ ap (λ (b : Both). b.was) c.index_mut.ensures.value))
-
-pub returns-clause-touched : goal.returns-clause-touched
-returns-clause-touched c settled = touched-one c.args.self.now.seats.items c.args.place c.hear.new.self settled c.requires.0

@@ -20,6 +20,7 @@ loop-grant-preserved c =
       retained = c.offer_table.ensures.retained ∙ c.loop-grant.invariant.retained;
       len = c.offer_table.ensures.len ∙ c.loop-grant.invariant.len;
       same = c.offer_table.ensures.same ∙ c.loop-grant.invariant.same;
+      only = λ o. c.in_ok-offer_table.ensures.only (c.loop-grant.invariant.only o);
     }
 
 pub returns-clause-done : goal.returns-clause-done

@@ -11,6 +11,7 @@ use Rattle.spk_broker.specs.Offering.{Offering}
 use Rattle.spk_broker.specs.Parts.{post_view}
 use Rattle.spk_broker.specs.View.{desk_was, seat_was}
 use Rattle.spk_broker.proofs.Offers.{offers}
+use Rattle.spk_broker.proofs.Touched.{only-set}
 use Rattle.spk_broker.proofs.Walks.{same-step}
 use Rattle.spk_broker.proofs.desk.Desk.offer_one.Goals as goal
 
@@ -39,3 +40,9 @@ returns-in_ok-hand-in-Some-clause-done c key t o =
       left = c.in_ok-hand-in-Some.ensures.left ∙ ap (λ (b : Both). left_by (hand p) b.now) c.index_mut.ensures.value;
       drafted = c.in_ok-hand-in-Some.ensures.drafted ∙ ap (λ (b : Both). served_by (hand p) b.now (draft_view c.args.draft.now)) c.index_mut.ensures.value;
     }) o)
+
+pub returns-in_ok-hand-in-Some-clause-only : goal.returns-in_ok-hand-in-Some-clause-only
+returns-in_ok-hand-in-Some-clause-only c o =
+    let d = c.args.self.now in
+    let end : Desk = record d { seats = with_item d.seats c.args.place c.hand.new.self; sendable = c.self-in-Some-1.given.0 } in
+    only-set d end c.args.place c.hand.new.self refl refl o

@@ -21,6 +21,7 @@ loop-from-preserved c =
       retained = c.offer_one.ensures.retained ∙ c.loop-from.invariant.retained;
       len = c.offer_one.ensures.len ∙ c.loop-from.invariant.len;
       same = c.offer_one.ensures.same ∙ c.loop-from.invariant.same;
+      only = λ o. c.in_ok-offer_one.ensures.only (c.loop-from.invariant.only o);
     }
 
 pub returns-clause-done : goal.returns-clause-done

@@ -1,9 +1,10 @@
-use Rattle.std.proofs.Common.{◌≡◌, ℕ, map, take, vec_len, Global}
+use Rattle.std.proofs.Common.{◌≡◌, ◌∷◌, [], ℕ, map, take, vec_len, Global}
 use Rattle.std.specs.List.{fold}
 use Rattle.spk_broker_rules.specs.Step.{Turn, offer}
 use Rattle.spk_broker_rules.specs.Words.{offers_to}
 use Rattle.spk_broker.specs.Offering.{Offering}
 use Rattle.spk_broker.specs.Parts.{grant_view, retained_view}
+use Rattle.spk_broker.specs.Touched.{OnlyAt}
 use Rattle.spk_broker.specs.View.{desk_was}
 use Rattle.spk_broker.proofs.desk.Desk.offer_table.Given as goal
 
@@ -14,4 +15,5 @@ invariant-loop-from l = record {
   retained : l.self.retained ≡ l.initial.self.retained;
   len : vec_len l.self.seats ≡ vec_len l.initial.self.seats;
   same : desk_was l.self ≡ desk_was l.initial.self;
+  only : OnlyAt (l.place ∷ []) l.initial.self → OnlyAt (l.place ∷ []) l.self;
 }

@@ -18,7 +18,7 @@ returns-in_default-clause-done c t s =
     let x = c.args.draft.now in
     let y = record x { waiting = c.pop_front.new.self } in
     let same : map post_view x.waiting.items ≡ map post_view c.pop_front.new.self.items = ap (λ (l : List Post). map post_view l) c.in_default.ensures.items in
-    leads-plain d y (act Route t)
+    leads-same d y (act Route t) c.alone.result c.alone.ensures.nothing
     (leads-end d d x x y
     (same ∙ ap (λ (l : List Post). map post_view l) (without-length c.pop_front.new.self.items (omega (arith, c.in_default.ensures.cases.1, c.pop_front.new.self.ok))))
     (ap (λ l. record (draft_view x) { waiting = l }) (sym same)) (leads-begin d x) t s)
@@ -46,4 +46,7 @@ returns-clause-done c t s =
 
 pub returns-then-is_empty-clause-ready : goal.returns-then-is_empty-clause-ready
 returns-then-is_empty-clause-ready c =
-    c.few.ensures.ready c.args.self.now.seats.items c.route_one.new.self.seats c.requires.touched c.in_ok-places.ensures.visited
+    c.few.ensures.ready c.args.self.now c.route_one.new.self c.requires.alone c.in_ok-places.ensures.visited c.route_one.ensures.guests
+
+pub returns-in_default-clause-ready : goal.returns-in_default-clause-ready
+returns-in_default-clause-ready c = c.alone.ensures.ready c.args.self.now c.requires.alone

@@ -1,9 +1,8 @@
-use Rattle.std.proofs.Common.{◌∙◌, ◌++◌, refl, sym, ap, arith, vec_len}
-use Rattle.std.specs.List.{flat_map, position}
+use Rattle.std.proofs.Common.{◌∙◌, ◌++◌, refl, ap, arith, vec_len}
+use Rattle.std.specs.List.{flat_map}
 use Rattle.std.specs.Vec.{with_items, with_item}
-use Rattle.spk_broker_rules.specs.Step.{other_guests, left_behind, sits, will_at}
+use Rattle.spk_broker_rules.specs.Step.{other_guests, left_behind, will_at}
 use Rattle.spk_broker_rules.specs.Words.{option_list}
-use Rattle.spk_broker.specs.Asking.{passes}
 use Rattle.spk_broker.specs.Both.{Both}
 use Rattle.spk_broker.specs.declared.desk.Desk.{Desk}
 use Rattle.spk_broker.specs.Drafts.{draft_view}
@@ -11,7 +10,7 @@ use Rattle.spk_broker.specs.View.{guest_now, seat_was, desk_was}
 use Rattle.spk_broker.proofs.Refilled.{refilled}
 use Rattle.spk_broker.proofs.Standing.{guest-leaves, seat-leaves}
 use Rattle.spk_broker.proofs.Walks.{same-step}
-use Rattle.spk_broker.proofs.desk.Desk.leave.Goals as goal
+use Rattle.spk_broker.proofs.desk.Desk.leave_at.Goals as goal
 
 pub returns-in_default-clause-done : goal.returns-in_default-clause-done
 returns-in_default-clause-done c =
@@ -19,7 +18,7 @@ returns-in_default-clause-done c =
     let end : Desk = record d { guests = with_items d.guests c.leave.new.guests; sendable = c.self-in_default-1.given.0 } in
     let back = refilled (vec_len d.guests) c.leave.new.guests d.guests.items (omega arith) (omega arith) in
     guest-leaves d end c.args.conn c.args.wills
-    (ap (position (passes (sits c.args.conn))) (sym c.deref.ensures.value) ∙ sym c.place_of.ensures ∙ c.in_default.is) refl
+    (c.requires ∙ c.in_default.is) refl
     (ap (flat_map guest_now) back ∙ c.leave.ensures.now ∙ ap (λ l. other_guests c.args.conn (flat_map guest_now l)) c.deref_mut.ensures.value) refl c.args.draft.now
 
 pub returns-in_err-leave-clause-same : goal.returns-in_err-leave-clause-same
@@ -37,6 +36,6 @@ returns-clause-done c =
     let d = c.args.self.now in
     let end : Desk = record d { seats = with_item d.seats c.in-Some.place c.leave-2.new.self; sendable = c.self-3-1.given.0 } in
     seat-leaves d end c.args.draft.now c.leave-2.new.draft c.args.conn c.in-Some.place c.args.wills c.index_mut.result.now c.leave-2.new.self
-    (ap (position (passes (sits c.args.conn))) (sym c.deref.ensures.value) ∙ sym c.place_of.ensures ∙ c.in-Some.is) refl refl
+    (c.requires ∙ c.in-Some.is) refl refl
     (c.in_ok-leave.ensures.left ∙ ap (λ (b : Both). flat_map left_behind (option_list b.now)) c.index_mut.ensures.value)
     (c.in_ok-leave.ensures.drafted ∙ ap (λ (b : Both). record (draft_view c.args.draft.now) { waiting = (draft_view c.args.draft.now).waiting ++ flat_map (will_at c.args.wills) (option_list b.now) }) c.index_mut.ensures.value)

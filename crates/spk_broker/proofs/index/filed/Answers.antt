@@ -6,7 +6,7 @@ use Rattle.spk_broker.specs.Filing.{AreFiled}
 use Rattle.spk_broker.specs.View.{seat_now}
 use Rattle.spk_broker.proofs.Indexing.{seats_filed}
 use Rattle.spk_broker.proofs.Passing.{filed-more}
-use Rattle.spk_broker.proofs.index.index.Goals as goal
+use Rattle.spk_broker.proofs.index.filed.Goals as goal
 
 pub loop-seat-preserved : goal.loop-seat-preserved
 loop-seat-preserved c =

@@ -1,0 +1,8 @@
+use Rattle.std.proofs.Common.{◌+◌, ◌≤◌, take}
+use Rattle.std.specs.List.{flat_map}
+use Rattle.spk_broker.specs.Sizes.{size_of_all}
+use Rattle.spk_broker.specs.View.{seat_now}
+use Rattle.spk_broker.proofs.sizing.is_small.Given as goal
+
+abbrev pub invariant-loop-seat : goal.invariant-loop-seat
+invariant-loop-seat l = l.left + size_of_all (flat_map seat_now (take l.seat-index l.seats)) ≤ 100000

@@ -1,0 +1,61 @@
+//! Whether the grants are few enough for an index of them (own rule).
+ghost use Rattle.std.specs.Prelude.{◌≡◌, ◌+◌, ◌≤◌, IfSome, length, map, true};
+ghost use Rattle.std.specs.List.{flat_map};
+ghost use Rattle.spk_topics.specs.Levels.{levels};
+ghost use Rattle.spk_broker.specs.Parts.{grant_view};
+ghost use Rattle.spk_broker.specs.Sizes.{size_of, size_of_all, size_of_grants};
+ghost use Rattle.spk_broker.specs.View.{seat_now};
+
+use crate::seat::{Grant, Seat};
+
+/// The most that the filters of all grants may have together, by levels.
+// A level takes 168 bytes of an index, three times that while its vector doubles, and 64 bytes of text, which stands there three times, some
+// 200: so an index takes some 40 MB at most beside the maps of 10,000 grants, some 10 MB. One client may ask for 10,000 filters of 65,536
+// levels, which would take 110 GB. Without an index a publish is matched against all grants.
+const MOST_LEVELS: usize = 100_000;
+
+/// How many levels a filter has (section 4.7.1.1).
+fn level_count(filter: &[u8]) -> usize
+    ensures count { result ≡ length (levels filter.now) }
+    ensures few { result ≤ length filter.now + 1 }
+{
+    let mut slashes = 0;
+    for byte in filter {
+        if *byte == b'/' {
+            slashes += 1;
+        }
+    }
+    slashes + 1
+}
+
+/// What a filter takes: its levels, and one more for each 64 bytes.
+fn size(filter: &str) -> usize
+    ensures { result ≡ size_of filter.now }
+{
+    level_count(filter.as_bytes()) + filter.len() / 64
+}
+
+/// What is left once these grants have taken their part; none where they take more.
+fn left_by(grants: &[Grant], left: usize) -> Option<usize>
+    ensures { IfSome result (λ rest. rest + size_of_grants (map grant_view grants.now) ≤ left) }
+{
+    let mut rest = left;
+    for grant in grants {
+        rest = rest.checked_sub(size(grant.filter.as_str()))?;
+    }
+    Some(rest)
+}
+
+/// Whether the grants of these sessions are few enough.
+pub(crate) fn is_small(seats: &[Seat]) -> bool
+    ensures { result ≡ true → size_of_all (flat_map seat_now seats.now) ≤ 100000 }
+{
+    let mut left = MOST_LEVELS;
+    for seat in seats {
+        match left_by(seat.grants(), left) {
+            Some(rest) => left = rest,
+            None => return false,
+        }
+    }
+    true
+}
