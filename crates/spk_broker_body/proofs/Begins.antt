@@ -1,5 +1,5 @@
 -- A thread to which nothing came yet.
-use Rattle.std.proofs.Common.{◌≡◌, ◌-◌, ◌<◌, ◌+◌, ℕ, false, List, [], length, refl, arith}
+use Rattle.std.proofs.Common.{◌≡◌, ◌-◌, ℕ, false, List, [], length, refl, arith}
 use Rattle.spk_rings.specs.declared.outlet.Outlet.{Outlet}
 use Rattle.spk_broker_body.specs.declared.hub.Hub.{Hub}
 use Rattle.spk_broker_body.specs.Holding.{FitsDesk, FitLines, IsIdle, setting_of}

@@ -3,4 +3,5 @@ pub mod Desks
 pub mod Each
 pub mod Hubs
 pub mod Lines
+pub mod Rings
 pub mod Rows

@@ -1,5 +1,5 @@
 -- What the broker's thread holds beside a log.
-use Rattle.std.specs.Prelude.{◌≡◌, ℕ, ◌+◌, ◌-◌, ◌<◌, ◌==◌, Bool, true, false, ◌||◌, List, [], ◌∷◌, ◌++◌, map, length, Option, Some, None, if◌then◌else◌, slice_index_or}
+use Rattle.std.specs.Prelude.{◌≡◌, ℕ, ◌+◌, ◌-◌, ◌<◌, ◌≤◌, ◌==◌, Bool, true, false, ◌||◌, List, [], ◌∷◌, ◌++◌, map, length, Option, Some, None, if◌then◌else◌, slice_index_or}
 use Rattle.std.specs.List.{slice_get}
 use Rattle.std.specs.Option.{IfSome}
 use Rattle.spk_ingress.specs.declared.rule.Message.{Message}
@@ -41,6 +41,14 @@ pub record IsOpened (limit now : ℕ) (r : Room) (k conn : ℕ) (d : Desk) : Typ
   pub may : is_full (after limit r.events) ≡ false
   pub number : conn ≡ next_conn limit r
   pub desk : FitsDesk limit r.closed d (opened limit now r k)
+
+-- each of these clients is one of the first so many
+abbrev pub AreBelow : ℕ → List ℕ → Type 0
+AreBelow n clients = (i : ℕ) (k : ℕ) → slice_get clients i ≡ Some k → k < n
+
+-- nobody but this client may have opened a connection
+abbrev pub MayOpen : ℕ → Desk → Desk → Type 0
+MayOpen k old new = (n : ℕ) → k < n → AreBelow n old.openers.items → AreBelow n new.openers.items
 
 -- what is to be offered, and who is to be closed then
 pub record Awaits (closed : ℕ → Bool) (r : Room) (sends : List Sent) (closes : List ℕ) : Type 0 where
@@ -151,6 +159,14 @@ pub record IsTaken (m : Message) (old new : Hub) (out : Out) : Type 0 where
   pub offers : (s : Setting) (log : List Entry) → IsIdle s old log → (e : Entry)
       × Offers s (room_of s.limit s.edges log).closed new (e ∷ log) (map sent_view out.sends.items) out.closes.items
   pub taken : new.taken.items ≡ old.taken.items ++ m ∷ []
+
+-- whoever opened a connection has a ring
+pub record HasRings (h : Hub) : Type 0 where
+  pub openers : AreBelow (length h.lines.items) h.desk.openers.items
+
+-- a client sent no more Cut frames than there were frames
+abbrev pub CountsCuts : ℕ → Hub → Type 0
+CountsCuts k h = (l : Line) → slice_get h.lines.items k ≡ Some l → l.cuts ≤ length h.taken.items
 
 -- ---- the whole run
 

@@ -1,5 +1,5 @@
 //! The calls of the broker for a connection that it may not know any more.
-ghost use Rattle.std.specs.Prelude.{◌≡◌, ℕ, Some, None, IfOk};
+ghost use Rattle.std.specs.Prelude.{◌≡◌, ℕ, Some, None, IfOk, IfErr};
 ghost use Rattle.std.specs.Option.{IfSome, IfNone};
 ghost use Rattle.spk_packets.specs.View.{view};
 ghost use Rattle.spk_broker_rules.specs.Plan as event;
@@ -21,6 +21,7 @@ pub(crate) fn packet_on(
     ensures some { IfOk result (λ o. IfSome o (λ out. (c : ℕ) × (known broker.old conn ≡ Some c)
         × Answers broker.old broker.new (event.Packet c (view packet.now) now) out)) }
     ensures none { IfOk result (λ o. IfNone o ((broker.new ≡ broker.old) × (known broker.old conn ≡ None))) }
+    ensures fault { IfErr result (λ e. e ≡ PlantFault.NoMemory) }
 {
     let Some(conn) = conn else {
         return Ok(None);
@@ -42,6 +43,7 @@ pub(crate) fn fault_on(
     ensures some { IfOk result (λ o. IfSome o (λ out. (c : ℕ) × (known broker.old conn ≡ Some c)
         × Answers broker.old broker.new (event.Fault c fault now) out)) }
     ensures none { IfOk result (λ o. IfNone o ((broker.new ≡ broker.old) × (known broker.old conn ≡ None))) }
+    ensures fault { IfErr result (λ e. e ≡ PlantFault.NoMemory) }
 {
     let Some(conn) = conn else {
         return Ok(None);
@@ -62,6 +64,7 @@ pub(crate) fn closed_on(
     ensures some { IfOk result (λ o. IfSome o (λ out. (c : ℕ) × (known broker.old conn ≡ Some c)
         × Answers broker.old broker.new (event.Closed c now) out)) }
     ensures none { IfOk result (λ o. IfNone o ((broker.new ≡ broker.old) × (known broker.old conn ≡ None))) }
+    ensures fault { IfErr result (λ e. e ≡ PlantFault.NoMemory) }
 {
     let Some(conn) = conn else {
         return Ok(None);
@@ -83,6 +86,7 @@ pub(crate) fn refused_on(
     ensures some { IfOk result (λ o. IfSome o (λ out. (c : ℕ) × (known broker.old (Some conn) ≡ Some c)
         × Answers broker.old broker.new (event.Refused c sort now) out)) }
     ensures none { IfOk result (λ o. IfNone o ((broker.new ≡ broker.old) × (known broker.old (Some conn) ≡ None))) }
+    ensures fault { IfErr result (λ e. e ≡ PlantFault.NoMemory) }
 {
     match broker.refused(conn, sort, now) {
         Ok(out) => Ok(Some(out)),

@@ -1,11 +1,11 @@
 //! The broker, and the connections of its clients.
-ghost use Rattle.std.specs.Prelude.{◌≡◌, ℕ, ◌<◌, ◌||◌, Bool, [], length, Some, None, IfOk, true, false};
+ghost use Rattle.std.specs.Prelude.{◌≡◌, ℕ, ◌<◌, ◌||◌, Bool, [], length, Some, None, IfOk, IfErr, OnOk, true, false};
 ghost use Rattle.std.specs.Option.{IfSome, IfNone};
 ghost use Rattle.spk_packets.specs.View.{view};
 ghost use Rattle.spk_broker_rules.specs.Plan as event;
 ghost use Rattle.spk_broker_rules.specs.Step.{after, is_full};
 ghost use Rattle.spk_broker_body.specs.Data.{Room};
-ghost use Rattle.spk_broker_body.specs.Holding.{FitsDesk, Gives, IsOpened};
+ghost use Rattle.spk_broker_body.specs.Holding.{FitsDesk, Gives, IsOpened, MayOpen};
 ghost use Rattle.spk_broker_body.specs.Step.{called_on, client_of, conn_at, fresh_room, is_client, known, packet_on};
 
 use crate::answers::{closed_on, fault_on, packet_on, refused_on};
@@ -94,6 +94,7 @@ impl Desk {
         ensures fits { (limit : ℕ) (closed : ℕ → Bool) (r : Room) → FitsDesk limit closed self.old r
             → FitsDesk limit (λ k. closed k || is_client k (Some client)) self.new r }
         ensures sized { length self.new.clients.items ≡ length self.old.clients.items }
+        ensures openers { self.new.openers ≡ self.old.openers }
     {
         if client < self.clients.len() {
             self.clients[client].closed = true;
@@ -108,6 +109,9 @@ impl Desk {
         ensures none { IfOk result (λ o. IfNone o ((limit : ℕ) (r : Room) → FitsDesk limit r.closed self.old r
             → (is_full (after limit r.events) ≡ true) × FitsDesk limit r.closed self.new r)) }
         ensures sized { length self.new.clients.items ≡ length self.old.clients.items }
+        ensures known { IfOk result (λ o. IfSome o (λ conn. known self.new.broker (Some conn) ≡ Some conn)) }
+        ensures openers { OnOk result (MayOpen client self.old self.new) }
+        ensures fault { IfErr result (λ e. e ≡ PlantFault.NoMemory) }
     {
         self.openers.reserve(1)?;
         let conn = match self.broker.open(now) {
@@ -126,6 +130,8 @@ impl Desk {
         ensures done { IfOk result (λ out. (limit : ℕ) (r : Room) → FitsDesk limit r.closed self.old r → r.pending ≡ []
             → Gives limit r (packet_on limit now r client (view packet.now) None) self.new out) }
         ensures sized { length self.new.clients.items ≡ length self.old.clients.items }
+        ensures openers { OnOk result (MayOpen client self.old self.new) }
+        ensures fault { IfErr result (λ e. e ≡ PlantFault.NoMemory) }
     {
         if self.is_closed(client) {
             return Ok(self.nothing());
@@ -134,7 +140,7 @@ impl Desk {
             return Ok(self.nothing());
         };
         let Some(out) = packet_on(&mut self.broker, Some(conn), packet, now)? else {
-            return Err(PlantFault::Closed);
+            unreachable!()
         };
         Ok(out)
     }
@@ -150,6 +156,8 @@ impl Desk {
         ensures done { IfOk result (λ out. (limit : ℕ) (r : Room) → FitsDesk limit r.closed self.old r → r.pending ≡ []
             → Gives limit r (packet_on limit now r client (view packet.now) (conn_at limit r client)) self.new out) }
         ensures sized { length self.new.clients.items ≡ length self.old.clients.items }
+        ensures openers { OnOk result (MayOpen client self.old self.new) }
+        ensures fault { IfErr result (λ e. e ≡ PlantFault.NoMemory) }
     {
         let conn = self.conn_of(client);
         let Some(out) = packet_on(&mut self.broker, conn, packet, now)? else {
@@ -169,6 +177,8 @@ impl Desk {
         ensures done { IfOk result (λ out. (limit : ℕ) (r : Room) → FitsDesk limit r.closed self.old r → r.pending ≡ []
             → Gives limit r (called_on limit r (λ conn. event.Fault conn fault now) (conn_at limit r client)) self.new out) }
         ensures sized { length self.new.clients.items ≡ length self.old.clients.items }
+        ensures openers { self.new.openers ≡ self.old.openers }
+        ensures fault { IfErr result (λ e. e ≡ PlantFault.NoMemory) }
     {
         let conn = self.conn_of(client);
         let Some(out) = fault_on(&mut self.broker, conn, fault, now)? else {
@@ -183,6 +193,8 @@ impl Desk {
         ensures done { IfOk result (λ out. (limit : ℕ) (r : Room) → FitsDesk limit r.closed self.old r → r.pending ≡ []
             → Gives limit r (called_on limit r (λ conn. event.Closed conn now) (conn_at limit r client)) self.new out) }
         ensures sized { length self.new.clients.items ≡ length self.old.clients.items }
+        ensures openers { self.new.openers ≡ self.old.openers }
+        ensures fault { IfErr result (λ e. e ≡ PlantFault.NoMemory) }
     {
         let conn = self.conn_of(client);
         let Some(out) = closed_on(&mut self.broker, conn, now)? else {
@@ -196,6 +208,8 @@ impl Desk {
         ensures done { IfOk result (λ out. (limit : ℕ) (r : Room) → FitsDesk limit r.closed self.old r → r.pending ≡ []
             → Gives limit r (called_on limit r (λ c. event.Refused c sort now) (known (after limit r.events) (Some conn))) self.new out) }
         ensures sized { length self.new.clients.items ≡ length self.old.clients.items }
+        ensures openers { self.new.openers ≡ self.old.openers }
+        ensures fault { IfErr result (λ e. e ≡ PlantFault.NoMemory) }
     {
         let Some(out) = refused_on(&mut self.broker, conn, sort, now)? else {
             return Ok(self.nothing());

@@ -1,5 +1,6 @@
 //! The broker's thread between two frames: connections, rings, and what is handed on at its end.
-ghost use Rattle.std.specs.Prelude.{◌≡◌, ◌+◌, ◌<◌, ◌||◌, ◌++◌, ◌∷◌, [], ℕ, Bool, List, map, length, Some, None, IfOk, OnOk, IfSome, true, false};
+ghost use Rattle.std.specs.Prelude.{◌≡◌, ◌+◌, ◌<◌, ◌^◌, ◌||◌, ◌++◌, ◌∷◌, [], ℕ, Bool, List, map, length, Some, None, IfOk, IfErr, OnOk, IfSome, true, false};
+ghost use Rattle.std.specs.List.{slice_get};
 ghost use Rattle.std.specs.Option.{IfNone};
 ghost use Rattle.spk_ingress.specs.declared.rule.Message.{Message};
 ghost use Rattle.spk_broker.specs.Sent.{Sent, sent_view};
@@ -7,7 +8,7 @@ ghost use Rattle.spk_rings.specs.declared.outlet.Outlet.{Outlet};
 ghost use Rattle.spk_rings.specs.declared.item.Item.{Item};
 ghost use Rattle.spk_broker_body.specs.Data.{Entry};
 ghost use Rattle.spk_broker_body.specs.Done.{AreFresh};
-ghost use Rattle.spk_broker_body.specs.Holding.{FitLines, Holds, IsAccepted, IsIdle, IsNoted, IsRefused, IsTaken, LinesGive, Offers, Rests, Setting, setting_of};
+ghost use Rattle.spk_broker_body.specs.Holding.{CountsCuts, FitLines, HasRings, Holds, IsAccepted, IsIdle, IsNoted, IsRefused, IsTaken, LinesGive, Offers, Rests, Setting, setting_of};
 ghost use Rattle.spk_broker_body.specs.Log.{room_of};
 ghost use Rattle.spk_broker_body.specs.Step.{client_of, have_ended, is_client, holds_client};
 
@@ -60,25 +61,24 @@ fn lines_of(alloc: Global, outlets: Vec<Outlet>) -> Result<Vec<Line>, AllocError
 }
 
 /// Offers a packet to a client's ring: whether it took it. None where the ring was dropped.
-fn offer_to(lines: &mut Vec<Line>, client: usize, bytes: Bytes) -> Result<Option<bool>, PlantFault>
-    ensures gives { IfOk result (λ o. (firsts : List Outlet) (dropped : ℕ → Bool) (got : ℕ → List Item) (taken : List Message) →
-        FitLines firsts dropped got taken lines.old.items → LinesGive firsts dropped got taken client bytes lines.new.items o) }
+fn offer_to(lines: &mut Vec<Line>, client: usize, bytes: Bytes) -> Option<bool>
+    requires { client < length lines.old.items }
+    ensures gives { (firsts : List Outlet) (dropped : ℕ → Bool) (got : ℕ → List Item) (taken : List Message) →
+        FitLines firsts dropped got taken lines.old.items → LinesGive firsts dropped got taken client bytes lines.new.items result }
     ensures sized { length lines.new.items ≡ length lines.old.items }
 {
-    if client >= lines.len() {
-        return Err(PlantFault::Closed);
-    }
-    Ok(lines[client].offer(bytes))
+    lines[client].offer(bytes)
 }
 
 /// A client's Cut was taken.
-fn note_cut(lines: &mut Vec<Line>, client: usize) -> Result<(), PlantFault>
-    requires { client < length lines.old.items }
-    ensures fits { OnOk result ((firsts : List Outlet) (dropped : ℕ → Bool) (got : ℕ → List Item) (taken : List Message) → FitLines firsts dropped got taken lines.old.items
-        → FitLines firsts dropped got (taken ++ (record { sender = client; frame = Frame.Cut }) ∷ []) lines.new.items) }
+fn note_cut(lines: &mut Vec<Line>, client: usize)
+    requires below { client < length lines.old.items }
+    requires few { (l : Line) → slice_get lines.old.items client ≡ Some l → l.cuts + 1 < 2 ^ 64 }
+    ensures fits { (firsts : List Outlet) (dropped : ℕ → Bool) (got : ℕ → List Item) (taken : List Message) → FitLines firsts dropped got taken lines.old.items
+        → FitLines firsts dropped got (taken ++ (record { sender = client; frame = Frame.Cut }) ∷ []) lines.new.items }
     ensures sized { length lines.new.items ≡ length lines.old.items }
 {
-    lines[client].cut()
+    lines[client].cut();
 }
 
 /// A client's End was taken.
@@ -130,7 +130,8 @@ pub(crate) fn have_ended(lines: &Vec<Line>, count: usize) -> bool
 impl Hub {
     /// Nothing was taken.
     pub(crate) fn new(alloc: Global, limit: u16, outlets: Vec<Outlet>) -> Result<Hub, AllocError>
-        ensures { IfOk result (λ h. AreFresh outlets.items → IsIdle (setting_of limit outlets.items) h []) }
+        ensures idle { IfOk result (λ h. AreFresh outlets.items → IsIdle (setting_of limit outlets.items) h []) }
+        ensures rings { IfOk result HasRings }
     {
         let count = outlets.len();
         Ok(Hub {
@@ -171,15 +172,18 @@ impl Hub {
 
     /// Offers a send to its client's ring, unless that was dropped.
     fn offer<G: Gate>(&mut self, gate: &G, send: Outgoing) -> Result<(), PlantFault>
+        requires { HasRings self.old }
         ensures offers { OnOk result ((s : Setting) (closed : ℕ → Bool) (log : List Entry) (sends : List Sent) (closes : List ℕ) →
             Offers s closed self.old log (sent_view send ∷ sends) closes → (e : Entry) × Offers s closed self.new (e ∷ log) sends closes) }
         ensures taken { OnOk result (self.new.taken ≡ self.old.taken) }
+        ensures rings { OnOk result (HasRings self.new) }
+        ensures fault { IfErr result (λ e. e ≡ PlantFault.NoMemory) }
     {
         let Outgoing { conn, sort, bytes } = send;
         let Some(client) = self.desk.client_of(conn) else {
             return Ok(());
         };
-        let Some(passed) = offer_to(&mut self.lines, client, bytes)? else {
+        let Some(passed) = offer_to(&mut self.lines, client, bytes) else {
             return Ok(());
         };
         gate.after_offer(client, passed);
@@ -193,9 +197,12 @@ impl Hub {
 
     /// Offers the sends of a call, in order.
     fn offer_all<G: Gate>(&mut self, gate: &G, sends: Vec<Outgoing>) -> Result<(), PlantFault>
+        requires { HasRings self.old }
         ensures offers { OnOk result ((s : Setting) (closed : ℕ → Bool) (log : List Entry) (closes : List ℕ) →
             Offers s closed self.old log (map sent_view sends.items) closes → (l : List Entry) × Offers s closed self.new l [] closes) }
         ensures taken { OnOk result (self.new.taken ≡ self.old.taken) }
+        ensures rings { OnOk result (HasRings self.new) }
+        ensures fault { IfErr result (λ e. e ≡ PlantFault.NoMemory) }
     {
         for send in sends {
             self.offer(gate, send)?;
@@ -208,6 +215,7 @@ impl Hub {
         ensures holds { (s : Setting) (closed : ℕ → Bool) (log : List Entry) → Holds s closed self.old log →
             Holds s (λ k. closed k || is_client k (client_of (room_of s.limit s.edges log).openers conn)) self.new log }
         ensures taken { self.new.taken ≡ self.old.taken }
+        ensures rings { HasRings self.old → HasRings self.new }
     {
         let Some(client) = self.desk.client_of(conn) else {
             return;
@@ -221,6 +229,7 @@ impl Hub {
         ensures holds { (s : Setting) (closed : ℕ → Bool) (log : List Entry) → Holds s closed self.old log →
             Holds s (λ k. closed k || holds_client (room_of s.limit s.edges log).openers k conns.now) self.new log }
         ensures taken { self.new.taken ≡ self.old.taken }
+        ensures rings { HasRings self.old → HasRings self.new }
     {
         for conn in conns {
             self.close(*conn);
@@ -229,9 +238,12 @@ impl Hub {
 
     /// Offers what a call answered, in order, and then drops the rings of those that it closes.
     fn hand_out<G: Gate>(&mut self, gate: &G, out: Out) -> Result<(), PlantFault>
+        requires { HasRings self.old }
         ensures rests { OnOk result ((s : Setting) (closed : ℕ → Bool) (log : List Entry) →
             Offers s closed self.old log (map sent_view out.sends.items) out.closes.items → (l : List Entry) × Rests s self.new l) }
         ensures taken { OnOk result (self.new.taken ≡ self.old.taken) }
+        ensures rings { OnOk result (HasRings self.new) }
+        ensures fault { IfErr result (λ e. e ≡ PlantFault.NoMemory) }
     {
         let Out { sends, closes } = out;
         self.offer_all(gate, sends)?;
@@ -241,10 +253,13 @@ impl Hub {
 
     /// Tells the broker of the first refused offer of which it isn't told yet. None where there is none.
     fn tell(&mut self) -> Result<Option<Out>, PlantFault>
+        requires { HasRings self.old }
         ensures some { IfOk result (λ o. IfSome o (λ out. (s : Setting) (log : List Entry) → Rests s self.old log →
             (e : Entry) × Offers s (room_of s.limit s.edges log).closed self.new (e ∷ log) (map sent_view out.sends.items) out.closes.items)) }
         ensures none { IfOk result (λ o. IfNone o ((s : Setting) (log : List Entry) → Rests s self.old log → IsIdle s self.new log)) }
         ensures taken { OnOk result (self.new.taken ≡ self.old.taken) }
+        ensures rings { OnOk result (HasRings self.new) }
+        ensures fault { IfErr result (λ e. e ≡ PlantFault.NoMemory) }
     {
         let Some(untold) = self.untold.pop_front() else {
             return Ok(None);
@@ -256,8 +271,11 @@ impl Hub {
 
     /// Tells the broker of all refused offers, in order, and offers what it answers before the next.
     fn tell_all<R: Wait, G: Gate>(&mut self, rt: &R, gate: &G) -> Result<(), PlantFault>
+        requires { HasRings self.old }
         ensures idle { OnOk result ((s : Setting) (log : List Entry) → Rests s self.old log → (l : List Entry) × IsIdle s self.new l) }
         ensures taken { OnOk result (self.new.taken ≡ self.old.taken) }
+        ensures rings { OnOk result (HasRings self.new) }
+        ensures fault { IfErr result (λ e. e ≡ PlantFault.NoMemory) }
     {
         for _ in rt.forever() {
             let Some(out) = self.tell()? else {
@@ -278,8 +296,12 @@ impl Hub {
 
     /// A client's packet.
     fn packet(&mut self, sender: usize, whole: Whole) -> Result<Out, PlantFault>
-        requires { sender < length self.old.desk.clients.items }
-        ensures { IfOk result (λ out. IsTaken (record { sender = sender; frame = Frame.Packet whole }) self.old self.new out) }
+        requires clients { sender < length self.old.desk.clients.items }
+        requires lines { sender < length self.old.lines.items }
+        requires rings { HasRings self.old }
+        ensures taken { IfOk result (λ out. IsTaken (record { sender = sender; frame = Frame.Packet whole }) self.old self.new out) }
+        ensures rings { OnOk result (HasRings self.new) }
+        ensures fault { IfErr result (λ e. e ≡ PlantFault.NoMemory) }
     {
         let Ok(packet) = whole.read(self.alloc) else {
             return Err(PlantFault::NoMemory);
@@ -290,8 +312,11 @@ impl Hub {
 
     /// A client's bytes that are no packet.
     fn fault(&mut self, sender: usize, fault: PacketFault) -> Result<Out, PlantFault>
-        requires { sender < length self.old.desk.clients.items }
-        ensures { IfOk result (λ out. IsTaken (record { sender = sender; frame = Frame.Fault fault }) self.old self.new out) }
+        requires clients { sender < length self.old.desk.clients.items }
+        requires rings { HasRings self.old }
+        ensures taken { IfOk result (λ out. IsTaken (record { sender = sender; frame = Frame.Fault fault }) self.old self.new out) }
+        ensures rings { OnOk result (HasRings self.new) }
+        ensures fault { IfErr result (λ e. e ≡ PlantFault.NoMemory) }
     {
         let now = self.note(sender, Frame::Fault(fault))?;
         self.desk.fault(sender, fault, now)
@@ -301,10 +326,14 @@ impl Hub {
     fn cut(&mut self, sender: usize) -> Result<Out, PlantFault>
         requires clients { sender < length self.old.desk.clients.items }
         requires lines { sender < length self.old.lines.items }
-        ensures { IfOk result (λ out. IsTaken (record { sender = sender; frame = Frame.Cut }) self.old self.new out) }
+        requires rings { HasRings self.old }
+        requires cuts { CountsCuts sender self.old }
+        ensures taken { IfOk result (λ out. IsTaken (record { sender = sender; frame = Frame.Cut }) self.old self.new out) }
+        ensures rings { OnOk result (HasRings self.new) }
+        ensures fault { IfErr result (λ e. e ≡ PlantFault.NoMemory) }
     {
         let now = self.note(sender, Frame::Cut)?;
-        note_cut(&mut self.lines, sender)?;
+        note_cut(&mut self.lines, sender);
         self.desk.cut(sender, now)
     }
 
@@ -312,7 +341,10 @@ impl Hub {
     fn end(&mut self, sender: usize) -> Result<Out, PlantFault>
         requires lines { sender < length self.old.lines.items }
         requires edges { self.old.edges < length self.old.lines.items + 1 }
-        ensures { IfOk result (λ out. IsTaken (record { sender = sender; frame = Frame.End }) self.old self.new out) }
+        requires rings { HasRings self.old }
+        ensures taken { IfOk result (λ out. IsTaken (record { sender = sender; frame = Frame.End }) self.old self.new out) }
+        ensures rings { OnOk result (HasRings self.new) }
+        ensures fault { IfErr result (λ e. e ≡ PlantFault.NoMemory) }
     {
         self.note(sender, Frame::End)?;
         note_end(&mut self.lines, sender);
@@ -332,7 +364,11 @@ impl Hub {
         requires clients { sender < length self.old.desk.clients.items }
         requires lines { sender < length self.old.lines.items }
         requires edges { self.old.edges < length self.old.lines.items + 1 }
-        ensures { IfOk result (λ out. IsTaken (record { sender = sender; frame = frame }) self.old self.new out) }
+        requires rings { HasRings self.old }
+        requires cuts { CountsCuts sender self.old }
+        ensures taken { IfOk result (λ out. IsTaken (record { sender = sender; frame = frame }) self.old self.new out) }
+        ensures rings { OnOk result (HasRings self.new) }
+        ensures fault { IfErr result (λ e. e ≡ PlantFault.NoMemory) }
     {
         match frame {
             Frame::Packet(whole) => self.packet(sender, whole),
@@ -353,8 +389,12 @@ impl Hub {
         requires clients { sender < length self.old.desk.clients.items }
         requires lines { sender < length self.old.lines.items }
         requires edges { self.old.edges < length self.old.lines.items + 1 }
+        requires rings { HasRings self.old }
+        requires cuts { CountsCuts sender self.old }
         ensures idle { OnOk result ((s : Setting) (log : List Entry) → IsIdle s self.old log → (l : List Entry) × IsIdle s self.new l) }
         ensures taken { OnOk result (self.new.taken.items ≡ self.old.taken.items ++ (record { sender = sender; frame = frame }) ∷ []) }
+        ensures rings { OnOk result (HasRings self.new) }
+        ensures fault { IfErr result (λ e. e ≡ PlantFault.NoMemory) }
     {
         let out = self.frame(sender, frame)?;
         self.hand_out(gate, out)?;

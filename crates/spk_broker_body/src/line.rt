@@ -1,5 +1,5 @@
 //! A client's ring, and what its frames said of it.
-ghost use Rattle.std.specs.Prelude.{◌≡◌, ℕ, ◌+◌, Bool, List, [], true, false, None, Some, OnOk, IfOk};
+ghost use Rattle.std.specs.Prelude.{◌≡◌, ℕ, ◌+◌, ◌<◌, ◌^◌, Bool, List, [], true, false, None, Some, IfOk};
 ghost use Rattle.std.specs.Option.{OnSome, IfSome};
 ghost use Rattle.spk_rings.specs.Ring.{offered};
 ghost use Rattle.spk_rings.specs.declared.item.Item.{Item};
@@ -7,7 +7,6 @@ ghost use Rattle.spk_rings.specs.declared.outlet.Outlet.{Outlet};
 ghost use Rattle.spk_broker_body.specs.Holding.{FitsLine, OfferGives};
 ghost use Rattle.spk_broker_body.specs.Done.{IsTokenOf};
 
-use spk_plan::PlantFault;
 use spk_rings::{Bytes, Item, Outlet, Token};
 
 /// A client's ring.
@@ -65,16 +64,13 @@ impl Line {
         self.token = outlet.finish();
     }
 
-    /// A Cut frame more. Closed where there were the greatest `u64` of them.
-    pub(crate) fn cut(&mut self) -> Result<(), PlantFault>
-        ensures { OnOk result ((first : Outlet) (dropped : Bool) (got : List Item) (cuts : ℕ) (ended : Bool) → FitsLine first dropped got cuts ended self.old
-            → FitsLine first dropped got (cuts + 1) ended self.new) }
+    /// A Cut frame more.
+    pub(crate) fn cut(&mut self)
+        requires { self.old.cuts + 1 < 2 ^ 64 }
+        ensures { (first : Outlet) (dropped : Bool) (got : List Item) (cuts : ℕ) (ended : Bool) → FitsLine first dropped got cuts ended self.old
+            → FitsLine first dropped got (cuts + 1) ended self.new }
     {
-        let Some(cuts) = self.cuts.checked_add(1) else {
-            return Err(PlantFault::Closed);
-        };
-        self.cuts = cuts;
-        Ok(())
+        self.cuts += 1;
     }
 
     /// The token of the ring's dropping, which is dropped by now.

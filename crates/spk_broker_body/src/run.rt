@@ -1,11 +1,11 @@
 //! The broker's thread.
-ghost use Rattle.std.specs.Prelude.{◌≡◌, ◌<◌, ℕ, List, length, IfOk, OnOk, true};
+ghost use Rattle.std.specs.Prelude.{◌≡◌, ◌<◌, ◌⊎◌, ℕ, List, length, IfOk, IfErr, OnOk, true};
 ghost use Rattle.std.specs.List.{AllByRecursion};
 ghost use Rattle.spk_ingress.specs.declared.rule.Message.{Message};
 ghost use Rattle.spk_ingress.specs.Passes.{TakesFrom, frames_taken};
 ghost use Rattle.spk_broker_body.specs.Data.{Entry};
 ghost use Rattle.spk_broker_body.specs.Done.{BrokerDone, BrokerReady};
-ghost use Rattle.spk_broker_body.specs.Holding.{HasAllEnded, IsIdle, Setting};
+ghost use Rattle.spk_broker_body.specs.Holding.{HasAllEnded, HasRings, IsIdle, Setting};
 
 use crate::done::end_of;
 use crate::hub::{Hub, have_ended};
@@ -27,10 +27,12 @@ fn take_all<R: Wait, G: Gate>(
     requires known { (s : Setting) × (log : List Entry) × IsIdle s hub.old log × (s.count ≡ ingress.now.senders) }
     requires taken { frames_taken pass.old ≡ hub.old.taken.items }
     requires senders { AllByRecursion (λ (m : Message). m.sender < ingress.now.senders) hub.old.taken.items }
+    requires rings { HasRings hub.old }
     ensures pass { TakesFrom ingress.now pass.new }
     ensures taken { OnOk result (frames_taken pass.new ≡ hub.new.taken.items) }
     ensures senders { OnOk result (AllByRecursion (λ (m : Message). m.sender < ingress.now.senders) hub.new.taken.items) }
     ensures idle { OnOk result ((s : Setting) (log : List Entry) → IsIdle s hub.old log → s.count ≡ ingress.now.senders → HasAllEnded s hub.new) }
+    ensures fault { IfErr result (λ e. (e ≡ PlantFault.NoMemory) ⊎ (e ≡ PlantFault.Closed)) }
 {
     for _ in rt.forever() {
         let Ok(Taken { sender, frame, .. }) = ingress.take(rt, pass) else {
@@ -48,8 +50,11 @@ fn take_all<R: Wait, G: Gate>(
 /// without a connection opens one, unless the broker closed that client; every other frame without a connection is passed
 /// over. The sends of one call of the broker are offered to the clients' rings, in order, before the next call, and then each
 /// refused one is told to it, in order. A ring is dropped when the broker has closed its client, or all edge nodes have ended.
-/// The broker's moments are the frames taken. Closed (90) where no more frames come, or a count is full. The pass must be of
-/// this ingress, with nothing taken, and the rings be new, one for each sender.
+/// The broker's moments are the frames taken. The pass must be of this ingress, with nothing taken, and the rings be new, one for
+/// each sender.
+///
+/// Refused with NoMemory (1) where a growth was refused, and with Closed (90) where the ingress gives no further frame; by nothing
+/// else, whatever the frames say.
 pub fn run_broker<R: Wait, G: Gate>(
     rt: &R,
     alloc: Global,
@@ -58,7 +63,8 @@ pub fn run_broker<R: Wait, G: Gate>(
     start: BrokerStart,
 ) -> Result<BrokerEnd, PlantFault>
     requires { BrokerReady ingress.now start }
-    ensures { IfOk result (λ end. BrokerDone ingress.now start end) }
+    ensures done { IfOk result (λ end. BrokerDone ingress.now start end) }
+    ensures fault { IfErr result (λ e. (e ≡ PlantFault.NoMemory) ⊎ (e ≡ PlantFault.Closed)) }
 {
     let BrokerStart {
         width,

@@ -12,7 +12,8 @@ use Rattle.spk_host_session.specs.Data.{is_short_name}
 use Rattle.spk_plan.specs.declared.plan.Plan.{Plan}
 use Rattle.spk_plan.specs.declared.plan.PlanNode.{PlanNode}
 use Rattle.spk_plan.specs.declared.script.Step.{Step}
-use Rattle.spk_files.specs.Plan.{AreEdges, CanRun, are_distinct, changes_at, changes_in, fits, is_edge, is_open, is_well_made}
+use Rattle.spk_plan_rules.specs.Plan.{AreEdges, CanRun, are_distinct, changes_at, changes_in, fits, is_edge, is_open}
+use Rattle.spk_files.specs.Plan.{is_well_made}
 
 -- ---- scripts
 

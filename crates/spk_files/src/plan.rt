@@ -4,7 +4,8 @@ ghost use Rattle.std.specs.List.{list_all, list_any};
 ghost use Rattle.std.specs.Str.{bytes_eq};
 ghost use Rattle.std.specs.String.{string_bytes};
 ghost use Rattle.spk_plan.specs.declared.plan.PlanNode.{PlanNode};
-ghost use Rattle.spk_files.specs.Plan.{CanRun, are_distinct, fits, is_well_made};
+ghost use Rattle.spk_plan_rules.specs.Plan.{CanRun, are_distinct, fits};
+ghost use Rattle.spk_files.specs.Plan.{is_well_made};
 
 use crate::fault::FileFault;
 use crate::metrics::registry_of;

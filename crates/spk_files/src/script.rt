@@ -1,6 +1,6 @@
 //! The script of a plan's node.
 ghost use Rattle.std.specs.Prelude.{◌≡◌, ◌≤◌, [], ◌∷◌, IfOk, count_by};
-ghost use Rattle.spk_files.specs.Plan.{changes_at, changes_in, is_open};
+ghost use Rattle.spk_plan_rules.specs.Plan.{changes_at, changes_in, is_open};
 
 use crate::metrics::datatype_of;
 use crate::misfit::{Cause, Misfit};

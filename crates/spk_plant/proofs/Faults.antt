@@ -3,7 +3,7 @@ use Rattle.std.proofs.Common.{◌≡◌, ◌⊎◌, inl, inr, ℕ, List, sym, su
 use Rattle.spk_plan.specs.declared.plan.Plan.{Plan}
 use Rattle.spk_plan.specs.declared.fault.PlantFault.{PlantFault}
 use Rattle.spk_plan.specs.declared.fault.PlantFault.TheVariants as fault
-use Rattle.spk_plant.specs.Plan.{AreEdges, CanRun}
+use Rattle.spk_plan_rules.specs.Plan.{AreEdges, CanRun}
 use Rattle.spk_plant.specs.Report.{IsFault}
 
 is_bad : PlantFault → Type 0

@@ -29,7 +29,7 @@ use Rattle.spk_broker_body.specs.Log.{got_of, taken_of}
 use Rattle.spk_broker_body.specs.declared.part.BrokerStart.{BrokerStart}
 use Rattle.spk_host_body.specs.declared.ends.HostStart.{HostStart}
 use Rattle.spk_plant.specs.Done.{AllDone, AreReady, AreTheirs, AreTied, IsEdgeDone, IsFront, IsReportOf, IsTied}
-use Rattle.spk_plant.specs.Plan.{host_in, setup_in}
+use Rattle.spk_plan_rules.specs.Plan.{host_in, setup_in}
 use Rattle.std.specs.String.{string_bytes}
 use Rattle.spk_host.specs.Data.{HostData}
 use Rattle.spk_ingress.specs.declared.frame.Frame.TheVariants as frame

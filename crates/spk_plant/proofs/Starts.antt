@@ -13,7 +13,7 @@ use Rattle.spk_plan.specs.declared.plan.PlanNode.{PlanNode}
 use Rattle.spk_edge_body.specs.declared.edge.EdgeStart.{EdgeStart}
 use Rattle.spk_broker_body.specs.declared.part.BrokerStart.{BrokerStart}
 use Rattle.spk_host_body.specs.declared.ends.HostStart.{HostStart}
-use Rattle.spk_plant.specs.Plan.{AreEdges, host_in, is_edge}
+use Rattle.spk_plan_rules.specs.Plan.{AreEdges, host_in, is_edge}
 use Rattle.spk_plant.specs.Start.{AreParts, AreRings, AreStarts, HasAt, IsPass, IsRing, IsStart}
 use Rattle.spk_plant.proofs.Places.{get_last, get_more, get_parts, has_last, has_more}
 

@@ -1,4 +1,3 @@
-pub mod Plan
 pub mod Start
 pub mod Done
 pub mod Report

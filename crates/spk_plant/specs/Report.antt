@@ -29,7 +29,7 @@ use Rattle.spk_host_body.specs.Calls.{packets_of}
 use Rattle.spk_host_body.specs.Told.{AreToldBy, calls_of, consumed_by, consumptions, heard_in, told_in}
 use Rattle.spk_host_body.specs.declared.ends.Given.{Given}
 use Rattle.spk_plant.specs.Done.{IsFront}
-use Rattle.spk_plant.specs.Plan.{CanRun, host_in, setup_in}
+use Rattle.spk_plan_rules.specs.Plan.{CanRun, host_in, setup_in}
 use Rattle.spk_plant.specs.Start.{HasAt}
 use Rattle.spk_plant.specs.declared.report.NodeReport.{NodeReport}
 use Rattle.spk_plant.specs.declared.report.Report.{Report}

@@ -13,7 +13,7 @@ use Rattle.spk_rings.specs.declared.outlet.Outlet.{Outlet}
 use Rattle.spk_plan.specs.declared.plan.Plan.{Plan}
 use Rattle.spk_plan.specs.declared.plan.PlanNode.{PlanNode}
 use Rattle.spk_edge_body.specs.declared.edge.EdgeStart.{EdgeStart}
-use Rattle.spk_plant.specs.Plan.{edge_setup, host_in}
+use Rattle.spk_plan_rules.specs.Plan.{edge_setup, host_in}
 use Rattle.spk_broker_body.specs.declared.part.BrokerStart.{BrokerStart}
 use Rattle.spk_host_body.specs.declared.ends.HostStart.{HostStart}
 

@@ -2,7 +2,6 @@
 //! the report of what they did. No standard speaks of a plant (own rule).
 #![tactic(auto)]
 
-mod limits;
 mod plant;
 mod report;
 mod start;

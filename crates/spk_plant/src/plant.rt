@@ -1,14 +1,14 @@
 //! A plant, from its plan to its report.
 ghost use Rattle.std.specs.Prelude.{IfOk, IfErr, OnOk};
-ghost use Rattle.spk_plant.specs.Plan.{CanRun, IsMade};
+ghost use Rattle.spk_plan_rules.specs.Plan.{CanRun, IsMade};
 ghost use Rattle.spk_plant.specs.Report.{IsFault, RunsAs};
 
-use crate::limits::is_made;
 use crate::report::Report;
 use crate::start::{Parts, parts_of};
 use crate::threads::run_all;
 use crate::tie::report_of;
 use spk_plan::{Gate, Plan, PlantFault};
+use spk_plan_rules::is_made;
 use std::alloc::Global;
 use std::sync::Wait;
 use std::thread::Threads;

@@ -19,8 +19,8 @@ use Rattle.spk_plan.specs.declared.plan.PlanNode.{PlanNode}
 use Rattle.spk_plan.specs.declared.script.Sort.{Sort}
 use Rattle.spk_plan.specs.declared.script.Step.{Step}
 use Rattle.spk_plan.specs.declared.script.Step.TheVariants as step
-use Rattle.spk_plant.specs.Plan as plan
-use Rattle.spk_plant.specs.Plan.{changes_in, fits}
+use Rattle.spk_plan_rules.specs.Plan as plan
+use Rattle.spk_plan_rules.specs.Plan.{changes_in, fits}
 
 -- how many of these acts open a connection
 abbrev pub opens : List Act → ℕ

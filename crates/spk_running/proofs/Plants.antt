@@ -24,7 +24,7 @@ use Rattle.spk_host_body.specs.Told.{told_in}
 use Rattle.spk_plan.specs.declared.plan.Plan.{Plan}
 use Rattle.spk_plan.specs.declared.plan.PlanNode.{PlanNode}
 use Rattle.spk_plan.specs.declared.script.Step.TheVariants.{Stop}
-use Rattle.spk_plant.specs.Plan.{CanRun, IsMade, are_distinct, fits, has_name, host_in, is_edge, setup_in}
+use Rattle.spk_plan_rules.specs.Plan.{CanRun, IsMade, are_distinct, fits, has_name, host_in, is_edge, setup_in}
 use Rattle.spk_plant.specs.Report.{IsNode, IsNodeAt, RunsAs}
 use Rattle.spk_plant.specs.declared.report.NodeReport.{NodeReport}
 use Rattle.spk_plant.specs.declared.report.Report.{Report}

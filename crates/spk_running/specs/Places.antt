@@ -10,7 +10,7 @@ use Rattle.spk_edge_rules.specs.Run.{Message, published, run_of}
 use Rattle.spk_plan.specs.declared.plan.Plan.{Plan}
 use Rattle.spk_edge_body.specs.Told.{newest_first}
 use Rattle.spk_broker_body.specs.Data.{Entry}
-use Rattle.spk_plant.specs.Plan.{setup_in}
+use Rattle.spk_plan_rules.specs.Plan.{setup_in}
 use Rattle.spk_plant.specs.declared.report.NodeReport.{NodeReport}
 use Rattle.spk_plant.specs.declared.report.Report.{Report}
 use Rattle.spk_relay.specs.Due.{due}

@@ -9,7 +9,7 @@ ghost use Rattle.spk_heard.specs.Read.{HandsOutFronts};
 ghost use Rattle.spk_host.specs.Inputs.{node_calls};
 ghost use Rattle.spk_host_body.specs.Told.{asked, consumed_for, told_in};
 ghost use Rattle.spk_plan.specs.declared.plan.Plan.{Plan};
-ghost use Rattle.spk_plant.specs.Plan.{CanRun, IsMade, host_in};
+ghost use Rattle.spk_plan_rules.specs.Plan.{CanRun, IsMade, host_in};
 ghost use Rattle.spk_plant.specs.Report.{RunsAs};
 ghost use Rattle.spk_plant.specs.declared.report.NodeReport.{NodeReport};
 ghost use Rattle.spk_plant.specs.declared.report.Report.{Report};

@@ -1,9 +1,7 @@
-use Rattle.std.proofs.Common.{◌<◌, length, arith}
 use Rattle.spk_broker_body.proofs.Lines.{offers_line}
 use Rattle.spk_broker_body.proofs.hub.offer_to.Goals as goal
 
 pub returns-clause-gives : goal.returns-clause-gives
 returns-clause-gives c firsts dropped got taken fits =
-    let below : c.args.client < length c.args.lines.now.items = omega (arith, c.if-client-len.false, c.len.ensures, c.args.lines.now.ok.0) in
     offers_line firsts dropped got taken c.args.lines.now.items c.args.client c.args.bytes c.index_mut.result.now c.offer.new.self c.offer.result fits
-    below c.index_mut.ensures.value c.offer.ensures
+    c.requires c.index_mut.ensures.value c.offer.ensures

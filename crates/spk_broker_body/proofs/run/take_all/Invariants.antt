@@ -3,7 +3,7 @@ use Rattle.std.specs.List.{AllByRecursion}
 use Rattle.spk_ingress.specs.declared.rule.Message.{Message}
 use Rattle.spk_ingress.specs.Passes.{TakesFrom, frames_taken}
 use Rattle.spk_broker_body.specs.Data.{Entry}
-use Rattle.spk_broker_body.specs.Holding.{IsIdle, Setting}
+use Rattle.spk_broker_body.specs.Holding.{HasRings, IsIdle, Setting}
 use Rattle.spk_broker_body.proofs.run.take_all.Given as goal
 
 -- what was taken so far was offered and told
@@ -12,5 +12,6 @@ invariant-loop g l = record {
   pass : TakesFrom l.ingress l.pass;
   taken : frames_taken l.pass ≡ l.hub.taken.items;
   senders : AllByRecursion (λ (m : Message). m.sender < l.ingress.senders) l.hub.taken.items;
+  rings : HasRings l.hub;
   idle : (s : Setting) (log : List Entry) → IsIdle s l.fn.hub log → (m : List Entry) × IsIdle s l.hub m;
 }

@@ -3,7 +3,8 @@ use Rattle.std.specs.List.{list_all, list_any}
 use Rattle.std.specs.Str.{bytes_eq}
 use Rattle.std.specs.String.{string_bytes}
 use Rattle.spk_plan.specs.declared.plan.PlanNode.{PlanNode}
-use Rattle.spk_files.specs.Plan.{are_distinct, fits, is_well_made}
+use Rattle.spk_plan_rules.specs.Plan.{are_distinct, fits}
+use Rattle.spk_files.specs.Plan.{is_well_made}
 use Rattle.spk_files.proofs.Limits.{all_push, distinct_push}
 use Rattle.spk_files.proofs.plan.nodes_of.Goals as goal
 

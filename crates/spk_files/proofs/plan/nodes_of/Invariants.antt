@@ -1,6 +1,7 @@
 use Rattle.std.proofs.Common.{◌≡◌, length, true}
 use Rattle.std.specs.List.{list_all}
-use Rattle.spk_files.specs.Plan.{are_distinct, fits, is_well_made}
+use Rattle.spk_plan_rules.specs.Plan.{are_distinct, fits}
+use Rattle.spk_files.specs.Plan.{is_well_made}
 use Rattle.spk_files.proofs.plan.nodes_of.Given as goal
 
 -- one for each number, and what holds of those so far

@@ -1,6 +1,6 @@
 use Rattle.std.proofs.Common.{◌≡◌, ◌≤◌}
 use Rattle.std.specs.Prelude.{count_by}
-use Rattle.spk_files.specs.Plan.{changes_in, is_open}
+use Rattle.spk_plan_rules.specs.Plan.{changes_in, is_open}
 use Rattle.spk_files.proofs.script.script_of.Given as goal
 
 -- what the steps so far ask for

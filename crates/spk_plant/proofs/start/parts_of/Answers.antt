@@ -1,6 +1,6 @@
 use Rattle.std.proofs.Common.{◌≡◌, ◌∙◌, ◌+◌, length, refl, ap, subst, arith, string_bytes}
 use Rattle.spk_host.specs.Inputs.{new_host}
-use Rattle.spk_plant.specs.Plan.{host_config}
+use Rattle.spk_plan_rules.specs.Plan.{host_config}
 use Rattle.spk_plant.specs.Start.{AreRings, AreStarts}
 use Rattle.spk_plant.proofs.Faults.{no_edges}
 use Rattle.spk_plant.proofs.Starts.{parts_are}

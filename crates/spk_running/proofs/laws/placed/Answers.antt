@@ -2,7 +2,7 @@ use Rattle.std.proofs.Common.{◌≡◌, ◌∙◌, sym, ap, ◌-◌, ◌*◌, �
 use Rattle.spk_broker_body.specs.Log.{accepted_of, taken_of}
 use Rattle.spk_host_body.specs.Told.{heard_in, told_in}
 use Rattle.spk_ingress.specs.declared.rule.Message.{Message}
-use Rattle.spk_plant.specs.Plan.{host_in}
+use Rattle.spk_plan_rules.specs.Plan.{host_in}
 use Rattle.spk_relay.proofs.Tells.{PacketFacts}
 use Rattle.spk_running.specs.Placed.{ArePlaced}
 use Rattle.spk_running.specs.Places.{inputs_at, is_topic_at, published_at, setup_at, shown_at}

@@ -1,7 +1,7 @@
 use Rattle.std.proofs.Common.{◌∙◌, sym, length}
 use Rattle.spk_host.specs.Inputs.{node_calls}
 use Rattle.spk_host_body.specs.Told.{asked, told_in}
-use Rattle.spk_plant.specs.Plan.{host_in}
+use Rattle.spk_plan_rules.specs.Plan.{host_in}
 use Rattle.spk_running.specs.Places.{inputs_at, published_at, setup_at, shown_at}
 use Rattle.spk_running.proofs.Moments.{keeps_order}
 use Rattle.spk_running.proofs.Plants.{few_sessions}

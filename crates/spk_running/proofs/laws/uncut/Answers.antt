@@ -5,7 +5,7 @@ use Rattle.spk_ingress.specs.Lanes.{share_of}
 use Rattle.spk_ingress.specs.declared.rule.Message.{Message}
 use Rattle.spk_host_body.specs.Told.{told_in}
 use Rattle.spk_plan.specs.declared.plan.Plan.{Plan}
-use Rattle.spk_plant.specs.Plan.{CanRun, IsMade, host_in}
+use Rattle.spk_plan_rules.specs.Plan.{CanRun, IsMade, host_in}
 use Rattle.spk_plant.specs.Report.{RunsAs}
 use Rattle.spk_plant.specs.declared.report.Report.{Report}
 use Rattle.spk_relay.specs.Shown.{AllMaySay, HasPlaces}

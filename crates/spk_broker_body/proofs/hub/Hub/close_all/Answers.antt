@@ -12,6 +12,7 @@ pub loop-conn-init : goal.loop-conn-init
 loop-conn-init c = record {
   holds = λ s closed log f. holds_ext s closed _ c.args.self.now log (λ k. or_false (closed k)) f;
   taken = refl;
+  rings = λ rings. rings;
 }
 
 pub loop-conn-preserved : goal.loop-conn-preserved
@@ -21,6 +22,7 @@ loop-conn-preserved c =
       holds = λ s closed log f. one_more_closed s closed log c.close.new.self c.args.conns.now c.loop-conn.conn-index _ below (sym (get_or_default_zero c.args.conns.now c.loop-conn.conn-index _ below))
           (c.close.ensures.holds s (λ k. closed k || holds_client (room_of s.limit s.edges log).openers k (take c.loop-conn.conn-index c.args.conns.now)) log (c.loop-conn.invariant.holds s closed log f));
       taken = c.close.ensures.taken ∙ c.loop-conn.invariant.taken;
+      rings = λ rings. c.close.ensures.rings (c.loop-conn.invariant.rings rings);
     }
 
 pub returns-clause-holds : goal.returns-clause-holds

@@ -1,6 +1,6 @@
 use Rattle.std.proofs.Common.{◌≡◌, ℕ, ◌||◌, Bool, List, take}
 use Rattle.spk_broker_body.specs.Data.{Entry}
-use Rattle.spk_broker_body.specs.Holding.{Holds, Setting}
+use Rattle.spk_broker_body.specs.Holding.{HasRings, Holds, Setting}
 use Rattle.spk_broker_body.specs.Log.{room_of}
 use Rattle.spk_broker_body.specs.Step.{holds_client}
 use Rattle.spk_broker_body.proofs.hub.Hub.close_all.Given as goal
@@ -11,4 +11,5 @@ invariant-loop-conn l = record {
   holds : (s : Setting) (closed : ℕ → Bool) (log : List Entry) → Holds s closed l.fn.self log →
       Holds s (λ k. closed k || holds_client (room_of s.limit s.edges log).openers k (take l.conn-index l.conns)) l.self log;
   taken : l.self.taken ≡ l.fn.self.taken;
+  rings : HasRings l.fn.self → HasRings l.self;
 }

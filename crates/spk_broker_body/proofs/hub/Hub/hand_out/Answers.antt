@@ -13,3 +13,6 @@ returns-clause-rests g c s closed log f =
           (subst (λ (cs : List ℕ). Holds s (λ k. closed k || holds_client (room_of s.limit s.edges o.0).openers k cs) c.close_all.new.self o.0) c.as_slice.ensures.value
           (c.close_all.ensures.holds s closed o.0 o.1.holds)),
     )
+
+pub returns-clause-rings : goal.returns-clause-rings
+returns-clause-rings g c = c.close_all.ensures.rings c.in_ok-offer_all.ensures.rings

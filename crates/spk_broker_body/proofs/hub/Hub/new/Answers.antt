@@ -2,8 +2,8 @@ use Rattle.std.proofs.Common.{◌≡◌, ◌-◌, ◌∙◌, length, refl, arith
 use Rattle.spk_broker_body.proofs.Begins.{begins}
 use Rattle.spk_broker_body.proofs.hub.Hub.new.Goals as goal
 
-pub returns : goal.returns
-returns c fresh =
+pub returns-clause-idle : goal.returns-clause-idle
+returns-clause-idle c fresh =
     let count : c.len-count.result ≡ length c.args.outlets.items = omega (arith, c.len-count.ensures, c.args.outlets.ok.0) in
     let edges : c.saturating_sub.result ≡ length c.args.outlets.items - 1 = omega (arith, c.saturating_sub.ensures, count) in
     begins c.args.limit c.args.outlets.items _ c.in_ok-new.ensures.fits (c.in_ok-new.ensures.sized ∙ count) (c.in_ok-lines_of.ensures.fits fresh) c.in_ok-lines_of.ensures.sized

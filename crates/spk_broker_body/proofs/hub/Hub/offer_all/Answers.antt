@@ -9,6 +9,7 @@ pub loop-send-init : goal.loop-send-init
 loop-send-init g c = record {
   offers = λ s closed log closes f. (log, subst (λ ss. Offers s closed c.args.self.now log (map sent_view ss) closes) (sym c.into_iter-send-iterator.ensures.into_iter_gives.0) f);
   taken = refl;
+  rings = c.requires;
 }
 
 pub loop-send-preserved : goal.loop-send-preserved
@@ -18,6 +19,7 @@ loop-send-preserved g c = record {
       let n = c.in_ok-offer.ensures.offers s closed h.0 _ closes (subst (λ ss. Offers s closed c.loop-send.self h.0 (map sent_view ss) closes) c.in-Some.ensures.steps.0 h.1) in
       (n.0 ∷ h.0, n.1);
   taken = c.in_ok-offer.ensures.taken ∙ c.loop-send.invariant.taken;
+  rings = c.in_ok-offer.ensures.rings;
 }
 
 pub returns-clause-offers : goal.returns-clause-offers

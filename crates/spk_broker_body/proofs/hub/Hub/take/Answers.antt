@@ -7,7 +7,7 @@ pub returns-clause-idle : goal.returns-clause-idle
 returns-clause-idle g c =
     on_ok_weaker c.tell_all.result
     (λ idle s log f.
-    let t = c.in_ok-out.ensures.offers s log f in
+    let t = c.in_ok-out.ensures.taken.offers s log f in
     let h = c.in_ok-hand_out.ensures.rests s (room_of s.limit s.edges log).closed (t.0 ∷ log) t.1 in
     idle s h.0 h.1)
     c.tell_all.ensures.idle

@@ -10,4 +10,5 @@ loop-preserved g c = record {
       let t = some s h.0 h.1 in
       c.in_ok-hand_out.ensures.rests s (room_of s.limit s.edges h.0).closed (t.0 ∷ h.0) t.1;
   taken = c.in_ok-hand_out.ensures.taken ∙ (c.in_ok-out.ensures.taken ∙ c.loop.invariant.taken);
+  rings = c.in_ok-hand_out.ensures.rings;
 }

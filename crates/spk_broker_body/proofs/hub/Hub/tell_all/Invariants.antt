@@ -1,6 +1,6 @@
 use Rattle.std.proofs.Common.{◌≡◌, List}
 use Rattle.spk_broker_body.specs.Data.{Entry}
-use Rattle.spk_broker_body.specs.Holding.{Rests, Setting}
+use Rattle.spk_broker_body.specs.Holding.{HasRings, Rests, Setting}
 use Rattle.spk_broker_body.proofs.hub.Hub.tell_all.Given as goal
 
 -- all is offered so far
@@ -8,4 +8,5 @@ abbrev pub invariant-loop : goal.invariant-loop
 invariant-loop g l = record {
   rests : (s : Setting) (log : List Entry) → Rests s l.fn.self log → (m : List Entry) × Rests s l.self m;
   taken : l.self.taken ≡ l.fn.self.taken;
+  rings : HasRings l.self;
 }

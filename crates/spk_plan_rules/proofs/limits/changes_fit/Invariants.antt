@@ -1,6 +1,6 @@
 use Rattle.std.proofs.Common.{◌≡◌, ◌+◌, drop}
-use Rattle.spk_plant.specs.Plan.{changes_in}
-use Rattle.spk_plant.proofs.limits.changes_fit.Given as goal
+use Rattle.spk_plan_rules.specs.Plan.{changes_in}
+use Rattle.spk_plan_rules.proofs.limits.changes_fit.Given as goal
 
 -- what is left is the most without the changes of the steps before
 abbrev pub invariant-loop-step : goal.invariant-loop-step

@@ -1,7 +1,7 @@
 //! The limits of a plan (own rules).
 ghost use Rattle.std.specs.Prelude.{◌≡◌, ◌↔◌, count_by, nat_le, true};
 ghost use Rattle.std.specs.List.{AllByRecursion, list_all, list_any};
-ghost use Rattle.spk_plant.specs.Plan.{HasLawful, IsMade, IsWithin, are_distinct, changes_at, changes_in, fits, has_name, is_open};
+ghost use Rattle.spk_plan_rules.specs.Plan.{HasLawful, IsMade, IsWithin, are_distinct, changes_at, changes_in, fits, has_name, is_open};
 
 use spk_plan::{Plan, PlanNode, Step};
 
@@ -85,8 +85,9 @@ fn are_distinct(nodes: &[PlanNode]) -> bool
     are_distinct(rest)
 }
 
-/// Whether a plan is within its limits.
-pub(crate) fn is_within(plan: &Plan) -> bool
+/// Whether a plan is within its limits: 1 to 16 nodes, no two of one name; a ring of 4 to 65,536 and an ingress of 1 to 65,536; of each
+/// node at most 200 `Open` steps and 100,000 changes, `Set` steps and ramps summed.
+pub fn is_within(plan: &Plan) -> bool
     ensures { (result ≡ true) ↔ IsWithin plan.now }
 {
     let nodes = plan.nodes.as_slice();
@@ -111,8 +112,9 @@ fn are_lawful(nodes: &[PlanNode])
     }
 }
 
-/// Every plan has lawful registries, and the width of a window.
-pub(crate) fn is_made(plan: &Plan)
+/// Every plan has lawful registries, and the width of a window: a function that does little, whose contract says what the types of a
+/// plan's parts do.
+pub fn is_made(plan: &Plan)
     ensures { IsMade plan.now }
 {
     let _places = plan.width.get();

@@ -1,5 +1,5 @@
 use Rattle.std.proofs.Common.{length}
-use Rattle.spk_plant.proofs.limits.+are_distinct.Given as goal
+use Rattle.spk_plan_rules.proofs.limits.+are_distinct.Given as goal
 
 abbrev pub decreases-are_distinct : goal.decreases-are_distinct
 decreases-are_distinct l = length l.nodes.now
