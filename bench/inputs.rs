@@ -110,27 +110,76 @@ fn packet(first: u8, body: &[u8]) -> Vec<u8> {
 }
 
 pub fn publish(size: usize) -> Vec<u8> {
-    let mut body = Vec::new();
-    text(&mut body, b"spBv1.0/Plant 4/DDATA/Line 3/Motor 17");
-    body.resize(body.len() + size, 7);
-    packet(0x30, &body)
+    publish_at(0, MOTOR, size)
 }
 
+/// A PUBLISH of this QoS, 0 or 1; with QoS 1 it has identifier 9.
+pub fn publish_at(qos: u8, topic: &str, size: usize) -> Vec<u8> {
+    let mut body = Vec::new();
+    text(&mut body, topic.as_bytes());
+    if qos == 1 {
+        body.extend_from_slice(&[0, 9]);
+    }
+    body.resize(body.len() + size, 7);
+    packet(0x30 | qos << 1, &body)
+}
+
+pub const MOTOR: &str = "spBv1.0/Plant 4/DDATA/Line 3/Motor 17";
+
 pub fn connect() -> Vec<u8> {
+    connect_of("Plant 4/Line 3")
+}
+
+fn connect_of(client: &str) -> Vec<u8> {
     let mut body = Vec::new();
     text(&mut body, b"MQTT");
     body.extend_from_slice(&[4, 2, 0, 60]);
-    text(&mut body, b"Plant 4/Line 3");
+    text(&mut body, client.as_bytes());
     packet(0x10, &body)
 }
 
 pub fn subscribe() -> Vec<u8> {
+    subscribe_to((0..8).map(|n| format!("spBv1.0/Plant 4/+/Line {n}/#")))
+}
+
+fn subscribe_to(filters: impl Iterator<Item = String>) -> Vec<u8> {
     let mut body = vec![0, 1];
-    for n in 0..8 {
-        text(&mut body, format!("spBv1.0/Plant 4/+/Line {n}/#").as_bytes());
+    for filter in filters {
+        text(&mut body, filter.as_bytes());
         body.push(1);
     }
     packet(0x82, &body)
+}
+
+/// Who is at a broker: so many clients, the first ones of which are granted `filter`. Each client has so many grants in all, or none but that.
+pub struct Clients {
+    pub sessions: usize,
+    pub receivers: usize,
+    pub filter: &'static str,
+    pub grants: usize,
+}
+
+/// They come one after the other, each with its grants; then the last one publishes 20 times, so that the broker makes its index of grants.
+pub fn clients(who: &Clients, topic: &str) -> Vec<u8> {
+    let mut out = Vec::new();
+    for n in 0..who.sessions {
+        out.extend_from_slice(&connect_of(&format!("Client {n}")));
+        let heard = (n < who.receivers).then(|| who.filter.to_owned());
+        let others = (usize::from(n < who.receivers)..who.grants).map(|d| format!("spBv1.0/Plant 4/DDATA/Node {n}/Device {d}"));
+        let filters: Vec<String> = heard.into_iter().chain(others).collect();
+        if !filters.is_empty() {
+            out.extend_from_slice(&subscribe_to(filters.into_iter()));
+        }
+    }
+    out.extend_from_slice(&publish_at(0, topic, 64).repeat(20));
+    out
+}
+
+/// A client comes and leaves.
+pub fn visit() -> Vec<u8> {
+    let mut out = connect_of("Visitor");
+    out.extend_from_slice(&[0xe0, 0]);
+    out
 }
 
 /// About so many bytes of PUBLISH packets with 64 bytes.

@@ -28,6 +28,7 @@ extern "C" {
     fn spk_bench_edge_births(rounds: u64) -> u64;
     fn spk_bench_edge_drain(rounds: u64) -> u64;
     fn spk_bench_host(first: *const u8, length: usize, data: *const u8, data_length: usize, rounds: u64) -> u64;
+    fn spk_bench_broker(first: *const u8, length: usize, again: *const u8, again_length: usize, rounds: u64) -> u64;
     fn spk_bench_world(nodes: u8, hosts: u8, events: u64) -> u64;
     fn cpp_payload_decode(bytes: *const u8, length: usize, rounds: u64) -> u64;
     fn cpp_payload_encode(bytes: *const u8, length: usize, rounds: u64) -> u64;
@@ -211,6 +212,53 @@ fn host_rows(rows: &mut Vec<Row>) {
     }
 }
 
+/// A row of the broker's: who is there, what comes in each round, and how many bytes it sends then.
+fn broker_row(name: &str, first: Vec<u8>, again: Vec<u8>, sent: u64) -> Row {
+    Row {
+        name: format!("Broker, {name}"),
+        calls: 1,
+        export: "spk_bench_broker",
+        ours: Box::new(move |rounds| {
+            // The lengths are those of the bytes, which the closure keeps.
+            let bytes = unsafe { spk_bench_broker(first.as_ptr(), first.len(), again.as_ptr(), again.len(), rounds) };
+            assert_eq!(bytes, rounds * sent, "bytes sent");
+            bytes
+        }),
+        peers: Vec::new(),
+    }
+}
+
+/// A broker with few sessions and with many.
+fn broker_rows(rows: &mut Vec<Row>) {
+    const SHORT: (&str, &str) = ("plant/+/line", "plant/4/line");
+    const SPARKPLUG: (&str, &str) = ("spBv1.0/Plant 4/+/Line 3/#", inputs::MOTOR);
+    for (sessions, receivers, grants, (filter, topic)) in [
+        (2, 1, 1, SHORT),
+        (2, 1, 1, SPARKPLUG),
+        (1000, 1, 0, SHORT),
+        (1000, 10, 0, SHORT),
+        (1000, 100, 0, SHORT),
+        (1000, 1000, 0, SHORT),
+        (1000, 1, 10, SHORT),
+        (1000, 1, 10, SPARKPLUG),
+    ] {
+        let who = inputs::Clients { sessions, receivers, filter, grants };
+        let publish = inputs::publish_at(0, topic, 64);
+        let sent = (receivers * publish.len()) as u64;
+        let all = receivers.max(sessions * grants);
+        let name = format!("PUBLISH on {topic}, {receivers} of {sessions} sessions, {all} grants");
+        rows.push(broker_row(&name, inputs::clients(&who, topic), publish, sent));
+    }
+    for sessions in [2, 999] {
+        let who = inputs::Clients { sessions, receivers: 1, filter: SHORT.0, grants: 0 };
+        let first = inputs::clients(&who, SHORT.1);
+        let publish = inputs::publish_at(1, SHORT.1, 64);
+        let sent = publish.len() as u64 + 4;
+        rows.push(broker_row(&format!("PUBLISH of QoS 1 and its two PUBACK, 1 of {sessions} sessions"), first.clone(), publish, sent));
+        rows.push(broker_row(&format!("CONNECT and DISCONNECT, beside {sessions} sessions"), first, inputs::visit(), 4));
+    }
+}
+
 fn rows() -> Vec<Row> {
     let mut rows = Vec::new();
     payload_rows(&mut rows);
@@ -219,6 +267,7 @@ fn rows() -> Vec<Row> {
     order_rows(&mut rows);
     edge_rows(&mut rows);
     host_rows(&mut rows);
+    broker_rows(&mut rows);
     rows
 }
 

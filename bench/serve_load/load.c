@@ -1,6 +1,8 @@
 // A load for an MQTT 3.1.1 server on this machine: PUBS publishers with COUNT messages of 64 bytes each, SUBS subscribers to all of
-// them. usage: load PORT PUBS SUBS QOS COUNT WINDOW RATE. WINDOW: how many messages of a publisher may be under way (as the first
-// subscriber counts). RATE: messages a second of each publisher, 0 for as many as go. Prints: delivered messages a second, and the
+// them. usage: load PORT PUBS SUBS QOS COUNT WINDOW RATE JOINED. WINDOW: how many messages of a publisher may be under way (as the first
+// subscriber counts). RATE: messages a second of each publisher, 0 for as many as go. JOINED: how many messages a publisher hands to the
+// socket in one write, where so many may go; with 1 the load's own calls bound the rate of a fast server. A publisher that may send no
+// more looks again some times and then sleeps until the subscriber has read. Prints: delivered messages a second, and the
 // median and the 99th percentile of the time from send to receipt, in microseconds.
 #include <arpa/inet.h>
 #include <netinet/tcp.h>
@@ -13,7 +15,11 @@
 #include <time.h>
 #include <unistd.h>
 
-static int port, pubs, subs, qos, count, window, rate;
+enum { MOST = 64 };
+static int port, pubs, subs, qos, count, window, rate, joined;
+static pthread_mutex_t door = PTHREAD_MUTEX_INITIALIZER;
+static pthread_cond_t heard = PTHREAD_COND_INITIALIZER;
+static atomic_int sleepers;
 static atomic_long seen[64], delivered, ready;
 static uint32_t *times;
 static atomic_long timed;
@@ -63,32 +69,61 @@ static int join_server(void) {
     return s;
 }
 
+// waits until fewer than WINDOW messages of this publisher are under way; answers how many more may go
+static long wait_for_room(long me, long sent) {
+    for (int looks = 0; looks < 50; looks++) {
+        long room = window - (sent - atomic_load(&seen[me]));
+        if (room > 0) return room;
+        sched_yield();
+    }
+    pthread_mutex_lock(&door);
+    atomic_fetch_add(&sleepers, 1);
+    while (sent - atomic_load(&seen[me]) >= window) pthread_cond_wait(&heard, &door);
+    atomic_fetch_sub(&sleepers, 1);
+    pthread_mutex_unlock(&door);
+    return window - (sent - atomic_load(&seen[me]));
+}
+
 static void *publisher(void *arg) {
     long me = (long)arg;
     int s = join_server();
-    unsigned char packet[80], ack[4];
+    unsigned char packets[80 * MOST], acks[4096];
     atomic_fetch_add(&ready, 1);
     while (atomic_load(&ready) < pubs + subs) usleep(1000);
     uint64_t start = now();
-    size_t head = 6u + (qos ? 2 : 0);
-    packet[0] = qos ? 0x32 : 0x30;
-    packet[1] = (unsigned char)(head - 2 + 64);
-    packet[2] = 0, packet[3] = 2, packet[4] = 'b', packet[5] = (unsigned char)('A' + me);
-    memset(packet + head, 'x', 64);
-    for (long i = 0; i < count; i++) {
+    size_t head = 6u + (qos ? 2 : 0), size = head + 64;
+    long acked = 0;
+    size_t odd = 0;
+    for (long sent = 0; sent < count;) {
         if (rate > 0) {
-            uint64_t due = start + (uint64_t)i * (1000000000u / (uint64_t)rate);
+            uint64_t due = start + (uint64_t)sent * (1000000000u / (uint64_t)rate);
             uint64_t t = now();
             if (due > t) usleep((useconds_t)((due - t) / 1000));
         }
-        if (qos) packet[6] = (unsigned char)((i % 60000 + 1) >> 8), packet[7] = (unsigned char)(i % 60000 + 1);
-        uint64_t t = now();
-        memcpy(packet + head, &t, 8);
-        put(s, packet, head + 64);
-        if (qos && i >= window) get(s, ack, 4);
-        while (subs > 0 && i - atomic_load(&seen[me]) >= window) sched_yield();
+        long more = wait_for_room(me, sent);
+        if (more > joined) more = joined;
+        if (more > count - sent) more = count - sent;
+        for (long i = 0; i < more; i++) {
+            unsigned char *p = packets + (size_t)i * size;
+            long id = (sent + i) % 60000 + 1;
+            uint64_t t = now();
+            p[0] = qos ? 0x32 : 0x30;
+            p[1] = (unsigned char)(size - 2);
+            p[2] = 0, p[3] = 2, p[4] = 'b', p[5] = (unsigned char)('A' + me);
+            if (qos) p[6] = (unsigned char)(id >> 8), p[7] = (unsigned char)id;
+            memset(p + head, 'x', 64);
+            memcpy(p + head, &t, 8);
+        }
+        put(s, packets, (size_t)more * size);
+        sent += more;
+        while (qos && (sent - acked >= window || (sent == count && acked < count))) {
+            ssize_t n = read(s, acks, sizeof acks);
+            if (n <= 0) die("the server closed a publisher");
+            odd += (size_t)n;
+            acked += (long)(odd / 4);
+            odd %= 4;
+        }
     }
-    for (long i = 0; qos && i < (count < window ? count : window); i++) get(s, ack, 4);
     while (atomic_load(&delivered) < (long)pubs * subs * count) usleep(500);
     close(s);
     return NULL;
@@ -128,6 +163,11 @@ static void *subscriber(void *arg) {
         }
         memmove(held, held + at, have - at);
         have -= at;
+        if (me == 0 && atomic_load(&sleepers) > 0) {
+            pthread_mutex_lock(&door);
+            pthread_cond_broadcast(&heard);
+            pthread_mutex_unlock(&door);
+        }
         if (acked) put(s, acks, acked);
     }
     close(s);
@@ -140,10 +180,11 @@ static int up(const void *a, const void *b) {
 }
 
 int main(int argc, char **argv) {
-    if (argc != 8) die("usage: load PORT PUBS SUBS QOS COUNT WINDOW RATE");
+    if (argc != 9) die("usage: load PORT PUBS SUBS QOS COUNT WINDOW RATE JOINED");
     port = atoi(argv[1]), pubs = atoi(argv[2]), subs = atoi(argv[3]), qos = atoi(argv[4]), count = atoi(argv[5]);
-    window = atoi(argv[6]), rate = atoi(argv[7]);
+    window = atoi(argv[6]), rate = atoi(argv[7]), joined = atoi(argv[8]);
     if (pubs < 1 || pubs > 50 || subs < 1 || subs > 200) die("1 to 50 publishers, 1 to 200 subscribers");
+    if (joined < 1 || joined > MOST) die("1 to 64 joined");
     times = calloc(4000000, 4);
     pthread_t t[256];
     for (long i = 0; i < subs; i++) pthread_create(&t[i], NULL, subscriber, (void *)i);

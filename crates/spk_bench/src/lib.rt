@@ -2,6 +2,7 @@
 //! answers, so that a row of the table is the difference of two counts of rounds. No crate stands on this one.
 #![tactic(auto)]
 
+mod broker;
 mod edge;
 mod host;
 mod order;
@@ -10,6 +11,7 @@ mod payloads;
 mod topics;
 mod world;
 
+pub use broker::spk_bench_broker;
 pub use edge::{spk_bench_edge_births, spk_bench_edge_change, spk_bench_edge_drain};
 pub use host::spk_bench_host;
 pub use order::{spk_bench_hand_births, spk_bench_hand_in_line, spk_bench_hand_with_holes};

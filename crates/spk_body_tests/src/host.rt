@@ -14,6 +14,7 @@ use std::alloc::{AllocGlobal, Global};
 use std::sync::Wait;
 use std::sync::atomic::{AtomicU64, Ordering};
 use std::test::Fail;
+use std::thread::Parker;
 
 /// Counts what it is told.
 #[derive(Drop)]
@@ -116,7 +117,7 @@ fn played<R: AllocGlobal + Wait>(
         pass,
         inlet: ring_of(alloc, items)?,
     };
-    let end = run_host(rt, alloc, &ingress, gate, start).ok()?;
+    let end = run_host(rt, alloc, &ingress, gate, &Parker::new(), start).ok()?;
     let packets = taken_of(rt, &ingress, &mut taker)?;
     Some((end, packets))
 }

@@ -14,12 +14,21 @@ use spk_ingress::{Ingress, TakePass, Taken};
 use spk_plan::{Gate, PlantFault};
 use std::alloc::Global;
 use std::sync::Wait;
+use std::thread::Parker;
 
-/// Takes frames until each sender has ended.
+/// Wakes who is parked at these bells.
+fn ring_all(bells: &[Parker]) {
+    for bell in bells {
+        bell.unpark();
+    }
+}
+
+/// Takes frames until each sender has ended. After each frame all bells are rung.
 fn take_all<R: Wait, G: Gate>(
     rt: &R,
     ingress: &Ingress,
     gate: &G,
+    bells: &[Parker],
     pass: &mut TakePass,
     hub: &mut Hub,
 ) -> Result<(), PlantFault>
@@ -32,6 +41,8 @@ fn take_all<R: Wait, G: Gate>(
     ensures taken { OnOk result (frames_taken pass.new ≡ hub.new.taken.items) }
     ensures senders { OnOk result (AllByRecursion (λ (m : Message). m.sender < ingress.now.senders) hub.new.taken.items) }
     ensures idle { OnOk result ((s : Setting) (log : List Entry) → IsIdle s hub.old log → s.count ≡ ingress.now.senders → HasAllEnded s hub.new) }
+    // no frame more comes: all that were taken are done with
+    ensures closed { IfErr result (λ e. e ≡ PlantFault.Closed → frames_taken pass.new ≡ hub.new.taken.items) }
     ensures fault { IfErr result (λ e. (e ≡ PlantFault.NoMemory) ⊎ (e ≡ PlantFault.Closed)) }
 {
     for _ in rt.forever() {
@@ -39,6 +50,7 @@ fn take_all<R: Wait, G: Gate>(
             return Err(PlantFault::Closed);
         };
         hub.take(rt, gate, sender, frame)?;
+        ring_all(bells);
         if have_ended(&hub.lines, hub.lines.len()) {
             return Ok(());
         }
@@ -46,20 +58,13 @@ fn take_all<R: Wait, G: Gate>(
     unreachable!()
 }
 
-/// The body of a plant's broker thread (own rules). It takes frames until each sender's End was taken. A packet of a client
-/// without a connection opens one, unless the broker closed that client; every other frame without a connection is passed
-/// over. The sends of one call of the broker are offered to the clients' rings, in order, before the next call, and then each
-/// refused one is told to it, in order. A ring is dropped when the broker has closed its client, or all edge nodes have ended.
-/// The broker's moments are the frames taken. The pass must be of this ingress, with nothing taken, and the rings be new, one for
-/// each sender.
-///
-/// Refused with NoMemory (1) where a growth was refused, and with Closed (90) where the ingress gives no further frame; by nothing
-/// else, whatever the frames say.
-pub fn run_broker<R: Wait, G: Gate>(
+/// Takes frames from the first to the last, and hands on what came of them.
+fn run_frames<R: Wait, G: Gate>(
     rt: &R,
     alloc: Global,
     ingress: &Ingress,
     gate: &G,
+    bells: &[Parker],
     start: BrokerStart,
 ) -> Result<BrokerEnd, PlantFault>
     requires { BrokerReady ingress.now start }
@@ -72,6 +77,34 @@ pub fn run_broker<R: Wait, G: Gate>(
         outlets,
     } = start;
     let mut hub = Hub::new(alloc, width.budget(), outlets)?;
-    take_all(rt, ingress, gate, &mut pass, &mut hub)?;
+    take_all(rt, ingress, gate, bells, &mut pass, &mut hub)?;
     end_of(alloc, hub, pass)
+}
+
+/// The body of a plant's broker thread (own rules). It takes frames until each sender's End was taken. A packet of a client
+/// without a connection opens one, unless the broker closed that client; every other frame without a connection is passed
+/// over. The sends of one call of the broker are offered to the clients' rings, in order, before the next call, and then each
+/// refused one is told to it, in order. A ring is dropped when the broker has closed its client, or all edge nodes have ended.
+/// The broker's moments are the frames taken. All these bells are rung after each frame, and once more at the end, when the rings are
+/// dropped: a thread that waits at its ring is parked there. The pass must be of this ingress, with nothing taken, and the rings be new, one for
+/// each sender.
+///
+/// Refused with NoMemory (1) where a growth was refused, and with Closed (90) where the ingress gives no further frame; by nothing
+/// else, whatever the frames say.
+pub fn run_broker<R: Wait, G: Gate>(
+    rt: &R,
+    alloc: Global,
+    ingress: &Ingress,
+    gate: &G,
+    bells: &[Parker],
+    start: BrokerStart,
+) -> Result<BrokerEnd, PlantFault>
+    requires { BrokerReady ingress.now start }
+    ensures done { IfOk result (λ end. BrokerDone ingress.now start end) }
+    ensures fault { IfErr result (λ e. (e ≡ PlantFault.NoMemory) ⊎ (e ≡ PlantFault.Closed)) }
+{
+    let ended = run_frames(rt, alloc, ingress, gate, bells, start);
+    // the rings are dropped by now, also where it gave up
+    ring_all(bells);
+    ended
 }

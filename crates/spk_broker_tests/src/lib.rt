@@ -13,3 +13,5 @@ mod limits;
 mod serve;
 #[cfg(test)]
 mod twin;
+#[cfg(test)]
+mod unfriendly;

@@ -10,8 +10,8 @@ use std::{io, thread};
 
 /// A writer that takes so many bytes.
 #[derive(Drop)]
-struct Narrow {
-    room: usize,
+pub(crate) struct Narrow {
+    pub(crate) room: usize,
 }
 
 impl Write for Narrow {
@@ -30,13 +30,13 @@ impl Write for Narrow {
 }
 
 /// A port on which nobody listens.
-fn free_port<R: Net<Listener = TcpListener, Stream = TcpStream> + Abort>(rt: &R) -> u16 {
+pub(crate) fn free_port<R: Net<Listener = TcpListener, Stream = TcpStream> + Abort>(rt: &R) -> u16 {
     let listener = TcpListener::bind(rt, (Ipv4Addr::LOCALHOST, 0)).expect(rt, "a port");
     listener.local_addr().expect(rt, "its number").port()
 }
 
 /// A client of the server on this port, once it listens.
-fn client<R: Net<Listener = TcpListener, Stream = TcpStream> + Clock + Abort>(
+pub(crate) fn client<R: Net<Listener = TcpListener, Stream = TcpStream> + Clock + Abort>(
     rt: &R,
     port: u16,
 ) -> TcpStream {
@@ -52,13 +52,13 @@ fn client<R: Net<Listener = TcpListener, Stream = TcpStream> + Clock + Abort>(
 }
 
 /// Sends these bytes.
-fn send(rt: &impl Abort, stream: &TcpStream, bytes: &[u8]) {
+pub(crate) fn send(rt: &impl Abort, stream: &TcpStream, bytes: &[u8]) {
     let mut writer = stream;
     writer.write_all(bytes).expect(rt, "the server takes it");
 }
 
 /// Reads just these bytes.
-fn gets(rt: &impl Abort, stream: &TcpStream, bytes: &[u8]) {
+pub(crate) fn gets(rt: &impl Abort, stream: &TcpStream, bytes: &[u8]) {
     let mut found = [0u8; 64];
     let count = bytes.len().min(64);
     let mut reader = stream;
@@ -69,7 +69,7 @@ fn gets(rt: &impl Abort, stream: &TcpStream, bytes: &[u8]) {
 }
 
 /// Nothing more comes, and the connection ends.
-fn ends(rt: &impl Abort, stream: &TcpStream) {
+pub(crate) fn ends(rt: &impl Abort, stream: &TcpStream) {
     let mut found = [0u8; 1];
     let mut reader = stream;
     let end = reader.read(&mut found);
@@ -77,7 +77,7 @@ fn ends(rt: &impl Abort, stream: &TcpStream) {
 }
 
 /// CONNECT without a client id, clean session 1.
-const CONNECT: [u8; 14] = [0x10, 0x0c, 0, 4, b'M', b'Q', b'T', b'T', 4, 2, 0, 60, 0, 0];
+pub(crate) const CONNECT: [u8; 14] = [0x10, 0x0c, 0, 4, b'M', b'Q', b'T', b'T', 4, 2, 0, 60, 0, 0];
 
 /// CONNECT of client `x`, clean session 0.
 const KEPT: [u8; 15] = [
@@ -85,11 +85,11 @@ const KEPT: [u8; 15] = [
 ];
 
 /// CONNECT with the will `g` on `w`, QoS 0.
-const WILLED: [u8; 20] = [
+pub(crate) const WILLED: [u8; 20] = [
     0x10, 0x12, 0, 4, b'M', b'Q', b'T', b'T', 4, 6, 0, 60, 0, 0, 0, 1, b'w', 0, 1, b'g',
 ];
 
-const DISCONNECT: [u8; 2] = [0xe0, 0];
+pub(crate) const DISCONNECT: [u8; 2] = [0xe0, 0];
 
 #[test]
 fn one_client_is_served(rt: HostRuntime) {

@@ -55,7 +55,8 @@ impl Registry {
         ensures done { OnOk result (self.new
             ≡ step.with_metric self.old owner name.now datatype (option_map typed_view value)) }
         ensures accepted { OnOk result (
-            step.add_metric_refusal self.old owner name.now datatype (option_map typed_view value) ≡ None) }
+            step.add_metric_refusal self.old owner name.now datatype (option_map typed_view value)
+            ≡ None) }
         ensures fault { IfErr result (IsDue
             (step.add_metric_refusal self.old owner name.now datatype (option_map typed_view value))) }
         ensures err { OnErr result (self.new ≡ self.old) }
@@ -88,7 +89,8 @@ impl Registry {
     ) -> Result<(), Refusal>
         ensures accepted { OnOk result (step.add_metric_refusal self.now owner name.now datatype
             (option_map typed_view value.now) ≡ None) }
-        ensures refused { IfErr result (λ r. step.add_metric_refusal self.now owner name.now datatype
+        ensures refused { IfErr result
+            (λ r. step.add_metric_refusal self.now owner name.now datatype
             (option_map typed_view value.now) ≡ Some r) }
     {
         if is_taken(name) || self.place_of(owner, name).is_some() {

@@ -17,7 +17,8 @@ impl Registry {
     ///
     /// Refuses with NoSuch (41) a device that isn't there.
     pub fn births(&self, owner: Owner) -> Result<Vec<Metric>, DeviceFault>
-        ensures births { IfOk result (λ metrics. map metric_view metrics.items ≡ book.births_of self.now owner) }
+        ensures births { IfOk result
+            (λ metrics. map metric_view metrics.items ≡ book.births_of self.now owner) }
         ensures accepted { OnOk result (step.births_refusal self.now owner ≡ None) }
         ensures fault { IfErr result (IsDue (step.births_refusal self.now owner)) }
     {

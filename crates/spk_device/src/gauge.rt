@@ -27,7 +27,8 @@ pub struct Gauge {
 /// How a value that its datatype writes is written.
 fn written_value(alloc: Global, datatype: u32, value: &Value) -> Result<Raw, AllocError>
     requires { spec.is_of datatype (Some (typed_view value.now)) ≡ true }
-    ensures { IfOk result (λ raw. written_of datatype (typed_view value.now) ≡ Some (content_of raw)) }
+    ensures { IfOk result
+        (λ raw. written_of datatype (typed_view value.now) ≡ Some (content_of raw)) }
 {
     match written(alloc, datatype, value) {
         Ok(raw) => Ok(raw),
@@ -39,7 +40,10 @@ fn written_value(alloc: Global, datatype: u32, value: &Value) -> Result<Raw, All
 impl Gauge {
     /// What `put` would answer.
     pub(crate) fn would_put(&self, value: &Option<Value>) -> Outcome
-        ensures { result ≡ change_unless (spec.value_eq (option_map typed_view self.now.value) (option_map typed_view value.now)) }
+        ensures { result
+            ≡ change_unless
+            (spec.value_eq (option_map typed_view self.now.value)
+            (option_map typed_view value.now)) }
     {
         if is_same_value(&self.value, value) {
             Outcome::Same
@@ -50,8 +54,11 @@ impl Gauge {
 
     /// The value is this one from now on.
     pub(crate) fn put(&mut self, value: Option<Value>) -> Outcome
-        ensures change { result ≡ change_unless (spec.value_eq (option_map typed_view self.old.value) (option_map typed_view value)) }
-        ensures data { gauge_view self.new ≡ record (gauge_view self.old) { value = option_map typed_view value } }
+        ensures change { result
+            ≡ change_unless
+            (spec.value_eq (option_map typed_view self.old.value) (option_map typed_view value)) }
+        ensures data { gauge_view self.new
+            ≡ record (gauge_view self.old) { value = option_map typed_view value } }
     {
         if is_same_value(&self.value, &value) {
             return Outcome::Same;
@@ -63,8 +70,10 @@ impl Gauge {
     /// The metric in a birth, at its place among all metrics.
     pub(crate) fn birth(&self, alloc: Global, place: usize) -> Result<Metric, AllocError>
         requires fits { place < 2 ^ 63 }
-        requires value { spec.is_of self.now.datatype (option_map typed_view self.now.value) ≡ true }
-        ensures { IfOk result (λ metric. metric_view metric ≡ birth_of (place, gauge_view self.now)) }
+        requires value { spec.is_of self.now.datatype (option_map typed_view self.now.value)
+            ≡ true }
+        ensures { IfOk result
+            (λ metric. metric_view metric ≡ birth_of (place, gauge_view self.now)) }
     {
         let value = match &self.value {
             Some(value) => Some(written_value(alloc, self.datatype, value)?),

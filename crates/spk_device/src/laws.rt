@@ -26,7 +26,8 @@ pub fn any_list()
         answer_of (standing calls) call ≡ answer_of (book_at (done calls)) call }
 
     // a refused call leaves no trace
-    ensures refused { (calls : List Call) (call : Call) (r : Refusal) → refusal (standing calls) call ≡ Some r →
+    ensures refused { (calls : List Call) (call : Call) (r : Refusal)
+        → refusal (standing calls) call ≡ Some r →
         (standing (call ∷ calls) ≡ standing calls) × (done (call ∷ calls) ≡ done calls) }
 
     // the birth of an owner lists the metrics added for it, in order of adding, with the values last set
@@ -38,7 +39,8 @@ pub fn any_list()
     ensures numbers { (calls : List Call) (n : ℕ) (d : DeviceData) →
         slice_get (standing calls).devices n ≡ Some d → number_of (standing calls) d.name ≡ Some n }
     ensures aliases { (calls : List Call) (n : ℕ) (g : GaugeData) →
-        slice_get (standing calls).gauges n ≡ Some g → alias_of (standing calls) g.owner g.name ≡ Some (n + 1) }
+        slice_get (standing calls).gauges n ≡ Some g
+        → alias_of (standing calls) g.owner g.name ≡ Some (n + 1) }
 
     // names are apart, owners are there, values are of their datatypes, and there are no more than there may be
     ensures lawful { (calls : List Call) → IsLawful (standing calls) }
@@ -49,23 +51,32 @@ pub fn any_list()
 pub fn from_any()
     // devices and metrics in order of adding, each up or down by its last turn, or else as it was first, each with the value
     // last set at its alias, or else the first
-    ensures book { (first : Book) (calls : List Call) → standing_from first calls ≡ book_from first (done_from first calls) }
+    ensures book { (first : Book) (calls : List Call)
+        → standing_from first calls ≡ book_from first (done_from first calls) }
     ensures answer { (first : Book) (calls : List Call) (call : Call) →
-        answer_of (standing_from first calls) call ≡ answer_of (book_from first (done_from first calls)) call }
+        answer_of (standing_from first calls) call
+        ≡ answer_of (book_from first (done_from first calls)) call }
 
     // a refused call leaves no trace
-    ensures refused { (first : Book) (calls : List Call) (call : Call) (r : Refusal) → refusal (standing_from first calls) call ≡ Some r →
-        (standing_from first (call ∷ calls) ≡ standing_from first calls) × (done_from first (call ∷ calls) ≡ done_from first calls) }
+    ensures refused { (first : Book) (calls : List Call) (call : Call) (r : Refusal)
+        → refusal (standing_from first calls) call ≡ Some r →
+        (standing_from first (call ∷ calls) ≡ standing_from first calls)
+        × (done_from first (call ∷ calls) ≡ done_from first calls) }
 
     // the birth of an owner lists its metrics in order of adding, with the values last set
-    ensures births { (first : Book) (calls : List Call) (owner : Owner) → births_of (standing_from first calls) owner ≡
+    ensures births { (first : Book) (calls : List Call) (owner : Owner)
+        → births_of (standing_from first calls) owner ≡
         map (λ e. birth_of (e.0, gauge_by (done_from first calls) e))
-        (filter (λ e. is_owner owner e.1.owner) (enumerate_from 0 (metrics_from first.gauges (done_from first calls)))) }
+        (filter (λ e. is_owner owner e.1.owner)
+        (enumerate_from 0 (metrics_from first.gauges (done_from first calls)))) }
 
     // a lawful registry stays lawful, and the names of a lawful one lead to their numbers and aliases alone
-    ensures lawful { (first : Book) (calls : List Call) → IsLawful first → IsLawful (standing_from first calls) }
-    ensures numbers { (b : Book) (n : ℕ) (d : DeviceData) → IsLawful b → slice_get b.devices n ≡ Some d → number_of b d.name ≡ Some n }
-    ensures aliases { (b : Book) (n : ℕ) (g : GaugeData) → IsLawful b → slice_get b.gauges n ≡ Some g →
+    ensures lawful { (first : Book) (calls : List Call) → IsLawful first
+        → IsLawful (standing_from first calls) }
+    ensures numbers { (b : Book) (n : ℕ) (d : DeviceData) → IsLawful b
+        → slice_get b.devices n ≡ Some d → number_of b d.name ≡ Some n }
+    ensures aliases { (b : Book) (n : ℕ) (g : GaugeData) → IsLawful b
+        → slice_get b.gauges n ≡ Some g →
         alias_of b g.owner g.name ≡ Some (n + 1) }
 
     // no birth of a lawful one has a metric whose name the node's own messages use: theirs stays the only one of its name
@@ -81,6 +92,8 @@ pub fn owners()
 /// The test of values says that they are equal, and a datatype is taken exactly where it writes some value.
 pub fn values()
     ensures equal { (a b : Option Typed) → Decides (value_eq a b) (a ≡ b) }
-    ensures taken { (d : ℕ) (v : Typed) (c : Content) → written_of d v ≡ Some c → is_written d ≡ true }
-    ensures written { (d : ℕ) → is_written d ≡ true → (v : Typed) × (c : Content) × (written_of d v ≡ Some c) }
+    ensures taken { (d : ℕ) (v : Typed) (c : Content) → written_of d v ≡ Some c
+        → is_written d ≡ true }
+    ensures written { (d : ℕ) → is_written d ≡ true
+        → (v : Typed) × (c : Content) × (written_of d v ≡ Some c) }
 {}

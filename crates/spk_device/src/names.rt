@@ -25,7 +25,8 @@ pub(crate) fn enter_with<T: Drop>(
     item: T,
 ) -> Result<(), AllocError>
     requires { number_in names.old (string_bytes name) ≡ None }
-    ensures names { OnOk result (names.new ≡ names.old ++ (string_bytes name, length items.old.items) ∷ []) }
+    ensures names { OnOk result
+        (names.new ≡ names.old ++ (string_bytes name, length items.old.items) ∷ []) }
     ensures items { OnOk result (items.new.items ≡ items.old.items ++ item ∷ []) }
     ensures names_err { OnErr result (names.new ≡ names.old) }
     ensures items_err { OnErr result (items.new.items ≡ items.old.items) }

@@ -14,7 +14,8 @@ impl Registry {
     /// What `set` would answer: Same where that is the metric's value already. Refuses with NoSuch (41) an alias that wasn't
     /// given, with WrongKind (42) a value that isn't of the metric's datatype. Nothing changes. Takes no memory.
     pub fn would_set(&self, alias: Alias, value: &Option<Value>) -> Result<Outcome, Refusal>
-        ensures change { IfOk result (λ c. c ≡ step.set_change self.now alias (option_map typed_view value.now)) }
+        ensures change { IfOk result
+            (λ c. c ≡ step.set_change self.now alias (option_map typed_view value.now)) }
         ensures accepted { OnOk result (
             step.set_refusal self.now alias (option_map typed_view value.now) ≡ None) }
         ensures refused { IfErr result (λ r.
@@ -35,7 +36,8 @@ impl Registry {
     /// Sets the value of a metric: Same where that is its value already. Refuses what `would_set` says, and nothing has
     /// changed then. Takes no memory.
     pub fn set(&mut self, alias: Alias, value: Option<Value>) -> Result<Outcome, Refusal>
-        ensures change { IfOk result (λ c. c ≡ step.set_change self.old alias (option_map typed_view value)) }
+        ensures change { IfOk result
+            (λ c. c ≡ step.set_change self.old alias (option_map typed_view value)) }
         ensures done { OnOk result (
             self.new ≡ step.with_value self.old alias (option_map typed_view value)) }
         ensures accepted { OnOk result (

@@ -3,7 +3,7 @@ use spk_device::Alias;
 use spk_payload::Value;
 
 /// What an edge node is asked to do, or told.
-#[derive(Clone, Copy)]
+#[derive(Clone, Copy, Debug)]
 pub enum Act<'a> {
     /// A connection is to be opened.
     Open,
@@ -31,7 +31,7 @@ pub enum Act<'a> {
 
 /// An act at a moment, in milliseconds since 1970, and the identifier of the message that brought it, where that is to
 /// be acknowledged. A cut has the moment 0.
-#[derive(Clone, Copy)]
+#[derive(Clone, Copy, Debug)]
 pub struct Input<'a> {
     pub now: u64,
     pub ack: Option<u16>,

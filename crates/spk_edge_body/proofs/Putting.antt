@@ -1,11 +1,18 @@
 -- Frames that were put one behind the other.
-use Rattle.std.proofs.Common.{◌≡◌, ◌∙◌, ap, sym, refl, ℕ, ◌+◌, arith, List, [], ◌∷◌, ◌++◌, map}
+use Rattle.std.proofs.Common.{◌≡◌, ◌∙◌, ap, sym, refl, ℕ, ◌+◌, arith, true, false, cond, Err, List, [], ◌∷◌, ◌++◌, map}
+use Rattle.std.specs.List.{count_by}
 use Rattle.std.proofs.lemmas.List.{append_assoc, append-nil, map-append}
+use Rattle.std.proofs.lemmas.List.Sums.{sum_by-append}
 use Rattle.spk_ingress.specs.Passes.{frames_put}
+use Rattle.spk_ingress.specs.declared.channel.Ingress.{Ingress}
+use Rattle.spk_ingress.specs.declared.channel.PutPass.{PutPass}
 use Rattle.spk_ingress.specs.declared.frame.Frame.{Frame}
 use Rattle.spk_ingress.specs.declared.frame.Frame.TheVariants as frame
-use Rattle.spk_edge_body.specs.At.{HasPut}
-use Rattle.spk_edge_body.specs.Frames.{cuts_in}
+use Rattle.spk_plan.specs.declared.fault.PlantFault.{PlantFault}
+use Rattle.spk_plan.specs.declared.fault.PlantFault.TheVariants as fault
+use Rattle.spk_edge_body.specs.Done.{is_closed}
+use Rattle.spk_edge_body.specs.At.{HasPut, PutsOn}
+use Rattle.spk_edge_body.specs.Frames.{cuts_in, is_end}
 use Rattle.spk_edge_body.specs.declared.sending.Sender.{Sender}
 
 pub cuts-append : (a b : List Frame) → cuts_in (a ++ b) ≡ cuts_in a + cuts_in b
@@ -18,6 +25,18 @@ cuts-append (frame.End ∷ fs) b = cuts-append fs b
 pub no-cuts : (bs : List (List ℕ)) → cuts_in (map frame.Packet bs) ≡ 0
 no-cuts [] = refl
 no-cuts (b ∷ bs) = no-cuts bs
+
+-- an end of the sender more
+pub ends-more : (fs : List Frame) → count_by is_end (fs ++ frame.End ∷ []) ≡ count_by is_end fs + 1
+ends-more fs =
+    let all : count_by is_end (fs ++ frame.End ∷ []) ≡ count_by is_end fs + (0 + 1) = sum_by-append (λ x. cond (is_end x) 1 0) fs (frame.End ∷ []) in omega arith
+
+-- a run that ended since the taker is gone isn't told as another
+pub open-not : (e : PlantFault) → is_closed (Err e) ≡ false → e ≡ fault.Closed → ⊥
+open-not e still is = let yes : is_closed (Err e) ≡ true = ap (λ f. is_closed (Err f)) is in cc
+
+pub puts-then : (n : Ingress) (a b c : PutPass) → PutsOn n a b → PutsOn n b c → PutsOn n a c
+puts-then n a b c f g = record { into = g.into; sender = g.sender ∙ f.sender; ends = g.ends ∙ f.ends }
 
 pub put-nothing : (a : Sender) → HasPut a a []
 put-nothing a = record { put = sym (append-nil (frames_put a.pass)); cuts = omega arith }

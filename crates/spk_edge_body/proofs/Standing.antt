@@ -19,6 +19,7 @@ use Rattle.spk_edge_body.specs.At.{HasPut, Origin, Stands}
 use Rattle.spk_edge_body.specs.Frames.{cut_if, cuts_in, frames_at, frames_of, is_cut}
 use Rattle.spk_edge_body.specs.Taking.{IsPassed, IsTaken}
 use Rattle.spk_edge_body.specs.Told.{newest_first, told_view}
+use Rattle.spk_edge_body.specs.Vain.{in_vain, vain_after}
 use Rattle.spk_edge_body.specs.declared.desk.Desk.{Desk}
 use Rattle.spk_edge_body.specs.declared.told.Told.{Told}
 use Rattle.spk_edge_body.proofs.Putting.{cuts-append}
@@ -31,21 +32,23 @@ pub told-count : (o : Origin) (is : List Input) (d : Desk) → Stands o is d →
 told-count o is d h = sym (simp (length-reverse, length-map) at (ap (λ (l : List Input). length l) (sym h.inputs)))
 
 pub stands-same : (o : Origin) (is : List Input) (d e : Desk) → e.node ≡ d.node → e.inputs.items ≡ d.inputs.items → e.published.items ≡ d.published.items → e.sender ≡ d.sender
-    → Stands o is d → Stands o is e
-stands-same o is d e node inputs messages sender h = record {
+    → e.in_vain ≡ d.in_vain → Stands o is d → Stands o is e
+stands-same o is d e node inputs messages sender vain h = record {
   node = node ∙ h.node;
   inputs = ap newest_first inputs ∙ h.inputs;
   messages = ap (λ ms. map message_view ms) messages ∙ h.messages;
   whole = h.whole;
   frames = ap (λ x. frames_put x.pass) sender ∙ h.frames;
   cuts = ap (λ x. x.cuts) sender ∙ h.cuts;
+  vain = vain ∙ h.vain;
 }
 
 pub stands-taken : (o : Origin) (is : List Input) (d e : Desk) (told : Told) (p : Plan) → Stands o is d → IsTaken o.setup is (told_view told) p
     → e.node ≡ patched d.node p → e.inputs.items ≡ d.inputs.items ++ told ∷ [] → e.published.items ≡ d.published.items ++ p.messages.items
     → HasPut d.sender e.sender (map Packet (map bytes_of p.out.packets.items) ++ cut_if (is_cut (told_view told).act || p.out.close))
+    → e.in_vain ≡ vain_after (told_view told).act false d.in_vain
     → Stands o (told_view told ∷ is) e
-stands-taken o is d e told p h t node inputs messages put =
+stands-taken o is d e told p h t node inputs messages put vain =
     let fs : List Frame = map Packet (map bytes_of p.out.packets.items) ++ cut_if (is_cut (told_view told).act || p.out.close) in
     record {
       node = node ∙ ap (λ n. patched n p) h.node ∙ t.stands;
@@ -57,12 +60,14 @@ stands-taken o is d e told p h t node inputs messages put =
           ∙ ap (λ (gs : List Frame). frames_put o.pass ++ (frames_of o.setup is ++ gs)) (sym t.frames);
       cuts = put.cuts ∙ ap (λ n. n + cuts_in fs) h.cuts ∙ sym (cuts-append (frames_of o.setup is) fs)
           ∙ ap (λ (gs : List Frame). cuts_in (frames_of o.setup is ++ gs)) (sym t.frames);
+      vain = vain ∙ ap (λ (b : Bool). vain_after (told_view told).act false b) h.vain
+          ∙ ap (λ (r : Bool). vain_after (told_view told).act r (in_vain o.setup is)) (sym t.done);
     }
 
 pub stands-passed : (o : Origin) (is : List Input) (d e : Desk) (told : Told) → Stands o is d → IsPassed o.setup is (told_view told)
     → e.node ≡ d.node → e.inputs.items ≡ d.inputs.items ++ told ∷ [] → e.published.items ≡ d.published.items → e.sender ≡ d.sender
-    → Stands o (told_view told ∷ is) e
-stands-passed o is d e told h t node inputs messages sender = record {
+    → e.in_vain ≡ vain_after (told_view told).act true d.in_vain → Stands o (told_view told ∷ is) e
+stands-passed o is d e told h t node inputs messages sender vain = record {
   node = node ∙ h.node ∙ sym t.stands;
   inputs = ap newest_first inputs ∙ newest-snoc d.inputs.items told ∙ ap (λ (l : List Input). told_view told ∷ l) h.inputs;
   messages = ap (λ ms. map message_view ms) messages ∙ h.messages ∙ ap (λ (r : List Done). messages_from o.setup (published r) 0) (sym t.run);
@@ -71,6 +76,8 @@ stands-passed o is d e told h t node inputs messages sender = record {
       ∙ ap (λ (gs : List Frame). frames_put o.pass ++ (frames_of o.setup is ++ gs)) (sym t.frames);
   cuts = ap (λ x. x.cuts) sender ∙ h.cuts ∙ ap cuts_in (sym (append-nil (frames_of o.setup is)))
       ∙ ap (λ (gs : List Frame). cuts_in (frames_of o.setup is ++ gs)) (sym t.frames);
+  vain = vain ∙ ap (λ (b : Bool). vain_after (told_view told).act true b) h.vain
+      ∙ ap (λ (r : Bool). vain_after (told_view told).act r (in_vain o.setup is)) (sym t.refused);
 }
 
 -- ---- what telling comes to
@@ -81,11 +88,12 @@ Passes = (s : Setup) (is : List Input) (i : Input) (fault : EdgeFault) → IsRef
 pub tell-passed : (o : Origin) (is : List Input) (d e : Desk) (told : Told) (i : Input) (fault : EdgeFault) → told_view told ≡ i → Passes → Stands o is d
     → IsRefusal d.node i fault → (fault ≡ NoMemory → ⊥)
     → e.node ≡ d.node → e.inputs.items ≡ d.inputs.items ++ told ∷ [] → e.published.items ≡ d.published.items → e.sender ≡ d.sender
+    → e.in_vain ≡ vain_after (told_view told).act true d.in_vain
     → Stands o (i ∷ is) e × (true ≡ is_err (right_at o.setup (run_of o.setup is) i))
-tell-passed o is d e told i fault same law h refusal memory node inputs messages sender =
+tell-passed o is d e told i fault same law h refusal memory node inputs messages sender vain =
     let passed : IsPassed o.setup is i = law o.setup is i fault (subst (λ (n : NodeData). IsRefusal n i fault) h.node refusal) memory in (
       subst (λ (j : Input). Stands o (j ∷ is) e) same
-          (stands-passed o is d e told h (subst (IsPassed o.setup is) (sym same) passed) node inputs messages sender),
+          (stands-passed o is d e told h (subst (IsPassed o.setup is) (sym same) passed) node inputs messages sender vain),
       sym passed.refused,
     )
 

@@ -10,16 +10,18 @@ use Rattle.spk_edge_rules.specs.Config.{Config, Setup}
 use Rattle.spk_edge_rules.specs.Inputs.{Input, Pass}
 use Rattle.spk_edge_rules.specs.Run.{published, run_of}
 use Rattle.spk_ingress.specs.Frame.{IsOnePacket}
-use Rattle.spk_ingress.specs.Passes.{frames_put}
+use Rattle.spk_ingress.specs.Passes.{PutsInto, frames_put}
+use Rattle.spk_ingress.specs.declared.channel.Ingress.{Ingress}
 use Rattle.spk_ingress.specs.declared.channel.PutPass.{PutPass}
 use Rattle.spk_ingress.specs.declared.frame.Frame.{Frame}
 use Rattle.spk_rings.specs.Ring.{SameInlet, popped}
 use Rattle.spk_rings.specs.declared.inlet.Inlet.{Inlet}
 use Rattle.spk_rings.specs.declared.item.Item.{Item}
-use Rattle.spk_edge_body.specs.Frames.{cuts_in, frames_of}
+use Rattle.spk_edge_body.specs.Frames.{cuts_in, ends_put, frames_of}
 use Rattle.spk_edge_body.specs.Log.{Move, Asks, Hears, Passes, IsLog, inputs_of, items_of}
 use Rattle.spk_edge_body.specs.Script.{AreDrains, Asked, was_refused}
 use Rattle.spk_edge_body.specs.Told.{newest_first}
+use Rattle.spk_edge_body.specs.Vain.{in_vain}
 use Rattle.spk_edge_body.specs.declared.desk.Desk.{Desk}
 use Rattle.spk_edge_body.specs.declared.sending.Sender.{Sender}
 
@@ -28,6 +30,12 @@ pub record Origin : Type 0 where
   pub setup : Setup
   pub pass : PutPass
   pub inlet : Inlet
+
+-- the same sender's pass, of this ingress; no end of the sender was put since
+pub record PutsOn (n : Ingress) (a b : PutPass) : Type 0 where
+  pub into : PutsInto n b
+  pub sender : b.sender ≡ a.sender
+  pub ends : ends_put b ≡ ends_put a
 
 -- it put these frames
 pub record HasPut (a b : Sender) (frames : List Frame) : Type 0 where
@@ -42,6 +50,7 @@ pub record Stands (o : Origin) (is : List Input) (d : Desk) : Type 0 where
   pub whole : AllWhole o.setup (published (run_of o.setup is))
   pub frames : frames_put d.sender.pass ≡ frames_put o.pass ++ frames_of o.setup is
   pub cuts : d.sender.cuts ≡ cuts_in (frames_of o.setup is)
+  pub vain : d.in_vain ≡ in_vain o.setup is
 
 -- this is what was done
 pub record IsAt (o : Origin) (log : List Move) (d : Desk) : Type 0 where

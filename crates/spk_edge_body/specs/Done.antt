@@ -1,5 +1,5 @@
 -- What an edge's thread hands on at its end.
-use Rattle.std.specs.Prelude.{◌≡◌, ◌⊎◌, List, [], ◌∷◌, ◌++◌, map}
+use Rattle.std.specs.Prelude.{◌≡◌, ◌⊎◌, ◌+◌, Bool, true, false, List, [], ◌∷◌, ◌++◌, map, Result, Ok, Err}
 use Rattle.spk_edge.specs.Along.{AllWhole, messages_from, node_of}
 use Rattle.spk_edge.specs.View.{message_view}
 use Rattle.spk_edge_rules.specs.Config.{Setup}
@@ -8,10 +8,11 @@ use Rattle.spk_ingress.specs.declared.channel.Ingress.{Ingress}
 use Rattle.spk_ingress.specs.declared.frame.Frame.{Frame}
 use Rattle.spk_ingress.specs.declared.frame.Frame.TheVariants.{End}
 use Rattle.spk_ingress.specs.Passes.{PutsInto, frames_put}
-use Rattle.spk_plan.specs.declared.fault.PlantFault.TheVariants.{NoMemory, Closed}
+use Rattle.spk_plan.specs.declared.fault.PlantFault.{PlantFault}
+use Rattle.spk_plan.specs.declared.fault.PlantFault.TheVariants.{NoMemory, Closed, BadPlan, Unsettled}
 use Rattle.spk_plan.specs.declared.script.Step.TheVariants.{Stop}
 use Rattle.spk_rings.specs.Ring.{SameInlet, ahead, popped}
-use Rattle.spk_edge_body.specs.Frames.{frames_of}
+use Rattle.spk_edge_body.specs.Frames.{ends_put, frames_of}
 use Rattle.spk_edge_body.specs.Log.{Move, IsLog, inputs_of, items_of}
 use Rattle.spk_edge_body.specs.Script.{Leads}
 use Rattle.spk_edge_body.specs.Told.{newest_first}
@@ -34,10 +35,21 @@ pub record EdgeDone (s : Setup) (start : EdgeStart) (end : EdgeEnd) : Type 0 whe
   pub inlet : SameInlet start.inlet end.inlet
   pub emptied : ahead end.inlet ≡ []
 
+-- ---- a run that failed
+
 -- the last frame is the sender's end
 abbrev pub IsEnded : List Frame → Type 0
 IsEnded put = (frames : List Frame) × (put ≡ frames ++ End ∷ [])
 
--- An edge failed: for memory, and then its last frame is its end all the same; or the frames' taker is gone.
-abbrev pub EdgeFailed : EdgeFailure → Type 0
-EdgeFailed f = (f.fault ≡ Closed) ⊎ ((f.fault ≡ NoMemory) × IsEnded (frames_put f.pass))
+-- the frames' taker is gone
+abbrev pub is_closed : Result (Unit {0}) PlantFault → Bool
+is_closed (Ok done) = false
+is_closed (Err NoMemory) = false
+is_closed (Err Closed) = true
+is_closed (Err BadPlan) = false
+is_closed (Err Unsettled) = false
+
+-- An edge failed: for memory, and then its end is put all the same, once and last; or the frames' taker is gone, and then no end is put.
+abbrev pub EdgeFailed : EdgeStart → EdgeFailure → Type 0
+EdgeFailed start f = ((f.fault ≡ Closed) × (ends_put f.pass ≡ ends_put start.pass))
+    ⊎ ((f.fault ≡ NoMemory) × IsEnded (frames_put f.pass) × (ends_put f.pass ≡ ends_put start.pass + 1))

@@ -1,5 +1,5 @@
 -- The frames that an edge node's inputs give: its packets, and the ends of its connections (own rule).
-use Rattle.std.specs.Prelude.{ℕ, ◌+◌, Bool, true, false, ◌||◌, List, [], ◌∷◌, ◌++◌, map, Result, Ok, Err}
+use Rattle.std.specs.Prelude.{ℕ, ◌+◌, Bool, true, false, ◌||◌, List, [], ◌∷◌, ◌++◌, count_by, map, Result, Ok, Err}
 use Rattle.spk_packets.specs.Message as packets
 use Rattle.spk_packets.specs.Spelling.{spelling}
 use Rattle.spk_edge_rules.specs.declared.fault.EdgeFault.{EdgeFault}
@@ -7,6 +7,8 @@ use Rattle.spk_edge_rules.specs.Answers.{Answer}
 use Rattle.spk_edge_rules.specs.Config.{Setup}
 use Rattle.spk_edge_rules.specs.Inputs.{Act, Open, Accepted, Change, Turn, Command, State, Drain, Stop, Cut, TurnedAway, Pass, Input}
 use Rattle.spk_edge_rules.specs.Run.{right_at, run_of}
+use Rattle.spk_ingress.specs.Passes.{frames_put}
+use Rattle.spk_ingress.specs.declared.channel.PutPass.{PutPass}
 use Rattle.spk_ingress.specs.declared.frame.Frame.{Frame}
 use Rattle.spk_ingress.specs.declared.frame.Frame.TheVariants as frame
 
@@ -52,3 +54,14 @@ cuts_in (frame.Packet bytes ∷ fs) = cuts_in fs
 cuts_in (frame.Fault fault ∷ fs) = cuts_in fs
 cuts_in (frame.Cut ∷ fs) = cuts_in fs + 1
 cuts_in (frame.End ∷ fs) = cuts_in fs
+
+-- a sender's own end
+abbrev pub is_end : Frame → Bool
+is_end (frame.Packet bytes) = false
+is_end (frame.Fault fault) = false
+is_end frame.Cut = false
+is_end frame.End = true
+
+-- how many of its own ends a sender put through a pass
+abbrev pub ends_put : PutPass → ℕ
+ends_put p = count_by is_end (frames_put p)

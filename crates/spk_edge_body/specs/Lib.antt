@@ -5,3 +5,4 @@ pub mod Script
 pub mod Done
 pub mod Taking
 pub mod At
+pub mod Vain

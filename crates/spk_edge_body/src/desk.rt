@@ -5,15 +5,16 @@ ghost use Rattle.spk_edge.specs.View.{act_view, input_view};
 ghost use Rattle.spk_edge.specs.Along.{node_of};
 ghost use Rattle.spk_edge_rules.specs.Config.{Setup};
 ghost use Rattle.spk_edge_rules.specs.Inputs as inputs;
-ghost use Rattle.spk_edge_rules.specs.Rules.{is_born};
+ghost use Rattle.spk_edge_rules.specs.Rules.{is_born, is_idle};
 ghost use Rattle.spk_edge_rules.specs.Run.{right_at, run_of};
 ghost use Rattle.spk_ingress.specs.Passes.{PutsInto};
 ghost use Rattle.spk_rings.specs.Ring.{SameInlet, ahead, popped};
-ghost use Rattle.spk_edge_body.specs.At.{Goes, IsAt, IsOf, IsReadAs, Origin, Stands, input_in};
+ghost use Rattle.spk_edge_body.specs.At.{Goes, IsAt, IsOf, IsReadAs, Origin, PutsOn, Stands, input_in};
 ghost use Rattle.spk_edge_body.specs.Frames as frames;
 ghost use Rattle.spk_edge_body.specs.Log.{Asks, MayMove, Move, asked_at, inputs_of};
 ghost use Rattle.spk_edge_body.specs.Script.{Asked, is_refused};
 ghost use Rattle.spk_edge_body.specs.Told.{told_act, told_view};
+ghost use Rattle.spk_edge_body.specs.Vain as vain;
 
 use crate::laws::stepping;
 use crate::sending::Sender;
@@ -39,7 +40,7 @@ pub(crate) struct Desk {
     pub(crate) published: Vec<Published>,
     pub(crate) sender: Sender,
     pub(crate) inlet: Inlet,
-    /// Whether the last STATE since the connection was opened was offline, or was refused.
+    /// Whether the last STATE since a connection was opened was offline, or was refused.
     pub(crate) in_vain: bool,
 }
 
@@ -109,7 +110,8 @@ fn packet_of(alloc: Global, bytes: &[u8]) -> Result<Option<Packet>, PlantFault>
 
 /// Whether a STATE says that its host is offline, or can't be read.
 fn is_offline(alloc: Global, payload: &[u8]) -> Result<bool, PlantFault>
-    ensures { IfErr result (λ e. e ≡ PlantFault.NoMemory) }
+    ensures offline { IfOk result (λ b. b ≡ vain.is_offline payload.now) }
+    ensures fault { IfErr result (λ e. e ≡ PlantFault.NoMemory) }
 {
     match State::decode(alloc, payload) {
         Ok(state) => Ok(!state.online),
@@ -179,6 +181,18 @@ impl Desk {
         }
     }
 
+    /// Whether a node that was told this would wait for its births in vain.
+    fn waits_in_vain(&self, act: &ToldAct, refused: bool) -> Result<bool, PlantFault>
+        ensures vain { IfOk result (λ b. b ≡ vain.vain_after (told_act act.now) refused self.now.in_vain) }
+        ensures fault { IfErr result (λ e. e ≡ PlantFault.NoMemory) }
+    {
+        match act {
+            ToldAct::Open => Ok(refused && self.in_vain),
+            ToldAct::State(payload) => Ok(refused || is_offline(self.alloc, payload.as_slice())?),
+            _ => Ok(self.in_vain),
+        }
+    }
+
     /// Takes a plan up, and puts what it gives: its packets, then Cut where the connection is gone or closed by it.
     fn take_up<R: Wait, G: Gate>(
         &mut self,
@@ -189,14 +203,15 @@ impl Desk {
         plan: Plan,
     ) -> Result<(), PlantFault>
         requires { PutsInto ingress.now self.old.sender.pass }
-        ensures pass { PutsInto ingress.now self.new.sender.pass
-            × (self.new.sender.pass.sender ≡ self.old.sender.pass.sender) }
+        ensures pass { PutsOn ingress.now self.old.sender.pass self.new.sender.pass }
         ensures taken { OnOk result ((o : Origin) (is : List inputs.Input) → Stands o is self.old
             → IsPlan self.old.node (told_view told) plan → Stands o (told_view told ∷ is) self.new) }
         ensures inlet { self.new.inlet ≡ self.old.inlet }
         ensures fault { IfErr result (λ e. (e ≡ PlantFault.NoMemory) ⊎ (e ≡ PlantFault.Closed)) }
     {
         stepping();
+        let in_vain = self.waits_in_vain(&told.act, false)?;
+        self.in_vain = in_vain;
         let Taken { out, mut messages } = self.node.take_up(plan);
         let is_over = is_over(&told.act, &out);
         self.inputs.push(told)?;
@@ -215,8 +230,7 @@ impl Desk {
         input: Input<'_>,
     ) -> Result<bool, PlantFault>
         requires { PutsInto ingress.now self.old.sender.pass }
-        ensures pass { PutsInto ingress.now self.new.sender.pass
-            × (self.new.sender.pass.sender ≡ self.old.sender.pass.sender) }
+        ensures pass { PutsOn ingress.now self.old.sender.pass self.new.sender.pass }
         ensures told { IfOk result (λ refused. (o : Origin) (is : List inputs.Input) → Stands o is self.old
             → Stands o (input_view input.entry ∷ is) self.new
             × (refused ≡ is_err (right_at o.setup (run_of o.setup is) (input_view input.entry)))) }
@@ -229,6 +243,8 @@ impl Desk {
             Ok(plan) => plan,
             Err(fault) => {
                 unless_memory(fault)?;
+                let in_vain = self.waits_in_vain(&told.act, true)?;
+                self.in_vain = in_vain;
                 self.inputs.push(told)?;
                 return Ok(true);
             }
@@ -246,8 +262,7 @@ impl Desk {
         act: Act<'_>,
     ) -> Result<bool, PlantFault>
         requires { PutsInto ingress.now self.old.sender.pass }
-        ensures pass { PutsInto ingress.now self.new.sender.pass
-            × (self.new.sender.pass.sender ≡ self.old.sender.pass.sender) }
+        ensures pass { PutsOn ingress.now self.old.sender.pass self.new.sender.pass }
         ensures asked { IfOk result (λ refused. Goes (λ s before after.
             (after ≡ Asks (asked_at before (act_view act.entry)) ∷ before)
             × (refused ≡ is_refused s before (asked_at before (act_view act.entry)))) self.old self.new) }
@@ -264,18 +279,6 @@ impl Desk {
         Ok(refused)
     }
 
-    /// Notes what a STATE means for a node that waits for its births.
-    fn note_state(&mut self, act: Act<'_>, refused: bool) -> Result<(), PlantFault>
-        ensures same { (o : Origin) (is : List inputs.Input) → Stands o is self.old → Stands o is self.new }
-        ensures rest { (self.new.inlet ≡ self.old.inlet) × (self.new.sender ≡ self.old.sender) }
-        ensures fault { IfErr result (λ e. e ≡ PlantFault.NoMemory) }
-    {
-        if let Act::State(payload) = act {
-            self.in_vain = refused || is_offline(self.alloc, payload)?;
-        }
-        Ok(())
-    }
-
     /// The node hears a packet, or bytes that are none, which ask for nothing.
     fn hear_packet<R: Wait, G: Gate>(
         &mut self,
@@ -285,16 +288,14 @@ impl Desk {
         packet: &Option<Packet>,
     ) -> Result<(), PlantFault>
         requires { PutsInto ingress.now self.old.sender.pass }
-        ensures pass { PutsInto ingress.now self.new.sender.pass
-            × (self.new.sender.pass.sender ≡ self.old.sender.pass.sender) }
+        ensures pass { PutsOn ingress.now self.old.sender.pass self.new.sender.pass }
         ensures heard { OnOk result ((o : Origin) (is : List inputs.Input) → Stands o is self.old
             → Stands o (input_in o.setup.config (1000000 + length is) packet.now ∷ is) self.new) }
         ensures inlet { self.new.inlet ≡ self.old.inlet }
         ensures fault { IfErr result (λ e. (e ≡ PlantFault.NoMemory) ⊎ (e ≡ PlantFault.Closed)) }
     {
         let input = self.input_for(self.now(), packet);
-        let refused = self.tell(rt, gate, ingress, input)?;
-        self.note_state(input.act, refused)?;
+        self.tell(rt, gate, ingress, input)?;
         Ok(())
     }
 
@@ -307,8 +308,7 @@ impl Desk {
         item: Item,
     ) -> Result<(), PlantFault>
         requires { PutsInto ingress.now self.old.sender.pass }
-        ensures pass { PutsInto ingress.now self.new.sender.pass
-            × (self.new.sender.pass.sender ≡ self.old.sender.pass.sender) }
+        ensures pass { PutsOn ingress.now self.old.sender.pass self.new.sender.pass }
         ensures heard { OnOk result ((o : Origin) (log : List Move) → Stands o (inputs_of log) self.old
             → (move : Move) × Stands o (inputs_of (move ∷ log)) self.new × MayMove o.setup log move
             × IsOf item move) }
@@ -331,8 +331,7 @@ impl Desk {
         ingress: &Ingress,
     ) -> Result<bool, PlantFault>
         requires { PutsInto ingress.now self.old.sender.pass }
-        ensures pass { PutsInto ingress.now self.new.sender.pass
-            × (self.new.sender.pass.sender ≡ self.old.sender.pass.sender) }
+        ensures pass { PutsOn ingress.now self.old.sender.pass self.new.sender.pass }
         ensures read { OnOk result (Goes (λ s before after. Asked [] before after) self.old self.new) }
         ensures none { result ≡ Ok false → ahead self.new.inlet ≡ [] }
         ensures fault { IfErr result (λ e. (e ≡ PlantFault.NoMemory) ⊎ (e ≡ PlantFault.Closed)) }
@@ -352,8 +351,7 @@ impl Desk {
         ingress: &Ingress,
     ) -> Result<(), PlantFault>
         requires { PutsInto ingress.now self.old.sender.pass }
-        ensures pass { PutsInto ingress.now self.new.sender.pass
-            × (self.new.sender.pass.sender ≡ self.old.sender.pass.sender) }
+        ensures pass { PutsOn ingress.now self.old.sender.pass self.new.sender.pass }
         ensures read { OnOk result (Goes (λ s before after. Asked [] before after) self.old self.new) }
         ensures emptied { OnOk result (ahead self.new.inlet ≡ []) }
         ensures fault { IfErr result (λ e. (e ≡ PlantFault.NoMemory) ⊎ (e ≡ PlantFault.Closed)) }
@@ -375,7 +373,10 @@ impl Desk {
     }
 
     /// Whether there is nothing to wait for: the node is born or idle, or its host is offline.
-    pub(crate) fn is_settled(&self) -> bool {
+    pub(crate) fn is_settled(&self) -> bool
+        ensures { result ≡ (self.now.in_vain || is_born self.now.node.standing.asked.phase
+            || is_idle self.now.node.standing.asked.phase) }
+    {
         self.in_vain || self.node.phase() == Phase::Born || self.node.phase() == Phase::Idle
     }
 

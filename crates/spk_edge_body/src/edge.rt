@@ -8,11 +8,12 @@ ghost use Rattle.spk_edge_body.specs.Done.{EdgeDone, EdgeFailed};
 use crate::desk::Desk;
 use crate::told::Told;
 use spk_edge::{EdgeNode, Published};
-use spk_ingress::{Frame, Ingress, PutPass};
+use spk_ingress::{Ingress, PutPass};
 use spk_plan::{Gate, PlantFault, Step};
 use spk_rings::Inlet;
 use std::alloc::Global;
 use std::sync::Wait;
+use std::thread::Parker;
 
 /// What an edge node's thread begins with.
 #[derive(Drop)]
@@ -49,17 +50,19 @@ pub struct EdgeFailure {
 }
 
 /// Runs an edge node's script: it reads its ring before each step and does the step, each at the moment 1,000,000 and the number of its
-/// inputs so far; then it stops, and puts End. What the node answers is put packet by packet, and Cut where its connection is
+/// inputs so far; then it stops, and puts End. While it waits for its births and its ring is empty, the thread is parked at this
+/// bell: who offers to the ring, or drops it, unparks the bell afterwards. What the node answers is put packet by packet, and Cut where its connection is
 /// gone, or closed by it. A step that the node refuses is passed over, and so are items of a connection that was ended since
 /// (own rules).
 ///
-/// Refused for want of memory, with End put all the same; and with Closed (90), where the frames' taker is gone. The pass must be of this
-/// ingress.
+/// Refused for want of memory, with End put all the same; and with Closed (90), where the frames' taker is gone, and then End isn't put.
+/// So the frames put tell which it is. The pass must be of this ingress.
 pub fn run_edge<R: Wait, G: Gate>(
     rt: &R,
     alloc: Global,
     ingress: &Ingress,
     gate: &G,
+    bell: &Parker,
     start: EdgeStart,
 ) -> Result<EdgeEnd, EdgeFailure>
     requires { PutsInto ingress.now start.pass }
@@ -67,7 +70,7 @@ pub fn run_edge<R: Wait, G: Gate>(
     ensures done { (s : Setup) → start.node ≡ node_of s [] → IfOk result (EdgeDone s start) }
     ensures pass { IfOk result (λ e. PutsInto ingress.now e.pass
         × (e.pass.sender ≡ start.pass.sender)) }
-    ensures failed { IfErr result EdgeFailed }
+    ensures failed { IfErr result (EdgeFailed start) }
     ensures failed_pass { IfErr result (λ e. PutsInto ingress.now e.pass
         × (e.pass.sender ≡ start.pass.sender)) }
 {
@@ -79,8 +82,8 @@ pub fn run_edge<R: Wait, G: Gate>(
         inlet,
     } = start;
     let mut desk = Desk::new(alloc, node, pass, place, inlet);
-    let ran = desk.run(rt, gate, ingress, &script);
-    let put = desk.sender.put(rt, gate, ingress, Frame::End);
+    let ran = desk.run(rt, gate, ingress, bell, &script);
+    let put = desk.sender.end(rt, gate, ingress, &ran);
     let Desk {
         node,
         inputs,

@@ -6,7 +6,7 @@ ghost use Rattle.spk_edge_rules.specs.Inputs as inputs;
 ghost use Rattle.spk_ingress.specs.Passes.{PutsInto};
 ghost use Rattle.spk_plan.specs.declared.script.Step.TheVariants as step;
 ghost use Rattle.spk_rings.specs.Ring.{ahead};
-ghost use Rattle.spk_edge_body.specs.At.{Goes};
+ghost use Rattle.spk_edge_body.specs.At.{Goes, PutsOn};
 ghost use Rattle.spk_edge_body.specs.Script.{Asked, Drained, Leads, StepLeads, ramp, number_of};
 
 use crate::desk::Desk;
@@ -16,7 +16,7 @@ use spk_ingress::Ingress;
 use spk_payload::Value;
 use spk_plan::{Gate, PlantFault, Sort, Step};
 use std::sync::Wait;
-use std::thread;
+use std::thread::Parker;
 
 /// A whole number as a value.
 fn value_of(sort: Sort, number: u32) -> Value
@@ -38,8 +38,7 @@ impl Desk {
         act: Act<'_>,
     ) -> Result<bool, PlantFault>
         requires { PutsInto ingress.now self.old.sender.pass }
-        ensures pass { PutsInto ingress.now self.new.sender.pass
-            × (self.new.sender.pass.sender ≡ self.old.sender.pass.sender) }
+        ensures pass { PutsOn ingress.now self.old.sender.pass self.new.sender.pass }
         ensures asked { OnOk result (Goes (λ s before after.
             Asked (act_view act.entry ∷ []) before after) self.old self.new) }
         ensures emptied { OnOk result (ahead self.new.inlet ≡ []) }
@@ -50,7 +49,7 @@ impl Desk {
         Ok(refused)
     }
 
-    /// Opens a connection. What was heard of the host before says nothing any more.
+    /// Opens a connection.
     fn open<R: Wait, G: Gate>(
         &mut self,
         rt: &R,
@@ -58,27 +57,25 @@ impl Desk {
         ingress: &Ingress,
     ) -> Result<(), PlantFault>
         requires { PutsInto ingress.now self.old.sender.pass }
-        ensures pass { PutsInto ingress.now self.new.sender.pass
-            × (self.new.sender.pass.sender ≡ self.old.sender.pass.sender) }
+        ensures pass { PutsOn ingress.now self.old.sender.pass self.new.sender.pass }
         ensures asked { OnOk result (Goes (λ s before after.
             Asked (inputs.Open ∷ []) before after) self.old self.new) }
         ensures fault { IfErr result (λ e. (e ≡ PlantFault.NoMemory) ⊎ (e ≡ PlantFault.Closed)) }
     {
-        let refused = self.once(rt, gate, ingress, Act::Open)?;
-        self.in_vain = refused && self.in_vain;
+        self.once(rt, gate, ingress, Act::Open)?;
         Ok(())
     }
 
-    /// Reads the ring until there is nothing to wait for, or the ring is gone.
+    /// Reads the ring until there is nothing to wait for, or the ring is gone; between, the thread is parked.
     fn await_births<R: Wait, G: Gate>(
         &mut self,
         rt: &R,
         gate: &G,
         ingress: &Ingress,
+        bell: &Parker,
     ) -> Result<(), PlantFault>
         requires { PutsInto ingress.now self.old.sender.pass }
-        ensures pass { PutsInto ingress.now self.new.sender.pass
-            × (self.new.sender.pass.sender ≡ self.old.sender.pass.sender) }
+        ensures pass { PutsOn ingress.now self.old.sender.pass self.new.sender.pass }
         ensures asked { OnOk result (Goes (λ s before after. Asked [] before after) self.old self.new) }
         ensures fault { IfErr result (λ e. (e ≡ PlantFault.NoMemory) ⊎ (e ≡ PlantFault.Closed)) }
     {
@@ -88,7 +85,7 @@ impl Desk {
             if is_gone || self.is_settled() {
                 return Ok(());
             }
-            thread::yield_now();
+            bell.park(rt);
         }
         unreachable!()
     }
@@ -104,8 +101,7 @@ impl Desk {
         changes: u32,
     ) -> Result<(), PlantFault>
         requires { PutsInto ingress.now self.old.sender.pass }
-        ensures pass { PutsInto ingress.now self.new.sender.pass
-            × (self.new.sender.pass.sender ≡ self.old.sender.pass.sender) }
+        ensures pass { PutsOn ingress.now self.old.sender.pass self.new.sender.pass }
         ensures asked { OnOk result (Goes (λ s before after.
             Asked (ramp alias sort changes) before after) self.old self.new) }
         ensures fault { IfErr result (λ e. (e ≡ PlantFault.NoMemory) ⊎ (e ≡ PlantFault.Closed)) }
@@ -125,8 +121,7 @@ impl Desk {
         ingress: &Ingress,
     ) -> Result<(), PlantFault>
         requires { PutsInto ingress.now self.old.sender.pass }
-        ensures pass { PutsInto ingress.now self.new.sender.pass
-            × (self.new.sender.pass.sender ≡ self.old.sender.pass.sender) }
+        ensures pass { PutsOn ingress.now self.old.sender.pass self.new.sender.pass }
         ensures drained { OnOk result (Goes (λ s before after. Drained s before after) self.old self.new) }
         ensures fault { IfErr result (λ e. (e ≡ PlantFault.NoMemory) ⊎ (e ≡ PlantFault.Closed)) }
     {
@@ -150,8 +145,7 @@ impl Desk {
         ingress: &Ingress,
     ) -> Result<(), PlantFault>
         requires { PutsInto ingress.now self.old.sender.pass }
-        ensures pass { PutsInto ingress.now self.new.sender.pass
-            × (self.new.sender.pass.sender ≡ self.old.sender.pass.sender) }
+        ensures pass { PutsOn ingress.now self.old.sender.pass self.new.sender.pass }
         ensures drained { OnOk result (Goes (λ s before after. StepLeads s step.Drain before after)
             self.old self.new) }
         ensures fault { IfErr result (λ e. (e ≡ PlantFault.NoMemory) ⊎ (e ≡ PlantFault.Closed)) }
@@ -167,18 +161,18 @@ impl Desk {
         rt: &R,
         gate: &G,
         ingress: &Ingress,
+        bell: &Parker,
         step: &Step,
     ) -> Result<(), PlantFault>
         requires { PutsInto ingress.now self.old.sender.pass }
-        ensures pass { PutsInto ingress.now self.new.sender.pass
-            × (self.new.sender.pass.sender ≡ self.old.sender.pass.sender) }
+        ensures pass { PutsOn ingress.now self.old.sender.pass self.new.sender.pass }
         ensures led { OnOk result (Goes (λ s before after. StepLeads s step.now before after)
             self.old self.new) }
         ensures fault { IfErr result (λ e. (e ≡ PlantFault.NoMemory) ⊎ (e ≡ PlantFault.Closed)) }
     {
         let act = match step {
             Step::Open => return self.open(rt, gate, ingress),
-            Step::Born => return self.await_births(rt, gate, ingress),
+            Step::Born => return self.await_births(rt, gate, ingress, bell),
             Step::Ramp {
                 alias,
                 sort,
@@ -200,18 +194,18 @@ impl Desk {
         rt: &R,
         gate: &G,
         ingress: &Ingress,
+        bell: &Parker,
         script: &[Step],
     ) -> Result<(), PlantFault>
         requires { PutsInto ingress.now self.old.sender.pass }
-        ensures pass { PutsInto ingress.now self.new.sender.pass
-            × (self.new.sender.pass.sender ≡ self.old.sender.pass.sender) }
+        ensures pass { PutsOn ingress.now self.old.sender.pass self.new.sender.pass }
         ensures led { OnOk result (Goes (λ s before after.
             Leads s (script.now ++ step.Stop ∷ []) before after) self.old self.new) }
         ensures emptied { OnOk result (ahead self.new.inlet ≡ []) }
         ensures fault { IfErr result (λ e. (e ≡ PlantFault.NoMemory) ⊎ (e ≡ PlantFault.Closed)) }
     {
         for step in script {
-            self.run_step(rt, gate, ingress, step)?;
+            self.run_step(rt, gate, ingress, bell, step)?;
         }
         self.once(rt, gate, ingress, Act::Stop)?;
         Ok(())

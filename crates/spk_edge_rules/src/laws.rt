@@ -27,7 +27,8 @@ pub fn any_list()
         answer_at s.config (standing_of s is) i ≡ right_at s (run_of s is) i }
 
     // and what the rules look at is what was set, kept, heard, opened and published so far
-    ensures standing { (s : Setup) (is : List Input) → (standing_of s is).asked ≡ asked_of s (run_of s is) }
+    ensures standing { (s : Setup) (is : List Input)
+        → (standing_of s is).asked ≡ asked_of s (run_of s is) }
 
     // a node that runs after it goes on behind its last message, its last session and its last stamp
     ensures goes_on { (s : Setup) (is : List Input) →
@@ -40,7 +41,8 @@ pub fn any_list()
 
     // what was published is a node record: births one by one, sessions and stamps that never fall, and each NBIRTH newer
     // than all before it
-    ensures record { (s : Setup) (is : List Input) → sequence.IsNodeRecord (outline (published (run_of s is))) }
+    ensures record { (s : Setup) (is : List Input)
+        → sequence.IsNodeRecord (outline (published (run_of s is))) }
 
     // a birth begins exactly where the message is an NBIRTH
     ensures openings { (s : Setup) (is : List Input) (p : ℕ) (m : Message) →
@@ -48,7 +50,8 @@ pub fn any_list()
         sequence.opens (outline (published (run_of s is))) p ≡ opens m.draft }
 
     // each NBIRTH begins with the bdSeq of its session
-    ensures sessions { (s : Setup) (is : List Input) → AllByRecursion (SaysSession s) (published (run_of s is)) }
+    ensures sessions { (s : Setup) (is : List Input)
+        → AllByRecursion (SaysSession s) (published (run_of s is)) }
 
     // a birth lists the metrics of its owner in order of adding, with the values last set
     ensures births { (s : Setup) (is : List Input) (i : Input) (answer : Answer) →
@@ -67,9 +70,11 @@ pub fn any_list()
         link_of (run_of s (i ∷ is)) ≡ Joined }
 
     // no more changes are dropped than are kept, and lost are those overwritten or dropped for a device that is down
-    ensures kept { (s : Setup) (is : List Input) → kept.IsLawful s.capacity (calls_of (run_of s is)) }
+    ensures kept { (s : Setup) (is : List Input)
+        → kept.IsLawful s.capacity (calls_of (run_of s is)) }
     ensures lost { (s : Setup) (is : List Input) →
-        (standing_of s is).asked.store.lost ≡ min (kept.lost_of s.capacity (calls_of (run_of s is))) (2 ^ 64 - 1) }
+        (standing_of s is).asked.store.lost
+        ≡ min (kept.lost_of s.capacity (calls_of (run_of s is))) (2 ^ 64 - 1) }
 {}
 
 /// Of each message that a node published, whatever the node begins with and for every list of inputs, newest first.
@@ -109,16 +114,19 @@ pub fn published()
     // Data and DDEATH of a device stand only where it is born: behind its DBIRTH, which stands in the same session and behind
     // the same NBIRTH, and before its DDEATH. A device that is up, of a node whose births were given, is born.
     ensures devices { (s : Setup) (is : List Input) (p : ℕ) (m : Message) (name : List ℕ) →
-        slice_get (published (run_of s is)) p ≡ Some m → m.draft.device ≡ Some name → is_birth m.draft.verb ≡ false →
+        slice_get (published (run_of s is)) p ≡ Some m → m.draft.device ≡ Some name
+        → is_birth m.draft.verb ≡ false →
         IsAlive name m.birth m.session (take p (published (run_of s is))) }
-    ensures up { (s : Setup) (is : List Input) (n : ℕ) (d : DeviceData) → phase_of (run_of s is) ≡ Born →
+    ensures up { (s : Setup) (is : List Input) (n : ℕ) (d : DeviceData)
+        → phase_of (run_of s is) ≡ Born →
         slice_get (book_of s (run_of s is)).devices n ≡ Some d → d.up ≡ true →
         IsAlive d.name (births_in (published (run_of s is)) - 1) (opened (run_of s is) - 1)
         (published (run_of s is)) }
 
     // and one that isn't up is not, if no two devices of the registry have one name: so its DDEATH is given when it goes down
     ensures down { (s : Setup) (is : List Input) (n : ℕ) (d : DeviceData) → AreNumbered s.book →
-        phase_of (run_of s is) ≡ Born → slice_get (book_of s (run_of s is)).devices n ≡ Some d → d.up ≡ false →
+        phase_of (run_of s is) ≡ Born → slice_get (book_of s (run_of s is)).devices n ≡ Some d
+        → d.up ≡ false →
         IsAlive d.name (births_in (published (run_of s is)) - 1) (opened (run_of s is) - 1)
         (published (run_of s is)) → ⊥ }
 
@@ -133,19 +141,24 @@ pub fn published()
 /// Of each message's bytes: whoever reads them by the grammar reads that message and nothing else.
 pub fn messages()
     // bytes that spell the packet of a message spell that packet alone, whatever follows them
-    ensures alone { (c : Config) (number : ℕ) (d : Draft) (bytes other x y : List ℕ) (p : packets.Message) →
+    ensures alone { (c : Config) (number : ℕ) (d : Draft) (bytes other x y : List ℕ)
+        (p : packets.Message) →
         IsWhole bytes c number d → Spells other p → bytes ++ x ≡ other ++ y →
         (bytes ≡ other) × (p ≡ wire c number d) }
 
     // its payload means these metrics, under that number and that stamp, and nothing else
-    ensures means { (c : Config) (number : ℕ) (d : Draft) (bytes : List ℕ) → IsWhole bytes c number d →
+    ensures means { (c : Config) (number : ℕ) (d : Draft) (bytes : List ℕ)
+        → IsWhole bytes c number d →
         MeansPayload (spelling (payload_of number d)) (payload_of number d) }
-    ensures read { (c : Config) (number : ℕ) (d : Draft) (bytes : List ℕ) (p : packets.Message) (q : PayloadData) →
+    ensures read { (c : Config) (number : ℕ) (d : Draft) (bytes : List ℕ) (p : packets.Message)
+        (q : PayloadData) →
         IsWhole bytes c number d → Spells bytes p → MeansPayload (payload_in p) q →
-        (topic_in p ≡ topic_of (named_by c d)) × (q.seq ≡ Some number) × (q.timestamp ≡ Some d.stamp) × (q.metrics ≡ d.metrics) }
+        (topic_in p ≡ topic_of (named_by c d)) × (q.seq ≡ Some number)
+        × (q.timestamp ≡ Some d.stamp) × (q.metrics ≡ d.metrics) }
 
     // an Open gives the CONNECT of the next session
-    ensures opens { (s : Setup) (is : List Input) (i : Input) (answer : Answer) → i.act ≡ Open → i.ack ≡ None →
+    ensures opens { (s : Setup) (is : List Input) (i : Input) (answer : Answer) → i.act ≡ Open
+        → i.ack ≡ None →
         right_at s (run_of s is) i ≡ Ok answer →
         answer.packets ≡ connect_of s.config (session_number s (opened (run_of s is))) i.now ∷ [] }
 
@@ -156,17 +169,21 @@ pub fn messages()
 
     // a Stop gives the NDEATH of the session that it ends, with that session's bdSeq, and DISCONNECT; and no DISCONNECT is
     // given in any other way
-    ensures ends { (s : Setup) (is : List Input) (i : Input) (answer : Answer) → i.act ≡ Stop → i.ack ≡ None →
+    ensures ends { (s : Setup) (is : List Input) (i : Input) (answer : Answer) → i.act ≡ Stop
+        → i.ack ≡ None →
         right_at s (run_of s is) i ≡ Ok answer →
-        answer.packets ≡ farewell s.config (session_number s (opened (run_of s is) - 1)) (opened_at (run_of s is)) }
+        answer.packets ≡ farewell s.config (session_number s (opened (run_of s is) - 1))
+        (opened_at (run_of s is)) }
     ensures disconnects { (s : Setup) (is : List Input) (i : Input) (answer : Answer) →
         right_at s (run_of s is) i ≡ Ok answer → list_any is_disconnect answer.packets ≡ true →
         (front : List packets.Message) × (answer.packets ≡
         front ++ farewell s.config (session_number s (opened (run_of s is) - 1)) (opened_at (run_of s is))) }
 
     // messages of different nodes have different topics
-    ensures topics { (b c : Config) (d e : Draft) → IsTrue (has_names (named_by b d)) → IsTrue (has_names (named_by c e)) →
-        topic_of (named_by b d) ≡ topic_of (named_by c e) → (b.group ≡ c.group) × (b.node ≡ c.node) }
+    ensures topics { (b c : Config) (d e : Draft) → IsTrue (has_names (named_by b d))
+        → IsTrue (has_names (named_by c e)) →
+        topic_of (named_by b d) ≡ topic_of (named_by c e)
+        → (b.group ≡ c.group) × (b.node ≡ c.node) }
 {
     spk_payload::laws::canonical();
     spk_packets::laws::prefix_free();

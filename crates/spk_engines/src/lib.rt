@@ -5,8 +5,6 @@
 mod device;
 mod fault;
 mod reading;
-#[cfg(test)]
-mod tests;
 mod writing;
 
 pub use device::Failures;

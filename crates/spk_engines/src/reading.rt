@@ -1,5 +1,5 @@
 //! The engine that reads.
-ghost use Rattle.std.specs.Prelude.{◌≡◌, List, ℕ, ◌*◌, ◌≢◌, ◌<◌, ◌≤◌, [], ◌∷◌, ◌++◌, length, take, drop, vec_len, Some, OnOk, IfOk, IfErr, OnErr};
+ghost use Rattle.std.specs.Prelude.{◌≡◌, List, ℕ, ◌+◌, ◌*◌, ◌≢◌, ◌<◌, ◌≤◌, [], ◌∷◌, ◌++◌, length, take, drop, vec_len, Some, OnOk, IfOk, IfErr, OnErr};
 ghost use Rattle.std.specs.Io.KnownBytes.{Consumes, IsAtEnd};
 ghost use Rattle.spk_packets.specs.Fault.{first_of};
 ghost use Rattle.spk_packets.specs.Refusals.{refusals};
@@ -38,9 +38,11 @@ fn put_front<R: Wait>(
 ) -> Result<Front, EngineFault>
     requires { PutsInto ingress.now pass.old }
     ensures pass { PutsInto ingress.now pass.new × (pass.new.sender ≡ pass.old.sender) }
-    ensures front { IfOk result (λ f. IsFront f bytes.now (frames_put pass.old) (frames_put pass.new)) }
+    ensures front { IfOk result
+        (λ f. IsFront f bytes.now (frames_put pass.old) (frames_put pass.new)) }
     ensures err { OnErr result (frames_put pass.new ≡ frames_put pass.old) }
     ensures fault { IfErr result (λ e. e ≢ EngineFault.Device) }
+    ensures early { IfErr result (λ e. e ≢ EngineFault.TurnsSpent) }
 {
     let whole = match Whole::front(alloc, bytes) {
         Ok(whole) => whole,
@@ -84,10 +86,13 @@ fn put_packets<R: Wait>(
     requires { PutsInto ingress.now pass.old }
     ensures pass { PutsInto ingress.now pass.new × (pass.new.sender ≡ pass.old.sender) }
     ensures within { IfOk result (λ r. r.0 ≤ length bytes.now) }
-    ensures cut { IfOk result (λ r. Cuts bytes.now (drop r.0 bytes.now) (frames_put pass.old) (frames_put pass.new)) }
+    ensures cut { IfOk result
+        (λ r. Cuts bytes.now (drop r.0 bytes.now) (frames_put pass.old) (frames_put pass.new)) }
     ensures stops { IfOk result (λ r. Stops r.1 (drop r.0 bytes.now)) }
-    ensures part { OnErr result ((rest : List ℕ) × Cuts bytes.now rest (frames_put pass.old) (frames_put pass.new)) }
+    ensures part { OnErr result
+        ((rest : List ℕ) × Cuts bytes.now rest (frames_put pass.old) (frames_put pass.new)) }
     ensures fault { IfErr result (λ e. e ≢ EngineFault.Device) }
+    ensures early { IfErr result (λ e. e ≢ EngineFault.TurnsSpent) }
 {
     let mut start = 0;
     loop {
@@ -111,19 +116,24 @@ fn buffer(alloc: Global, size: usize) -> Result<Vec<u8>, EngineFault>
     Ok(piece)
 }
 
-/// One read, by which it failed no more often than `before`, or Device.
+/// One read, by which it failed no more often than `before`, or Device. It takes one of the turns that are left.
 #[tactic(auto, using(crate::proofs::Streams::keeps_consumes))]
 fn read_piece<S: Read + Failures>(
     reader: &mut S,
     piece: &mut Vec<u8>,
     before: u64,
+    left: &mut u64,
 ) -> Result<Option<usize>, EngineFault>
-    requires { 0 < length piece.old.items }
+    requires room { 0 < length piece.old.items }
+    requires left { 0 < left.old }
+    ensures left { left.new + 1 ≡ left.old }
     ensures len { length piece.new.items ≡ length piece.old.items }
-    ensures piece { IfOk result (λ n. IsPiece (S.remaining reader.old) (S.remaining reader.new) piece.new.items n) }
+    ensures piece { IfOk result
+        (λ n. IsPiece (S.remaining reader.old) (S.remaining reader.new) piece.new.items n) }
     ensures device { IfErr result (λ e. (e ≡ EngineFault.Device) × (before < S.count reader.new)) }
     ensures err { OnErr result (Consumes (S.remaining reader.old) (S.remaining reader.new) []) }
 {
+    *left -= 1;
     match reader.read(piece.as_mut_slice()) {
         Ok(count) => Ok(Some(count)),
         Err(_) => {
@@ -146,9 +156,14 @@ fn take_in<R: Wait>(
 ) -> Result<Option<PacketFault>, EngineFault>
     requires { PutsInto ingress.now pass.old }
     ensures pass { PutsInto ingress.now pass.new × (pass.new.sender ≡ pass.old.sender) }
-    ensures ok { IfOk result (λ f. TakesIn f (waiting.old.items ++ piece.now) waiting.new.items (frames_put pass.old) (frames_put pass.new)) }
-    ensures part { OnErr result ((rest : List ℕ) × Cuts (waiting.old.items ++ piece.now) rest (frames_put pass.old) (frames_put pass.new)) }
+    ensures ok { IfOk result
+        (λ f. TakesIn f (waiting.old.items ++ piece.now) waiting.new.items (frames_put pass.old)
+        (frames_put pass.new)) }
+    ensures part { OnErr result
+        ((rest : List ℕ)
+        × Cuts (waiting.old.items ++ piece.now) rest (frames_put pass.old) (frames_put pass.new)) }
     ensures fault { IfErr result (λ e. e ≢ EngineFault.Device) }
+    ensures early { IfErr result (λ e. e ≢ EngineFault.TurnsSpent) }
 {
     let Ok(()) = waiting.extend_from_slice(piece) else {
         return Err(EngineFault::NoMemory);
@@ -163,27 +178,27 @@ fn take_in<R: Wait>(
     Ok(stop)
 }
 
-/// Reads to the end of a stream, and puts its packets in order, each as one frame; then Cut, or Fault where what follows
-/// is no packet (MQTT 3.1.1, chapter 2), and nothing is read any more. A turn is one read, of 65,536 bytes at the most.
-/// An error by which the reader counts no failure is passed over. Ended early, by want of memory, Closed (90), TurnsSpent
-/// (94) or Device (96), it has put the packets of a front of what was read, and neither Cut nor Fault. The pass must be
-/// of this ingress.
-pub fn read_frames<R: Wait, S: Read + Failures>(
+/// Reads, and puts what was read, as `read_frames` says. The turns are spent where none is left.
+fn read_turns<R: Wait, S: Read + Failures>(
     rt: &R,
     alloc: Global,
     reader: &mut S,
     ingress: &Ingress,
     pass: &mut PutPass,
     turns: u64,
+    left: &mut u64,
 ) -> Result<(), EngineFault>
-    requires { PutsInto ingress.now pass.old }
+    requires into { PutsInto ingress.now pass.old }
+    requires left { left.old ≡ turns }
     ensures pass { PutsInto ingress.now pass.new × (pass.new.sender ≡ pass.old.sender) }
     ensures whole { OnOk result (IsWhole (S.remaining reader.old) (S.remaining reader.new)
         (frames_put pass.old) (frames_put pass.new)) }
     ensures part { OnErr result (IsPart (S.remaining reader.old) (S.remaining reader.new)
         (frames_put pass.old) (frames_put pass.new)) }
-    ensures device { IfErr result (λ e. e ≡ EngineFault.Device → S.count reader.old < S.count reader.new) }
+    ensures device { IfErr result
+        (λ e. e ≡ EngineFault.Device → S.count reader.old < S.count reader.new) }
     ensures turns { ReadsUpTo (65536 * turns) (S.remaining reader.old) (S.remaining reader.new) }
+    ensures spent { IfErr result (λ e. e ≡ EngineFault.TurnsSpent → left.new ≡ 0) }
 {
     let before = reader.failures();
     let mut waiting = Vec::new(alloc);
@@ -192,7 +207,7 @@ pub fn read_frames<R: Wait, S: Read + Failures>(
         Err(fault) => return Err(fault),
     };
     for _turn in 0..turns {
-        let count = match read_piece(reader, &mut piece, before) {
+        let count = match read_piece(reader, &mut piece, before, left) {
             Ok(Some(count)) => count,
             Ok(None) => continue,
             Err(fault) => return Err(fault),
@@ -216,6 +231,33 @@ pub fn read_frames<R: Wait, S: Read + Failures>(
     Err(EngineFault::TurnsSpent)
 }
 
+/// Reads to the end of a stream, and puts its packets in order, each as one frame; then Cut, or Fault where what follows
+/// is no packet (MQTT 3.1.1, chapter 2), and nothing is read any more. A turn is one read, of 65,536 bytes at the most.
+/// An error by which the reader counts no failure is passed over. Ended early, by want of memory, Closed (90), TurnsSpent
+/// (94) or Device (96), it has put the packets of a front of what was read, and neither Cut nor Fault. The pass must be
+/// of this ingress.
+pub fn read_frames<R: Wait, S: Read + Failures>(
+    rt: &R,
+    alloc: Global,
+    reader: &mut S,
+    ingress: &Ingress,
+    pass: &mut PutPass,
+    turns: u64,
+) -> Result<(), EngineFault>
+    requires { PutsInto ingress.now pass.old }
+    ensures pass { PutsInto ingress.now pass.new × (pass.new.sender ≡ pass.old.sender) }
+    ensures whole { OnOk result (IsWhole (S.remaining reader.old) (S.remaining reader.new)
+        (frames_put pass.old) (frames_put pass.new)) }
+    ensures part { OnErr result (IsPart (S.remaining reader.old) (S.remaining reader.new)
+        (frames_put pass.old) (frames_put pass.new)) }
+    ensures device { IfErr result
+        (λ e. e ≡ EngineFault.Device → S.count reader.old < S.count reader.new) }
+    ensures turns { ReadsUpTo (65536 * turns) (S.remaining reader.old) (S.remaining reader.new) }
+{
+    let mut left = turns;
+    read_turns(rt, alloc, reader, ingress, pass, turns, &mut left)
+}
+
 /// Puts the last frame.
 fn end<R: Wait>(
     rt: &R,
@@ -226,7 +268,8 @@ fn end<R: Wait>(
     requires { PutsInto ingress.now pass.old }
     ensures pass { PutsInto ingress.now pass.new × (pass.new.sender ≡ pass.old.sender) }
     ensures ok { OnOk result (frames_put pass.new ≡ frames_put pass.old ++ frame ∷ []) }
-    ensures closed { IfErr result (λ e. (e ≡ EngineFault.Closed) × (frames_put pass.new ≡ frames_put pass.old)) }
+    ensures closed { IfErr result
+        (λ e. (e ≡ EngineFault.Closed) × (frames_put pass.new ≡ frames_put pass.old)) }
 {
     let Ok(()) = ingress.put(rt, pass, frame) else {
         return Err(EngineFault::Closed);

@@ -57,7 +57,8 @@ pub(crate) fn ask_all(
     ensures topics { OnOk result (map named rebirths.new.items ≡
         map named rebirths.old.items ++ topics_to group.now node.now count) }
     ensures packets { OnOk result (map (λ b. b.items) packets.new.items ≡
-        map (λ b. b.items) packets.old.items ++ spelled (requests_to group.now node.now now count)) }
+        map (λ b. b.items) packets.old.items
+        ++ spelled (requests_to group.now node.now now count)) }
 {
     for _request in 0..count {
         ask(alloc, group, node, now, rebirths, packets)?;

@@ -38,7 +38,8 @@ impl Entry {
         wait: u64,
         width: Width,
     ) -> Result<Entry, AllocError>
-        ensures { IfOk result (λ e. e ≡ record { group = group.now; node = node.now; kept = fresh_node wait width }) }
+        ensures { IfOk result
+            (λ e. e ≡ record { group = group.now; node = node.now; kept = fresh_node wait width }) }
     {
         Ok(Entry {
             group: String::from_str(alloc, group)?,
@@ -70,12 +71,16 @@ impl Entry {
 
     /// A message of it.
     pub(crate) fn hand(&mut self, message: Numbered, now: u64) -> Result<Handed, AllocError>
-        ensures step { IfOk result (λ h. h.step ≡ node.step_of self.old.kept.order (numbered_view message) now) }
+        ensures step { IfOk result
+            (λ h. h.step ≡ node.step_of self.old.kept.order (numbered_view message) now) }
         ensures consumed { IfOk result (λ h.
-            map numbered_view h.consumed.items ≡ node.taken_of self.old.kept.order (numbered_view message) now) }
-        ensures requests { IfOk result (λ h. h.requests ≡ node.requests_of self.old.kept (numbered_view message) now) }
+            map numbered_view h.consumed.items
+            ≡ node.taken_of self.old.kept.order (numbered_view message) now) }
+        ensures requests { IfOk result
+            (λ h. h.requests ≡ node.requests_of self.old.kept (numbered_view message) now) }
         ensures data { OnOk result
-            (self.new ≡ record self.old { kept = node.hand self.old.kept (numbered_view message) now }) }
+            (self.new ≡ record self.old
+            { kept = node.hand self.old.kept (numbered_view message) now }) }
         ensures unchanged { OnErr result (self.new ≡ self.old) }
     {
         self.kept.hand(message, now)

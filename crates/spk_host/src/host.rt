@@ -76,7 +76,8 @@ impl Host {
     pub fn new(alloc: Global, config: HostConfig) -> Result<Host, HostFault>
         ensures made { IfOk result (λ h. h ≡ calls.new_host (config_view config)) }
         ensures good { OnOk result (is_good (config_view config) ≡ true) }
-        ensures fault { IfErr result (λ e. (e ≡ HostFault.NotSparkplug) × (is_good (config_view config) ≡ false)) }
+        ensures fault { IfErr result
+            (λ e. (e ≡ HostFault.NotSparkplug) × (is_good (config_view config) ≡ false)) }
     {
         let session = HostSession::new(alloc, config)?;
         Ok(Host {
@@ -96,8 +97,10 @@ impl Host {
     /// A session begins: CONNECT, whose will is STATE offline with this moment, in milliseconds since 1970, at QoS 1, retained.
     /// Refused with WrongPhase (75) within a session.
     pub fn connected(&mut self, now: u64) -> Result<Out, HostFault>
-        ensures said { Gives (λ o. (out_view o).packets) result (spelled (session.says self.old.session (session.Connected now))) }
-        ensures alone { IfOk result (λ o. out_view o ≡ record step.nothing { packets = (out_view o).packets }) }
+        ensures said { Gives (λ o. (out_view o).packets) result
+            (spelled (session.says self.old.session (session.Connected now))) }
+        ensures alone { IfOk result
+            (λ o. out_view o ≡ record step.nothing { packets = (out_view o).packets }) }
         ensures data { OnOk result (self.new ≡ calls.host_with self.old (calls.Connected now)) }
         ensures unchanged { OnErr result (self.new ≡ self.old) }
     {
@@ -131,9 +134,11 @@ impl Host {
         content: Content,
         now: u64,
     ) -> Result<Out, AllocError>
-        ensures out { IfOk result (λ o. out_view o ≡ step.published_out self.old ack (content_view content) now) }
+        ensures out { IfOk result
+            (λ o. out_view o ≡ step.published_out self.old ack (content_view content) now) }
         ensures data { OnOk result
-            (self.new ≡ record self.old { nodes = step.nodes_after self.old (content_view content) now }) }
+            (self.new ≡ record self.old
+            { nodes = step.nodes_after self.old (content_view content) now }) }
         ensures unchanged { OnErr result (self.new ≡ self.old) }
     {
         match content {
@@ -172,7 +177,8 @@ impl Host {
     /// SUBACK came.
     fn granted(&self) -> Result<Out, HostFault>
         requires open { is_some self.now.session.began ≡ true }
-        ensures { Gives out_view result (Ok (step.sends (step.said_by (session.says self.now.session session.Granted)))) }
+        ensures { Gives out_view result
+            (Ok (step.sends (step.said_by (session.says self.now.session session.Granted)))) }
     {
         let mut packets = Vec::with_capacity(self.alloc, 1)?;
         packets.push_reserved(self.session.granted()?);
@@ -187,12 +193,15 @@ impl Host {
     /// refused isn't acknowledged, and changes nothing.
     pub fn packet(&mut self, bytes: &[u8], now: u64) -> Result<Out, HostFault>
         ensures outside { self.old.session.began ≡ None → result ≡ Err HostFault.WrongPhase }
-        ensures answer { (h : HeardData) → is_some self.old.session.began ≡ true → Says bytes.now h →
+        ensures answer { (h : HeardData) → is_some self.old.session.began ≡ true
+            → Says bytes.now h →
             Gives out_view result (Ok (step.packet_out self.old h now)) }
-        ensures fault { (f : ReadFault) → is_some self.old.session.began ≡ true → IsReadFault bytes.now f →
+        ensures fault { (f : ReadFault) → is_some self.old.session.began ≡ true
+            → IsReadFault bytes.now f →
             IfErr result (λ e. (e ≡ HostFault.NoMemory) ⊎ (e ≡ fault_of f)) }
         ensures only { IfErr result (λ e. (e ≡ HostFault.NoMemory) ⊎ ((e ≡ HostFault.WrongPhase)
-            × (self.old.session.began ≡ None)) ⊎ ((f : ReadFault) × IsReadFault bytes.now f × (e ≡ fault_of f))) }
+            × (self.old.session.began ≡ None))
+            ⊎ ((f : ReadFault) × IsReadFault bytes.now f × (e ≡ fault_of f))) }
         ensures said { OnOk result ((h : HeardData) × Says bytes.now h) }
         ensures data { (h : HeardData) → Says bytes.now h →
             OnOk result (self.new ≡ calls.host_with self.old (calls.Heard h now)) }
@@ -212,7 +221,8 @@ impl Host {
     /// session.
     pub fn tick(&mut self, now: u64) -> Result<Out, HostFault>
         ensures outside { self.old.session.began ≡ None → result ≡ Err HostFault.WrongPhase }
-        ensures answer { is_some self.old.session.began ≡ true → Gives out_view result (Ok (step.tick_out self.old.nodes now)) }
+        ensures answer { is_some self.old.session.began ≡ true
+            → Gives out_view result (Ok (step.tick_out self.old.nodes now)) }
         ensures data { OnOk result (self.new ≡ calls.host_with self.old (calls.Ticked now)) }
         ensures unchanged { OnErr result (self.new ≡ self.old) }
     {
@@ -227,8 +237,10 @@ impl Host {
     /// The session ends: STATE offline with this moment, at QoS 1, retained, and DISCONNECT. Refused with WrongPhase (75) outside a
     /// session.
     pub fn stop(&mut self, now: u64) -> Result<Out, HostFault>
-        ensures said { Gives (λ o. (out_view o).packets) result (spelled (session.says self.old.session (session.Stopped now))) }
-        ensures alone { IfOk result (λ o. out_view o ≡ record step.nothing { packets = (out_view o).packets }) }
+        ensures said { Gives (λ o. (out_view o).packets) result
+            (spelled (session.says self.old.session (session.Stopped now))) }
+        ensures alone { IfOk result
+            (λ o. out_view o ≡ record step.nothing { packets = (out_view o).packets }) }
         ensures data { OnOk result (self.new ≡ calls.host_with self.old (calls.Stopped now)) }
         ensures unchanged { OnErr result (self.new ≡ self.old) }
     {
@@ -248,8 +260,11 @@ impl Host {
 
     /// The session ends without a farewell, if there was one, and the next begins: CONNECT, as `connected` says. Whole or nothing.
     pub fn renew(&mut self, now: u64) -> Result<Out, AllocError>
-        ensures said { IfOk result (λ o. spelled (session.says self.old.session (session.Renewed now)) ≡ Ok (out_view o).packets) }
-        ensures alone { IfOk result (λ o. out_view o ≡ record step.nothing { packets = (out_view o).packets }) }
+        ensures said { IfOk result
+            (λ o. spelled (session.says self.old.session (session.Renewed now))
+            ≡ Ok (out_view o).packets) }
+        ensures alone { IfOk result
+            (λ o. out_view o ≡ record step.nothing { packets = (out_view o).packets }) }
         ensures data { OnOk result (self.new ≡ calls.host_with self.old (calls.Renewed now)) }
         ensures unchanged { OnErr result (self.new ≡ self.old) }
     {
@@ -278,7 +293,8 @@ impl Host {
 
     /// How the host stands to a node: one that was never heard is Unknown. Takes no memory.
     pub fn phase(&self, group: &str, node: &str) -> Phase
-        ensures { result ≡ (node_or (step.fresh self.now) self.now.nodes group.now node.now).order.standing.phase }
+        ensures { result ≡
+            (node_or (step.fresh self.now) self.now.nodes group.now node.now).order.standing.phase }
     {
         match self.node(group, node) {
             Some(entry) => entry.kept().phase(),

@@ -44,7 +44,8 @@ fn enter_at(
 ) -> Result<(), AllocError>
     requires { number < length tables.old.items }
     ensures entered { (names : List (List ℕ × ℕ)) → slice_get tables.old.items number ≡ Some names →
-        OnOk result (tables.new.items ≡ set tables.old.items number (entered names (string_bytes name) place)) }
+        OnOk result (tables.new.items
+        ≡ set tables.old.items number (entered names (string_bytes name) place)) }
     ensures unchanged { OnErr result (tables.new.items ≡ tables.old.items) }
     ensures count { length tables.new.items ≡ length tables.old.items }
 {

@@ -87,7 +87,8 @@ pub fn any_list()
 
     // a message is answered by as many rebirth requests as are due, by what was heard of its node alone
     // (`spk_host_rules::laws::asked` says when one is due)
-    ensures requests { (config : Config) (calls : List Call) (ack : Option ℕ) (m : NumberedData) (now : ℕ) →
+    ensures requests { (config : Config) (calls : List Call) (ack : Option ℕ) (m : NumberedData)
+        (now : ℕ) →
         (packet_out (host_after config calls) (Published ack (Message m)) now).rebirths ≡
         topics_to m.group m.node (asked_by config calls m now) }
 
@@ -116,7 +117,8 @@ pub fn addressed()
         (packet_out h (Published ack (Death group name bd)) now).rebirths ≡ [] }
     ensures command { (h : HostData) (ack : Option ℕ) (now : ℕ) →
         (packet_out h (Published ack Nothing) now).rebirths ≡ [] }
-    ensures answered { (h : HostData) (code now : ℕ) → (packet_out h (Answered code) now).rebirths ≡ [] }
+    ensures answered { (h : HostData) (code now : ℕ)
+        → (packet_out h (Answered code) now).rebirths ≡ [] }
     ensures granted { (h : HostData) (now : ℕ) → (packet_out h Granted now).rebirths ≡ [] }
     ensures other { (h : HostData) (now : ℕ) → (packet_out h Other now).rebirths ≡ [] }
 

@@ -32,9 +32,11 @@ pub(crate) fn hear_message(
     message: Numbered,
     now: u64,
 ) -> Result<Out, AllocError>
-    ensures out { IfOk result (λ o. out_view o ≡ message_out entry.old.kept ack (numbered_view message) now) }
+    ensures out { IfOk result
+        (λ o. out_view o ≡ message_out entry.old.kept ack (numbered_view message) now) }
     ensures entry { OnOk result
-        (entry.new ≡ record entry.old { kept = node.hand entry.old.kept (numbered_view message) now }) }
+        (entry.new ≡ record entry.old
+        { kept = node.hand entry.old.kept (numbered_view message) now }) }
     ensures unchanged { OnErr result (entry.new ≡ entry.old) }
     ensures names { names_of entry.new ≡ names_of entry.old }
 {

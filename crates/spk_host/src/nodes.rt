@@ -51,7 +51,8 @@ fn hear_first(
     message: Numbered,
     now: u64,
 ) -> Result<Out, AllocError>
-    requires { place_in index.old (numbered_view message).group (numbered_view message).node ≡ None }
+    requires { place_in index.old (numbered_view message).group (numbered_view message).node
+        ≡ None }
     ensures out { IfOk result (λ o.
         out_view o ≡ step.message_out (fresh_node wait width) ack (numbered_view message) now) }
     ensures nodes { OnOk result (entries.new.items ≡ entries.old.items ++ (record {
@@ -134,7 +135,8 @@ impl Nodes {
 
     /// An NDEATH of a node. Of a node that was never heard it changes nothing.
     pub(crate) fn hear_death(&mut self, group: &str, node: &str, bd: u8)
-        ensures { self.new ≡ spec.change_node group.now node.now (λ n. one_node.death n bd) self.old }
+        ensures { self.new
+            ≡ spec.change_node group.now node.now (λ n. one_node.death n bd) self.old }
     {
         match self.place_of(group, node) {
             Some(place) => self.entries[place].death(bd),

@@ -3,3 +3,4 @@ pub mod Frames
 pub mod Running
 pub mod Items
 mod Rows
+pub mod Ending

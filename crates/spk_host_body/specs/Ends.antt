@@ -1,8 +1,9 @@
 -- What the host's thread begins with, and what its end hands on: facts about its own lists alone.
-use Rattle.std.specs.Prelude.{◌≡◌, ℕ, List, [], ◌∷◌, ◌++◌, map}
+use Rattle.std.specs.Prelude.{◌≡◌, ℕ, ◌+◌, Bool, true, false, List, [], ◌∷◌, ◌++◌, count_by, map, Result, Ok, Err}
 use Rattle.spk_ingress.specs.Frame.{IsOnePacket}
 use Rattle.spk_ingress.specs.Passes.{PutsInto, frames_put}
 use Rattle.spk_ingress.specs.declared.channel.Ingress.{Ingress}
+use Rattle.spk_ingress.specs.declared.channel.PutPass.{PutPass}
 use Rattle.spk_ingress.specs.declared.frame.Frame.{Frame}
 use Rattle.spk_ingress.specs.declared.frame.Frame.TheVariants as frame
 use Rattle.spk_rings.specs.Ring.{SameInlet, ahead, popped}
@@ -65,15 +66,39 @@ IsCause packets fault.BadPlan = ⊥
 abbrev pub Fails : Config → PlantFault → Type 0
 Fails config f = (before : List Call) × (call : Call) × IsCause (answer_at (host_after config before) call).packets f
 
--- The end is put last, unless the taker is gone.
-abbrev pub IsLast : PlantFault → List Frame → Type 0
-IsLast fault.Closed put = Unit {0}
-IsLast fault.NoMemory put = (before : List Frame) × (put ≡ before ++ frame.End ∷ [])
-IsLast fault.Unsettled put = (before : List Frame) × (put ≡ before ++ frame.End ∷ [])
-IsLast fault.BadPlan put = ⊥
+abbrev pub is_end : Frame → Bool
+is_end (frame.Packet bytes) = false
+is_end (frame.Fault f) = false
+is_end frame.Cut = false
+is_end frame.End = true
+
+-- how many of its own ends a sender put through a pass
+abbrev pub ends_put : PutPass → ℕ
+ends_put p = count_by is_end (frames_put p)
+
+-- the taker is gone
+abbrev pub is_closed : {A : Type 0} → Result A PlantFault → Bool
+is_closed (Ok done) = false
+is_closed (Err fault.Closed) = true
+is_closed (Err fault.NoMemory) = false
+is_closed (Err fault.Unsettled) = false
+is_closed (Err fault.BadPlan) = false
+
+-- the end was put once since the start, and last
+pub record IsEnded (start p : PutPass) : Type 0 where
+  pub before : List Frame
+  pub put : frames_put p ≡ before ++ frame.End ∷ []
+  pub once : ends_put p ≡ ends_put start + 1
+
+-- The end is put once and last; where the taker is gone it isn't put.
+abbrev pub IsLast : PlantFault → PutPass → PutPass → Type 0
+IsLast fault.Closed start p = ends_put p ≡ ends_put start
+IsLast fault.NoMemory start p = IsEnded start p
+IsLast fault.Unsettled start p = IsEnded start p
+IsLast fault.BadPlan start p = ⊥
 
 pub record HostBroke (n : Ingress) (s : HostStart) (f : HostFailed) : Type 0 where
   pub puts_into : PutsInto n f.pass
   pub sender : f.pass.sender ≡ s.pass.sender
-  pub last : IsLast f.fault (frames_put f.pass)
+  pub last : IsLast f.fault s.pass f.pass
   pub cause : Fails (config_of s) f.fault

@@ -24,16 +24,17 @@ use Rattle.spk_host.specs.Step.{nothing}
 use Rattle.spk_host.specs.View.{out_view}
 use Rattle.spk_host.specs.declared.out.Out.{Out}
 use Rattle.spk_host_body.specs.Calls.{answer_at, done, host_asked, packets_of}
-use Rattle.spk_host_body.specs.Ends.{IsCause}
+use Rattle.spk_host_body.specs.Ends.{IsCause, ends_put}
 use Rattle.spk_host_body.specs.Told.{AreToldBy, asked, consumed_by, consumptions, heard_in, told_in}
 use Rattle.spk_host_body.specs.declared.ends.Given.{Given}
 
 -- ---- what is put
 
--- the same sender's pass, of this ingress
+-- the same sender's pass, of this ingress; no end of the sender was put since
 pub record SamePass (n : Ingress) (a b : PutPass) : Type 0 where
   pub puts_into : PutsInto n b
   pub sender : b.sender ≡ a.sender
+  pub ends : ends_put b ≡ ends_put a
 
 -- why bytes aren't put
 abbrev pub IsCauseOf : List ℕ → PlantFault → Type 0

@@ -14,13 +14,16 @@ use crate::desk::Desk;
 use crate::ends::{Given, HostEnd, HostFailed, HostStart};
 use crate::line::Line;
 use crate::watch::Watch;
-use spk_ingress::{Frame, Ingress};
+use spk_ingress::Ingress;
 use spk_plan::{Gate, PlantFault};
 use spk_reading::{ReadFault, read};
 use spk_rings::{Inlet, Item};
 use std::alloc::Global;
 use std::sync::Wait;
-use std::thread::yield_now;
+use std::thread::{Parker, yield_now};
+
+/// How often the thread looks into an empty ring before it is parked: a wake-up costs more than a look.
+const LOOKS: u32 = 64;
 
 /// What an item says is told to the host, unless it would refuse it.
 fn tell<R: Wait, G: Gate>(
@@ -95,11 +98,13 @@ fn take_in<R: Wait, G: Gate>(
     Ok(())
 }
 
-/// The host's session: it begins at moment 0, and goes on until the ring's other end is gone and the ring is empty.
+/// The host's session: it begins at moment 0, and goes on until the ring's other end is gone and the ring is empty. While the ring
+/// is empty the thread looks again some times, and then it is parked.
 fn run<R: Wait, G: Gate>(
     rt: &R,
     ingress: &Ingress,
     gate: &G,
+    bell: &Parker,
     desk: &mut Desk,
     inlet: &mut Inlet,
 ) -> Result<Vec<Given>, PlantFault>
@@ -120,15 +125,22 @@ fn run<R: Wait, G: Gate>(
         Ok(_consumed) => {}
         Err(fault) => return Err(fault),
     }
+    let mut looks = 0;
     for _ in rt.forever() {
         let gone = inlet.gone();
         let Some(item) = inlet.next() else {
             if gone {
                 return Ok(given);
             }
-            yield_now();
+            if looks < LOOKS {
+                looks += 1;
+                yield_now();
+            } else {
+                bell.park(rt);
+            }
             continue;
         };
+        looks = 0;
         match take_in(rt, ingress, gate, desk, &mut given, &item) {
             Ok(()) => {}
             Err(fault) => return Err(fault),
@@ -140,15 +152,17 @@ fn run<R: Wait, G: Gate>(
 /// The body of the host's thread. The host begins its session at moment 0. Then each item of its ring is told to it, and after each
 /// that a moment passed, which is the number of items so far; a call that the host refuses (70 to 75) hands out nothing. The packets
 /// that it answers are put, and the gate is told of what it consumed. It ends once the ring's other end is gone and the ring is empty,
-/// and puts End last. The pass must be of this ingress, and the host new.
+/// and puts End last. While the ring is empty the thread is parked at this bell: who offers to the ring, or drops it, unparks the bell
+/// afterwards. The pass must be of this ingress, and the host new.
 ///
 /// It fails with NoMemory (1) where a growth was refused, with Closed (90) where the taker is gone, and with Unsettled (93) where the
-/// host answers bytes that aren't one packet. End is put all the same, unless the taker is gone.
+/// host answers bytes that aren't one packet. End is put all the same, unless the taker is gone: with Closed it isn't put.
 pub fn run_host<R: Wait, G: Gate>(
     rt: &R,
     alloc: Global,
     ingress: &Ingress,
     gate: &G,
+    bell: &Parker,
     start: HostStart,
 ) -> Result<HostEnd, HostFailed>
     requires { HostReady ingress.now start }
@@ -168,8 +182,8 @@ pub fn run_host<R: Wait, G: Gate>(
         line,
         watch: Watch::new(alloc, nodes),
     };
-    let ran = run(rt, ingress, gate, &mut desk, &mut inlet);
-    let ended = desk.line.put(rt, ingress, gate, Frame::End);
+    let ran = run(rt, ingress, gate, bell, &mut desk, &mut inlet);
+    let ended = desk.line.end(rt, ingress, gate, &ran);
     let Desk { host, line, .. } = desk;
     let pass = line.pass;
     let Ok(()) = ended else {

@@ -45,6 +45,6 @@ pub struct HostEnd {
 pub struct HostFailed {
     /// Why it failed.
     pub fault: PlantFault,
-    /// What was put until then, and then End, unless the taker is gone.
+    /// What was put until then, and then End, unless it failed with Closed.
     pub pass: PutPass,
 }

@@ -1,10 +1,11 @@
 //! What the host's thread puts.
-ghost use Rattle.std.specs.Prelude.{◌≡◌, ◌∷◌, [], ◌++◌, map, IfErr, OnOk};
+ghost use Rattle.std.specs.Prelude.{◌≡◌, ◌+◌, ◌-◌, ◌^◌, ◌∷◌, [], ◌++◌, map, min, false, IfErr, OnOk};
 ghost use Rattle.spk_ingress.specs.Passes.{PutsInto, frames_put};
-ghost use Rattle.spk_host_body.specs.Ends.{IsCause};
+ghost use Rattle.spk_host_body.specs.Ends.{IsCause, is_closed, is_end};
 ghost use Rattle.spk_host_body.specs.Steps as step;
 ghost use Rattle.spk_host_body.specs.Steps.{IsCauseOf, SamePass};
 
+use crate::ends::Given;
 use spk_ingress::{Frame, FrameFault, Ingress, PutPass};
 use spk_packets::PacketFault;
 use spk_plan::{Gate, PlantFault};
@@ -30,9 +31,20 @@ fn unframed(fault: FrameFault) -> PlantFault
     }
 }
 
+/// Whether a session ended since the taker is gone.
+fn is_closed(ran: &Result<Vec<Given>, PlantFault>) -> bool
+    ensures { result ≡ is_closed ran.now }
+{
+    match ran {
+        Ok(_) => false,
+        Err(PlantFault::Closed) => true,
+        Err(_) => false,
+    }
+}
+
 impl Line {
     pub(crate) fn new(pass: PutPass, sender: usize) -> Line
-        ensures { result.pass ≡ pass }
+        ensures { (result.pass ≡ pass) × (result.sender ≡ sender) × (result.puts ≡ 0) }
     {
         Line {
             pass,
@@ -50,9 +62,13 @@ impl Line {
         frame: Frame,
     ) -> Result<(), PlantFault>
         requires { PutsInto ingress.now self.old.pass }
-        ensures pass { SamePass ingress.now self.old.pass self.new.pass }
+        ensures pass { PutsInto ingress.now self.new.pass × (self.new.pass.sender ≡ self.old.pass.sender) }
+        ensures same { is_end frame ≡ false → SamePass ingress.now self.old.pass self.new.pass }
         ensures ok { OnOk result (frames_put self.new.pass ≡ frames_put self.old.pass ++ frame ∷ []) }
-        ensures fault { IfErr result (λ e. e ≡ PlantFault.Closed) }
+        ensures counted { OnOk result (self.new.puts ≡ min (2 ^ 64 - 1) (self.old.puts + 1)) }
+        ensures place { self.new.sender ≡ self.old.sender }
+        ensures fault { IfErr result (λ e. (e ≡ PlantFault.Closed)
+            × (frames_put self.new.pass ≡ frames_put self.old.pass)) }
     {
         gate.before_put(self.sender, self.puts);
         let Ok(()) = ingress.put(rt, &mut self.pass, frame) else {
@@ -60,6 +76,27 @@ impl Line {
         };
         self.puts = self.puts.saturating_add(1);
         Ok(())
+    }
+
+    /// Puts the host's own end, unless the taker is gone by then. Refused with Closed (90) alone, with nothing put.
+    pub(crate) fn end<R: Wait, G: Gate>(
+        &mut self,
+        rt: &R,
+        ingress: &Ingress,
+        gate: &G,
+        ran: &Result<Vec<Given>, PlantFault>,
+    ) -> Result<(), PlantFault>
+        requires { PutsInto ingress.now self.old.pass }
+        ensures pass { PutsInto ingress.now self.new.pass × (self.new.pass.sender ≡ self.old.pass.sender) }
+        ensures ok { OnOk result ((is_closed ran.now ≡ false)
+            × (frames_put self.new.pass ≡ frames_put self.old.pass ++ Frame.End ∷ [])) }
+        ensures fault { IfErr result (λ e. (e ≡ PlantFault.Closed)
+            × (frames_put self.new.pass ≡ frames_put self.old.pass)) }
+    {
+        if is_closed(ran) {
+            return Err(PlantFault::Closed);
+        }
+        self.put(rt, ingress, gate, Frame::End)
     }
 
     /// Puts a packet.

@@ -35,7 +35,8 @@ pub(crate) fn most_heard(step: Step) -> usize
 /// A message is shown, for which there is room. Answers whether a rebirth is asked for.
 fn show(watch: &mut Watch, wait: u64, ready: Ready, now: u64) -> bool
     requires { 0 < watch.old.room }
-    ensures asks { (m : Message) → prepared m ≡ ready → result ≡ rules.asks wait watch.old.watch (Consumed m now) }
+    ensures asks { (m : Message) → prepared m ≡ ready
+        → result ≡ rules.asks wait watch.old.watch (Consumed m now) }
     ensures watch { (m : Message) → prepared m ≡ ready →
         watch.new.watch ≡ rules.step wait watch.old.watch (Consumed m now) }
     ensures room { watch.old.room ≤ watch.new.room + 1 }
@@ -56,9 +57,12 @@ fn show_all(
 ) -> usize
     requires room { length taken.items ≤ watch.old.room }
     requires capacity { vec_len consumed.old + length taken.items ≤ vec_capacity consumed.old }
-    ensures watch { watch.new.watch ≡ spec.watched wait watch.old.watch (map (spec.consumed_at now) taken.items) }
-    ensures requests { result ≡ spec.requests wait watch.old.watch (map (spec.consumed_at now) taken.items) }
-    ensures consumed { map numbered_view consumed.new.items ≡ map numbered_view consumed.old.items ++ taken.items }
+    ensures watch { watch.new.watch
+        ≡ spec.watched wait watch.old.watch (map (spec.consumed_at now) taken.items) }
+    ensures requests { result
+        ≡ spec.requests wait watch.old.watch (map (spec.consumed_at now) taken.items) }
+    ensures consumed { map numbered_view consumed.new.items
+        ≡ map numbered_view consumed.old.items ++ taken.items }
 {
     let mut requests = 0;
     for kept in taken {

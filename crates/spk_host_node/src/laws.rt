@@ -24,7 +24,8 @@ pub fn any_list()
 
     // and at a message as many rebirths are asked for as are due at what is heard by it
     ensures requests { (wait width : ℕ) (inputs : List Input) (m : NumberedData) (now : ℕ) →
-        requests_of (node_after wait width inputs) m now ≡ asked_in wait (events_of wait width inputs)
+        requests_of (node_after wait width inputs) m now
+        ≡ asked_in wait (events_of wait width inputs)
         (heard_of (order_after wait width (since_end inputs)) m now) }
 
     // and at a moment exactly where the order has a gap, and one is due at it

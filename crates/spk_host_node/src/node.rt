@@ -88,10 +88,13 @@ impl HostNode {
     /// A message of the node at a moment, in milliseconds. What becomes of it is the step of the node's order; where messages are
     /// consumed, they are shown in order. Refused only where memory is, before anything changes.
     pub fn hand(&mut self, message: Numbered, now: u64) -> Result<Handed, AllocError>
-        ensures step { IfOk result (λ h. h.step ≡ spec.step_of self.old.order (numbered_view message) now) }
+        ensures step { IfOk result
+            (λ h. h.step ≡ spec.step_of self.old.order (numbered_view message) now) }
         ensures consumed { IfOk result (λ h.
-            map numbered_view h.consumed.items ≡ spec.taken_of self.old.order (numbered_view message) now) }
-        ensures requests { IfOk result (λ h. h.requests ≡ spec.requests_of self.old (numbered_view message) now) }
+            map numbered_view h.consumed.items
+            ≡ spec.taken_of self.old.order (numbered_view message) now) }
+        ensures requests { IfOk result
+            (λ h. h.requests ≡ spec.requests_of self.old (numbered_view message) now) }
         ensures data { OnOk result (self.new ≡ spec.hand self.old (numbered_view message) now) }
         ensures unchanged { OnErr result (self.new ≡ self.old) }
     {

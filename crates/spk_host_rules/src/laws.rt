@@ -25,11 +25,13 @@ pub fn shows()
 
     // the devices stand in the order of their first births
     ensures order { (wait : ℕ) (events : List Event) →
-        map (λ (d : Device). d.name) (devices_of (after wait events).view) ≡ device_names (consumed_of events) }
+        map (λ (d : Device). d.name) (devices_of (after wait events).view)
+        ≡ device_names (consumed_of events) }
 
     // a birth shows its values, whatever devices were named before
     ensures birth { (events : List Event) (now : ℕ) (metrics : List MetricData) →
-        (devices : List Device) → Shows (Consumed (NodeBirth metrics) now ∷ events) (node_born metrics devices) }
+        (devices : List Device)
+        → Shows (Consumed (NodeBirth metrics) now ∷ events) (node_born metrics devices) }
 
     // and each event keeps it
     ensures keeps { (events : List Event) (e : Event) (view : Option View) →

@@ -31,7 +31,8 @@ pub(crate) fn written(alloc: Global, packet: &Packet) -> Result<Vec<u8>, AllocEr
 
 /// The topic of the host's STATE (Sparkplug 3.0.0, chapter 4).
 fn state_topic(alloc: Global, config: &HostConfig) -> Result<String, AllocError>
-    ensures { IfOk result (λ t. string_bytes t ≡ topic_of (of_state (config_view config.now).name)) }
+    ensures { IfOk result
+        (λ t. string_bytes t ≡ topic_of (of_state (config_view config.now).name)) }
 {
     let host = config.name.as_str();
     format!(in alloc; "spBv1.0/STATE/{host}")
@@ -89,7 +90,8 @@ pub(crate) fn state_packet(
     id: u16,
     state: State,
 ) -> Result<Packet, AllocError>
-    ensures { IfOk result (λ p. view p ≡ spec.state_of (config_view config.now) id (state_text state)) }
+    ensures { IfOk result
+        (λ p. view p ≡ spec.state_of (config_view config.now) id (state_text state)) }
 {
     Ok(Packet::Publish {
         dup: false,

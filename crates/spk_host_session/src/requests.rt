@@ -60,7 +60,8 @@ pub fn request_bytes(alloc: Global, now: u64) -> Result<Vec<u8>, AllocError>
 
 /// The topic of a request.
 fn request_topic(alloc: Global, group: &str, node: &str) -> Result<String, AllocError>
-    ensures { IfOk result (λ t. string_bytes t ≡ topic_of (of_node group.now Verb.Command node.now)) }
+    ensures { IfOk result
+        (λ t. string_bytes t ≡ topic_of (of_node group.now Verb.Command node.now)) }
 {
     let kind = node_type(Verb::Command);
     format!(in alloc; "spBv1.0/{group}/{kind}/{node}")

@@ -107,7 +107,9 @@ impl HostSession {
 
     /// SUBSCRIBE's bytes, alone.
     fn subscription(&self) -> Result<Vec<Vec<u8>>, AllocError>
-        ensures { IfOk result (λ v. map (λ b. b.items) v.items ≡ map spelling (spec.subscribe_of self.now.config ∷ [])) }
+        ensures { IfOk result
+            (λ v. map (λ b. b.items) v.items
+            ≡ map spelling (spec.subscribe_of self.now.config ∷ [])) }
     {
         let mut packets = Vec::with_capacity(self.alloc, 1)?;
         packets.push(self.subscribe()?)?;
@@ -116,7 +118,8 @@ impl HostSession {
 
     /// The bytes of a session's end: STATE offline, and DISCONNECT.
     fn farewell(&self, now: u64) -> Result<Vec<Vec<u8>>, AllocError>
-        ensures { IfOk result (λ v. map (λ b. b.items) v.items ≡ map spelling (spec.farewell self.now.config now)) }
+        ensures { IfOk result
+            (λ v. map (λ b. b.items) v.items ≡ map spelling (spec.farewell self.now.config now)) }
     {
         let mut packets = Vec::with_capacity(self.alloc, 2)?;
         packets.push(self.state(3, false, now)?)?;
@@ -126,7 +129,8 @@ impl HostSession {
 
     /// A session begins at a moment, with CONNECT.
     fn begin(&mut self, now: u64) -> Result<Vec<u8>, AllocError>
-        ensures packet { IfOk result (λ v. v.items ≡ spelling (spec.connect_of self.old.config now)) }
+        ensures packet { IfOk result
+            (λ v. v.items ≡ spelling (spec.connect_of self.old.config now)) }
         ensures ok { OnOk result (self.new ≡ record self.old { began = Some now }) }
         ensures err { OnErr result (self.new ≡ self.old) }
     {
@@ -145,7 +149,8 @@ impl HostSession {
     /// A session begins: CONNECT, whose will is STATE offline with this moment, in milliseconds since 1970, at QoS 1, retained.
     /// Refused with WrongPhase (75) within a session.
     pub fn connected(&mut self, now: u64) -> Result<Vec<u8>, HostFault>
-        ensures said { Gives (λ v. v.items ∷ []) result (spelled (step.says self.old (step.Connected now))) }
+        ensures said { Gives (λ v. v.items ∷ []) result
+            (spelled (step.says self.old (step.Connected now))) }
         ensures ok { OnOk result (self.new ≡ step.after self.old (step.Connected now)) }
         ensures err { OnErr result (self.new ≡ self.old) }
     {
@@ -158,7 +163,8 @@ impl HostSession {
     /// CONNACK came, with its code. Code 0 is answered by SUBSCRIBE to all topics of the group, at QoS 1; any other ends the
     /// session. Refused with WrongPhase (75) outside a session.
     pub fn answered(&mut self, code: u8) -> Result<Vec<Vec<u8>>, HostFault>
-        ensures said { Gives (λ v. map (λ b. b.items) v.items) result (spelled (step.says self.old (step.Answered code))) }
+        ensures said { Gives (λ v. map (λ b. b.items) v.items) result
+            (spelled (step.says self.old (step.Answered code))) }
         ensures ok { OnOk result (self.new ≡ step.after self.old (step.Answered code)) }
         ensures err { OnErr result (self.new ≡ self.old) }
     {
@@ -186,7 +192,8 @@ impl HostSession {
     /// The session ends: STATE offline with this moment, at QoS 1, retained, and DISCONNECT. Refused with WrongPhase (75) outside
     /// a session.
     pub fn stop(&mut self, now: u64) -> Result<Vec<Vec<u8>>, HostFault>
-        ensures said { Gives (λ v. map (λ b. b.items) v.items) result (spelled (step.says self.old (step.Stopped now))) }
+        ensures said { Gives (λ v. map (λ b. b.items) v.items) result
+            (spelled (step.says self.old (step.Stopped now))) }
         ensures ok { OnOk result (self.new ≡ step.after self.old (step.Stopped now)) }
         ensures err { OnErr result (self.new ≡ self.old) }
     {
@@ -207,7 +214,8 @@ impl HostSession {
 
     /// The session ends without a farewell, if there was one, and the next begins: CONNECT, as `connected` says. Whole or nothing.
     pub fn renew(&mut self, now: u64) -> Result<Vec<u8>, AllocError>
-        ensures said { IfOk result (λ v. spelled (step.says self.old (step.Renewed now)) ≡ Ok (v.items ∷ [])) }
+        ensures said { IfOk result
+            (λ v. spelled (step.says self.old (step.Renewed now)) ≡ Ok (v.items ∷ [])) }
         ensures ok { OnOk result (self.new ≡ step.after self.old (step.Renewed now)) }
         ensures err { OnErr result (self.new ≡ self.old) }
     {

@@ -55,8 +55,10 @@ impl Ingress {
         ensures passes { IfOk result (λ r. ArePasses r.0 r.1.items) }
         ensures taker { IfOk result (λ r. TakesFrom r.0 r.2 × (frames_taken r.2 ≡ [])) }
         ensures ok { OnOk result (IsCapacity capacity × AreSenders senders) }
-        ensures bad_plan { IfErr result (λ e. e ≡ OpenFault.BadPlan → ¬ (IsCapacity capacity × AreSenders senders)) }
-        ensures no_memory { IfErr result (λ e. e ≡ OpenFault.NoMemory → IsCapacity capacity × AreSenders senders) }
+        ensures bad_plan { IfErr result
+            (λ e. e ≡ OpenFault.BadPlan → ¬ (IsCapacity capacity × AreSenders senders)) }
+        ensures no_memory { IfErr result
+            (λ e. e ≡ OpenFault.NoMemory → IsCapacity capacity × AreSenders senders) }
     {
         if !(1..=65_536).contains(&capacity) || !(1..=1_024).contains(&senders) {
             return Err(OpenFault::BadPlan);
@@ -78,7 +80,8 @@ impl Ingress {
         requires { PutsInto self.now pass.old }
         ensures pass { PutsInto self.now pass.new × (pass.new.sender ≡ pass.old.sender) }
         ensures ok { OnOk result (frames_put pass.new ≡ frames_put pass.old ++ frame ∷ []) }
-        ensures closed { IfErr result (λ e. (e.value ≡ frame) × (frames_put pass.new ≡ frames_put pass.old)) }
+        ensures closed { IfErr result
+            (λ e. (e.value ≡ frame) × (frames_put pass.new ≡ frames_put pass.old)) }
     {
         if pass.count == u64::MAX {
             return Err(Closed { value: frame });
@@ -104,9 +107,12 @@ impl Ingress {
     pub fn take<R: Wait>(&self, rt: &R, pass: &mut TakePass) -> Result<Taken, Closed<()>>
         requires { TakesFrom self.now pass.old }
         ensures pass { TakesFrom self.now pass.new }
-        ensures ok { IfOk result (λ t. frames_taken pass.new ≡ frames_taken pass.old ++ (record { sender = t.sender; frame = t.frame }) ∷ []) }
+        ensures ok { IfOk result
+            (λ t. frames_taken pass.new
+            ≡ frames_taken pass.old ++ (record { sender = t.sender; frame = t.frame }) ∷ []) }
         ensures sender { IfOk result (λ t. t.sender < self.now.senders) }
-        ensures number { IfOk result (λ t. t.number ≡ length (share_of t.sender (frames_taken pass.old))) }
+        ensures number { IfOk result
+            (λ t. t.number ≡ length (share_of t.sender (frames_taken pass.old))) }
         ensures closed { OnErr result (frames_taken pass.new ≡ frames_taken pass.old) }
     {
         let Ok(message) = pass.end.recv_as::<Takes, R>(rt, &mut pass.seat) else {
@@ -127,9 +133,12 @@ impl Ingress {
     pub fn take_now<R: Wait>(&self, rt: &R, pass: &mut TakePass) -> Option<Taken>
         requires { TakesFrom self.now pass.old }
         ensures pass { TakesFrom self.now pass.new }
-        ensures some { IfSome result (λ t. frames_taken pass.new ≡ frames_taken pass.old ++ (record { sender = t.sender; frame = t.frame }) ∷ []) }
+        ensures some { IfSome result
+            (λ t. frames_taken pass.new
+            ≡ frames_taken pass.old ++ (record { sender = t.sender; frame = t.frame }) ∷ []) }
         ensures sender { IfSome result (λ t. t.sender < self.now.senders) }
-        ensures number { IfSome result (λ t. t.number ≡ length (share_of t.sender (frames_taken pass.old))) }
+        ensures number { IfSome result
+            (λ t. t.number ≡ length (share_of t.sender (frames_taken pass.old))) }
         ensures none { result ≡ None → frames_taken pass.new ≡ frames_taken pass.old }
     {
         let Ok(message) = pass.end.try_recv_as::<Takes, R>(rt, &mut pass.seat) else {
@@ -149,8 +158,10 @@ impl Ingress {
 /// A pass for the next sender.
 fn next_pass(ingress: &Ingress, taker: &mut TakePass, sender: usize) -> PutPass
     requires { TakesNone ingress.now taker.old sender × (sender < ingress.now.senders) }
-    ensures taker { TakesNone ingress.now taker.new (sender + 1) × (taker.new.counts ≡ taker.old.counts) }
-    ensures pass { PutsInto ingress.now result × (result.sender ≡ sender) × (frames_put result ≡ []) }
+    ensures taker { TakesNone ingress.now taker.new (sender + 1)
+        × (taker.new.counts ≡ taker.old.counts) }
+    ensures pass { PutsInto ingress.now result × (result.sender ≡ sender)
+        × (frames_put result ≡ []) }
 {
     let seat = ingress.end.another::<NewSender>(&mut taker.seat);
     PutPass {
@@ -217,7 +228,8 @@ impl Ingress {
         requires passes { AllPutInto self passes.items }
         ensures settled { OnOk result (IsSettled self taker passes.items) }
         ensures lengths { IfOk result (λ v. AreLengths self taker v.items) }
-        ensures unsettled { IfErr result (λ e. e ≡ SettleFault.Unsettled → ¬ (IsSettled self taker passes.items)) }
+        ensures unsettled { IfErr result
+            (λ e. e ≡ SettleFault.Unsettled → ¬ (IsSettled self taker passes.items)) }
     {
         let Ok(mut seen) = vec![in alloc; false; self.senders] else {
             return Err(SettleFault::NoMemory);
@@ -236,9 +248,12 @@ impl Ingress {
         requires taker { TakesFrom self.now taker.old }
         requires pass { PutsInto self.now pass }
         ensures taker { TakesFrom self.now taker.new }
-        ensures same { (frames_taken taker.new ≡ frames_taken taker.old) × (taker.new.counts ≡ taker.old.counts) }
-        ensures all { result ≡ true → share_of pass.sender (frames_taken taker.old) ≡ frames_put pass }
-        ensures only { share_of pass.sender (frames_taken taker.old) ≡ frames_put pass → result ≡ true }
+        ensures same { (frames_taken taker.new ≡ frames_taken taker.old)
+            × (taker.new.counts ≡ taker.old.counts) }
+        ensures all { result ≡ true
+            → share_of pass.sender (frames_taken taker.old) ≡ frames_put pass }
+        ensures only { share_of pass.sender (frames_taken taker.old) ≡ frames_put pass
+            → result ≡ true }
     {
         let PutPass {
             sender,
@@ -260,8 +275,11 @@ impl Ingress {
         requires taker { TakesFrom self.now taker.old }
         requires passes { AllPutInto self.now passes.items }
         requires seen { IsMarked self.now seen.old.items [] }
-        ensures same { (frames_taken taker.new ≡ frames_taken taker.old) × (taker.new.counts ≡ taker.old.counts) }
-        ensures all { result ≡ true → AllTaken (frames_taken taker.old) passes.items × IsMarked self.now seen.new.items passes.items }
+        ensures same { (frames_taken taker.new ≡ frames_taken taker.old)
+            × (taker.new.counts ≡ taker.old.counts) }
+        ensures all { result ≡ true
+            → AllTaken (frames_taken taker.old) passes.items
+            × IsMarked self.now seen.new.items passes.items }
         ensures only { result ≡ false → ¬ (AllTaken (frames_taken taker.old) passes.items) }
     {
         while let Some(pass) = passes.pop() {

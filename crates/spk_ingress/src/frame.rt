@@ -42,9 +42,11 @@ impl Whole {
     /// or for want of memory.
     pub fn front(alloc: Global, bytes: &[u8]) -> Result<Whole, PacketFault>
         ensures front { IfOk result (λ w. take (length w) bytes.now ≡ w) }
-        ensures one { IfOk result (λ w. IsOnePacket w × (0 < length w) × (length w ≤ length bytes.now)) }
+        ensures one { IfOk result
+            (λ w. IsOnePacket w × (0 < length w) × (length w ≤ length bytes.now)) }
         ensures refused { IfErr result (λ e. IsNamed e (first_of (refusals bytes.now))) }
-        ensures only { (n : ℕ) → n ≤ length bytes.now → IsOnePacket (take n bytes.now) → IfErr result (λ e. e ≡ PacketFault.NoMemory) }
+        ensures only { (n : ℕ) → n ≤ length bytes.now → IsOnePacket (take n bytes.now)
+            → IfErr result (λ e. e ≡ PacketFault.NoMemory) }
     {
         let count = match count_of(alloc, bytes) {
             Ok(count) => count,
@@ -82,9 +84,12 @@ impl Whole {
 
 /// How many bytes the packet at the front takes.
 fn count_of(alloc: Global, bytes: &[u8]) -> Result<usize, PacketFault>
-    ensures found { IfOk result (λ n. (n ≤ length bytes.now) × (p : packets.Message) × Spells (take n bytes.now) p) }
-    ensures front { (p : packets.Message) (n : ℕ) → n ≤ length bytes.now → Spells (take n bytes.now) p → IfOk result (λ m. m ≡ n) }
-    ensures memory { (p : packets.Message) (n : ℕ) → n ≤ length bytes.now → Spells (take n bytes.now) p → IfErr result (λ e. e ≡ PacketFault.NoMemory) }
+    ensures found { IfOk result
+        (λ n. (n ≤ length bytes.now) × (p : packets.Message) × Spells (take n bytes.now) p) }
+    ensures front { (p : packets.Message) (n : ℕ) → n ≤ length bytes.now
+        → Spells (take n bytes.now) p → IfOk result (λ m. m ≡ n) }
+    ensures memory { (p : packets.Message) (n : ℕ) → n ≤ length bytes.now
+        → Spells (take n bytes.now) p → IfErr result (λ e. e ≡ PacketFault.NoMemory) }
     ensures refused { IfErr result (λ e. IsNamed e (first_of (refusals bytes.now))) }
 {
     match decode(alloc, bytes) {
@@ -107,7 +112,8 @@ impl Frame {
     pub fn packet(alloc: Global, bytes: Vec<u8>) -> Result<Frame, Refused>
         ensures ok { IfOk result (λ f. f ≡ Frame.Packet bytes.items) }
         ensures one { IfOk result (λ f. IsOnePacket bytes.items) }
-        ensures only { IsOnePacket bytes.items → IfErr result (λ r. r.fault ≡ FrameFault.Packet PacketFault.NoMemory) }
+        ensures only { IsOnePacket bytes.items
+            → IfErr result (λ r. r.fault ≡ FrameFault.Packet PacketFault.NoMemory) }
         ensures back { IfErr result (λ r. r.bytes.items ≡ bytes.items) }
         ensures named { IfErr result (λ r. NamesFault bytes.items r.fault) }
     {

@@ -6,8 +6,6 @@ mod channel;
 mod fault;
 mod frame;
 mod rule;
-#[cfg(test)]
-mod tests;
 
 pub use channel::{Ingress, PutPass, TakePass, Taken};
 pub use fault::{Closed, FrameFault, OpenFault, Refused, SettleFault};

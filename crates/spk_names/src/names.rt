@@ -59,7 +59,8 @@ impl Names {
     /// Enters a name with its number, behind the others, and says whether it is new. A name that is there keeps its number.
     /// It fails only for a new name and where a growth was refused, and then nothing has changed.
     pub fn enter(&mut self, name: String, number: usize) -> Result<bool, AllocError>
-        ensures is_new { IfOk result (λ is_new. is_new ≡ is_none (number_in self.old (string_bytes name))) }
+        ensures is_new { IfOk result
+            (λ is_new. is_new ≡ is_none (number_in self.old (string_bytes name))) }
         ensures ok { OnOk result (self.new ≡ entered self.old (string_bytes name) number) }
         ensures err { OnErr result (self.new ≡ self.old) }
         ensures fails_new { OnErr result (number_in self.old (string_bytes name) ≡ None) }
@@ -73,7 +74,8 @@ impl Names {
     /// A new name goes last.
     fn push(&mut self, name: String, number: usize) -> Result<bool, AllocError>
         requires { number_in self.old (string_bytes name) ≡ None }
-        ensures is_new { IfOk result (λ is_new. is_new ≡ is_none (number_in self.old (string_bytes name))) }
+        ensures is_new { IfOk result
+            (λ is_new. is_new ≡ is_none (number_in self.old (string_bytes name))) }
         ensures ok { OnOk result (self.new ≡ entered self.old (string_bytes name) number) }
         ensures err { OnErr result (self.new ≡ self.old) }
     {

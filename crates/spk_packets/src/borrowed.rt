@@ -28,7 +28,8 @@ impl<'a> PublishRef<'a> {
     #[tactic(auto, unfolding(crate::specs::Spelling::has_bad_text, crate::specs::Spelling::has_bad_body, crate::specs::Spelling::is_qos_two))]
     fn judge(&self) -> Result<(), PacketFault>
         ensures ok { OnOk result (first_of (content_refusals (publish_view self.now)) ≡ None) }
-        ensures err { IfErr result (λ e. first_of (content_refusals (publish_view self.now)) ≡ Some e) }
+        ensures err { IfErr result
+            (λ e. first_of (content_refusals (publish_view self.now)) ≡ Some e) }
     {
         if bad(self.topic) {
             return Err(PacketFault::BadText);
@@ -74,9 +75,12 @@ impl<'a> PublishRef<'a> {
     fn join(&self, alloc: Global) -> Result<Vec<u8>, PacketFault>
         ensures ok { IfOk result (λ v. v.items ≡ first_byte (publish_view self.now) % 256
             ∷ (shortest (length (body (publish_view self.now))) ++ body (publish_view self.now))) }
-        ensures within { OnOk result (1 + length (shortest (length (body (publish_view self.now)))) + length (body (publish_view self.now)) ≤ largest) }
+        ensures within { OnOk result
+            (1 + length (shortest (length (body (publish_view self.now))))
+            + length (body (publish_view self.now)) ≤ largest) }
         ensures over { IfErr result (λ e. (e ≡ PacketFault.NoMemory) ⊎ ((e ≡ PacketFault.TooLarge)
-            × (largest < 1 + length (shortest (length (body (publish_view self.now)))) + length (body (publish_view self.now))))) }
+            × (largest < 1 + length (shortest (length (body (publish_view self.now))))
+            + length (body (publish_view self.now))))) }
     {
         let len = self.body_size();
         let whole = whole_of(len)?;
@@ -90,7 +94,8 @@ impl<'a> PublishRef<'a> {
     /// Its canonical spelling, as `encode` writes the packet that says the same. Refused as there.
     pub fn encode(&self, alloc: Global) -> Result<Vec<u8>, PacketFault>
         ensures spelled { IfOk result (λ v. v.items ≡ spelling (publish_view self.now)) }
-        ensures refused { IfErr result (λ e. IsNamed e (first_of (unwritable (publish_view self.now)))) }
+        ensures refused { IfErr result
+            (λ e. IsNamed e (first_of (unwritable (publish_view self.now)))) }
         ensures not_refused { OnOk result (first_of (unwritable (publish_view self.now)) ≡ None) }
     {
         self.judge()?;

@@ -112,7 +112,8 @@ fn will_of(
     flags: Option<WillFlags>,
     bytes: &[u8],
 ) -> Result<(Option<Will>, &[u8]), PacketFault>
-    ensures { Gives (λ x. (option_map will_view x.0, x.1.now)) result (will_at (option_map (λ f. (f.qos, f.retain)) flags) bytes.now) }
+    ensures { Gives (λ x. (option_map will_view x.0, x.1.now)) result
+        (will_at (option_map (λ f. (f.qos, f.retain)) flags) bytes.now) }
 {
     let Some(WillFlags { qos, retain }) = flags else {
         return Ok((None, bytes));

@@ -98,8 +98,10 @@ impl Feed {
             (λ packet. TakesPacket self.old (view packet) self.new)) }
 
         // A packet at the front is given, unless memory runs out.
-        ensures only { (front rest : List ℕ) (p : Message) → Spells front p → self.old ≡ front ++ rest → IsGiven result p }
-        ensures refused { IfErr result (λ e. IsNamed e (first_of (refusals self.old)) × (e ≢ PacketFault.More)) }
+        ensures only { (front rest : List ℕ) (p : Message) → Spells front p
+            → self.old ≡ front ++ rest → IsGiven result p }
+        ensures refused { IfErr result
+            (λ e. IsNamed e (first_of (refusals self.old)) × (e ≢ PacketFault.More)) }
         ensures err { OnErr result (self.new ≡ self.old) }
         // A packet that keeps no text, payload or list takes no memory.
         ensures memory { IfErr result (λ e. is_of_bytes e ≡ false → IsTrue (keeps self.old)) }

@@ -59,7 +59,8 @@ fn bad_topic(will: &Option<Will>) -> bool
 }
 
 fn bad_requests(requests: &[Request]) -> bool
-    ensures { result ≡ list_any (λ request. is_bad_text (string_bytes request.filter)) requests.now }
+    ensures { result
+        ≡ list_any (λ request. is_bad_text (string_bytes request.filter)) requests.now }
 {
     requests.iter().any(|request| bad(&request.filter))
 }
@@ -108,7 +109,9 @@ pub(crate) fn bad_id(qos: u8, id: Option<u16>) -> bool
 }
 
 fn bad_subscribe(id: u16, requests: &[Request]) -> bool
-    ensures { result ≡ (id == 0 || is_empty requests.now || list_any (λ request. nat_lt 2 request.qos) requests.now) }
+    ensures { result
+        ≡ (id == 0 || is_empty requests.now
+        || list_any (λ request. nat_lt 2 request.qos) requests.now) }
 {
     id == 0 || requests.is_empty() || over_two(requests)
 }

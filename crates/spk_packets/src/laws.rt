@@ -12,7 +12,8 @@ ghost use Rattle.spk_packets.specs.declared.fault.PacketFault.{PacketFault};
 /// No spelling of a packet begins a spelling of a packet, the same or another, and one spelling spells one packet. So
 /// what was written is read again, whatever follows it.
 pub fn prefix_free()
-    ensures { (a b x y : List ℕ) (p q : Message) → Spells a p → Spells b q → a ++ x ≡ b ++ y → (a ≡ b) × (p ≡ q) }
+    ensures { (a b x y : List ℕ) (p q : Message) → Spells a p → Spells b q → a ++ x ≡ b ++ y
+        → (a ≡ b) × (p ≡ q) }
 {}
 
 /// Bytes that spell a packet spell one that `encode` writes: what it refuses, no bytes spell.
@@ -29,17 +30,22 @@ pub fn written_is_shortest()
 
 /// What can be written is spelled by its spelling.
 pub fn spelling_spells()
-    ensures { (p : Message) → PacketFits p → first_of (unwritable p) ≡ None → Spells (spelling p) p }
+    ensures { (p : Message) → PacketFits p → first_of (unwritable p) ≡ None
+        → Spells (spelling p) p }
 {}
 
 /// Two feeds that took in the same bytes and hold no whole packet any more have given the same packets, and the same
 /// bytes wait: it doesn't matter how the bytes were cut, nor when packets were asked for. A feed that still holds some, or
 /// took in fewer bytes, has given the first of them.
 pub fn any_pieces()
-    ensures same { (events others : List Event) (x y : List ℕ) → IsRun [] events x → IsRun [] others y
-        → fed events ≡ fed others → HasNoPacket x → HasNoPacket y → (given events ≡ given others) × (x ≡ y) }
-    ensures first { (events others : List Event) (x y more : List ℕ) → IsRun [] events x → IsRun [] others y
-        → fed events ++ more ≡ fed others → HasNoPacket y → (later : List Message) × (given others ≡ given events ++ later) }
+    ensures same { (events others : List Event) (x y : List ℕ) → IsRun [] events x
+        → IsRun [] others y
+        → fed events ≡ fed others → HasNoPacket x → HasNoPacket y
+        → (given events ≡ given others) × (x ≡ y) }
+    ensures first { (events others : List Event) (x y more : List ℕ) → IsRun [] events x
+        → IsRun [] others y
+        → fed events ++ more ≡ fed others → HasNoPacket y
+        → (later : List Message) × (given others ≡ given events ++ later) }
 {}
 
 /// A fault other than More stays, whatever follows: bytes that are refused are refused at once, and for good.

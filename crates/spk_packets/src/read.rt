@@ -117,8 +117,10 @@ fn front(alloc: Global, bytes: &[u8]) -> Result<(Packet, usize), PacketFault>
 /// needed is read too (own rule). It takes no memory. Refused are bytes that end within it, `More`, and a fourth byte
 /// that says that a fifth follows, `BadLength`.
 pub fn read_length(bytes: &[u8]) -> Result<(u32, usize), PacketFault>
-    ensures found { IfOk result (λ x. (x.1 ≤ length bytes.now) × IsLength (take x.1 bytes.now) x.0) }
-    ensures only { (n size : ℕ) → size ≤ length bytes.now → IsLength (take size bytes.now) n → result ≡ Ok (n, size) }
+    ensures found { IfOk result
+        (λ x. (x.1 ≤ length bytes.now) × IsLength (take x.1 bytes.now) x.0) }
+    ensures only { (n size : ℕ) → size ≤ length bytes.now → IsLength (take size bytes.now) n
+        → result ≡ Ok (n, size) }
     ensures refused { IfErr result (λ e. first_of (length_refusals bytes.now) ≡ Some e) }
     ensures not_refused { OnOk result (first_of (length_refusals bytes.now) ≡ None) }
 {
@@ -129,9 +131,11 @@ pub fn read_length(bytes: &[u8]) -> Result<(u32, usize), PacketFault>
 /// each text and payload that the packet keeps once, and asks for no memory for a length that the bytes don't hold.
 pub fn decode(alloc: Global, bytes: &[u8]) -> Result<(Packet, usize), PacketFault>
     // The bytes that it takes spell the packet.
-    ensures found { IfOk result (λ x. (x.1 ≤ length bytes.now) × Spells (take x.1 bytes.now) (view x.0)) }
+    ensures found { IfOk result
+        (λ x. (x.1 ≤ length bytes.now) × Spells (take x.1 bytes.now) (view x.0)) }
     // Where the first n bytes spell a packet, that is the answer, unless memory runs out.
-    ensures only { (p : Message) (n : ℕ) → n ≤ length bytes.now → Spells (take n bytes.now) p → Gives front_view result (Ok (p, n)) }
+    ensures only { (p : Message) (n : ℕ) → n ≤ length bytes.now → Spells (take n bytes.now) p
+        → Gives front_view result (Ok (p, n)) }
     // A fault is the first of the order that holds, unless memory ran out.
     ensures refused { IfErr result (λ e. IsNamed e (first_of (refusals bytes.now))) }
     // What is read has none: where one holds, nothing is read.

@@ -15,7 +15,8 @@ pub(crate) fn counted_size(bytes: &[u8]) -> usize
 }
 
 fn requests_size(requests: &[Request]) -> usize
-    ensures { result ≡ min (length (flat_map request (map request_view requests.now))) (2 ^ 64 - 1) }
+    ensures { result
+        ≡ min (length (flat_map request (map request_view requests.now))) (2 ^ 64 - 1) }
 {
     let mut sum = 0usize;
     for entry in requests {
@@ -27,7 +28,9 @@ fn requests_size(requests: &[Request]) -> usize
 }
 
 fn filters_size(filters: &[String]) -> usize
-    ensures { result ≡ min (length (flat_map counted (map (λ filter. string_bytes filter) filters.now))) (2 ^ 64 - 1) }
+    ensures { result
+        ≡ min (length (flat_map counted (map (λ filter. string_bytes filter) filters.now)))
+        (2 ^ 64 - 1) }
 {
     let mut sum = 0usize;
     for filter in filters {

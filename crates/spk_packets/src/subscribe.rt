@@ -111,7 +111,8 @@ fn requests(alloc: Global, bytes: &[u8]) -> Result<Vec<Request>, PacketFault>
 }
 
 fn filters(alloc: Global, bytes: &[u8]) -> Result<Vec<String>, PacketFault>
-    ensures { Gives (λ v. map (λ filter. string_bytes filter) v.items) result (each_at text_at bytes.now) }
+    ensures { Gives (λ v. map (λ filter. string_bytes filter) v.items) result
+        (each_at text_at bytes.now) }
 {
     let mut filters = Vec::new(alloc);
     let mut rest = bytes;

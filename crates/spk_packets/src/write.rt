@@ -43,7 +43,8 @@ fn put_request(out: &mut Vec<u8>, entry: &Request) -> Result<(), AllocError>
 }
 
 fn put_requests(out: &mut Vec<u8>, requests: &[Request]) -> Result<(), AllocError>
-    ensures { OnOk result (out.new.items ≡ out.old.items ++ flat_map request (map request_view requests.now)) }
+    ensures { OnOk result
+        (out.new.items ≡ out.old.items ++ flat_map request (map request_view requests.now)) }
 {
     for entry in requests {
         put_request(out, entry)?;
@@ -52,7 +53,9 @@ fn put_requests(out: &mut Vec<u8>, requests: &[Request]) -> Result<(), AllocErro
 }
 
 fn put_filters(out: &mut Vec<u8>, filters: &[String]) -> Result<(), AllocError>
-    ensures { OnOk result (out.new.items ≡ out.old.items ++ flat_map counted (map (λ filter. string_bytes filter) filters.now)) }
+    ensures { OnOk result
+        (out.new.items
+        ≡ out.old.items ++ flat_map counted (map (λ filter. string_bytes filter) filters.now)) }
 {
     for filter in filters {
         put_counted(out, filter.as_bytes())?;
@@ -62,7 +65,8 @@ fn put_filters(out: &mut Vec<u8>, filters: &[String]) -> Result<(), AllocError>
 
 /// The will topic and the will message, where there is a will.
 fn put_will(out: &mut Vec<u8>, will: &Option<Will>) -> Result<(), AllocError>
-    ensures { OnOk result (out.new.items ≡ out.old.items ++ will_part (option_map will_view will.now)) }
+    ensures { OnOk result
+        (out.new.items ≡ out.old.items ++ will_part (option_map will_view will.now)) }
 {
     if let Some(will) = will {
         put_counted(out, will.topic.as_bytes())?;
@@ -233,7 +237,8 @@ pub(crate) fn put_length(out: &mut Vec<u8>, len: usize) -> Result<(), AllocError
 /// How many bytes a packet with a body of this length has, if that isn't too much.
 pub(crate) fn whole_of(len: usize) -> Result<usize, PacketFault>
     ensures ok { IfOk result (λ n. (n ≡ 1 + length (shortest len) + len) × (n ≤ largest)) }
-    ensures err { IfErr result (λ e. (e ≡ PacketFault.TooLarge) × (largest < 1 + length (shortest len) + len)) }
+    ensures err { IfErr result
+        (λ e. (e ≡ PacketFault.TooLarge) × (largest < 1 + length (shortest len) + len)) }
 {
     if len > LARGEST {
         return Err(PacketFault::TooLarge);
@@ -250,9 +255,12 @@ fn join(alloc: Global, packet: &Packet) -> Result<Vec<u8>, PacketFault>
     ensures ok { IfOk result (λ v. v.items ≡ first_byte (view packet.now) % 256
         ∷ (shortest (length (body (view packet.now))) ++ body (view packet.now))) }
     ensures words { OnOk result (HasWords (view packet.now)) }
-    ensures within { OnOk result (1 + length (shortest (length (body (view packet.now)))) + length (body (view packet.now)) ≤ largest) }
+    ensures within { OnOk result
+        (1 + length (shortest (length (body (view packet.now)))) + length (body (view packet.now))
+        ≤ largest) }
     ensures over { IfErr result (λ e. (e ≡ PacketFault.NoMemory) ⊎ ((e ≡ PacketFault.TooLarge)
-        × (largest < 1 + length (shortest (length (body (view packet.now)))) + length (body (view packet.now))))) }
+        × (largest < 1 + length (shortest (length (body (view packet.now))))
+        + length (body (view packet.now))))) }
 {
     let len = body_size(packet);
     let whole = whole_of(len)?;

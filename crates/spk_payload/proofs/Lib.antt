@@ -7,3 +7,4 @@ mod Payloads
 mod Canonical
 mod Appended
 mod Typings
+mod Asking

@@ -1,13 +1,13 @@
 -- What bytes mean, or their first fault, as a function: item by item, from the front. `laws::reading` says that it gives
 -- exactly what Meaning and Faults ask: `payload_at bytes` is Ok of the meaning, or Err of the first fault.
-use Rattle.std.specs.Prelude.{ℕ, ◌%◌, ◌^◌, not, List, [], ◌∷◌, ◌++◌, Some, None, Result, Ok, Err, ◌==◌, if◌then◌else◌}
+use Rattle.std.specs.Prelude.{ℕ, ◌%◌, ◌^◌, Bool, true, false, ◌||◌, is_some, not, List, [], ◌∷◌, ◌++◌, Some, None, Result, Ok, Err, ◌==◌, if◌then◌else◌}
 use Rattle.std.specs.Str.{is_utf8}
 use Rattle.spk_protobuf.specs.declared.fault.WireFault.{WireFault}
 use Rattle.spk_protobuf.specs.Grammar.{Shape, Varint, Eight, Bytes, Four, Entry}
 use Rattle.spk_protobuf.specs.Reading.{items_of}
 use Rattle.spk_payload.specs.declared.fault.PayloadFault.{PayloadFault}
 use Rattle.spk_payload.specs.declared.fault.PayloadFault.TheVariants.{Wire, NotText}
-use Rattle.spk_payload.specs.Meaning.{Int, Long, Flag, Words, Octets, Other, MetricData, PayloadData}
+use Rattle.spk_payload.specs.Meaning.{Int, Long, Flag, Words, Octets, Other, MetricData, PayloadData, bytes_in}
 
 infixl 10 ◌>>=◌
 abbrev pub ◌>>=◌ : {A B : Type 0} → Result A PayloadFault → (A → Result B PayloadFault) → Result B PayloadFault
@@ -78,3 +78,9 @@ payload_entry p e = by_shape e.shape
 -- the payload that the bytes mean, or the first fault
 unfoldable pub payload_at : List ℕ → Result PayloadData PayloadFault
 payload_at bytes = each_item payload_entry no_payload (items_of bytes)
+
+-- whether a metric stands before the first fault: to read a payload without one takes no memory
+unfoldable pub has_metric : List (Result Entry WireFault) → Bool
+has_metric [] = false
+has_metric (Err w ∷ items) = false
+has_metric (Ok e ∷ items) = is_some (bytes_in 2 e) || has_metric items

@@ -1,6 +1,6 @@
 //! Copies of values, metrics and payloads.
 
-ghost use Rattle.std.specs.Prelude.{◌≡◌, IfOk, IsTrue, OnErr, is_some, map, option_map, string_bytes};
+ghost use Rattle.std.specs.Prelude.{◌≡◌, ◌<◌, IfOk, IsTrue, OnErr, is_some, length, map, option_map, string_bytes};
 ghost use Rattle.spk_payload.specs.Meaning.{has_text_or_bytes, is_text_or_bytes, is_texted};
 ghost use Rattle.spk_payload.specs.Typing as typing;
 ghost use Rattle.spk_payload.specs.Typing.{typed_view};
@@ -95,7 +95,9 @@ impl Metric {
 }
 
 fn copied_metrics(alloc: Global, metrics: &[Metric]) -> Result<Vec<Metric>, AllocError>
-    ensures { IfOk result (λ copies. map metric_view copies.items ≡ map metric_view metrics.now) }
+    ensures same { IfOk result (λ copies. map metric_view copies.items ≡
+        map metric_view metrics.now) }
+    ensures memory { OnErr result (0 < length metrics.now) }
 {
     let mut copies = Vec::with_capacity(alloc, metrics.len())?;
     for metric in metrics {
@@ -107,7 +109,9 @@ fn copied_metrics(alloc: Global, metrics: &[Metric]) -> Result<Vec<Metric>, Allo
 impl Payload {
     /// An equal payload.
     pub fn copy(&self, alloc: Global) -> Result<Payload, AllocError>
-        ensures { IfOk result (λ payload. payload_view payload ≡ payload_view self.now) }
+        ensures same { IfOk result (λ payload. payload_view payload ≡ payload_view self.now) }
+        // Without metrics it takes no memory.
+        ensures memory { OnErr result (0 < length (payload_view self.now).metrics) }
     {
         let metrics = copied_metrics(alloc, &self.metrics)?;
         Ok(Payload {

@@ -94,7 +94,8 @@ impl Metric {
     }
 
     fn put_bytes(&mut self, alloc: Global, field: u64, bytes: &[u8]) -> Result<(), PayloadFault>
-        ensures { Turns metric_view result self.new (spec.metric_bytes (metric_view self.old) field bytes.now) }
+        ensures { Turns metric_view result self.new
+            (spec.metric_bytes (metric_view self.old) field bytes.now) }
     {
         match field {
             1 => self.name = Some(text_of(alloc, bytes)?),
@@ -107,7 +108,8 @@ impl Metric {
     }
 
     fn put(&mut self, alloc: Global, field: Field<'_>) -> Result<(), PayloadFault>
-        ensures { Turns metric_view result self.new (spec.metric_entry (metric_view self.old) (entry_of field.entry)) }
+        ensures { Turns metric_view result self.new
+            (spec.metric_entry (metric_view self.old) (entry_of field.entry)) }
     {
         match field.wire {
             Wire::Varint(number) => self.put_number(field.number, number),

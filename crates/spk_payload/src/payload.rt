@@ -1,9 +1,10 @@
 //! Payloads, read from their bytes.
 
-ghost use Rattle.std.specs.Prelude.{◌≡◌, ◌⊎◌, Ok, Err, IfOk, IfErr};
+ghost use Rattle.std.specs.Prelude.{◌≡◌, ◌⊎◌, Ok, Err, IfOk, IfErr, IsTrue, is_some};
+ghost use Rattle.spk_protobuf.specs.Reading.{items_of};
 ghost use Rattle.spk_protobuf.specs.View.{entry_of};
 ghost use Rattle.spk_payload.specs.declared.fault.PayloadFault.{PayloadFault};
-ghost use Rattle.spk_payload.specs.Meaning.{PayloadData, MeansPayload};
+ghost use Rattle.spk_payload.specs.Meaning.{PayloadData, MeansPayload, bytes_in};
 ghost use Rattle.spk_payload.specs.Faults.{IsPayloadFault};
 ghost use Rattle.spk_payload.specs.Reading as spec;
 ghost use Rattle.spk_payload.specs.View.{payload_view, Gives, Turns};
@@ -24,7 +25,10 @@ pub struct Payload {
 
 impl Payload {
     fn put(&mut self, alloc: Global, field: Field<'_>) -> Result<(), PayloadFault>
-        ensures { Turns payload_view result self.new (spec.payload_entry (payload_view self.old) (entry_of field.entry)) }
+        ensures turns { Turns payload_view result self.new
+            (spec.payload_entry (payload_view self.old) (entry_of field.entry)) }
+        ensures memory { IfErr result (λ f. f ≡ PayloadFault.NoMemory
+            → IsTrue (is_some (bytes_in 2 (entry_of field.entry)))) }
     {
         match (field.number, field.wire) {
             (1, Wire::Varint(number)) => self.timestamp = Some(number),
@@ -37,7 +41,9 @@ impl Payload {
 }
 
 fn payload_at(alloc: Global, bytes: &[u8]) -> Result<Payload, PayloadFault>
-    ensures { Gives payload_view result (spec.payload_at bytes.now) }
+    ensures gives { Gives payload_view result (spec.payload_at bytes.now) }
+    ensures memory { IfErr result (λ f. f ≡ PayloadFault.NoMemory
+        → IsTrue (spec.has_metric (items_of bytes.now))) }
 {
     let mut payload = Payload {
         timestamp: None,
@@ -65,6 +71,9 @@ pub fn decode(alloc: Global, bytes: &[u8]) -> Result<Payload, PayloadFault>
     ensures fault { IfErr result (λ f. (f ≡ PayloadFault.NoMemory) ⊎ IsPayloadFault bytes.now f) }
     ensures only_fault { (f : PayloadFault) → IsPayloadFault bytes.now f
         → Gives payload_view result (Err f) }
+    // Bytes without a metric before their first fault take no memory.
+    ensures memory { IfErr result (λ f. f ≡ PayloadFault.NoMemory
+        → IsTrue (spec.has_metric (items_of bytes.now))) }
 {
     payload_at(alloc, bytes)
 }

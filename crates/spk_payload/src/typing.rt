@@ -129,7 +129,8 @@ fn long_of_signed(value: &Value) -> Option<Raw>
 
 fn int_of_unsigned(limit: u64, value: &Value) -> Option<Raw>
     requires { limit ≤ 2 ^ 32 }
-    ensures { option_map content_of result ≡ spec.int_of_unsigned limit (spec.typed_view value.now) }
+    ensures { option_map content_of result
+        ≡ spec.int_of_unsigned limit (spec.typed_view value.now) }
 {
     match value {
         Value::Unsigned(number) if *number < limit => Some(Raw::Int(*number as u32)),
@@ -149,7 +150,9 @@ fn long_of_unsigned(value: &Value) -> Option<Raw>
 #[tactic(auto)]
 fn written_as(alloc: Global, datatype: u32, value: &Value) -> Result<Raw, PayloadFault>
     ensures given { Writes result (spec.written_of datatype (spec.typed_view value.now)) }
-    ensures memory { IfErr result (λ f. f ≡ PayloadFault.NoMemory → IsTrue (spec.is_text_or_bytes (spec.typed_view value.now))) }
+    ensures memory { IfErr result
+        (λ f. f ≡ PayloadFault.NoMemory
+        → IsTrue (spec.is_text_or_bytes (spec.typed_view value.now))) }
 {
     match datatype {
         1 => int_of_signed(1 << 7, value).ok_or(PayloadFault::Mistyped),
@@ -187,9 +190,12 @@ pub fn written(alloc: Global, datatype: u32, value: &Value) -> Result<Raw, Paylo
     ensures mistyped { spec.written_of datatype (spec.typed_view value.now) ≡ None
         → result ≡ Err PayloadFault.Mistyped }
     ensures fault { IfErr result (λ f. (f ≡ PayloadFault.NoMemory)
-        ⊎ ((f ≡ PayloadFault.Mistyped) × (spec.written_of datatype (spec.typed_view value.now) ≡ None))) }
+        ⊎ ((f ≡ PayloadFault.Mistyped)
+        × (spec.written_of datatype (spec.typed_view value.now) ≡ None))) }
     // A number or a truth value takes no memory.
-    ensures memory { IfErr result (λ f. f ≡ PayloadFault.NoMemory → IsTrue (spec.is_text_or_bytes (spec.typed_view value.now))) }
+    ensures memory { IfErr result
+        (λ f. f ≡ PayloadFault.NoMemory
+        → IsTrue (spec.is_text_or_bytes (spec.typed_view value.now))) }
 {
     written_as(alloc, datatype, value)
 }

@@ -25,7 +25,8 @@ fn put_number(out: &mut Vec<u8>, tag: u64, number: u64) -> Result<(), AllocError
 }
 
 fn put_long(out: &mut Vec<u8>, tag: u64, number: Option<u64>) -> Result<(), AllocError>
-    ensures ok { OnOk result (out.new.items ≡ out.old.items ++ spec.if_there (spec.number_field tag) number) }
+    ensures ok { OnOk result
+        (out.new.items ≡ out.old.items ++ spec.if_there (spec.number_field tag) number) }
     ensures fits { IfSome number (λ n. n < 2 ^ 64) }
 {
     match number {
@@ -35,7 +36,8 @@ fn put_long(out: &mut Vec<u8>, tag: u64, number: Option<u64>) -> Result<(), Allo
 }
 
 fn put_int(out: &mut Vec<u8>, tag: u64, number: Option<u32>) -> Result<(), AllocError>
-    ensures ok { OnOk result (out.new.items ≡ out.old.items ++ spec.if_there (spec.number_field tag) number) }
+    ensures ok { OnOk result
+        (out.new.items ≡ out.old.items ++ spec.if_there (spec.number_field tag) number) }
     ensures fits { IfSome number (λ n. n < 2 ^ 32) }
 {
     match number {
@@ -88,7 +90,8 @@ fn put_name(out: &mut Vec<u8>, name: &Option<String>) -> Result<(), AllocError>
 }
 
 fn put_raw(out: &mut Vec<u8>, raw: &Raw) -> Result<(), PayloadFault>
-    ensures ok { OnOk result (out.new.items ≡ out.old.items ++ spec.content_spelling (content_of raw.now)) }
+    ensures ok { OnOk result
+        (out.new.items ≡ out.old.items ++ spec.content_spelling (content_of raw.now)) }
     ensures fits { OnOk result (spec.ContentFits (content_of raw.now)) }
     ensures fault { IfErr result (λ f. (f ≡ PayloadFault.NoMemory)
         ⊎ ((f ≡ PayloadFault.HasOther) × (content_of raw.now ≡ Other))) }
@@ -120,7 +123,8 @@ fn put_value(out: &mut Vec<u8>, value: &Option<Raw>) -> Result<(), PayloadFault>
 /// The fields of a metric, in ascending number.
 #[tactic(auto, unfolding(crate::specs::Spelling::metric_spelling))]
 fn put_fields(out: &mut Vec<u8>, metric: &Metric) -> Result<(), PayloadFault>
-    ensures ok { OnOk result (out.new.items ≡ out.old.items ++ spec.metric_spelling (metric_view metric.now)) }
+    ensures ok { OnOk result
+        (out.new.items ≡ out.old.items ++ spec.metric_spelling (metric_view metric.now)) }
     ensures fits { OnOk result (spec.MetricFits (metric_view metric.now)) }
     ensures fault { IfErr result (λ f. (f ≡ PayloadFault.NoMemory)
         ⊎ ((f ≡ PayloadFault.HasOther) × ((metric_view metric.now).value ≡ Some Other))) }
@@ -181,7 +185,8 @@ fn bytes_size(field: u64, bytes: &[u8]) -> u64
 }
 
 fn name_size(name: &Option<String>) -> u64
-    ensures { result ≡ length (spec.if_there (bytes_field 1) (option_map string_bytes name.now)) % 2 ^ 64 }
+    ensures { result
+        ≡ length (spec.if_there (bytes_field 1) (option_map string_bytes name.now)) % 2 ^ 64 }
 {
     match name {
         Some(name) => bytes_size(1, name.as_bytes()),
@@ -203,7 +208,8 @@ fn raw_size(raw: &Raw) -> u64
 }
 
 fn value_size(value: &Option<Raw>) -> u64
-    ensures { result ≡ length (spec.if_there spec.content_spelling (option_map content_of value.now)) % 2 ^ 64 }
+    ensures { result
+        ≡ length (spec.if_there spec.content_spelling (option_map content_of value.now)) % 2 ^ 64 }
 {
     match value {
         Some(raw) => raw_size(raw),

@@ -1,5 +1,5 @@
 //! The threads of a plant, started and joined.
-ghost use Rattle.std.specs.Prelude.{◌≡◌, ◌≢◌, ◌+◌, [], ◌∷◌, ◌++◌, length, IfOk, IfErr, IfSome, None};
+ghost use Rattle.std.specs.Prelude.{◌≡◌, ◌≢◌, ◌≤◌, ◌+◌, [], ◌∷◌, ◌++◌, length, IfOk, IfErr, IfSome, None};
 ghost use Rattle.std.specs.Thread.{IsSync};
 ghost use Rattle.spk_ingress.specs.Passes.{PutsInto};
 ghost use Rattle.spk_broker_body.specs.Done.{BrokerDone, BrokerReady};
@@ -11,9 +11,9 @@ use spk_edge_body::{EdgeEnd, EdgeStart, run_edge};
 use spk_host_body::{HostEnd, HostStart, run_host};
 use spk_ingress::Ingress;
 use spk_plan::{Gate, PlantFault};
-use std::alloc::Global;
+use std::alloc::{AllocError, Global};
 use std::sync::Wait;
-use std::thread::{Threads, join};
+use std::thread::{Parker, Threads, join};
 
 /// What the threads hand on at their ends.
 #[derive(Drop)]
@@ -40,13 +40,14 @@ fn one_edge<R: Wait, G: Gate>(
     alloc: Global,
     ingress: &Ingress,
     gate: &G,
+    bell: &Parker,
     start: EdgeStart,
 ) -> Result<EdgeEnd, PlantFault>
     requires { PutsInto ingress.now start.pass }
     ensures done { IfOk result (λ e. IsEdgeDone ingress.now start e) }
     ensures fault { IfErr result (λ e. e ≢ PlantFault.BadPlan) }
 {
-    match run_edge(rt, alloc, ingress, gate, start) {
+    match run_edge(rt, alloc, ingress, gate, bell, start) {
         Ok(end) => Ok(end),
         Err(failure) => Err(fault_of(failure.fault)),
     }
@@ -58,13 +59,14 @@ fn the_broker<R: Wait, G: Gate>(
     alloc: Global,
     ingress: &Ingress,
     gate: &G,
+    bells: &[Parker],
     start: BrokerStart,
 ) -> Result<BrokerEnd, PlantFault>
     requires { BrokerReady ingress.now start }
     ensures done { IfOk result (λ e. BrokerDone ingress.now start e) }
     ensures fault { IfErr result (λ e. e ≢ PlantFault.BadPlan) }
 {
-    match run_broker(rt, alloc, ingress, gate, start) {
+    match run_broker(rt, alloc, ingress, gate, bells, start) {
         Ok(end) => Ok(end),
         Err(fault) => Err(fault_of(fault)),
     }
@@ -76,16 +78,28 @@ fn the_host<R: Wait, G: Gate>(
     alloc: Global,
     ingress: &Ingress,
     gate: &G,
+    bell: &Parker,
     start: HostStart,
 ) -> Result<HostEnd, PlantFault>
     requires { HostReady ingress.now start }
     ensures done { IfOk result (λ e. HostDone ingress.now start e) }
     ensures fault { IfErr result (λ e. e ≢ PlantFault.BadPlan) }
 {
-    match run_host(rt, alloc, ingress, gate, start) {
+    match run_host(rt, alloc, ingress, gate, bell, start) {
         Ok(end) => Ok(end),
         Err(failed) => Err(fault_of(failed.fault)),
     }
+}
+
+/// So many bells, at which threads are parked while their rings are empty.
+fn bells_of(alloc: Global, count: usize) -> Result<Vec<Parker>, AllocError>
+    ensures sized { IfOk result (λ bells. length bells.items ≡ count) }
+{
+    let mut bells = Vec::new(alloc);
+    for _place in 0..count {
+        bells.push(Parker::new())?;
+    }
+    Ok(bells)
 }
 
 /// The last of these, if there is one.
@@ -100,33 +114,37 @@ fn next_of(ingress: &Ingress, starts: &mut Vec<EdgeStart>) -> Option<EdgeStart>
     starts.pop()
 }
 
-/// The edges' threads: the last one's beside all others, which are run likewise.
+/// The edges' threads: the last one's beside all others, which are run likewise. Each has the bell of its place.
 fn run_edges<R: Threads + Wait + Sync, G: Gate + Sync>(
     rt: &R,
     alloc: Global,
     ingress: &Ingress,
     gate: &G,
+    bells: &[Parker],
     mut starts: Vec<EdgeStart>,
 ) -> Result<Vec<EdgeEnd>, PlantFault>
-    requires { AreReady ingress.now starts.items }
+    requires ready { AreReady ingress.now starts.items }
+    requires bells { length starts.items ≤ length bells.now }
     ensures done { IfOk result (λ es. AreDone ingress.now starts.items es.items) }
     ensures fault { IfErr result (λ e. e ≢ PlantFault.BadPlan) }
 {
     let Some(start) = next_of(ingress, &mut starts) else {
         return Ok(Vec::new(alloc));
     };
+    let bell = &bells[starts.len()];
     let (last, others) = join(
         rt,
         move || -> Result<EdgeEnd, PlantFault>
             requires { PutsInto ingress.now start.pass }
             ensures done { IfOk result (λ e. IsEdgeDone ingress.entry.now start e) }
             ensures fault { IfErr result (λ e. e ≢ PlantFault.BadPlan) }
-        { one_edge(rt, alloc, ingress, gate, start) },
+        { one_edge(rt, alloc, ingress, gate, bell, start) },
         move || -> Result<Vec<EdgeEnd>, PlantFault>
-            requires { IsSync R.row × IsSync G.row × AreReady ingress.now starts.items }
+            requires { IsSync R.row × IsSync G.row × AreReady ingress.now starts.items
+                × (length starts.items ≤ length bells.now) }
             ensures done { IfOk result (λ es. AreDone ingress.entry.now starts.items es.items) }
             ensures fault { IfErr result (λ e. e ≢ PlantFault.BadPlan) }
-        { run_edges(rt, alloc, ingress, gate, starts) },
+        { run_edges(rt, alloc, ingress, gate, bells, starts) },
     );
     let last = match last {
         Ok(last) => last,
@@ -156,19 +174,23 @@ pub(crate) fn run_all<R: Threads + Wait + Sync, G: Gate + Sync>(
     ensures done { IfOk result (λ e. AllDone ingress.now edges.items broker host e) }
     ensures fault { IfErr result (λ e. e ≢ PlantFault.BadPlan) }
 {
+    let bells = bells_of(alloc, edges.len() + 1)?;
+    let bells = bells.as_slice();
+    let bell = &bells[edges.len()];
     let (edges, (broker, host)) = join(
         rt,
         move || -> Result<Vec<EdgeEnd>, PlantFault>
-            requires { IsSync R.row × IsSync G.row × AreReady ingress.now edges.items }
+            requires { IsSync R.row × IsSync G.row × AreReady ingress.now edges.items
+                × (length edges.items ≤ length bells.now) }
             ensures done { IfOk result (λ es. AreDone ingress.entry.now edges.items es.items) }
             ensures fault { IfErr result (λ e. e ≢ PlantFault.BadPlan) }
-        { run_edges(rt, alloc, ingress, gate, edges) },
+        { run_edges(rt, alloc, ingress, gate, bells, edges) },
         move || -> (Result<BrokerEnd, PlantFault>, Result<HostEnd, PlantFault>)
             requires { IsSync R.row × IsSync G.row × BrokerReady ingress.now broker × HostReady ingress.now host }
             ensures broker { IfOk result.0 (λ e. BrokerDone ingress.entry.now broker e) }
             ensures host { IfOk result.1 (λ e. HostDone ingress.entry.now host e) }
             ensures faults { IfErr result.0 (λ e. e ≢ PlantFault.BadPlan) × IfErr result.1 (λ e. e ≢ PlantFault.BadPlan) }
-        { run_two(rt, alloc, ingress, gate, broker, host) },
+        { run_two(rt, alloc, ingress, gate, bells, bell, broker, host) },
     );
     let broker = match broker {
         Ok(broker) => broker,
@@ -189,12 +211,14 @@ pub(crate) fn run_all<R: Threads + Wait + Sync, G: Gate + Sync>(
     })
 }
 
-/// The broker's thread beside the host's.
+/// The broker's thread beside the host's, which has this bell.
 fn run_two<R: Threads + Wait + Sync, G: Gate + Sync>(
     rt: &R,
     alloc: Global,
     ingress: &Ingress,
     gate: &G,
+    bells: &[Parker],
+    bell: &Parker,
     broker: BrokerStart,
     host: HostStart,
 ) -> (Result<BrokerEnd, PlantFault>, Result<HostEnd, PlantFault>)
@@ -210,11 +234,11 @@ fn run_two<R: Threads + Wait + Sync, G: Gate + Sync>(
             requires { BrokerReady ingress.now broker }
             ensures done { IfOk result (λ e. BrokerDone ingress.entry.now broker e) }
             ensures fault { IfErr result (λ e. e ≢ PlantFault.BadPlan) }
-        { the_broker(rt, alloc, ingress, gate, broker) },
+        { the_broker(rt, alloc, ingress, gate, bells, broker) },
         move || -> Result<HostEnd, PlantFault>
             requires { HostReady ingress.now host }
             ensures done { IfOk result (λ e. HostDone ingress.entry.now host e) }
             ensures fault { IfErr result (λ e. e ≢ PlantFault.BadPlan) }
-        { the_host(rt, alloc, ingress, gate, host) },
+        { the_host(rt, alloc, ingress, gate, bell, host) },
     )
 }

@@ -48,7 +48,8 @@ impl<'a> Fields<'a> {
         ensures only { (items : List (Result Entry WireFault)) → AreItems text.now items
             → items ≡ items_left result }
         // Without a fault it is the field list of the text, which a text has exactly then.
-        ensures fields { (fs : List Entry) → FieldList text.now fs ↔ (items_left result ≡ map Ok fs) }
+        ensures fields { (fs : List Entry) → FieldList text.now fs
+            ↔ (items_left result ≡ map Ok fs) }
         // The fields of each front of the text come first.
         ensures fronts { (front rest : List ℕ) (fs : List Entry) → text.now ≡ front ++ rest
             → FieldList front fs → (others : _) × (items_left result ≡ map Ok fs ++ others) }

@@ -55,7 +55,8 @@ pub fn put_varint(out: &mut Vec<u8>, number: u64) -> Result<(), AllocError>
     ensures ok { OnOk result (out.new.items ≡ out.old.items ++ varint number) }
     // What is appended is a varint of the number, and none is shorter.
     ensures reads { IsVarint (varint number) number }
-    ensures shortest { (text : List ℕ) → IsVarint text number → length (varint number) ≤ length text }
+    ensures shortest { (text : List ℕ) → IsVarint text number
+        → length (varint number) ≤ length text }
     ensures err { OnErr result (out.new.items ≡ out.old.items) }
 {
     // A number below 128 is its own varint.
@@ -98,7 +99,8 @@ fn put_parts(out: &mut Vec<u8>, number: u64, bytes: &[u8]) -> Result<(), AllocEr
 pub fn put_bytes(out: &mut Vec<u8>, number: u64, bytes: &[u8]) -> Result<(), AllocError>
     ensures ok { OnOk result (out.new.items ≡ out.old.items ++ bytes_field number bytes.now) }
     ensures field { 0 < number → number < 2 ^ 61
-        → IsField (bytes_field number bytes.now) (record { number = number; shape = Bytes bytes.now }) }
+        → IsField (bytes_field number bytes.now)
+        (record { number = number; shape = Bytes bytes.now }) }
     ensures err { OnErr result (out.new.items ≡ out.old.items) }
 {
     let before = out.len();

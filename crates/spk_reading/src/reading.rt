@@ -78,7 +78,8 @@ pub fn read(alloc: Global, bytes: &[u8]) -> Result<Heard, ReadFault>
     ensures only { (h : HeardData) → Says bytes.now h → Gives heard_view result (Ok h) }
     // A fault is that of the bytes, and theirs is answered, unless memory was refused.
     ensures fault { IfErr result (λ f. (f ≡ ReadFault.NoMemory) ⊎ IsReadFault bytes.now f) }
-    ensures only_fault { (f : ReadFault) → IsReadFault bytes.now f → Gives heard_view result (Err f) }
+    ensures only_fault { (f : ReadFault) → IsReadFault bytes.now f
+        → Gives heard_view result (Err f) }
 {
     prefix_free();
     match packet_in(alloc, bytes) {

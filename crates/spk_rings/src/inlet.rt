@@ -40,7 +40,8 @@ impl Inlet {
         ensures shorter { IsShorterBy result (popped self.new) (offered outlet.new) }
         ensures ahead { result ≡ length (ahead self.new) }
         ensures inlet { SameInlet self.old self.new × (popped self.new ≡ popped self.old) }
-        ensures outlet { SameOutlet outlet.old outlet.new × (offered outlet.new ≡ offered outlet.old) }
+        ensures outlet { SameOutlet outlet.old outlet.new
+            × (offered outlet.new ≡ offered outlet.old) }
         ensures ends { AreEnds outlet.new self.new }
     {
         self.end.slots_beside(&mut outlet.end)

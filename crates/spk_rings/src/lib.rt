@@ -6,8 +6,6 @@ mod fault;
 mod inlet;
 mod item;
 mod outlet;
-#[cfg(test)]
-mod tests;
 mod token;
 
 pub use fault::{Full, RingFault};

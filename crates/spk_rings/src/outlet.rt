@@ -38,8 +38,11 @@ impl Outlet {
     /// room is known to be left: of a new ring so many offers succeed as it has room for.
     pub fn offer(&mut self, item: Item) -> Result<(), Full>
         ensures end { SameOutlet self.old self.new }
-        ensures ok { OnOk result ((offered self.new ≡ offered self.old ++ item ∷ []) × (free self.old ≤ free self.new + 1)) }
-        ensures full { IfErr result (λ e. (e.item ≡ item) × (offered self.new ≡ offered self.old) × (free self.new ≡ 0)) }
+        ensures ok { OnOk result
+            ((offered self.new ≡ offered self.old ++ item ∷ [])
+            × (free self.old ≤ free self.new + 1)) }
+        ensures full { IfErr result
+            (λ e. (e.item ≡ item) × (offered self.new ≡ offered self.old) × (free self.new ≡ 0)) }
         ensures room { 0 < free self.old → IsOk result }
     {
         match self.end.push(item) {

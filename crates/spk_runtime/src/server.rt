@@ -58,7 +58,8 @@ fn ingress_of<R: Wait>(
     clients: usize,
 ) -> Result<(Ingress, Vec<PutPass>, PutPass, TakePass), ServeFault>
     requires { IsCount clients }
-    ensures opened { IfOk result (λ r. AllPutInto r.0 r.1.items × PutsInto r.0 r.2 × TakesFrom r.0 r.3) }
+    ensures opened { IfOk result
+        (λ r. AllPutInto r.0 r.1.items × PutsInto r.0 r.2 × TakesFrom r.0 r.3) }
     ensures fault { IfErr result (λ e. e ≢ ServeFault.BadPlan) }
 {
     let senders = clients.saturating_add(1);

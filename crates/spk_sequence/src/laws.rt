@@ -22,38 +22,45 @@ use crate::phase::Phase;
 /// handed before its own NBIRTH. Inputs stand newest first.
 pub fn positions()
     // each event on numbers is the event on positions, if deaths and the birth handed are of near sessions
-    ensures same_steps { (s : Setting) (inputs : List Input) (input : Input) → IsLawful s (input ∷ inputs) →
+    ensures same_steps { (s : Setting) (inputs : List Input) (input : Input)
+        → IsLawful s (input ∷ inputs) →
         AllNearDeaths s (input ∷ inputs) →
         IsNearBirth s (record_of s inputs) input → SameStep s inputs input }
 
     // the phase is Live exactly while the host follows, and then `next` is that of the positions
-    ensures live { (s : Setting) (inputs : List Input) → IsLawful s inputs → IsLiveByPositions s inputs }
+    ensures live { (s : Setting) (inputs : List Input) → IsLawful s inputs
+        → IsLiveByPositions s inputs }
 
     // birth by birth in increasing order, what was consumed is a prefix of that birth's messages
     ensures fronts { (s : Setting) (inputs : List Input) → IsLawful s inputs →
         BirthPrefixes s.published (consumed_of (record_of s inputs)) }
 
     // while the host does not follow, as after a gap, nothing is consumed but a newer birth
-    ensures after_gap { (s : Setting) (inputs : List Input) (input : Input) → IsLawful s (input ∷ inputs) →
+    ensures after_gap { (s : Setting) (inputs : List Input) (input : Input)
+        → IsLawful s (input ∷ inputs) →
         AfterGap s (record_of s inputs) (done_at s (record_of s inputs) (standing_of s inputs) input) }
 
     // nothing is consumed of a session whose matching death came, inside the window or not
-    ensures after_death { (s : Setting) (inputs : List Input) (input : Input) → IsNodeRecord s.published →
+    ensures after_death { (s : Setting) (inputs : List Input) (input : Input)
+        → IsNodeRecord s.published →
         0 < s.width → s.width ≤ 96 → AllPublished s (input ∷ inputs) →
         AfterDeath s (record_of s inputs) (done_at s (record_of s inputs) (standing_of s inputs) input) }
 
     // a birth of a near session is taken but for the two causes, if deaths are of near sessions
-    ensures births { (s : Setting) (inputs : List Input) (p now : ℕ) → IsLawful s (MessageComes p now ∷ inputs) →
+    ensures births { (s : Setting) (inputs : List Input) (p now : ℕ)
+        → IsLawful s (MessageComes p now ∷ inputs) →
         AllNearDeaths s (MessageComes p now ∷ inputs) →
         IsNearBirth s (record_of s inputs) (MessageComes p now) →
         TakesBirth s (record_of s inputs) p
         (done_at s (record_of s inputs) (standing_of s inputs) (MessageComes p now)) }
 
     // wherever consumption stands, it stands for a cause
-    ensures cause { (s : Setting) (inputs : List Input) → IsLawful s inputs → HasCause s (record_of s inputs) }
+    ensures cause { (s : Setting) (inputs : List Input) → IsLawful s inputs
+        → HasCause s (record_of s inputs) }
 
     // the birth taken after an event
-    ensures taken { (s : Setting) (inputs : List Input) (input : Input) → IsLawful s (input ∷ inputs) →
+    ensures taken { (s : Setting) (inputs : List Input) (input : Input)
+        → IsLawful s (input ∷ inputs) →
         taken s (record_of s (input ∷ inputs)) ≡
         taken_by s (record_of s inputs) input
         (done_at s (record_of s inputs) (standing_of s inputs) input).consumed }
@@ -63,21 +70,24 @@ pub fn positions()
         taken s (record_of s inputs) ≡ Some b → IsOpening s.published b }
 
     // the consumed list ends with the messages of the birth taken, up to the last one consumed
-    ensures last_part { (s : Setting) (inputs : List Input) → IsLawful s inputs → EndsWithTaken s (record_of s inputs) }
+    ensures last_part { (s : Setting) (inputs : List Input) → IsLawful s inputs
+        → EndsWithTaken s (record_of s inputs) }
 
     // what was done, and every query on it, is the same when more is published afterwards
     ensures grows { (s : Setting) (more : NodeRecord) (inputs : List Input) → IsLawful s inputs →
         IsSameWithMore s more inputs }
 
     // so a lawful list stays lawful, if what is published then is a node record
-    ensures still_lawful { (s : Setting) (more : NodeRecord) (inputs : List Input) → IsLawful s inputs →
+    ensures still_lawful { (s : Setting) (more : NodeRecord) (inputs : List Input)
+        → IsLawful s inputs →
         IsNodeRecord (s.published ++ more) → IsLawful (with_more s more) inputs }
 {}
 
 /// On records alone: what was published, and the positions that were handed.
 pub fn records()
     // the start of a message's birth is an NBIRTH, and not past the message
-    ensures start_opens { (published : NodeRecord) (p : ℕ) → opens published (start_of published p) ≡ true }
+    ensures start_opens { (published : NodeRecord) (p : ℕ)
+        → opens published (start_of published p) ≡ true }
     ensures start_below { (published : NodeRecord) (p : ℕ) → start_of published p ≤ p }
 
     // what was handed was published
@@ -118,10 +128,12 @@ pub fn numbers()
 /// While nothing is held, messages in order are consumed one by one, by numbers alone: from a
 /// birth that is taken on, until a matching death, another birth that is taken, or a `reset`.
 pub fn in_line()
-    ensures live { (calls : List Call) (s : Standing) → IsWhole s → s.phase ≡ Phase.Live → is_any_held s.held ≡ false →
+    ensures live { (calls : List Call) (s : Standing) → IsWhole s → s.phase ≡ Phase.Live
+        → is_any_held s.held ≡ false →
         IsInLine s.next s.stamp s.bd calls → replies_of s calls ≡ replies_in_line calls }
 
-    ensures birth { (calls : List Call) (s : Standing) (number stamp bd now n : ℕ) → number < 256 → IsWhole s →
+    ensures birth { (calls : List Call) (s : Standing) (number stamp bd now n : ℕ) → number < 256
+        → IsWhole s →
         (hand s number (Kind.Birth stamp bd) now).0 ≡ Step.Consumed n →
         is_any_held (hand s number (Kind.Birth stamp bd) now).1.held ≡ false →
         IsInLine ((number + n) % 256) stamp bd calls →

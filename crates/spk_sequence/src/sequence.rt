@@ -355,8 +355,10 @@ impl Sequence {
 
     /// A birth is taken: of what is held, there stays what it keeps.
     fn restart(&mut self, number: u8, stamp: u64, bd: u8)
-        ensures data { self.new ≡ record self.old { stamp = stamp; bd = bd; next = number; held = self.new.held } }
-        ensures kept { places_from self.new.held self.new.width 1 ≡ kept_places self.old number stamp }
+        ensures data { self.new
+            ≡ record self.old { stamp = stamp; bd = bd; next = number; held = self.new.held } }
+        ensures kept { places_from self.new.held self.new.width 1
+            ≡ kept_places self.old number stamp }
     {
         let width = self.width.get();
         self.slots.keep(self.next, width, number, stamp);

@@ -41,11 +41,14 @@ pub fn rewound()
 pub fn parts()
     // a session of two parts goes on as its parts do
     ensures both { (i : Ids) (d : Drops) (calls : List Call) →
-        after_calls (joined i d) calls ≡ joined (ids_after_calls i calls) (drops_after_calls d calls) }
+        after_calls (joined i d) calls
+        ≡ joined (ids_after_calls i calls) (drops_after_calls d calls) }
 
     // in use are the ids given and neither acknowledged nor taken back since, in the order of giving
-    ensures used { (calls : List Call) → (ids_after_calls fresh_ids calls).used ≡ in_use (events_of [] calls) }
-    ensures last { (calls : List Call) → (ids_after_calls fresh_ids calls).last ≡ last_given (events_of [] calls) }
+    ensures used { (calls : List Call)
+        → (ids_after_calls fresh_ids calls).used ≡ in_use (events_of [] calls) }
+    ensures last { (calls : List Call)
+        → (ids_after_calls fresh_ids calls).last ≡ last_given (events_of [] calls) }
 
     // a rewind to the number in use and the id given last undoes each `sent` since, under the same premise as above
     ensures rewound { (i : Ids) (calls : List Call) → LeavesIds i.used calls →
@@ -53,5 +56,6 @@ pub fn parts()
 
     // drops count since the budget was made or reopened, up to 65,535
     ensures drops { (limit : ℕ) (calls : List Call) →
-        (drops_after_calls (fresh_drops limit) calls).drops ≡ min (drops_of (events_of [] calls)) 65535 }
+        (drops_after_calls (fresh_drops limit) calls).drops
+        ≡ min (drops_of (events_of [] calls)) 65535 }
 {}

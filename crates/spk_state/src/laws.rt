@@ -20,7 +20,8 @@ pub fn reading()
 pub fn any_list()
     // what stands is the greatest timestamp heard, and there is one alone
     ensures stands { (states : List State) → IsGreatest (after_all None states) states }
-    ensures one { (states : List State) (a b : Option ℕ) → IsGreatest a states → IsGreatest b states → a ≡ b }
+    ensures one { (states : List State) (a b : Option ℕ) → IsGreatest a states → IsGreatest b states
+        → a ≡ b }
 
     // ignored is exactly what is earlier than one that came before
     ensures ignored { (states : List State) (s : State) →

@@ -29,7 +29,8 @@ impl State {
         // The same by a function of the bytes (`laws::reading`).
         ensures reads { IfOk result (λ s. state_at bytes.now ≡ Some s) }
         ensures reads_none { IfErr result
-            (λ e. (e ≡ StateFault.NoMemory) ⊎ ((e ≡ StateFault.BadState) × (state_at bytes.now ≡ None))) }
+            (λ e. (e ≡ StateFault.NoMemory)
+            ⊎ ((e ≡ StateFault.BadState) × (state_at bytes.now ≡ None))) }
         // What the bytes mean is answered, unless memory was refused.
         ensures only { (s : State) → MeansState bytes.now s → Gives result s }
         // Bytes that mean nothing are BadState, unless memory was refused, and no others are.
@@ -59,7 +60,8 @@ impl State {
     fn read(alloc: Global, bytes: &[u8]) -> Result<State, StateFault>
         ensures ok { IfOk result (λ s. state_at bytes.now ≡ Some s) }
         ensures bad { IfErr result
-            (λ e. (e ≡ StateFault.NoMemory) ⊎ ((e ≡ StateFault.BadState) × (state_at bytes.now ≡ None))) }
+            (λ e. (e ≡ StateFault.NoMemory)
+            ⊎ ((e ≡ StateFault.BadState) × (state_at bytes.now ≡ None))) }
     {
         let text = match str::from_utf8(bytes) {
             Ok(text) => text,

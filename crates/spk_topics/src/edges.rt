@@ -79,7 +79,8 @@ impl Nodes {
         ensures within { IfSome result (λ edge. number < vec_len self.old.list) }
         ensures leaf { IfSome result (λ edge. IsLeafIn self.old number) }
         ensures edge { IfSome result (λ edge. up_of self.old number ≡ Some (edge_of edge)) }
-        ensures rows { IfSome result (λ edge. rows_of self.new ≡ slice_set (rows_of self.old) number ([], [])) }
+        ensures rows { IfSome result
+            (λ edge. rows_of self.new ≡ slice_set (rows_of self.old) number ([], [])) }
         ensures child { child_of self.new ≡ child_of self.old }
         ensures up { IfSome result (λ edge. SetsUpIn self.old self.new number None) }
         ensures next { IfSome result (λ edge. SetsNextIn self.old self.new number self.old.unused) }

@@ -30,7 +30,8 @@ impl<'a> Filter<'a> {
     /// or a `#` doesn't fill the last one; Nul for U+0000; TooLong for over 65,535 bytes. No other text
     /// is refused. It takes no memory.
     pub fn read(text: &'a str) -> Result<Filter<'a>, TopicFault>
-        ensures { MatchResult result (λ a. (a ≡ text.now) × (filter_refusal text.now ≡ None)) (λ e. filter_refusal text.now ≡ Some e) }
+        ensures { MatchResult result (λ a. (a ≡ text.now) × (filter_refusal text.now ≡ None))
+            (λ e. filter_refusal text.now ≡ Some e) }
     {
         match refused(text, has_wildcards_in_place(text)) {
             Some(fault) => Err(fault),

@@ -10,7 +10,11 @@ use std::collections::BTreeMap;
 
 // The QoS that a key has at least.
 fn raise(found: &mut BTreeMap<u64, u8>, key: u64, qos: u8) -> Result<(), TopicFault>
-    ensures ok { OnOk result ((j : ℕ) → get nat_cmp found.new j ≡ cond (is_eq (nat_cmp key j)) (Some (max (unwrap_or (get nat_cmp found.old j) 0) qos)) (get nat_cmp found.old j)) }
+    ensures ok { OnOk result
+        ((j : ℕ)
+        → get nat_cmp found.new j
+        ≡ cond (is_eq (nat_cmp key j)) (Some (max (unwrap_or (get nat_cmp found.old j) 0) qos))
+        (get nat_cmp found.old j)) }
     ensures fault { IfErr result (λ e. e ≡ TopicFault.NoMemory) }
 {
     let old = found.get(&key).copied().unwrap_or(0);
@@ -25,7 +29,8 @@ pub(crate) fn gather(
     found: &mut BTreeMap<u64, u8>,
     grants: &BTreeMap<u64, u8>,
 ) -> Result<(), TopicFault>
-    ensures ok { OnOk result (Gathers (get nat_cmp found.old) (get nat_cmp found.new) (get nat_cmp grants.now)) }
+    ensures ok { OnOk result
+        (Gathers (get nat_cmp found.old) (get nat_cmp found.new) (get nat_cmp grants.now)) }
     ensures fault { IfErr result (λ e. e ≡ TopicFault.NoMemory) }
 {
     for (key, qos) in grants.iter() {

@@ -21,7 +21,8 @@ impl Nodes {
         ensures err { OnErr result (IsWhole self.new) }
         ensures same { grants_of (rows_of self.new) ≡ grants_of (rows_of self.old) }
         ensures absent { (f : List ℕ) → Absent (rows_of self.old) f → Absent (rows_of self.new) f }
-        ensures led { IfOk result (λ n. descend (child_of self.new) 0 (levels filter.now) ≡ Some n) }
+        ensures led { IfOk result
+            (λ n. descend (child_of self.new) 0 (levels filter.now) ≡ Some n) }
         ensures within { IfOk result (λ n. n < vec_len self.new.list) }
         ensures fault { IfErr result (λ e. e ≡ TopicFault.NoMemory) }
     {
@@ -84,7 +85,8 @@ impl Nodes {
         ensures grows { GrowsTo self.old self.new }
         ensures child { child_of self.new ≡ child_of self.old }
         ensures first { IfOk result (λ n. self.new.unused ≡ Some n) }
-        ensures again { (n : ℕ) → self.old.unused ≡ Some n → vec_len self.new.list ≡ vec_len self.old.list }
+        ensures again { (n : ℕ) → self.old.unused ≡ Some n
+            → vec_len self.new.list ≡ vec_len self.old.list }
         ensures longer { vec_len self.old.list ≤ vec_len self.new.list }
         ensures fault { IfErr result (λ e. e ≡ TopicFault.NoMemory) }
     {
@@ -143,7 +145,8 @@ impl Nodes {
     // Takes a node off the tree if it has no grants and no child, and says which one was above it.
     fn free_leaf(&mut self, number: usize) -> Option<usize>
         requires { IsWholeBut self.old number }
-        ensures whole { MatchOption result (IsWhole self.new) (λ parent. IsWholeBut self.new parent) }
+        ensures whole { MatchOption result (IsWhole self.new)
+            (λ parent. IsWholeBut self.new parent) }
         ensures same { grants_of (rows_of self.new) ≡ grants_of (rows_of self.old) }
         ensures absent { (f : List ℕ) → Absent (rows_of self.old) f → Absent (rows_of self.new) f }
         ensures fewer { IfSome result (λ parent. used_of self.new < used_of self.old) }

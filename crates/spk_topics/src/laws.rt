@@ -13,18 +13,22 @@ ghost use Rattle.spk_topics.specs.Text.{holds};
 /// without a slash, joined, are read again.
 pub fn levels_are_parts()
     ensures parts { (text : List ℕ) → joined (levels text) ≡ text }
-    ensures again { (level : List ℕ) (rest : List (List ℕ)) → IsTrue (list_all (λ l. not (holds 47 l)) (level ∷ rest)) → levels (joined (level ∷ rest)) ≡ level ∷ rest }
+    ensures again { (level : List ℕ) (rest : List (List ℕ))
+        → IsTrue (list_all (λ l. not (holds 47 l)) (level ∷ rest))
+        → levels (joined (level ∷ rest)) ≡ level ∷ rest }
 {}
 
 /// No text is the topic of two different names, so what `text` writes `read` gives back, and the other way
 /// round.
 pub fn one_topic()
-    ensures { (m n : Named) → IsTrue (has_names m) → IsTrue (has_names n) → topic_of m ≡ topic_of n → m ≡ n }
+    ensures { (m n : Named) → IsTrue (has_names m) → IsTrue (has_names n) → topic_of m ≡ topic_of n
+        → m ≡ n }
 {}
 
 /// What a text names is a function of it: what `Spark::read` answers, NotSparkplug where it is None.
 pub fn reading()
-    ensures { (text : List ℕ) (n : Named) → (named_at text ≡ Some n) ↔ (IsTrue (has_names n) × (topic_of n ≡ text)) }
+    ensures { (text : List ℕ) (n : Named) → (named_at text ≡ Some n)
+        ↔ (IsTrue (has_names n) × (topic_of n ≡ text)) }
 {}
 
 /// Whether a filter matches a topic name is a function of both: what `matches` answers.
@@ -35,15 +39,19 @@ pub fn matching()
 /// What a grant changed can be undone: a new grant, taken back, leaves the grants of before, and so does a standing one
 /// that is set to its old QoS again.
 pub fn taken_back()
-    ensures new { (grants : Grants) (filter : List ℕ) (key qos : ℕ) → map.get grants (filter, key) ≡ None →
+    ensures new { (grants : Grants) (filter : List ℕ) (key qos : ℕ)
+        → map.get grants (filter, key) ≡ None →
         map.remove (map.insert grants (filter, key) qos) (filter, key) ≡ grants }
-    ensures standing { (grants : Grants) (filter : List ℕ) (key qos old : ℕ) → map.get grants (filter, key) ≡ Some old →
+    ensures standing { (grants : Grants) (filter : List ℕ) (key qos old : ℕ)
+        → map.get grants (filter, key) ≡ Some old →
         map.insert (map.insert grants (filter, key) qos) (filter, key) old ≡ grants }
 {}
 
 /// What was granted is there, and what else was there stays.
 pub fn granted()
-    ensures one { (grants : Grants) (filter : List ℕ) (key qos : ℕ) → map.get (map.insert grants (filter, key) qos) (filter, key) ≡ Some qos }
-    ensures others { (grants : Grants) (filter other : List ℕ) (key qos at : ℕ) → is_some (map.get grants (other, at)) ≡ true →
+    ensures one { (grants : Grants) (filter : List ℕ) (key qos : ℕ)
+        → map.get (map.insert grants (filter, key) qos) (filter, key) ≡ Some qos }
+    ensures others { (grants : Grants) (filter other : List ℕ) (key qos at : ℕ)
+        → is_some (map.get grants (other, at)) ≡ true →
         is_some (map.get (map.insert grants (filter, key) qos) (other, at)) ≡ true }
 {}

@@ -5,8 +5,10 @@ ghost use Rattle.spk_topics.specs.Levels.{is_empty, levels, levels_left};
 
 /// The first level of a text, and what follows its slash, if there is one.
 pub(crate) fn cut(text: &str) -> (&str, Option<&str>)
-    ensures levels { levels text.now ≡ result.0.now ∷ levels_left (option_map (λ rest. rest.now) result.1) }
-    ensures last { is_none result.1 ≡ is_empty (levels_left (option_map (λ rest. rest.now) result.1)) }
+    ensures levels { levels text.now
+        ≡ result.0.now ∷ levels_left (option_map (λ rest. rest.now) result.1) }
+    ensures last { is_none result.1
+        ≡ is_empty (levels_left (option_map (λ rest. rest.now) result.1)) }
     ensures shorter { IfSome result.1 (λ rest. length rest.now < length text.now) }
 {
     match text.split_once('/') {

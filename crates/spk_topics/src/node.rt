@@ -67,7 +67,9 @@ impl Node {
     pub(crate) fn is_bare(&self) -> bool
         ensures grants { IsTrue result → self.now.grants.entries ≡ [] }
         ensures children { IsTrue result → (l : List ℕ) → next_of self.now l ≡ None }
-        ensures full { result ≡ false → (self.now.grants.entries ≢ []) ⊎ ((l : List ℕ) × (n : ℕ) × (next_of self.now l ≡ Some n)) }
+        ensures full { result ≡ false
+            → (self.now.grants.entries ≢ [])
+            ⊎ ((l : List ℕ) × (n : ℕ) × (next_of self.now l ≡ Some n)) }
     {
         self.grants.is_empty() && self.first_child.is_none() && self.other_children.is_empty()
     }
@@ -77,7 +79,8 @@ impl Node {
         ensures row { IfSome result (λ edge. row_of self.new ≡ ([], self.old.grants.entries)) }
         ensures up { IfSome result (λ edge. self.new.up ≡ None) }
         ensures next { IfSome result (λ edge. self.new.next_unused ≡ next) }
-        ensures edge { IfSome result (λ edge. option_map edge_of self.old.up ≡ Some (edge_of edge)) }
+        ensures edge { IfSome result
+            (λ edge. option_map edge_of self.old.up ≡ Some (edge_of edge)) }
         ensures first { self.new.first_child ≡ self.old.first_child }
         ensures others { self.new.other_children ≡ self.old.other_children }
         ensures none { IfNone result (self.old.up ≡ None) }
@@ -93,8 +96,10 @@ impl Node {
 
     /// Whether some key has a grant of the filter.
     pub(crate) fn has_grants_of(&self, filter: &str) -> bool
-        ensures yes { IsTrue result → (string_bytes self.now.filter ≡ filter.now) × (self.now.grants.entries ≢ []) }
-        ensures no { result ≡ false → string_bytes self.now.filter ≡ filter.now → self.now.grants.entries ≡ [] }
+        ensures yes { IsTrue result
+            → (string_bytes self.now.filter ≡ filter.now) × (self.now.grants.entries ≢ []) }
+        ensures no { result ≡ false → string_bytes self.now.filter ≡ filter.now
+            → self.now.grants.entries ≡ [] }
     {
         self.filter.as_str() == filter && !self.grants.is_empty()
     }
@@ -108,12 +113,18 @@ impl Node {
         qos: u8,
     ) -> Result<bool, TopicFault>
         ensures filter { OnOk result (string_bytes self.new.filter ≡ filter.now) }
-        ensures is_new { IfOk result (λ is_new. is_new ≡ is_none (get nat_cmp self.old.grants key)) }
-        ensures ok { OnOk result ((j : ℕ) → get nat_cmp self.new.grants j ≡ cond (is_eq (nat_cmp key j)) (Some qos) (get nat_cmp self.old.grants j)) }
+        ensures is_new { IfOk result
+            (λ is_new. is_new ≡ is_none (get nat_cmp self.old.grants key)) }
+        ensures ok { OnOk result
+            ((j : ℕ)
+            → get nat_cmp self.new.grants j
+            ≡ cond (is_eq (nat_cmp key j)) (Some qos) (get nat_cmp self.old.grants j)) }
         ensures link { link_of self.new ≡ link_of self.old }
         ensures fault { IfErr result (λ e. e ≡ TopicFault.NoMemory) }
         ensures err { OnErr result (row_of self.new ≡ row_of self.old) }
-        ensures fails_new { OnErr result ((string_bytes self.old.filter ≡ filter.now → ⊥) ⊎ (get nat_cmp self.old.grants key ≡ None)) }
+        ensures fails_new { OnErr result
+            ((string_bytes self.old.filter ≡ filter.now → ⊥)
+            ⊎ (get nat_cmp self.old.grants key ≡ None)) }
     {
         if self.filter.as_str() != filter {
             let text = String::from_str(alloc, filter)?;
@@ -127,8 +138,12 @@ impl Node {
     // The same with the filter that stands.
     fn insert(&mut self, key: u64, qos: u8) -> Result<bool, TopicFault>
         ensures filter { self.new.filter ≡ self.old.filter }
-        ensures is_new { IfOk result (λ is_new. is_new ≡ is_none (get nat_cmp self.old.grants key)) }
-        ensures ok { OnOk result ((j : ℕ) → get nat_cmp self.new.grants j ≡ cond (is_eq (nat_cmp key j)) (Some qos) (get nat_cmp self.old.grants j)) }
+        ensures is_new { IfOk result
+            (λ is_new. is_new ≡ is_none (get nat_cmp self.old.grants key)) }
+        ensures ok { OnOk result
+            ((j : ℕ)
+            → get nat_cmp self.new.grants j
+            ≡ cond (is_eq (nat_cmp key j)) (Some qos) (get nat_cmp self.old.grants j)) }
         ensures link { link_of self.new ≡ link_of self.old }
         ensures fault { IfErr result (λ e. e ≡ TopicFault.NoMemory) }
         ensures err { OnErr result (self.new.grants.entries ≡ self.old.grants.entries) }
@@ -144,7 +159,9 @@ impl Node {
     pub(crate) fn take(&mut self, key: u64) -> bool
         ensures filter { self.new.filter ≡ self.old.filter }
         ensures stood { result ≡ is_some (get nat_cmp self.old.grants key) }
-        ensures rest { (j : ℕ) → get nat_cmp self.new.grants j ≡ cond (is_eq (nat_cmp key j)) None (get nat_cmp self.old.grants j) }
+        ensures rest { (j : ℕ)
+            → get nat_cmp self.new.grants j
+            ≡ cond (is_eq (nat_cmp key j)) None (get nat_cmp self.old.grants j) }
         ensures link { link_of self.new ≡ link_of self.old }
     {
         self.grants.remove(&key).is_some()
@@ -182,7 +199,9 @@ impl Node {
         ensures row { row_of self.new ≡ row_of self.old }
         ensures up { self.new.up ≡ self.old.up }
         ensures next { self.new.next_unused ≡ self.old.next_unused }
-        ensures ok { OnOk result ((l : List ℕ) → next_of self.new l ≡ cond (bytes_eq level.now l) (Some number) (next_of self.old l)) }
+        ensures ok { OnOk result
+            ((l : List ℕ)
+            → next_of self.new l ≡ cond (bytes_eq level.now l) (Some number) (next_of self.old l)) }
         ensures fault { IfErr result (λ e. e ≡ TopicFault.NoMemory) }
         ensures err { OnErr result (link_of self.new ≡ link_of self.old) }
     {
@@ -203,7 +222,8 @@ impl Node {
         ensures row { row_of self.new ≡ row_of self.old }
         ensures up { self.new.up ≡ self.old.up }
         ensures next { self.new.next_unused ≡ self.old.next_unused }
-        ensures children { (l : List ℕ) → next_of self.new l ≡ cond (bytes_eq level.now l) None (next_of self.old l) }
+        ensures children { (l : List ℕ)
+            → next_of self.new l ≡ cond (bytes_eq level.now l) None (next_of self.old l) }
     {
         self.drop_first(level);
         self.other_children.remove(level);
@@ -214,7 +234,8 @@ impl Node {
         ensures row { row_of self.new ≡ row_of self.old }
         ensures up { self.new.up ≡ self.old.up }
         ensures next { self.new.next_unused ≡ self.old.next_unused }
-        ensures first { self.new.first_child ≡ cond (has_level self.old.first_child level.now) None self.old.first_child }
+        ensures first { self.new.first_child
+            ≡ cond (has_level self.old.first_child level.now) None self.old.first_child }
         ensures others { self.new.other_children ≡ self.old.other_children }
     {
         if self.leads_first_by(level) {

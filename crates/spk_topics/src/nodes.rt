@@ -39,7 +39,8 @@ impl Nodes {
     /// One more node, without grants and edges.
     pub(crate) fn push(&mut self, alloc: Global) -> Result<(), TopicFault>
         ensures rows { OnOk result (rows_of self.new ≡ rows_of self.old ++ ([], []) ∷ []) }
-        ensures links { OnOk result (links_of self.new ≡ links_of self.old ++ ((λ _. None), None, None) ∷ []) }
+        ensures links { OnOk result
+            (links_of self.new ≡ links_of self.old ++ ((λ _. None), None, None) ∷ []) }
         ensures fault { IfErr result (λ e. e ≡ TopicFault.NoMemory) }
         ensures unused { self.new.unused ≡ self.old.unused }
         ensures err { OnErr result (self.new.list.items ≡ self.old.list.items) }
@@ -82,8 +83,11 @@ impl Nodes {
     /// The node of a filter's grants, if it has any.
     pub(crate) fn place_of(&self, filter: &str) -> Option<usize>
         requires { IsWhole self.now }
-        ensures found { IfSome result (λ n. (row : Row) × (slice_get (rows_of self.now) n ≡ Some row) × (row.0 ≡ filter.now) × (row.1 ≢ [])) }
-        ensures led { IfSome result (λ n. descend (child_of self.now) 0 (levels filter.now) ≡ Some n) }
+        ensures found { IfSome result
+            (λ n. (row : Row) × (slice_get (rows_of self.now) n ≡ Some row) × (row.0 ≡ filter.now)
+            × (row.1 ≢ [])) }
+        ensures led { IfSome result
+            (λ n. descend (child_of self.now) 0 (levels filter.now) ≡ Some n) }
         ensures none { IfNone result (Absent (rows_of self.now) filter.now) }
     {
         let number = self.node_of(filter)?;
@@ -105,15 +109,20 @@ impl Nodes {
         qos: u8,
     ) -> Result<bool, TopicFault>
         requires { IsPlace (rows_of self.old) filter.now place }
-        ensures is_new { IfOk result (λ is_new. is_new ≡ is_none (map.get (grants_of (rows_of self.old)) (filter.now, key))) }
-        ensures ok { OnOk result (grants_of (rows_of self.new) ≡ map.insert (grants_of (rows_of self.old)) (filter.now, key) qos) }
+        ensures is_new { IfOk result
+            (λ is_new. is_new
+            ≡ is_none (map.get (grants_of (rows_of self.old)) (filter.now, key))) }
+        ensures ok { OnOk result
+            (grants_of (rows_of self.new)
+            ≡ map.insert (grants_of (rows_of self.old)) (filter.now, key) qos) }
         ensures rows { SetsRow (rows_of self.old) (rows_of self.new) filter.now place }
         ensures filled { OnOk result (HasGrants (rows_of self.new) place) }
         ensures links { links_of self.new ≡ links_of self.old }
         ensures unused { self.new.unused ≡ self.old.unused }
         ensures fault { IfErr result (λ e. e ≡ TopicFault.NoMemory) }
         ensures err { OnErr result (rows_of self.new ≡ rows_of self.old) }
-        ensures fails_new { OnErr result (map.get (grants_of (rows_of self.old)) (filter.now, key) ≡ None) }
+        ensures fails_new { OnErr result
+            (map.get (grants_of (rows_of self.old)) (filter.now, key) ≡ None) }
     {
         match self.list[place].put(alloc, filter, key, qos) {
             Ok(is_new) => Ok(is_new),
@@ -124,8 +133,10 @@ impl Nodes {
     /// Takes the grant of a filter and a key back in a node, and says whether it stood.
     pub(crate) fn take_at(&mut self, place: usize, filter: &str, key: u64) -> bool
         requires { IsPlace (rows_of self.old) filter.now place }
-        ensures stood { result ≡ is_some (map.get (grants_of (rows_of self.old)) (filter.now, key)) }
-        ensures gone { grants_of (rows_of self.new) ≡ map.remove (grants_of (rows_of self.old)) (filter.now, key) }
+        ensures stood { result
+            ≡ is_some (map.get (grants_of (rows_of self.old)) (filter.now, key)) }
+        ensures gone { grants_of (rows_of self.new)
+            ≡ map.remove (grants_of (rows_of self.old)) (filter.now, key) }
         ensures rows { SetsRow (rows_of self.old) (rows_of self.new) filter.now place }
         ensures links { links_of self.new ≡ links_of self.old }
         ensures unused { self.new.unused ≡ self.old.unused }

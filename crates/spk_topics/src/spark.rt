@@ -64,12 +64,14 @@ impl Spark {
     /// The Sparkplug topic of a text. Any other text is NotSparkplug, also where a name is empty or has
     /// a `+`, a `#` or U+0000.
     pub fn read(alloc: Global, text: &str) -> Result<Spark, TopicFault>
-        ensures ok { IfOk result (λ s. IsTrue (has_names (named s)) × (topic_of (named s) ≡ text.now)) }
+        ensures ok { IfOk result
+            (λ s. IsTrue (has_names (named s)) × (topic_of (named s) ≡ text.now)) }
         ensures err { IfErr result (RefusesText text.now) }
         // The same by a function of the text (`laws::reading`).
         ensures reads { IfOk result (λ s. named_at text.now ≡ Some (named s)) }
         ensures reads_none { IfErr result
-            (λ f. (f ≡ TopicFault.NoMemory) ⊎ ((f ≡ TopicFault.NotSparkplug) × (named_at text.now ≡ None))) }
+            (λ f. (f ≡ TopicFault.NoMemory)
+            ⊎ ((f ≡ TopicFault.NotSparkplug) × (named_at text.now ≡ None))) }
     {
         match parse(text) {
             Some(parts) => Ok(parts.owned(alloc)?),
@@ -79,7 +81,9 @@ impl Spark {
 
     /// The topic's text. Names that are empty or have a `/`, a `+`, a `#` or U+0000 are NotSparkplug.
     pub fn text(&self, alloc: Global) -> Result<String, TopicFault>
-        ensures ok { IfOk result (λ t. IsTrue (has_names (named self.now)) × (string_bytes t ≡ topic_of (named self.now))) }
+        ensures ok { IfOk result
+            (λ t. IsTrue (has_names (named self.now))
+            × (string_bytes t ≡ topic_of (named self.now))) }
         ensures err { IfErr result (RefusesNames (named self.now)) }
     {
         if !self.has_names() {
@@ -153,8 +157,11 @@ impl<'a> Parts<'a> {
 
 // The names in a text, if it is a Sparkplug topic.
 fn parse(text: &str) -> Option<Parts<'_>>
-    ensures found { IfSome result (λ p. IsTrue (has_names (parts_named p)) × (levels text.now ≡ named_levels (parts_named p))) }
-    ensures none { IfNone result ((n : Named) → IsTrue (has_names n) → levels text.now ≢ named_levels n) }
+    ensures found { IfSome result
+        (λ p. IsTrue (has_names (parts_named p))
+        × (levels text.now ≡ named_levels (parts_named p))) }
+    ensures none { IfNone result
+        ((n : Named) → IsTrue (has_names n) → levels text.now ≢ named_levels n) }
 {
     let (prefix, rest) = cut(text);
     let (group, rest) = cut(rest?);
@@ -171,8 +178,13 @@ fn parse(text: &str) -> Option<Parts<'_>>
 
 // The names of an edge node or of a device, whose levels from the third on are the kind and the rest.
 fn parse_named<'a>(group: &'a str, kind: &'a str, rest: &'a str) -> Option<Parts<'a>>
-    ensures found { IfSome result (λ p. IsTrue (has_names (parts_named p)) × (codes "spBv1.0" ∷ group.now ∷ kind.now ∷ levels rest.now ≡ named_levels (parts_named p))) }
-    ensures none { IfNone result ((n : Named) → IsTrue (has_names n) → codes "spBv1.0" ∷ group.now ∷ kind.now ∷ levels rest.now ≢ named_levels n) }
+    ensures found { IfSome result
+        (λ p. IsTrue (has_names (parts_named p))
+        × (codes "spBv1.0" ∷ group.now ∷ kind.now ∷ levels rest.now
+        ≡ named_levels (parts_named p))) }
+    ensures none { IfNone result
+        ((n : Named) → IsTrue (has_names n)
+        → codes "spBv1.0" ∷ group.now ∷ kind.now ∷ levels rest.now ≢ named_levels n) }
 {
     let (node, rest) = cut(rest);
     if !is_name(group) || !is_name(node) {

@@ -29,7 +29,8 @@ impl<'a> Topic<'a> {
     /// The topic name of a text. Tried in this order: Empty; Wildcard for any `+` or `#`; Nul for
     /// U+0000; TooLong for over 65,535 bytes. No other text is refused. It takes no memory.
     pub fn read(text: &'a str) -> Result<Topic<'a>, TopicFault>
-        ensures { MatchResult result (λ a. (a ≡ text.now) × (topic_refusal text.now ≡ None)) (λ e. topic_refusal text.now ≡ Some e) }
+        ensures { MatchResult result (λ a. (a ≡ text.now) × (topic_refusal text.now ≡ None))
+            (λ e. topic_refusal text.now ≡ Some e) }
     {
         match refused(text, is_plain(text)) {
             Some(fault) => Err(fault),

@@ -60,7 +60,8 @@ impl Tree {
     /// Sets the QoS of a filter and a key, and says whether the filter is new for that key. It fails only
     /// where the filter is new for that key, and then nothing has changed.
     pub fn grant(&mut self, filter: &Filter, key: u64, qos: u8) -> Result<bool, TopicFault>
-        ensures is_new { IfOk result (λ is_new. is_new ≡ is_none (map.get self.old (filter.now, key))) }
+        ensures is_new { IfOk result
+            (λ is_new. is_new ≡ is_none (map.get self.old (filter.now, key))) }
         ensures ok { OnOk result (self.new ≡ map.insert self.old (filter.now, key) qos) }
         ensures fault { IfErr result (λ e. e ≡ TopicFault.NoMemory) }
         ensures fails_new { OnErr result (map.get self.old (filter.now, key) ≡ None) }
@@ -88,7 +89,8 @@ impl Tree {
 
 fn find_in(alloc: Global, nodes: &Nodes, topic: &str) -> Result<Vec<(u64, u8)>, TopicFault>
     requires { IsWhole nodes.now }
-    ensures ok { IfOk result (λ found. Finds (grants_of (rows_of nodes.now)) topic.now found.items) }
+    ensures ok { IfOk result
+        (λ found. Finds (grants_of (rows_of nodes.now)) topic.now found.items) }
     ensures fault { IfErr result (λ e. e ≡ TopicFault.NoMemory) }
 {
     let found = nodes.find(alloc, topic)?;
@@ -107,10 +109,14 @@ fn grant_in(
 ) -> Result<bool, TopicFault>
     requires { IsWhole nodes.old }
     ensures whole { IsWhole nodes.new }
-    ensures is_new { IfOk result (λ is_new. is_new ≡ is_none (map.get (grants_of (rows_of nodes.old)) (filter.now, key))) }
-    ensures ok { OnOk result (grants_of (rows_of nodes.new) ≡ map.insert (grants_of (rows_of nodes.old)) (filter.now, key) qos) }
+    ensures is_new { IfOk result
+        (λ is_new. is_new ≡ is_none (map.get (grants_of (rows_of nodes.old)) (filter.now, key))) }
+    ensures ok { OnOk result
+        (grants_of (rows_of nodes.new)
+        ≡ map.insert (grants_of (rows_of nodes.old)) (filter.now, key) qos) }
     ensures fault { IfErr result (λ e. e ≡ TopicFault.NoMemory) }
-    ensures fails_new { OnErr result (map.get (grants_of (rows_of nodes.old)) (filter.now, key) ≡ None) }
+    ensures fails_new { OnErr result
+        (map.get (grants_of (rows_of nodes.old)) (filter.now, key) ≡ None) }
     ensures err { OnErr result (grants_of (rows_of nodes.new) ≡ grants_of (rows_of nodes.old)) }
 {
     let place = place_for(alloc, nodes, filter)?;
@@ -147,7 +153,8 @@ fn take_in(nodes: &mut Nodes, filter: &str, key: u64) -> bool
     requires { IsWhole nodes.old }
     ensures whole { IsWhole nodes.new }
     ensures stood { result ≡ is_some (map.get (grants_of (rows_of nodes.old)) (filter.now, key)) }
-    ensures gone { grants_of (rows_of nodes.new) ≡ map.remove (grants_of (rows_of nodes.old)) (filter.now, key) }
+    ensures gone { grants_of (rows_of nodes.new)
+        ≡ map.remove (grants_of (rows_of nodes.old)) (filter.now, key) }
 {
     match nodes.place_of(filter) {
         Some(place) => {

@@ -20,7 +20,8 @@ impl Nodes {
     /// The greatest QoS of each key among the filters that match a topic.
     pub(crate) fn find(&self, alloc: Global, topic: &str) -> Result<BTreeMap<u64, u8>, TopicFault>
         requires { IsWhole self.now }
-        ensures ok { IfOk result (λ found. FindsAll (rows_of self.now) topic.now (get nat_cmp found)) }
+        ensures ok { IfOk result
+            (λ found. FindsAll (rows_of self.now) topic.now (get nat_cmp found)) }
         ensures fault { IfErr result (λ e. e ≡ TopicFault.NoMemory) }
     {
         let mut found = BTreeMap::new(alloc);
@@ -43,7 +44,9 @@ impl Nodes {
         topic: &'a str,
     ) -> Result<(Vec<usize>, Option<&'a str>), TopicFault>
         requires { IsWhole self.now }
-        ensures way { IfOk result (λ r. Begins self.now topic.now r.0.items (levels_left (option_map (λ rest. rest.now) r.1))) }
+        ensures way { IfOk result
+            (λ r.
+            Begins self.now topic.now r.0.items (levels_left (option_map (λ rest. rest.now) r.1))) }
         ensures fault { IfErr result (λ e. e ≡ TopicFault.NoMemory) }
     {
         let mut front = Vec::new(alloc);
@@ -66,7 +69,8 @@ impl Nodes {
         found: &mut BTreeMap<u64, u8>,
     ) -> Result<Vec<usize>, TopicFault>
         ensures gains { OnOk result (GainsIn self.now topic.now found.old found.new) }
-        ensures way { IfOk result (λ next. Passes self.now topic.now level.now found.old found.new front.now next.items) }
+        ensures way { IfOk result
+            (λ next. Passes self.now topic.now level.now found.old found.new front.now next.items) }
         ensures fault { IfErr result (λ e. e ≡ TopicFault.NoMemory) }
     {
         let mut next = Vec::new(alloc);
@@ -86,8 +90,11 @@ impl Nodes {
         next: &mut Vec<usize>,
     ) -> Result<(), TopicFault>
         ensures gains { OnOk result (GainsIn self.now topic.now found.old found.new) }
-        ensures rest { OnOk result (TakenIn self.now topic.now found.new (child_of self.now number (35 ∷ []))) }
-        ensures next { OnOk result (next.new.items ≡ next.old.items ++ option_to_list (child_of self.now number (43 ∷ [])) ++ option_to_list (child_of self.now number level.now)) }
+        ensures rest { OnOk result
+            (TakenIn self.now topic.now found.new (child_of self.now number (35 ∷ []))) }
+        ensures next { OnOk result
+            (next.new.items ≡ next.old.items ++ option_to_list (child_of self.now number (43 ∷ []))
+            ++ option_to_list (child_of self.now number level.now)) }
         ensures fault { IfErr result (λ e. e ≡ TopicFault.NoMemory) }
     {
         self.gather_below(number, "#", topic, found)?;
@@ -103,7 +110,9 @@ impl Nodes {
         found: &mut BTreeMap<u64, u8>,
     ) -> Result<(), TopicFault>
         ensures gains { OnOk result (GainsIn self.now topic.now found.old found.new) }
-        ensures all { OnOk result (IsOnTheWayIn self.now topic.now found.old front.now [] → HasAll self.now topic.now found.new) }
+        ensures all { OnOk result
+            (IsOnTheWayIn self.now topic.now found.old front.now []
+            → HasAll self.now topic.now found.new) }
         ensures fault { IfErr result (λ e. e ≡ TopicFault.NoMemory) }
     {
         for number in front {
@@ -122,7 +131,8 @@ impl Nodes {
         found: &mut BTreeMap<u64, u8>,
     ) -> Result<(), TopicFault>
         ensures gains { OnOk result (GainsIn self.now topic.now found.old found.new) }
-        ensures taken { OnOk result (TakenIn self.now topic.now found.new (child_of self.now number level.now)) }
+        ensures taken { OnOk result
+            (TakenIn self.now topic.now found.new (child_of self.now number level.now)) }
         ensures fault { IfErr result (λ e. e ≡ TopicFault.NoMemory) }
     {
         match self.child(number, level) {

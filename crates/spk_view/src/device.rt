@@ -80,7 +80,8 @@ impl DeviceView {
     /// Its metric that a metric of data means: that of its alias or, without one, of its name (6.4.5).
     pub fn meant_by(&self, metric: &Metric) -> Option<&MetricView>
         ensures { option_copied result ≡
-            find (λ r. is_name (meaning self.now.rows (metric_view metric.now)) r.name) self.now.rows }
+            find (λ r. is_name (meaning self.now.rows (metric_view metric.now)) r.name)
+            self.now.rows }
     {
         self.table.meant_by(metric)
     }
@@ -158,7 +159,8 @@ impl DeviceView {
 
     /// Whether it wasn't born, or a metric names an alias that it lacks.
     pub(crate) fn is_lacking(&self, metrics: &[Metric]) -> bool
-        ensures { result ≡ is_device_lacking (rows_if_born (Some self.now)) (map metric_view metrics.now) }
+        ensures { result
+            ≡ is_device_lacking (rows_if_born (Some self.now)) (map metric_view metrics.now) }
     {
         !self.born || self.table.is_lacking(metrics)
     }

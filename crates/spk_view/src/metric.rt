@@ -78,7 +78,8 @@ impl MetricView {
         name: &String,
         metric: &Metric,
     ) -> Result<MetricView, AllocError>
-        ensures { IfOk result (λ row. row ≡ row_of (string_bytes name.now) (metric_view metric.now)) }
+        ensures { IfOk result
+            (λ row. row ≡ row_of (string_bytes name.now) (metric_view metric.now)) }
     {
         let name = String::from_str(alloc, name.as_str())?;
         let value = copied_value(alloc, &metric.value)?;

@@ -75,7 +75,8 @@ impl NodeView {
     /// The node's own metric that a metric of data means: that of its alias or, without one, of its name (6.4.5).
     pub fn meant_by(&self, metric: &Metric) -> Option<&MetricView>
         ensures { option_copied result ≡
-            find (λ r. is_name (meaning self.now.view.rows (metric_view metric.now)) r.name) self.now.view.rows }
+            find (λ r. is_name (meaning self.now.view.rows (metric_view metric.now)) r.name)
+            self.now.view.rows }
     {
         self.table.meant_by(metric)
     }
@@ -89,7 +90,8 @@ impl NodeView {
 
     /// The device of a name. The cost is that of going over the devices.
     pub fn device(&self, name: &str) -> Option<&DeviceView>
-        ensures { option_copied result ≡ find (λ d. bytes_eq name.now d.name) self.now.view.devices }
+        ensures { option_copied result
+            ≡ find (λ d. bytes_eq name.now d.name) self.now.view.devices }
     {
         let place = self.place_of(name)?;
         self.devices.get(place)
@@ -131,8 +133,10 @@ impl NodeView {
 
     /// Whether the device of a name would need room that isn't there.
     pub(crate) fn is_full_for(&self, name: &str) -> bool
-        ensures full { result ≡ true → (has_device name.now self.now.view.devices ≡ false) × (self.now.room ≡ 0) }
-        ensures not_full { result ≡ false → has_device name.now self.now.view.devices ≡ false → 0 < self.now.room }
+        ensures full { result ≡ true
+            → (has_device name.now self.now.view.devices ≡ false) × (self.now.room ≡ 0) }
+        ensures not_full { result ≡ false → has_device name.now self.now.view.devices ≡ false
+            → 0 < self.now.room }
     {
         self.devices.len() >= self.devices.capacity() && self.place_of(name).is_none()
     }
@@ -141,7 +145,8 @@ impl NodeView {
     pub(crate) fn take(&mut self, body: Body)
         requires { is_new (body_view body) self.old.view ≡ true → 0 < self.old.room }
         ensures view { Some self.new.view ≡ view_by (Some self.old.view) (body_view body) }
-        ensures room { self.new.room + (if is_new (body_view body) self.old.view then 1 else 0) ≡ self.old.room }
+        ensures room { self.new.room + (if is_new (body_view body) self.old.view then 1 else 0)
+            ≡ self.old.room }
     {
         match body {
             Body::NodeBirth(table) => self.bear(table),
@@ -165,7 +170,8 @@ impl NodeView {
 
     /// Data of the node's own are shown.
     fn show_all(&mut self, metrics: Vec<Metric>)
-        ensures view { self.new.view ≡ rules.node_changed (map metric_view metrics.items) self.old.view }
+        ensures view { self.new.view
+            ≡ rules.node_changed (map metric_view metrics.items) self.old.view }
         ensures room { self.new.room ≡ self.old.room }
     {
         self.table.show_all(metrics);
@@ -173,10 +179,13 @@ impl NodeView {
 
     /// A device had a birth.
     fn bear_device(&mut self, name: String, table: Table)
-        requires { has_device (string_bytes name) self.old.view.devices ≡ false → 0 < self.old.room }
+        requires { has_device (string_bytes name) self.old.view.devices ≡ false
+            → 0 < self.old.room }
         ensures view { self.new.view ≡ device_with (string_bytes name) table self.old.view }
-        ensures known { has_device (string_bytes name) self.old.view.devices ≡ true → self.new.room ≡ self.old.room }
-        ensures new { has_device (string_bytes name) self.old.view.devices ≡ false → self.new.room + 1 ≡ self.old.room }
+        ensures known { has_device (string_bytes name) self.old.view.devices ≡ true
+            → self.new.room ≡ self.old.room }
+        ensures new { has_device (string_bytes name) self.old.view.devices ≡ false
+            → self.new.room + 1 ≡ self.old.room }
     {
         let place = self.place_of(name.as_str());
         let device = DeviceView::born(name, table, self.online, self.stale);
@@ -199,7 +208,8 @@ impl NodeView {
 
     /// A device died.
     fn hear_death(&mut self, name: &str)
-        ensures view { self.new.view ≡ rules.each_device (rules.dead_device name.now) self.old.view }
+        ensures view { self.new.view
+            ≡ rules.each_device (rules.dead_device name.now) self.old.view }
         ensures room { self.new.room ≡ self.old.room }
     {
         hear_death(&mut self.devices, name);

@@ -68,7 +68,8 @@ impl Ready {
 
     /// A DBIRTH of a device with these metrics. Refused only where memory is.
     pub fn device_birth(alloc: Global, name: &str, metrics: &[Metric]) -> Result<Ready, AllocError>
-        ensures { IfOk result (λ r. r ≡ prepared (DeviceBirth name.now (map metric_view metrics.now))) }
+        ensures { IfOk result
+            (λ r. r ≡ prepared (DeviceBirth name.now (map metric_view metrics.now))) }
     {
         let name = String::from_str(alloc, name)?;
         let table = Table::born(alloc, metrics)?;
@@ -79,7 +80,8 @@ impl Ready {
 
     /// A DDATA of a device with these metrics. Refused only where memory is.
     pub fn device_data(alloc: Global, name: &str, metrics: &[Metric]) -> Result<Ready, AllocError>
-        ensures { IfOk result (λ r. r ≡ prepared (DeviceData name.now (map metric_view metrics.now))) }
+        ensures { IfOk result
+            (λ r. r ≡ prepared (DeviceData name.now (map metric_view metrics.now))) }
     {
         let name = String::from_str(alloc, name)?;
         let metrics = copied(alloc, metrics)?;

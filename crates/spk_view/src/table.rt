@@ -103,7 +103,8 @@ fn put(
     metric: &Metric,
 ) -> Result<(), AllocError>
     requires { IsIndexed rows.old.items names.old aliases.old }
-    ensures rows { OnOk result (rows.new.items ≡ with_metric rows.old.items (metric_view metric.now)) }
+    ensures rows { OnOk result
+        (rows.new.items ≡ with_metric rows.old.items (metric_view metric.now)) }
     ensures indexed { OnOk result (IsIndexed rows.new.items names.new aliases.new) }
 {
     let Some(name) = &metric.name else {
@@ -229,7 +230,8 @@ impl Table {
 
     /// The place of the row that a metric of data changes.
     fn place_changed(&self, metric: &Metric) -> Option<usize>
-        ensures place { IsPlaceOf (λ r. changes self.now r.name (metric_view metric.now)) self.now result }
+        ensures place { IsPlaceOf (λ r. changes self.now r.name (metric_view metric.now)) self.now
+            result }
         ensures apart { IsApart name_of self.now }
     {
         let place = self.place_of(metric.alias, &metric.name);
@@ -243,7 +245,8 @@ impl Table {
     /// A value is shown at a place, if there is one.
     fn show_at(&mut self, place: Option<usize>, null: Option<bool>, value: Option<Raw>)
         ensures none { place ≡ None → self.new ≡ self.old }
-        ensures there { (k : ℕ) (r : Row) → place ≡ Some k → slice_get self.old k ≡ Some r → self.new ≡ set self.old k
+        ensures there { (k : ℕ) (r : Row) → place ≡ Some k → slice_get self.old k ≡ Some r
+            → self.new ≡ set self.old k
             (record r { shown = shown_with r.datatype null (option_map content_of value) }) }
     {
         if let Some(place) = place

@@ -37,7 +37,8 @@ impl Model for Watch {
       room = a.node.room;
     } };
 
-    ghost invariant = { λ a. a.is_shown ≡ false → (a.node.view.rows ≡ []) × (a.node.view.devices ≡ []) };
+    ghost invariant = { λ a. a.is_shown ≡ false
+        → (a.node.view.rows ≡ []) × (a.node.view.devices ≡ []) };
 }
 
 impl Watch {
@@ -85,8 +86,10 @@ impl Watch {
         ensures watch { (m : Message) → prepared m ≡ ready →
             OnOk result (self.new.watch ≡ rules.step wait self.old.watch (Consumed m now)) }
         ensures room { OnOk result
-            (self.new.room + (if takes_room self.old.watch.view ready then 1 else 0) ≡ self.old.room) }
-        ensures full { OnErr result ((takes_room self.old.watch.view ready ≡ true) × (self.old.room ≡ 0)) }
+            (self.new.room + (if takes_room self.old.watch.view ready then 1 else 0)
+            ≡ self.old.room) }
+        ensures full { OnErr result
+            ((takes_room self.old.watch.view ready ≡ true) × (self.old.room ≡ 0)) }
         ensures returned { IfErr result (λ r. r ≡ ready) }
         ensures unchanged { OnErr result (self.new ≡ self.old) }
     {
@@ -138,8 +141,10 @@ impl Watch {
 
     /// Whether a message is the birth of a device for which there is no room.
     fn is_full_for(&self, ready: &Ready) -> bool
-        ensures full { result ≡ true → (takes_room self.now.watch.view ready.now ≡ true) × (self.now.room ≡ 0) }
-        ensures not_full { result ≡ false → takes_room self.now.watch.view ready.now ≡ true → 0 < self.now.room }
+        ensures full { result ≡ true
+            → (takes_room self.now.watch.view ready.now ≡ true) × (self.now.room ≡ 0) }
+        ensures not_full { result ≡ false → takes_room self.now.watch.view ready.now ≡ true
+            → 0 < self.now.room }
     {
         match &ready.body {
             Body::DeviceBirth(name, _) => self.is_shown && self.node.is_full_for(name.as_str()),
@@ -163,8 +168,10 @@ impl Watch {
     fn take(&mut self, ready: Ready) -> bool
         requires { takes_room self.old.watch.view ready ≡ true → 0 < self.old.room }
         ensures birth { result ≡ is_birth_by ready }
-        ensures watch { self.new.watch ≡ record self.old.watch { view = view_by self.old.watch.view ready } }
-        ensures room { self.new.room + (if takes_room self.old.watch.view ready then 1 else 0) ≡ self.old.room }
+        ensures watch { self.new.watch
+            ≡ record self.old.watch { view = view_by self.old.watch.view ready } }
+        ensures room { self.new.room + (if takes_room self.old.watch.view ready then 1 else 0)
+            ≡ self.old.room }
     {
         let is_birth = matches!(&ready.body, Body::NodeBirth(_));
         if is_birth || self.is_shown {
@@ -178,7 +185,8 @@ impl Watch {
     /// Whether a rebirth is asked for at an event, and what is kept of that.
     fn ask(&mut self, wait: u64, is_cause: bool, is_birth: bool, now: u64) -> bool
         ensures asks { result ≡ asks_by wait self.old.watch is_cause now }
-        ensures watch { self.new.watch ≡ kept_after wait self.old.watch self.old.watch.view is_cause is_birth now }
+        ensures watch { self.new.watch
+            ≡ kept_after wait self.old.watch self.old.watch.view is_cause is_birth now }
         ensures room { self.new.room ≡ self.old.room }
     {
         let asks = is_cause && may_ask(wait, now, self.asked, self.born_since);

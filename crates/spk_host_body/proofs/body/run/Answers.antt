@@ -32,6 +32,7 @@ loop-preserved-in-Ok-take_in g c = record {
   pass = record {
     puts_into = c.in-Ok-take_in.ensures.pass.puts_into;
     sender = c.in-Ok-take_in.ensures.pass.sender ∙ c.loop.invariant.pass.sender;
+    ends = c.in-Ok-take_in.ensures.pass.ends ∙ c.loop.invariant.pass.ends;
   };
   same = same_then c.args.inlet.now c.loop.inlet c.next-in-loop.new.self c.loop.invariant.same
       (same_then c.loop.inlet c.gone-gone.new.self c.next-in-loop.new.self c.gone-gone.ensures.end c.in-Some-next.ensures.end);
@@ -46,6 +47,7 @@ loop-preserved g c = record {
   pass = record {
     puts_into = c.in-Ok-take_in.ensures.pass.puts_into;
     sender = c.in-Ok-take_in.ensures.pass.sender ∙ c.loop.invariant.pass.sender;
+    ends = c.in-Ok-take_in.ensures.pass.ends ∙ c.loop.invariant.pass.ends;
   };
   same = same_then c.args.inlet.now c.loop.inlet c.next-in-loop.new.self c.loop.invariant.same
       (same_then c.loop.inlet c.gone-gone.new.self c.next-in-loop.new.self c.gone-gone.ensures.end c.in-Some-next.ensures.end);

@@ -1,6 +1,7 @@
 use Rattle.std.proofs.Common.{◌≡◌, ◌∙◌, sym, true, false}
 use Rattle.spk_edge_body.specs.Script.{may_drain}
 use Rattle.spk_edge_body.proofs.Leading.{drains-end, drains-more, may-drain-at}
+use Rattle.spk_edge_body.proofs.Putting.{puts-then}
 use Rattle.spk_edge_body.proofs.desk.Desk.drain.Goals as goal
 
 pub returns-then-refused-clause-drained : goal.returns-then-refused-clause-drained
@@ -15,8 +16,7 @@ returns-then-refused-clause-drained g c = λ o log at.
 
 pub loop-preserved : goal.loop-preserved
 loop-preserved g c = record {
-  into = c.in_ok-refused.ensures.pass.0;
-  sender = c.in_ok-refused.ensures.pass.1 ∙ c.loop.invariant.sender;
+  puts = puts-then c.args.ingress.now c.args.self.now.sender.pass c.loop.self.sender.pass c.ask.new.self.sender.pass c.loop.invariant.puts c.in_ok-refused.ensures.pass;
   went = λ o log at.
       let so_far = c.loop.invariant.went o log at in
       let asked = c.in_ok-refused.ensures.asked o so_far.0 so_far.1 in

@@ -3,12 +3,12 @@ use Rattle.spk_payload.specs.Typing.{typed_view}
 use Rattle.spk_edge_rules.specs.Inputs.{Act, Change}
 use Rattle.spk_edge_body.specs.Script.{Asked, ramp}
 use Rattle.spk_edge_body.proofs.Leading.{asked-then, ramp-more}
+use Rattle.spk_edge_body.proofs.Putting.{puts-then}
 use Rattle.spk_edge_body.proofs.desk.Desk.ramp.Goals as goal
 
 pub loop-before-preserved : goal.loop-before-preserved
 loop-before-preserved g c = record {
-  into = c.in_ok-once.ensures.pass.0;
-  sender = c.in_ok-once.ensures.pass.1 ∙ c.loop-before.invariant.sender;
+  puts = puts-then c.args.ingress.now c.args.self.now.sender.pass c.loop-before.self.sender.pass c.once.new.self.sender.pass c.loop-before.invariant.puts c.in_ok-once.ensures.pass;
   went = λ o log at.
       let so_far = c.loop-before.invariant.went o log at in
       let asked = c.in_ok-once.ensures.asked o so_far.0 so_far.1 in (

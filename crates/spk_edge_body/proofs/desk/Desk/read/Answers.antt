@@ -1,5 +1,6 @@
 use Rattle.std.proofs.Common.{◌≡◌, ◌∙◌}
 use Rattle.spk_edge_body.proofs.Leading.{reads-then}
+use Rattle.spk_edge_body.proofs.Putting.{puts-then}
 use Rattle.spk_edge_body.proofs.desk.Desk.read.Goals as goal
 
 pub returns-then-not-branch-clause-read : goal.returns-then-not-branch-clause-read
@@ -7,7 +8,6 @@ returns-then-not-branch-clause-read g c = reads-then c.args.self.now c.loop.self
 
 pub loop-preserved : goal.loop-preserved
 loop-preserved g c = record {
-  into = c.in_ok-read_one.ensures.pass.0;
-  sender = c.in_ok-read_one.ensures.pass.1 ∙ c.loop.invariant.sender;
+  puts = puts-then c.args.ingress.now c.args.self.now.sender.pass c.loop.self.sender.pass c.read_one.new.self.sender.pass c.loop.invariant.puts c.in_ok-read_one.ensures.pass;
   went = reads-then c.args.self.now c.loop.self c.read_one.new.self c.loop.invariant.went c.in_ok-read_one.ensures.read;
 }

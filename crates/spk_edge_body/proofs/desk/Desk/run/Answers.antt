@@ -5,6 +5,7 @@ use Rattle.spk_plan.specs.declared.script.Step.{Step}
 use Rattle.spk_plan.specs.declared.script.Step.TheVariants.{Stop}
 use Rattle.spk_edge_body.specs.Script.{Leads}
 use Rattle.spk_edge_body.proofs.Leading.{leads-snoc}
+use Rattle.spk_edge_body.proofs.Putting.{puts-then}
 use Rattle.spk_edge_body.proofs.desk.Desk.run.Goals as goal
 
 pub loop-step-preserved : goal.loop-step-preserved
@@ -15,8 +16,7 @@ loop-step-preserved g c =
     let below : c.loop-step.step-index < length c.args.script.now = omega arith in
     let more : take (i + 1) xs ≡ take i xs ++ x ∷ [] = take_more xs i x below ∙ ap (λ (y : Step). take i xs ++ y ∷ []) (sym c.step-item.is) in
     record {
-      into = c.in_ok-run_step.ensures.pass.0;
-      sender = c.in_ok-run_step.ensures.pass.1 ∙ c.loop-step.invariant.sender;
+      puts = puts-then c.args.ingress.now c.args.self.now.sender.pass c.loop-step.self.sender.pass c.run_step.new.self.sender.pass c.loop-step.invariant.puts c.in_ok-run_step.ensures.pass;
       went = λ o log at.
           let so_far = c.loop-step.invariant.went o log at in
           let led = c.in_ok-run_step.ensures.led o so_far.0 so_far.1 in (

@@ -16,9 +16,9 @@ returns-clause-taken g c = λ o is h plan.
     let put : HasPut c.args.self.now.sender c.put_answer.new.self (map Packet (map bytes_of c.args.plan.out.packets.items) ++ cut_if (is_cut (told_act c.args.told.act) || c.args.plan.out.close)) =
     subst (λ (out : Out). HasPut c.args.self.now.sender c.put_answer.new.self (map Packet (map bytes_of out.packets.items) ++ cut_if (is_cut (told_act c.args.told.act) || out.close))) c.take_up-out.ensures.out
     (subst (λ (b : Bool). HasPut c.args.self.now.sender c.put_answer.new.self (map Packet (map bytes_of c.take_up-out.result.out.packets.items) ++ cut_if b)) c.is_over-is_over.ensures c.in_ok-put_answer.ensures.ok) in
-    stands-taken o is c.args.self.now (record c.args.self.now { node = c.take_up-out.new.self; inputs = c.push.new.self; published = c.append.new.self; sender = c.put_answer.new.self }) c.args.told c.args.plan h
+    stands-taken o is c.args.self.now (record c.args.self.now { node = c.take_up-out.new.self; inputs = c.push.new.self; published = c.append.new.self; sender = c.put_answer.new.self; in_vain = c.in_ok-in_vain.in_vain }) c.args.told c.args.plan h
     (c.stepping.ensures.taken o.setup is (told_view c.args.told) c.args.plan (subst (λ (n : NodeData). IsPlan n (told_view c.args.told) c.args.plan) h.node plan))
     c.take_up-out.ensures.data
     c.in_ok-push.ensures.items
     (c.in_ok-append.ensures.items ∙ ap (λ v. c.args.self.now.published.items ++ v.items) c.take_up-out.ensures.messages)
-    put
+    put c.in_ok-in_vain.ensures.vain

@@ -10,6 +10,7 @@ loop-bytes-preserved g c = record {
   pass = record {
     puts_into = c.in-Ok.ensures.pass.puts_into;
     sender = c.in-Ok.ensures.pass.sender ∙ c.loop-bytes.invariant.pass.sender;
+    ends = c.in-Ok.ensures.pass.ends ∙ c.loop-bytes.invariant.pass.ends;
   };
   puts = puts_one (map (λ b. b.items) c.args.packets.items) (map (λ b. b.items) (into_iter_items c.next.new.self)) c.in-Some.bytes.items
       (frames_put c.args.self.now.pass) (frames_put c.loop-bytes.self.pass) (frames_put c.put_packet.new.self.pass)

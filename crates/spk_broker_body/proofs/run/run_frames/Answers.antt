@@ -1,0 +1,26 @@
+use Rattle.std.proofs.Common.{◌≡◌, ◌<◌, ◌-◌, [], length, subst, arith}
+use Rattle.std.proofs.lemmas.Result.{IfOk-weaker}
+use Rattle.spk_broker_body.specs.Holding.{HasAllEnded, setting_of}
+use Rattle.spk_broker_body.proofs.Hubs.{run_done}
+use Rattle.spk_broker_body.proofs.run.run_frames.Goals as goal
+
+pub end_of-requires : goal.end_of-requires
+end_of-requires g c =
+    let start = c.in_ok-hub.ensures.idle c.requires.fresh in
+    let all : HasAllEnded (setting_of c.budget.result c.args.start.outlets.items) c.take_all.new.hub = c.in_ok-take_all.ensures.idle _ [] start c.requires.rings in
+    let held = all.idle.rests.holds in
+    let edges : c.take_all.new.hub.edges ≡ length c.args.start.outlets.items - 1 = held.edges in
+    let sized : length c.take_all.new.hub.desk.clients.items ≡ length c.args.start.outlets.items = held.clients in
+    let rings : length c.args.start.outlets.items ≡ c.args.ingress.now.senders = c.requires.rings in
+    let some : 0 < c.args.ingress.now.senders = c.requires.some in
+    omega (arith, edges, sized, rings, some)
+
+pub returns-clause-done : goal.returns-clause-done
+returns-clause-done g c =
+    let start = c.in_ok-hub.ensures.idle c.requires.fresh in
+    let all : HasAllEnded (setting_of c.budget.result c.args.start.outlets.items) c.take_all.new.hub = c.in_ok-take_all.ensures.idle _ [] start c.requires.rings in
+    IfOk-weaker c.end_of.result _ _
+    (λ end is. run_done c.args.ingress.now c.args.start c.take_all.new.pass c.take_all.new.hub end c.requires
+    (subst (λ n. HasAllEnded (setting_of n c.args.start.outlets.items) c.take_all.new.hub) c.budget.ensures.value all)
+    c.in_ok-take_all.ensures.pass c.in_ok-take_all.ensures.taken c.in_ok-take_all.ensures.senders is)
+    c.end_of.ensures.done

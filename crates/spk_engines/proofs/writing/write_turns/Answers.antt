@@ -1,0 +1,49 @@
+use Rattle.std.proofs.Common.{◌≡◌, ◌∙◌, sym, ap, length, subst, Some, [], arith}
+use Rattle.spk_rings.specs.Ring.{SameInlet, popped}
+use Rattle.spk_engines.specs.Writing.{Writes, rest_of, IsWithin}
+use Rattle.spk_engines.proofs.Writes.{writes_more, writes_item, same_then, took_one, took_none}
+use Rattle.spk_engines.proofs.writing.write_turns.Goals as goal
+use Rattle.spk_engines.proofs.writing.write_turns.Goals.{in-Some+in-Ok, in-None+in-Some-next, in-None+in-None-next+else-gone}
+
+pub loop-turn-preserved : goal.loop-turn-preserved
+loop-turn-preserved g c = elim c.match-current.branch [
+  | in-Some+in-Ok w ↦ record {
+    same = subst (SameInlet c.args.inlet.now) (sym w.inlet-is) c.loop-turn.invariant.same;
+    before = c.loop-turn.invariant.before;
+    within = subst IsWithin (sym w.current-is) w.in-Ok.ensures.within;
+    writes = rw (w.writer-is, w.inlet-is, w.current-is)
+        (writes_more (g.W.Write.contents c.args.writer.now) (g.W.Write.contents c.loop-turn.writer) (g.W.Write.contents w.write_some.new.writer) (popped c.args.inlet.now) (popped c.loop-turn.inlet)
+        (rest_of (Some w.in-Some.underway)) (rest_of w.in-Ok.next) w.in-Ok.ensures.wrote.0
+        (subst (λ u. Writes (g.W.Write.contents c.args.writer.now) (g.W.Write.contents c.loop-turn.writer) (popped c.args.inlet.now) (popped c.loop-turn.inlet) (rest_of u)) w.in-Some.is c.loop-turn.invariant.writes)
+        w.in-Ok.ensures.wrote.1 w.in-Ok.ensures.wrote.2);
+    left = omega (arith, c.loop-turn.invariant.left, w.write_some.ensures.left);
+    turns = took_none (popped c.loop-turn.inlet) _ (length (popped c.args.inlet.now)) c.loop-turn._turn c.loop-turn.invariant.turns (ap popped w.inlet-is);
+  }
+  | in-None+in-Some-next w ↦
+      let before : Writes (g.W.Write.contents c.args.writer.now) (g.W.Write.contents c.loop-turn.writer) (popped c.args.inlet.now) (popped c.loop-turn.inlet) [] =
+      subst (λ u. Writes (g.W.Write.contents c.args.writer.now) (g.W.Write.contents c.loop-turn.writer) (popped c.args.inlet.now) (popped c.loop-turn.inlet) (rest_of u)) w.in-None.is c.loop-turn.invariant.writes in
+      record {
+        same = subst (SameInlet c.args.inlet.now) (sym w.inlet-is) (same_then c.args.inlet.now c.loop-turn.inlet w.next.new.self c.loop-turn.invariant.same (same_then c.loop-turn.inlet w.gone-gone.new.self w.next.new.self w.gone-gone.ensures.end w.next.ensures.end));
+        before = c.loop-turn.invariant.before;
+        within = subst IsWithin (sym w.current-is) (omega arith);
+        writes = rw (w.writer-is, w.inlet-is, w.current-is)
+            (writes_item (g.W.Write.contents c.args.writer.now) (g.W.Write.contents c.loop-turn.writer) (popped c.args.inlet.now) (popped w.gone-gone.new.self) (popped w.next.new.self) w.in-Some-next.item
+            (subst (λ t. Writes (g.W.Write.contents c.args.writer.now) (g.W.Write.contents c.loop-turn.writer) (popped c.args.inlet.now) t []) (sym w.gone-gone.ensures.same) before)
+            w.in-Some-next.ensures.some);
+        left = omega (arith, c.loop-turn.invariant.left);
+        turns = took_one (popped c.loop-turn.inlet) (popped w.gone-gone.new.self) _ w.in-Some-next.item (length (popped c.args.inlet.now)) c.loop-turn._turn c.loop-turn.invariant.turns w.gone-gone.ensures.same (ap popped w.inlet-is ∙ w.in-Some-next.ensures.some);
+      }
+  | in-None+in-None-next+else-gone w ↦
+      let before : Writes (g.W.Write.contents c.args.writer.now) (g.W.Write.contents c.loop-turn.writer) (popped c.args.inlet.now) (popped c.loop-turn.inlet) [] =
+      subst (λ u. Writes (g.W.Write.contents c.args.writer.now) (g.W.Write.contents c.loop-turn.writer) (popped c.args.inlet.now) (popped c.loop-turn.inlet) (rest_of u)) w.in-None.is c.loop-turn.invariant.writes in
+      let stays : popped w.next.new.self ≡ popped c.loop-turn.inlet = (w.next.ensures.none w.in-None-next.is).0 ∙ w.gone-gone.ensures.same in
+      record {
+        same = subst (SameInlet c.args.inlet.now) (sym w.inlet-is) (same_then c.args.inlet.now c.loop-turn.inlet w.next.new.self c.loop-turn.invariant.same (same_then c.loop-turn.inlet w.gone-gone.new.self w.next.new.self w.gone-gone.ensures.end w.next.ensures.end));
+        before = c.loop-turn.invariant.before;
+        within = subst IsWithin (sym w.current-is) tt;
+        writes = rw (w.writer-is, w.inlet-is, w.current-is)
+            (subst (λ t. Writes (g.W.Write.contents c.args.writer.now) (g.W.Write.contents c.loop-turn.writer) (popped c.args.inlet.now) t []) (sym stays) before);
+        left = omega (arith, c.loop-turn.invariant.left);
+        turns = took_none (popped c.loop-turn.inlet) _ (length (popped c.args.inlet.now)) c.loop-turn._turn c.loop-turn.invariant.turns (ap popped w.inlet-is ∙ stays);
+      }
+]
