@@ -110,6 +110,21 @@ pub upto_none : (a : Option (List ℕ)) → ReadsUpTo 0 a a
 upto_none None = ([], tt, omega arith)
 upto_none (Some l) = ([], refl, omega arith)
 
+pub consumes_none : (a : Option (List ℕ)) → Consumes a a []
+consumes_none None = tt
+consumes_none (Some l) = refl
+
+-- nothing more
+pub upto_same : (a b c : Option (List ℕ)) (m n : ℕ) → ReadsUpTo m a b → Consumes b c [] → m ≤ n → ReadsUpTo n a c
+upto_same a b c m n f g l = (f.0, subst (Consumes a c) (append-nil f.0) (consumes_then a b c f.0 [] f.1 g), (let before : length f.0 ≤ m = f.2 in omega arith))
+
+-- an engine begins over the same device
+pub begun : {S : Type 0} (left : S → Option (List ℕ)) (old new : S) (waits : List ℕ) (p : List Frame) → new ≡ old → waits ≡ [] → Reads (left old) (left new) waits p p
+begun left old new waits p same none = subst (λ w. Reads (left old) (left new) w p p) (sym none) (subst (λ d. Reads (left old) (left d) [] p p) (sym same) (reads_none (left old) p))
+
+pub upto_begun : {S : Type 0} (left : S → Option (List ℕ)) (old new : S) (n : ℕ) → new ≡ old → ReadsUpTo (65536 * n) (left old) (left new)
+upto_begun left old new n same = subst (λ d. ReadsUpTo (65536 * n) (left old) (left d)) (sym same) (upto_same (left old) (left old) (left old) 0 (65536 * n) (upto_none (left old)) (consumes_none (left old)) (omega arith))
+
 -- a piece more
 pub upto_piece : (a b c : Option (List ℕ)) (turn turns n : ℕ) (piece : List ℕ) → ReadsUpTo (65536 * turn) a b → IsPiece b c piece (Some n) → length piece ≡ 65536 → turn + 1 ≤ turns → ReadsUpTo (65536 * turns) a c
 upto_piece a b c turn turns n piece f g e l = (
@@ -120,10 +135,6 @@ upto_piece a b c turn turns n piece f g e l = (
       let most : n ≤ length piece = g.0 in
       let before : length f.0 ≤ 65536 * turn = f.2 in omega arith),
 )
-
--- nothing more
-pub upto_same : (a b c : Option (List ℕ)) (m n : ℕ) → ReadsUpTo m a b → Consumes b c [] → m ≤ n → ReadsUpTo n a c
-upto_same a b c m n f g l = (f.0, subst (Consumes a c) (append-nil f.0) (consumes_then a b c f.0 [] f.1 g), (let before : length f.0 ≤ m = f.2 in omega arith))
 
 -- of nothing, more is wanted
 pub wants_start : WantsMore []

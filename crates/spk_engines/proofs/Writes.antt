@@ -1,5 +1,5 @@
 -- Items that are written one behind the other.
-use Rattle.std.proofs.Common.{◌≡◌, ℕ, ◌+◌, ◌≤◌, length, arith, List, [], ◌∷◌, ◌++◌, Option, Some, None, refl, sym, ◌∙◌, ap}
+use Rattle.std.proofs.Common.{◌≡◌, ℕ, ◌+◌, ◌≤◌, length, arith, List, [], ◌∷◌, ◌++◌, Option, Some, None, refl, sym, ◌∙◌, ap, subst}
 use Rattle.std.proofs.lemmas.List.{append_assoc, append-nil, length-append}
 use Rattle.std.specs.Io.KnownBytes.{Appends}
 use Rattle.spk_rings.specs.declared.item.Item.{Item}
@@ -45,12 +45,16 @@ writes_item a b t u v i w e = record {
   wrote = w.wrote;
 }
 
--- one item was taken in a turn, or none
-pub took_one : (t u v : List Item) (i : Item) (n k : ℕ) → length t ≤ n + k → u ≡ t → v ≡ u ++ i ∷ [] → length v ≤ n + (k + 1)
-took_one t u v i n k most same more = (let long : length v ≡ length t + 1 = ap length more ∙ length-append u (i ∷ []) ∙ ap (λ l. length l + 1) same in omega arith)
+-- a look leaves the writer as it was
+pub writes_same : {W : Type 0} (held : W → Option (List ℕ)) (a : Option (List ℕ)) (old new : W) (t u : List Item) (rest : List ℕ) → new ≡ old → Writes a (held old) t u rest → Writes a (held new) t u rest
+writes_same held a old new t u rest same w = subst (λ d. Writes a (held d) t u rest) (sym same) w
 
-pub took_none : (t v : List Item) (n k : ℕ) → length t ≤ n + k → v ≡ t → length v ≤ n + (k + 1)
-took_none t v n k most same = (let long : length v ≡ length t = ap length same in omega arith)
+-- one item was taken in a turn, or none
+pub took_one : (t u v : List Item) (i : Item) (n k m : ℕ) → length t ≤ n + k → m ≡ k + 1 → u ≡ t → v ≡ u ++ i ∷ [] → length v ≤ n + m
+took_one t u v i n k m most turn same more = (let long : length v ≡ length t + 1 = ap length more ∙ length-append u (i ∷ []) ∙ ap (λ l. length l + 1) same in omega arith)
+
+pub took_none : (t v : List Item) (n k m : ℕ) → length t ≤ n + k → m ≡ k + 1 → v ≡ t → length v ≤ n + m
+took_none t v n k m most turn same = (let long : length v ≡ length t = ap length same in omega arith)
 
 pub same_then : (a b c : Inlet) → SameInlet a b → SameInlet b c → SameInlet a c
 same_then a b c s t = (t.0 ∙ s.0, t.1 ∙ s.1, t.2 ∙ s.2, t.3 ∙ s.3)

@@ -1,3 +1,4 @@
+pub mod Counted
 pub mod Fault
 pub mod Reading
 pub mod Writing

@@ -2,11 +2,13 @@
 //! them as frames, one writes what a ring holds. Each is generic over its reader or writer.
 #![tactic(auto)]
 
+mod counted;
 mod device;
 mod fault;
 mod reading;
 mod writing;
 
+pub use counted::Counted;
 pub use device::Failures;
 pub use fault::EngineFault;
 pub use reading::read_frames;

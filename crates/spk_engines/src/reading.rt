@@ -5,8 +5,10 @@ ghost use Rattle.spk_packets.specs.Fault.{first_of};
 ghost use Rattle.spk_packets.specs.Refusals.{refusals};
 ghost use Rattle.spk_ingress.specs.Frame.{IsOnePacket};
 ghost use Rattle.spk_ingress.specs.Passes.{PutsInto, frames_put};
+ghost use Rattle.spk_engines.specs.Counted.{taken};
 ghost use Rattle.spk_engines.specs.Reading.{Cuts, Reads, WantsMore, Ends, IsWhole, IsPart, IsFront, Stops, IsPiece, ReadsUpTo, TakesIn};
 
+use crate::counted::Counted;
 use crate::device::Failures;
 use crate::fault::EngineFault;
 use spk_ingress::{Frame, Ingress, PutPass, Whole};
@@ -116,28 +118,30 @@ fn buffer(alloc: Global, size: usize) -> Result<Vec<u8>, EngineFault>
     Ok(piece)
 }
 
-/// One read, by which it failed no more often than `before`, or Device. It takes one of the turns that are left.
+/// One read, which is one of so many turns: by it the reader failed no more often than `before`, or Device.
 #[tactic(auto, using(crate::proofs::Streams::keeps_consumes))]
 fn read_piece<S: Read + Failures>(
-    reader: &mut S,
+    reader: &mut Counted<S>,
     piece: &mut Vec<u8>,
     before: u64,
-    left: &mut u64,
+    turns: u64,
 ) -> Result<Option<usize>, EngineFault>
     requires room { 0 < length piece.old.items }
-    requires left { 0 < left.old }
-    ensures left { left.new + 1 ≡ left.old }
+    requires left { taken reader.old < turns }
+    ensures taken { taken reader.new ≡ taken reader.old + 1 }
     ensures len { length piece.new.items ≡ length piece.old.items }
     ensures piece { IfOk result
-        (λ n. IsPiece (S.remaining reader.old) (S.remaining reader.new) piece.new.items n) }
-    ensures device { IfErr result (λ e. (e ≡ EngineFault.Device) × (before < S.count reader.new)) }
-    ensures err { OnErr result (Consumes (S.remaining reader.old) (S.remaining reader.new) []) }
+        (λ n. IsPiece (S.remaining reader.old.device) (S.remaining reader.new.device)
+        piece.new.items n) }
+    ensures device { IfErr result
+        (λ e. (e ≡ EngineFault.Device) × (before < S.count reader.new.device)) }
+    ensures err { OnErr result
+        (Consumes (S.remaining reader.old.device) (S.remaining reader.new.device) []) }
 {
-    *left -= 1;
-    match reader.read(piece.as_mut_slice()) {
+    match reader.read(piece.as_mut_slice(), turns) {
         Ok(count) => Ok(Some(count)),
         Err(_) => {
-            if reader.failures() > before {
+            if reader.device.failures() > before {
                 return Err(EngineFault::Device);
             }
             Ok(None)
@@ -178,36 +182,41 @@ fn take_in<R: Wait>(
     Ok(stop)
 }
 
-/// Reads, and puts what was read, as `read_frames` says. The turns are spent where none is left.
-fn read_turns<R: Wait, S: Read + Failures>(
+/// Reads to the end of a stream, and puts its packets in order, each as one frame; then Cut, or Fault where what follows
+/// is no packet (MQTT 3.1.1, chapter 2), and nothing is read any more. A turn is one read, of 65,536 bytes at the most.
+/// An error by which the reader counts no failure is passed over. Ended early, by want of memory, Closed (90), TurnsSpent
+/// (94) or Device (96), it has put the packets of a front of what was read, and neither Cut nor Fault. TurnsSpent comes
+/// only once so many turns were taken, and no more are taken in any case. The pass must be of this ingress.
+pub fn read_frames<R: Wait, S: Read + Failures>(
     rt: &R,
     alloc: Global,
-    reader: &mut S,
+    reader: &mut Counted<S>,
     ingress: &Ingress,
     pass: &mut PutPass,
     turns: u64,
-    left: &mut u64,
 ) -> Result<(), EngineFault>
-    requires into { PutsInto ingress.now pass.old }
-    requires left { left.old ≡ turns }
+    requires { PutsInto ingress.now pass.old }
     ensures pass { PutsInto ingress.now pass.new × (pass.new.sender ≡ pass.old.sender) }
-    ensures whole { OnOk result (IsWhole (S.remaining reader.old) (S.remaining reader.new)
-        (frames_put pass.old) (frames_put pass.new)) }
-    ensures part { OnErr result (IsPart (S.remaining reader.old) (S.remaining reader.new)
-        (frames_put pass.old) (frames_put pass.new)) }
+    ensures whole { OnOk result (IsWhole (S.remaining reader.old.device)
+        (S.remaining reader.new.device) (frames_put pass.old) (frames_put pass.new)) }
+    ensures part { OnErr result (IsPart (S.remaining reader.old.device)
+        (S.remaining reader.new.device) (frames_put pass.old) (frames_put pass.new)) }
     ensures device { IfErr result
-        (λ e. e ≡ EngineFault.Device → S.count reader.old < S.count reader.new) }
-    ensures turns { ReadsUpTo (65536 * turns) (S.remaining reader.old) (S.remaining reader.new) }
-    ensures spent { IfErr result (λ e. e ≡ EngineFault.TurnsSpent → left.new ≡ 0) }
+        (λ e. e ≡ EngineFault.Device → S.count reader.old.device < S.count reader.new.device) }
+    ensures turns { ReadsUpTo (65536 * taken reader.new) (S.remaining reader.old.device)
+        (S.remaining reader.new.device) }
+    ensures most { taken reader.new ≤ turns }
+    ensures spent { IfErr result (λ e. e ≡ EngineFault.TurnsSpent → taken reader.new ≡ turns) }
 {
-    let before = reader.failures();
+    reader.begin();
+    let before = reader.device.failures();
     let mut waiting = Vec::new(alloc);
     let mut piece = match buffer(alloc, PIECE) {
         Ok(piece) => piece,
         Err(fault) => return Err(fault),
     };
     for _turn in 0..turns {
-        let count = match read_piece(reader, &mut piece, before, left) {
+        let count = match read_piece(reader, &mut piece, before, turns) {
             Ok(Some(count)) => count,
             Ok(None) => continue,
             Err(fault) => return Err(fault),
@@ -229,33 +238,6 @@ fn read_turns<R: Wait, S: Read + Failures>(
         }
     }
     Err(EngineFault::TurnsSpent)
-}
-
-/// Reads to the end of a stream, and puts its packets in order, each as one frame; then Cut, or Fault where what follows
-/// is no packet (MQTT 3.1.1, chapter 2), and nothing is read any more. A turn is one read, of 65,536 bytes at the most.
-/// An error by which the reader counts no failure is passed over. Ended early, by want of memory, Closed (90), TurnsSpent
-/// (94) or Device (96), it has put the packets of a front of what was read, and neither Cut nor Fault. The pass must be
-/// of this ingress.
-pub fn read_frames<R: Wait, S: Read + Failures>(
-    rt: &R,
-    alloc: Global,
-    reader: &mut S,
-    ingress: &Ingress,
-    pass: &mut PutPass,
-    turns: u64,
-) -> Result<(), EngineFault>
-    requires { PutsInto ingress.now pass.old }
-    ensures pass { PutsInto ingress.now pass.new × (pass.new.sender ≡ pass.old.sender) }
-    ensures whole { OnOk result (IsWhole (S.remaining reader.old) (S.remaining reader.new)
-        (frames_put pass.old) (frames_put pass.new)) }
-    ensures part { OnErr result (IsPart (S.remaining reader.old) (S.remaining reader.new)
-        (frames_put pass.old) (frames_put pass.new)) }
-    ensures device { IfErr result
-        (λ e. e ≡ EngineFault.Device → S.count reader.old < S.count reader.new) }
-    ensures turns { ReadsUpTo (65536 * turns) (S.remaining reader.old) (S.remaining reader.new) }
-{
-    let mut left = turns;
-    read_turns(rt, alloc, reader, ingress, pass, turns, &mut left)
 }
 
 /// Puts the last frame.

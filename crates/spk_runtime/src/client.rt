@@ -4,7 +4,7 @@ ghost use Rattle.spk_ingress.specs.Passes.{PutsInto};
 
 use crate::place::Place;
 use crate::socket::Socket;
-use spk_engines::read_frames;
+use spk_engines::{Counted, read_frames};
 use spk_ingress::{Frame, Ingress, PutPass};
 use spk_rings::{Inlet, Item};
 use std::alloc::Global;
@@ -28,7 +28,7 @@ pub(crate) fn read_client<R: Wait>(
 )
     requires { PutsInto ingress.now pass }
 {
-    let mut socket = Socket::new(stream);
+    let mut socket = Counted::new(Socket::new(stream));
     let result = read_frames(rt, alloc, &mut socket, ingress, &mut pass, u64::MAX);
     if result.is_err() {
         let _ = ingress.put(rt, &mut pass, Frame::Cut);

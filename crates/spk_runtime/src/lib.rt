@@ -12,7 +12,7 @@ mod socket;
 
 pub use fault::ServeFault;
 pub use server::serve;
-pub use spk_engines::{EngineFault, Failures, read_frames, write_items};
+pub use spk_engines::{Counted, EngineFault, Failures, read_frames, write_items};
 pub use spk_ingress::{
     Closed, Frame, FrameFault, Ingress, Message, OpenFault, PutPass, Refused, SettleFault,
     TakePass, Taken, Whole,

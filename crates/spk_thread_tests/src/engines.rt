@@ -1,7 +1,7 @@
 ghost use Rattle.std.specs.Prelude.{◌≡◌, ◌≤◌, ℕ, IfSome};
 ghost use Rattle.spk_ingress.specs.Passes.{PutsInto, TakesFrom, AllPutInto};
 
-use spk_engines::{EngineFault, Failures, read_frames, write_items};
+use spk_engines::{Counted, EngineFault, Failures, read_frames, write_items};
 use spk_ingress::{Frame, Ingress, PutPass, TakePass};
 use spk_packets::PacketFault;
 use spk_rings::{Bytes, Inlet, Item, Outlet, ring};
@@ -58,13 +58,13 @@ impl<'a> Read for Device<'a> {
     }
 }
 
-fn reader_of(bytes: &[u8], step: usize, last: Last) -> Device<'_> {
-    Device {
+fn reader_of(bytes: &[u8], step: usize, last: Last) -> Counted<Device<'_>> {
+    Counted::new(Device {
         bytes,
         step,
         last,
         failures: 0,
-    }
+    })
 }
 
 /// The last pass.
@@ -89,7 +89,7 @@ fn opened<R: AllocGlobal + Wait>(rt: &R) -> Option<(Ingress, PutPass, TakePass)>
 /// it is no packet.
 fn read_all<R: AllocGlobal + Wait>(
     rt: &R,
-    reader: &mut Device,
+    reader: &mut Counted<Device>,
     turns: u64,
     first: u8,
 ) -> Option<(usize, Option<Frame>, Result<(), EngineFault>)> {
@@ -151,7 +151,8 @@ fn turns_are_reads(rt: HostRuntime) -> Result<(), Fail> {
     assert!(rt; last.is_none());
     assert_eq!(rt; result, Err(EngineFault::TurnsSpent));
     assert_eq!(rt; EngineFault::TurnsSpent.number(), 94);
-    assert_eq!(rt; reader.bytes.len(), 2);
+    assert_eq!(rt; reader.device.bytes.len(), 2);
+    assert_eq!(rt; reader.taken(), 10);
     Ok(())
 }
 
@@ -233,14 +234,14 @@ fn two_items(rt: &(impl Abort + AllocGlobal)) -> (Outlet, Inlet) {
     (outlet, inlet)
 }
 
-fn sink_of(step: usize, calls: u64) -> Sink {
-    Sink {
+fn sink_of(step: usize, calls: u64) -> Counted<Sink> {
+    Counted::new(Sink {
         got: [0; 8],
         count: 0,
         step,
         calls,
         failures: 0,
-    }
+    })
 }
 
 #[test]
@@ -251,7 +252,7 @@ fn items_are_written_in_order(rt: HostRuntime) {
         let mut writer = sink_of(step, 64);
         assert!(rt; write_items(&mut writer, &mut inlet, 64).is_ok());
         assert_eq!(rt;
-            writer.got.as_slice(),
+            writer.device.got.as_slice(),
             [1u8, 2, 3, 4, 5, 0, 0, 0].as_slice()
         );
     }
@@ -264,7 +265,7 @@ fn a_writer_that_fails_has_written_a_front(rt: HostRuntime) {
     let result = write_items(&mut writer, &mut inlet, 64);
     assert_eq!(rt; result, Err(EngineFault::Device));
     assert_eq!(rt;
-        writer.got.as_slice(),
+        writer.device.got.as_slice(),
         [1u8, 2, 0, 0, 0, 0, 0, 0].as_slice()
     );
 }
@@ -275,5 +276,6 @@ fn an_open_ring_spends_the_turns(rt: HostRuntime) {
     let mut writer = sink_of(8, 64);
     let result = write_items(&mut writer, &mut inlet, 16);
     assert_eq!(rt; result, Err(EngineFault::TurnsSpent));
-    assert_eq!(rt; writer.count, 5);
+    assert_eq!(rt; writer.device.count, 5);
+    assert_eq!(rt; writer.taken(), 16);
 }
