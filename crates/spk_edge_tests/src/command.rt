@@ -1,14 +1,18 @@
 //! What commands ask of a node with the metric `t`, 1, and a device `D` with a metric `t`, 2, both Int32.
-use crate::node::{Call, REBIRTH, node, told};
+use crate::node::{Call, PLAIN, Plays, REBIRTH, node, told};
 use spk_device::Alias;
-use spk_edge::{EdgeFault, EdgeNode, Numbering, Out, Write};
+use spk_edge::{EdgeFault, Out, Write};
 use spk_payload::Value;
 use std::process::Abort;
 
 /// A command's answer. Where memory was refused the call is made again.
-fn commanded(node: &mut EdgeNode, now: u64, topic: &str, payload: &[u8]) -> Result<Out, EdgeFault> {
-    match node.command(now, topic, payload) {
-        Err(EdgeFault::NoMemory) => node.command(now, topic, payload),
+pub(crate) fn commanded(
+    node: &mut impl Plays,
+    topic: &str,
+    payload: &[u8],
+) -> Result<Out, EdgeFault> {
+    match node.tell_command(7, topic, payload) {
+        Err(EdgeFault::NoMemory) => node.tell_command(7, topic, payload),
         answer => answer,
     }
 }
@@ -61,35 +65,42 @@ const ROWS: [Row; 20] = [
     ("spBv1.0/G/NDATA/N", b"", None),
 ];
 
+/// Whether a write is of this alias and number.
+fn is_write(write: &Write, alias: Alias, number: i64) -> bool {
+    let is_number = match &write.value {
+        Value::Signed(value) => *value == number,
+        _ => false,
+    };
+    is_number && write.alias == alias
+}
+
 /// The writes are these.
 fn assert_writes(rt: &impl Abort, writes: &[Write], want: &[(Alias, i64)]) {
     assert_eq!(rt; writes.len(), want.len());
     for (write, (alias, number)) in writes.iter().zip(want) {
-        assert_eq!(rt; write.alias, *alias);
-        assert_eq!(rt; write.value, Value::Signed(*number));
+        assert!(rt; is_write(write, *alias, *number));
+    }
+}
+
+fn does_commands(rt: &impl Abort, node: &mut impl Plays) {
+    assert!(rt; told(node, 5, Call::Open).is_ok());
+    assert!(rt; told(node, 6, Call::Accepted).is_ok());
+    for (topic, payload, want) in ROWS {
+        match (commanded(node, topic, payload), want) {
+            (Ok(out), Some((values, is_born_again))) => {
+                assert_writes(rt, &out.writes, values);
+                assert_eq!(rt; !out.packets.is_empty(), is_born_again, "{topic:?}");
+            }
+            (answer, want) => {
+                assert_eq!(rt; answer.err(), Some(EdgeFault::BadCommand), "{topic:?}");
+                assert!(rt; want.is_none(), "{topic:?}");
+            }
+        }
     }
 }
 
 /// A birth is all that a node publishes for a command.
 #[test]
 fn commands_are_done_whole_or_not_at_all(rt: HostRuntime) {
-    let mut node = node(&rt, Numbering::RunsOn);
-    assert!(rt; told(&mut node, 5, Call::Open).is_ok());
-    assert!(rt; told(&mut node, 6, Call::Accepted).is_ok());
-    for (topic, payload, want) in ROWS {
-        match (commanded(&mut node, 7, topic, payload), want) {
-            (Ok(out), Some((values, is_born_again))) => {
-                assert_writes(&rt, &out.writes, values);
-                assert_eq!(rt;
-                    !out.packets.is_empty(),
-                    is_born_again,
-                    "{topic:?} {payload:?}"
-                );
-            }
-            (answer, want) => {
-                assert_eq!(rt; answer.err(), Some(EdgeFault::BadCommand));
-                assert!(rt; want.is_none(), "{topic:?} {payload:?}");
-            }
-        }
-    }
+    does_commands(&rt, &mut node(&rt, PLAIN));
 }

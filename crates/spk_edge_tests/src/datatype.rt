@@ -1,12 +1,13 @@
 //! Commands with a value of each datatype, as Sparkplug 3.0.0 (6.4.16) writes it in a payload.
-use crate::node::{FIRST, config};
+use crate::command::commanded;
+use crate::node::{Call, FIRST, PLAIN, Plays, again, config, told};
 use spk_device::{DeviceFault, Owner, Registry};
-use spk_edge::{EdgeConfig, EdgeFault, EdgeNode, Numbering, Write};
+use spk_edge::{EdgeFault, EdgeNode, Out, Write};
 use spk_payload::Value;
 use std::process::Abort;
 
 /// A value of the tables.
-#[derive(Clone, Copy, Debug)]
+#[derive(Clone, Copy)]
 enum Plain {
     Signed(i64),
     Unsigned(u64),
@@ -121,84 +122,98 @@ const TARGETS: [(Owner, &str); 2] = [
     (Owner::Device(0), "spBv1.0/G/DCMD/N/D"),
 ];
 
-/// The device `D`, and the metric `m` of a datatype, alias 1. Where memory was refused a call is made again.
-fn registry(rt: &(impl Abort + AllocGlobal), owner: Owner, datatype: u32) -> Registry {
-    let mut registry = Registry::new(rt.alloc());
-    if registry.add_device("D").is_err() {
-        assert_eq!(rt; registry.add_device("D"), Ok(()));
+/// What a registry is made of.
+trait Registers {
+    fn metric(&mut self, owner: Owner, datatype: u32) -> Result<u64, DeviceFault>;
+
+    fn device(&mut self) -> Result<(), DeviceFault>;
+}
+
+impl Registers for Registry {
+    fn metric(&mut self, owner: Owner, datatype: u32) -> Result<u64, DeviceFault> {
+        self.add_metric(owner, "m", datatype, None)
     }
-    let answer = match registry.add_metric(owner, "m", datatype, None) {
-        Err(DeviceFault::NoMemory) => registry.add_metric(owner, "m", datatype, None),
+
+    fn device(&mut self) -> Result<(), DeviceFault> {
+        self.add_device("D")
+    }
+}
+
+/// The device `D`, and the metric `m` of a datatype, alias 1. Where memory was refused a call is made again.
+fn fill(rt: &impl Abort, registry: &mut impl Registers, owner: Owner, datatype: u32) {
+    if registry.device().is_err() {
+        assert_eq!(rt; registry.device(), Ok(()));
+    }
+    let answer = match registry.metric(owner, datatype) {
+        Err(DeviceFault::NoMemory) => registry.metric(owner, datatype),
         answer => answer,
     };
     assert_eq!(rt; answer, Ok(1));
+}
+
+fn registry(rt: &(impl Abort + AllocGlobal), owner: Owner, datatype: u32) -> Registry {
+    let mut registry = Registry::new(rt.alloc());
+    fill(rt, &mut registry, owner, datatype);
     registry
 }
 
-fn node(
+fn made(
     rt: &(impl Abort + AllocGlobal),
     owner: Owner,
     datatype: u32,
 ) -> Result<EdgeNode, EdgeFault> {
-    let config: EdgeConfig = config(rt, "G", 3, Numbering::RunsOn);
-    EdgeNode::new(rt.alloc(), config, FIRST, registry(rt, owner, datatype))
+    EdgeNode::new(
+        rt.alloc(),
+        config(rt, PLAIN),
+        FIRST,
+        registry(rt, owner, datatype),
+    )
 }
 
-/// A node that waits. Where memory was refused it is made again.
-fn joined(rt: &(impl Abort + AllocGlobal), owner: Owner, datatype: u32) -> Option<EdgeNode> {
-    let mut node = match node(rt, owner, datatype) {
-        Err(EdgeFault::NoMemory) => node(rt, owner, datatype).ok()?,
-        answer => answer.ok()?,
-    };
-    if node.open(5).is_err() {
-        node.open(5).ok()?;
+/// A node of one metric.
+fn node(rt: &(impl Abort + AllocGlobal), owner: Owner, datatype: u32) -> EdgeNode {
+    again(rt, made(rt, owner, datatype), || made(rt, owner, datatype))
+}
+
+/// Whether one value was written, and it is this one.
+fn is_written(writes: &[Write], plain: Plain) -> bool {
+    let mut count = 0usize;
+    for write in writes {
+        if write.alias != 1 || !is_plain(&write.value, plain) {
+            return false;
+        }
+        count = count.saturating_add(1);
     }
-    if node.accepted(6).is_err() {
-        node.accepted(6).ok()?;
-    }
-    Some(node)
+    count == 1
 }
 
-/// What a command writes. Where memory was refused the call is made again.
-fn written(node: &mut EdgeNode, topic: &str, payload: &[u8]) -> Result<Vec<Write>, EdgeFault> {
-    let answer = match node.command(7, topic, payload) {
-        Err(EdgeFault::NoMemory) => node.command(7, topic, payload),
-        answer => answer,
-    };
-    answer.map(|out| out.writes)
-}
-
-/// What a command wrote is the value, or it is refused.
-fn assert_written(
-    rt: &impl Abort,
-    answer: Result<Vec<Write>, EdgeFault>,
-    plain: Option<Plain>,
-    datatype: u32,
-) {
+/// Whether a command wrote the value, or was refused where there is none.
+fn is_answer(answer: Result<Out, EdgeFault>, plain: Option<Plain>) -> bool {
     match (answer, plain) {
-        (Ok(writes), Some(plain)) => {
-            assert_eq!(rt; writes.len(), 1, "of {datatype}");
-            for write in &writes {
-                assert!(rt;
-                    write.alias == 1 && is_plain(&write.value, plain),
-                    "of {datatype}: {plain:?}"
-                );
-            }
-        }
-        (answer, plain) => {
-            assert_eq!(rt; answer.err(), Some(EdgeFault::BadCommand), "of {datatype}");
-            assert!(rt; plain.is_none(), "of {datatype}: {plain:?}");
-        }
+        (Ok(out), Some(plain)) => is_written(&out.writes, plain),
+        (Err(fault), None) => fault == EdgeFault::BadCommand,
+        _ => false,
     }
+}
+
+/// A node that waits takes a command.
+fn takes(
+    rt: &impl Abort,
+    node: &mut impl Plays,
+    topic: &str,
+    payload: &[u8],
+) -> Result<Out, EdgeFault> {
+    assert!(rt; told(node, 5, Call::Open).is_ok());
+    assert!(rt; told(node, 6, Call::Accepted).is_ok());
+    commanded(node, topic, payload)
 }
 
 #[test]
 fn a_value_of_each_datatype_is_written(rt: HostRuntime) {
     for (owner, topic) in TARGETS {
         for (datatype, payload, plain) in ROWS {
-            let mut node = joined(&rt, owner, datatype).expect(&rt, "a node");
-            let answer = written(&mut node, topic, payload);
-            assert_written(&rt, answer, plain, datatype);
+            let answer = takes(&rt, &mut node(&rt, owner, datatype), topic, payload);
+            assert!(rt; is_answer(answer, plain), "of {datatype}: {payload:?}");
         }
     }
 }

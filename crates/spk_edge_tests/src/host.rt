@@ -1,51 +1,17 @@
 //! A node with a primary host: STATE, kept changes, packets of the server, and the phases.
 use crate::node::{
-    CONNECT, Call, FIRST, NBIRTH, NDEATH, Row, assert_answer, config, node, play, registry,
-    registry_with, told,
+    CONNECT, Call, Kind, NBIRTH, NDEATH, PLAIN, Plays, Row, assert_answer, lost_by, node, phase_of,
+    play, told,
 };
-use spk_edge::{Act, EdgeConfig, EdgeFault, EdgeNode, Input, Numbering, Phase, Plan, Record};
+use spk_edge::{Act, EdgeFault, Phase, Plan, Published};
 use spk_state::StateFault;
 use std::process::Abort;
 
 /// A node whose primary host is H.
-pub(crate) fn hosted(rt: &(impl Abort + AllocGlobal)) -> EdgeNode {
-    hosted_with(rt, "H", "D", None)
-}
-
-/// A node with a primary host, a device and a last stamp. Where memory was refused it is made again.
-pub(crate) fn hosted_with(
-    rt: &(impl Abort + AllocGlobal),
-    host: &str,
-    device: &str,
-    stamp: Option<u64>,
-) -> EdgeNode {
-    let start = Record {
-        seq: 0,
-        bd: 0,
-        stamp,
-    };
-    match EdgeNode::new(
-        rt.alloc(),
-        hosted_config(rt, host),
-        start,
-        registry_with(rt, device),
-    ) {
-        Err(EdgeFault::NoMemory) => EdgeNode::new(
-            rt.alloc(),
-            hosted_config(rt, host),
-            start,
-            registry_with(rt, device),
-        )
-        .expect(rt, "memory is there again"),
-        answer => answer.expect(rt, "a node"),
-    }
-}
-
-fn hosted_config(rt: &(impl Abort + AllocGlobal), host: &str) -> EdgeConfig {
-    let mut config = config(rt, "G", 3, Numbering::RunsOn);
-    config.primary = Some(crate::node::text(rt, host));
-    config
-}
+pub(crate) const HOSTED: Kind<'static> = Kind {
+    primary: Some("H"),
+    ..PLAIN
+};
 
 /// A text of so many letters. Where memory was refused it is made again.
 pub(crate) fn letters(rt: &(impl Abort + AllocGlobal), count: usize) -> String {
@@ -104,11 +70,14 @@ static HISTORY: [Row; 11] = [
     (11, Call::Drain, Ok(&[])),
 ];
 
+fn sends_kept_changes(rt: &impl Abort, node: &mut impl Plays) {
+    play(rt, node, &HISTORY);
+    assert_eq!(rt; lost_by(node), 2);
+}
+
 #[test]
 fn kept_changes_go_out_once_the_host_is_online(rt: HostRuntime) {
-    let mut node = hosted(&rt);
-    play(&rt, &mut node, &HISTORY);
-    assert_eq!(rt; node.lost(), 2);
+    sends_kept_changes(&rt, &mut node(&rt, HOSTED));
 }
 
 static STATES: [Row; 17] = [
@@ -150,40 +119,50 @@ static STATES: [Row; 17] = [
     (9, Call::State(ONLINE), Ok(&[])),
 ];
 
-#[test]
-fn a_node_hears_its_primary_host_alone(rt: HostRuntime) {
-    let mut node_of_host = hosted(&rt);
-    play(&rt, &mut node_of_host, &STATES);
-    assert_eq!(rt; node_of_host.phase(), Phase::Waiting);
+fn hears_its_host(rt: &impl Abort, node: &mut impl Plays) {
+    play(rt, node, &STATES);
+    assert_eq!(rt; phase_of(node), Phase::Waiting);
+}
 
-    let mut node = node(&rt, Numbering::RunsOn);
+fn hears_no_host(rt: &impl Abort, node: &mut impl Plays) {
     for (now, call) in [(5, Call::Open), (6, Call::Accepted)] {
-        assert!(rt; told(&mut node, now, call).is_ok());
+        assert!(rt; told(node, now, call).is_ok());
     }
     for payload in [OFFLINE, b"ONLINE"] {
-        assert_answer(&rt, 7, told(&mut node, 7, Call::State(payload)), &Ok(&[]));
+        assert_answer(rt, 7, told(node, 7, Call::State(payload)), &Ok(&[]));
     }
-    assert_eq!(rt; node.phase(), Phase::Born);
+    assert_eq!(rt; phase_of(node), Phase::Born);
+}
+
+#[test]
+fn a_node_hears_its_primary_host_alone(rt: HostRuntime) {
+    hears_its_host(&rt, &mut node(&rt, HOSTED));
+    hears_no_host(&rt, &mut node(&rt, PLAIN));
 }
 
 /// A plan. Where memory was refused it is made again.
-pub(crate) fn planned(node: &EdgeNode, now: u64, act: Act<'_>) -> Result<Plan, EdgeFault> {
-    let input = Input {
-        now,
-        ack: None,
-        act,
-    };
-    match node.plan(input) {
-        Err(EdgeFault::NoMemory) => node.plan(input),
+pub(crate) fn planned(node: &impl Plays, now: u64, act: Act<'_>) -> Result<Plan, EdgeFault> {
+    match node.plan_of(now, act) {
+        Err(EdgeFault::NoMemory) => node.plan_of(now, act),
         answer => answer,
     }
 }
 
-/// What a drain sends: whether it is of the device, and of how many metrics. All of them are historical.
-fn drained(rt: &impl Abort, node: &mut EdgeNode) -> Option<(bool, usize)> {
-    let plan = planned(node, 9, Act::Drain).expect(rt, "a plan");
-    let taken = node.take_up(plan);
-    let message = taken.messages.first()?;
+/// What an act publishes.
+pub(crate) fn published(
+    rt: &impl Abort,
+    node: &mut impl Plays,
+    now: u64,
+    act: Act<'_>,
+) -> Vec<Published> {
+    let plan = planned(node, now, act).expect(rt, "a plan");
+    node.taken(plan)
+}
+
+/// The device and how many metrics a message of a drain has. All of them are historical.
+fn drained(rt: &impl Abort, node: &mut impl Plays) -> Option<(bool, usize)> {
+    let messages = published(rt, node, 9, Act::Drain);
+    let message = messages.first()?;
     for metric in &message.payload.metrics {
         assert_eq!(rt; metric.historical, Some(true));
     }
@@ -192,71 +171,70 @@ fn drained(rt: &impl Abort, node: &mut EdgeNode) -> Option<(bool, usize)> {
 }
 
 /// Does calls that are all taken.
-pub(crate) fn done(rt: &impl Abort, node: &mut EdgeNode, calls: &[Call]) {
+pub(crate) fn done(rt: &impl Abort, node: &mut impl Plays, calls: &[Call]) {
     for call in calls {
         assert!(rt; told(node, 9, *call).is_ok(), "of {call:?}");
     }
 }
 
+/// What five drains send, 32 changes of one owner at the most.
+const DRAINS: [Option<(bool, usize)>; 5] = [
+    Some((false, 32)),
+    Some((false, 1)),
+    Some((true, 2)),
+    Some((false, 1)),
+    None,
+];
+
+fn sends_changes_of_one_owner(rt: &impl Abort, node: &mut impl Plays) {
+    done(rt, node, &[Call::Device(true)]);
+    for value in 100..133 {
+        done(rt, node, &[Call::Change(1, value)]);
+    }
+    let rest = [
+        Call::Change(2, 10),
+        Call::Change(2, 11),
+        Call::Change(1, 8),
+        Call::Open,
+        Call::Accepted,
+    ];
+    done(rt, node, &rest);
+    for wanted in DRAINS {
+        assert_eq!(rt; drained(rt, node), wanted);
+    }
+    assert_eq!(rt; lost_by(node), 0);
+}
+
+const STORING: Kind<'static> = Kind {
+    capacity: 64,
+    ..PLAIN
+};
+
 #[test]
 fn a_drain_sends_32_changes_of_one_owner(rt: HostRuntime) {
-    let mut node = node_of(&rt, "G", 64);
-    done(&rt, &mut node, &[Call::Device(true)]);
-    for value in 100..133 {
-        done(&rt, &mut node, &[Call::Change(1, value)]);
+    sends_changes_of_one_owner(&rt, &mut node(&rt, STORING));
+}
+
+fn drops_changes_of_a_device_that_is_down(rt: &impl Abort, node: &mut impl Plays) {
+    let calls = [
+        Call::Device(true),
+        Call::Change(2, 10),
+        Call::Change(2, 11),
+        Call::Change(1, 8),
+        Call::Open,
+        Call::Accepted,
+        Call::Device(false),
+    ];
+    done(rt, node, &calls);
+    for (wanted, lost) in [(None, 2), (Some((false, 1)), 2), (None, 2)] {
+        assert_eq!(rt; drained(rt, node), wanted);
+        assert_eq!(rt; lost_by(node), lost);
     }
-    done(
-        &rt,
-        &mut node,
-        &[Call::Change(2, 10), Call::Change(2, 11), Call::Change(1, 8)],
-    );
-    done(&rt, &mut node, &[Call::Open, Call::Accepted]);
-    for wanted in [
-        Some((false, 32)),
-        Some((false, 1)),
-        Some((true, 2)),
-        Some((false, 1)),
-        None,
-    ] {
-        assert_eq!(rt; drained(&rt, &mut node), wanted);
-    }
-    assert_eq!(rt; node.lost(), 0);
 }
 
 #[test]
 fn a_drain_drops_the_changes_of_a_device_that_is_down(rt: HostRuntime) {
-    let mut node = node_of(&rt, "G", 64);
-    done(
-        &rt,
-        &mut node,
-        &[Call::Device(true), Call::Change(2, 10), Call::Change(2, 11)],
-    );
-    done(
-        &rt,
-        &mut node,
-        &[Call::Change(1, 8), Call::Open, Call::Accepted],
-    );
-    done(&rt, &mut node, &[Call::Device(false)]);
-    assert_eq!(rt; drained(&rt, &mut node), None);
-    assert_eq!(rt; node.lost(), 2);
-    assert_eq!(rt; drained(&rt, &mut node), Some((false, 1)));
-    assert_eq!(rt; drained(&rt, &mut node), None);
-    assert_eq!(rt; node.lost(), 2);
-}
-
-/// A node of a group, without a primary host, that keeps so many changes. Where memory was refused it is made again.
-pub(crate) fn node_of(rt: &(impl Abort + AllocGlobal), group: &str, capacity: usize) -> EdgeNode {
-    let first = config(rt, group, capacity, Numbering::RunsOn);
-    match EdgeNode::new(rt.alloc(), first, FIRST, registry(rt)) {
-        Err(EdgeFault::NoMemory) => {
-            let again = config(rt, group, capacity, Numbering::RunsOn);
-            EdgeNode::new(rt.alloc(), again, FIRST, registry(rt)).expect(
-                rt,
-                "memory is there again",
-            )
-        }
-        answer => answer.expect(rt, "a node"),
-    }
+    drops_changes_of_a_device_that_is_down(&rt, &mut node(&rt, STORING));
 }
 
 /// An act, and whether it is taken when Idle, Connecting, Waiting and Born.
@@ -291,37 +269,42 @@ pub(crate) fn is_taken(taken: [bool; 4], phase: Phase) -> bool {
     }
 }
 
-#[test]
-fn an_act_is_taken_in_its_phases_before_the_clock_ends(rt: HostRuntime) {
-    let mut node = hosted(&rt);
-    let steps = [
-        Call::Device(false),
-        Call::Open,
-        Call::Accepted,
-        Call::State(ONLINE),
-    ];
-    for step in steps {
-        done(&rt, &mut node, &[step]);
-        let phase = node.phase();
+/// The steps of a node with a primary host, from Idle to Born.
+pub(crate) const STEPS: [Call; 4] = [
+    Call::Device(false),
+    Call::Open,
+    Call::Accepted,
+    Call::State(ONLINE),
+];
+
+/// An act at two moments, of which the second is behind the clock's end: it is taken, or refused with these faults.
+pub(crate) fn assert_refused(
+    rt: &impl Abort,
+    node: &impl Plays,
+    act: Act<'_>,
+    fault: Option<EdgeFault>,
+    late: EdgeFault,
+) {
+    assert_eq!(rt; planned(node, 9, act).err(), fault);
+    assert_eq!(rt; planned(node, 1 << 63, act).err(), Some(late));
+}
+
+fn takes_acts_in_their_phases(rt: &impl Abort, node: &mut impl Plays) {
+    for step in STEPS {
+        done(rt, node, &[step]);
         for (act, taken) in acts() {
-            let fits = is_taken(taken, phase);
-            let fault = planned(&node, 9, act).err();
-            assert_eq!(rt;
-                fault,
-                if fits {
-                    None
-                } else {
-                    Some(EdgeFault::WrongPhase)
-                }
-            );
-            let late = planned(&node, 1 << 63, act).err();
-            let end = if fits {
-                EdgeFault::ClockEnd
+            let (fault, late) = if is_taken(taken, phase_of(node)) {
+                (None, EdgeFault::ClockEnd)
             } else {
-                EdgeFault::WrongPhase
+                (Some(EdgeFault::WrongPhase), EdgeFault::WrongPhase)
             };
-            assert_eq!(rt; late, Some(end));
+            assert_refused(rt, node, act, fault, late);
         }
     }
-    assert_eq!(rt; node.phase(), Phase::Born);
+    assert_eq!(rt; phase_of(node), Phase::Born);
+}
+
+#[test]
+fn an_act_is_taken_in_its_phases_before_the_clock_ends(rt: HostRuntime) {
+    takes_acts_in_their_phases(&rt, &mut node(&rt, HOSTED));
 }

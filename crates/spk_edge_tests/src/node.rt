@@ -1,6 +1,9 @@
 //! A node by its calls, byte by byte.
 use spk_device::{Alias, DeviceFault, Owner, Refusal, Registry};
-use spk_edge::{EdgeConfig, EdgeFault, EdgeNode, Numbering, Out, Phase, Record};
+use spk_edge::{
+    Act, EdgeConfig, EdgeFault, EdgeNode, Input, Numbering, Out, Phase, Plan, Published, Record,
+};
+use spk_packets::Packet;
 use spk_payload::Value;
 use std::process::Abort;
 
@@ -12,49 +15,104 @@ pub(crate) fn text(rt: &(impl Abort + AllocGlobal), words: &str) -> String {
     }
 }
 
-/// Adds an Int32 named `t`. Where memory was refused the call is made again.
-fn add(rt: &impl Abort, registry: &mut Registry, owner: Owner, value: i64, alias: Alias) {
-    let first = registry.add_metric(owner, "t", 3, Some(Value::Signed(value)));
-    let answer = match first {
-        Err(DeviceFault::NoMemory) => {
-            registry.add_metric(owner, "t", 3, Some(Value::Signed(value)))
-        }
+/// The first answer, or where memory was refused the second one.
+pub(crate) fn again<T>(
+    rt: &impl Abort,
+    first: Result<T, EdgeFault>,
+    second: impl FnOnce() -> Result<T, EdgeFault>,
+) -> T {
+    match first {
+        Err(EdgeFault::NoMemory) => second().expect(rt, "memory is there again"),
+        answer => answer.expect(rt, "a node"),
+    }
+}
+
+/// What registries are made of. Where memory was refused a call is made again.
+trait Registers {
+    fn metric(&mut self, owner: Owner, value: i64) -> Result<Alias, DeviceFault>;
+
+    fn device(&mut self, name: &str) -> Result<(), DeviceFault>;
+}
+
+impl Registers for Registry {
+    fn metric(&mut self, owner: Owner, value: i64) -> Result<Alias, DeviceFault> {
+        self.add_metric(owner, "t", 3, Some(Value::Signed(value)))
+    }
+
+    fn device(&mut self, name: &str) -> Result<(), DeviceFault> {
+        self.add_device(name)
+    }
+}
+
+/// Adds an Int32 named `t`.
+fn add(rt: &impl Abort, registry: &mut impl Registers, owner: Owner, value: i64, alias: Alias) {
+    let answer = match registry.metric(owner, value) {
+        Err(DeviceFault::NoMemory) => registry.metric(owner, value),
         answer => answer,
     };
     assert_eq!(rt; answer, Ok(alias));
 }
 
-/// The node `t` 7 (alias 1), and the device D, which is down, `t` 9 (alias 2).
-pub(crate) fn registry(rt: &(impl Abort + AllocGlobal)) -> Registry {
-    registry_with(rt, "D")
-}
-
-/// The same with a device of another name.
-pub(crate) fn registry_with(rt: &(impl Abort + AllocGlobal), device: &str) -> Registry {
-    let mut registry = Registry::new(rt.alloc());
-    add(rt, &mut registry, Owner::Node, 7, 1);
-    let answer = match registry.add_device(device) {
-        Err(DeviceFault::NoMemory) => registry.add_device(device),
+/// Adds the node's `t` 7 (alias 1), and a device, which is down, with its `t` 9 (alias 2).
+fn fill(rt: &impl Abort, registry: &mut impl Registers, device: &str) {
+    add(rt, registry, Owner::Node, 7, 1);
+    let answer = match registry.device(device) {
+        Err(DeviceFault::NoMemory) => registry.device(device),
         answer => answer,
     };
     assert_eq!(rt; answer, Ok(()));
-    add(rt, &mut registry, Owner::Device(0), 9, 2);
+    add(rt, registry, Owner::Device(0), 9, 2);
+}
+
+/// The node `t` 7 (alias 1), and a device, which is down, `t` 9 (alias 2).
+fn registry(rt: &(impl Abort + AllocGlobal), device: &str) -> Registry {
+    let mut registry = Registry::new(rt.alloc());
+    fill(rt, &mut registry, device);
     registry
 }
 
-pub(crate) fn config(
-    rt: &(impl Abort + AllocGlobal),
-    group: &str,
-    capacity: usize,
-    numbering: Numbering,
-) -> EdgeConfig {
+/// What differs from one node of the tests to the next.
+#[derive(Clone, Copy)]
+pub(crate) struct Kind<'a> {
+    pub(crate) group: &'a str,
+    pub(crate) primary: Option<&'a str>,
+    pub(crate) device: &'a str,
+    pub(crate) capacity: usize,
+    pub(crate) numbering: Numbering,
+    pub(crate) stamp: Option<u64>,
+}
+
+/// The node N of the group G, without a primary host, with the device D, that keeps three changes.
+pub(crate) const PLAIN: Kind<'static> = Kind {
+    group: "G",
+    primary: None,
+    device: "D",
+    capacity: 3,
+    numbering: Numbering::RunsOn,
+    stamp: None,
+};
+
+/// A node's configuration.
+pub(crate) fn config(rt: &(impl Abort + AllocGlobal), kind: Kind<'_>) -> EdgeConfig {
+    let primary = match kind.primary {
+        Some(host) => Some(text(rt, host)),
+        None => None,
+    };
     EdgeConfig {
-        group: text(rt, group),
+        group: text(rt, kind.group),
         node: text(rt, "N"),
-        primary: None,
+        primary,
         keep: 60,
-        capacity,
-        numbering,
+        capacity: kind.capacity,
+        numbering: kind.numbering,
+    }
+}
+
+fn first_of(stamp: Option<u64>) -> Record {
+    Record {
+        seq: 0,
+        bd: 0,
+        stamp,
     }
 }
 
@@ -64,27 +122,18 @@ pub(crate) const FIRST: Record = Record {
     stamp: None,
 };
 
-/// A node. Where memory was refused it is made again.
-pub(crate) fn node(rt: &(impl Abort + AllocGlobal), numbering: Numbering) -> EdgeNode {
-    let first = EdgeNode::new(
+fn made(rt: &(impl Abort + AllocGlobal), kind: Kind<'_>) -> Result<EdgeNode, EdgeFault> {
+    EdgeNode::new(
         rt.alloc(),
-        config(rt, "G", 3, numbering),
-        FIRST,
-        registry(rt),
-    );
-    match first {
-        Ok(node) => node,
-        Err(fault) => {
-            assert_eq!(rt; fault, EdgeFault::NoMemory);
-            EdgeNode::new(
-                rt.alloc(),
-                config(rt, "G", 3, numbering),
-                FIRST,
-                registry(rt),
-            )
-            .expect(rt, "memory is there again")
-        }
-    }
+        config(rt, kind),
+        first_of(kind.stamp),
+        registry(rt, kind.device),
+    )
+}
+
+/// A node. Where memory was refused it is made again.
+pub(crate) fn node(rt: &(impl Abort + AllocGlobal), kind: Kind<'_>) -> EdgeNode {
+    again(rt, made(rt, kind), || made(rt, kind))
 }
 
 const DIGITS: &[u8; 16] = b"0123456789abcdef";
@@ -120,25 +169,94 @@ pub(crate) enum Call {
 pub(crate) const REBIRTH: &[u8] =
     b"\x08\x09\x12\x1c\x0a\x14Node Control/Rebirth\x18\x09\x20\x0b\x70\x01";
 
-fn once(node: &mut EdgeNode, now: u64, call: Call) -> Result<Out, EdgeFault> {
-    match call {
-        Call::Open => node.open(now),
-        Call::Accepted => node.accepted(now),
-        Call::Change(alias, value) => node.change(now, alias, &Some(Value::Signed(value))),
-        Call::Device(up) => node.device(now, "D", up),
-        Call::Rebirth => node.command(now, "spBv1.0/G/NCMD/N", REBIRTH),
-        Call::State(payload) => node.state(now, payload),
-        Call::Drain => node.drain(now),
-        Call::Stop => node.stop(now),
+/// What the tests ask of a node. They are written over any that answers it, since a function over a type parameter is proved
+/// without the parts of a node.
+pub(crate) trait Plays {
+    fn tell(&mut self, now: u64, call: Call) -> Result<Out, EdgeFault>;
+
+    fn tell_device(&mut self, now: u64, name: &str, up: bool) -> Result<Out, EdgeFault>;
+
+    fn tell_command(&mut self, now: u64, topic: &str, payload: &[u8]) -> Result<Out, EdgeFault>;
+
+    fn tell_packet(&mut self, now: u64, packet: &Packet) -> Result<Out, EdgeFault>;
+
+    fn plan_of(&self, now: u64, act: Act<'_>) -> Result<Plan, EdgeFault>;
+
+    fn taken(&mut self, plan: Plan) -> Vec<Published>;
+
+    fn lose_connection(&mut self);
+
+    fn stands(&self) -> (Phase, u64, Record);
+}
+
+impl Plays for EdgeNode {
+    fn tell(&mut self, now: u64, call: Call) -> Result<Out, EdgeFault> {
+        match call {
+            Call::Open => self.open(now),
+            Call::Accepted => self.accepted(now),
+            Call::Change(alias, value) => self.change(now, alias, &Some(Value::Signed(value))),
+            Call::Device(up) => self.device(now, "D", up),
+            Call::Rebirth => self.command(now, "spBv1.0/G/NCMD/N", REBIRTH),
+            Call::State(payload) => self.state(now, payload),
+            Call::Drain => self.drain(now),
+            Call::Stop => self.stop(now),
+        }
+    }
+
+    fn tell_device(&mut self, now: u64, name: &str, up: bool) -> Result<Out, EdgeFault> {
+        self.device(now, name, up)
+    }
+
+    fn tell_command(&mut self, now: u64, topic: &str, payload: &[u8]) -> Result<Out, EdgeFault> {
+        self.command(now, topic, payload)
+    }
+
+    fn tell_packet(&mut self, now: u64, packet: &Packet) -> Result<Out, EdgeFault> {
+        self.packet(now, packet)
+    }
+
+    fn plan_of(&self, now: u64, act: Act<'_>) -> Result<Plan, EdgeFault> {
+        self.plan(Input {
+            now,
+            ack: None,
+            act,
+        })
+    }
+
+    fn taken(&mut self, plan: Plan) -> Vec<Published> {
+        self.take_up(plan).messages
+    }
+
+    fn lose_connection(&mut self) {
+        self.cut();
+    }
+
+    fn stands(&self) -> (Phase, u64, Record) {
+        (self.phase(), self.lost(), self.record())
     }
 }
 
 /// A call's answer. Where memory was refused the call is made again.
-pub(crate) fn told(node: &mut EdgeNode, now: u64, call: Call) -> Result<Out, EdgeFault> {
-    match once(node, now, call) {
-        Err(EdgeFault::NoMemory) => once(node, now, call),
+pub(crate) fn told(node: &mut impl Plays, now: u64, call: Call) -> Result<Out, EdgeFault> {
+    match node.tell(now, call) {
+        Err(EdgeFault::NoMemory) => node.tell(now, call),
         answer => answer,
     }
+}
+
+/// In which phase a node is.
+pub(crate) fn phase_of(node: &impl Plays) -> Phase {
+    node.stands().0
+}
+
+/// How many changes a node lost.
+pub(crate) fn lost_by(node: &impl Plays) -> u64 {
+    node.stands().1
+}
+
+/// The record of a node.
+pub(crate) fn record_of(node: &impl Plays) -> Record {
+    node.stands().2
 }
 
 /// A moment, a call, and the packets that it gives, or its refusal.
@@ -228,69 +346,88 @@ pub(crate) fn assert_answer(
 }
 
 /// Plays rows on a node.
-pub(crate) fn play(rt: &impl Abort, node: &mut EdgeNode, rows: &[Row]) {
+pub(crate) fn play(rt: &impl Abort, node: &mut impl Plays, rows: &[Row]) {
     for (now, call, wanted) in rows {
         assert_answer(rt, *now, told(node, *now, *call), wanted);
     }
 }
 
-#[test]
-fn a_node_is_born_twice(rt: HostRuntime) {
-    let mut node = node(&rt, Numbering::RunsOn);
-    assert_eq!(rt; node.phase(), Phase::Idle);
-    play(&rt, &mut node, &BORN_AGAIN);
-    assert_eq!(rt; node.phase(), Phase::Born);
-    node.cut();
-    assert_eq!(rt; node.phase(), Phase::Idle);
+fn is_born_twice(rt: &impl Abort, node: &mut impl Plays) {
+    assert_eq!(rt; phase_of(node), Phase::Idle);
+    play(rt, node, &BORN_AGAIN);
+    assert_eq!(rt; phase_of(node), Phase::Born);
+    node.lose_connection();
+    assert_eq!(rt; phase_of(node), Phase::Idle);
     let record = Record {
         seq: 3,
         bd: 1,
         stamp: Some(8),
     };
-    assert_eq!(rt; node.record(), record);
+    assert_eq!(rt; record_of(node), record);
     assert_eq!(rt;
-        told(&mut node, 9, Call::Stop).err(),
+        told(node, 9, Call::Stop).err(),
         Some(EdgeFault::WrongPhase)
     );
-    assert_eq!(rt; node.lost(), 0);
+    assert_eq!(rt; lost_by(node), 0);
+}
+
+#[test]
+fn a_node_is_born_twice(rt: HostRuntime) {
+    is_born_twice(&rt, &mut node(&rt, PLAIN));
+}
+
+fn has_a_device_that_comes_and_goes(rt: &impl Abort, node: &mut impl Plays) {
+    play(rt, node, &DEVICE);
+    assert_eq!(rt; phase_of(node), Phase::Idle);
 }
 
 #[test]
 fn a_device_comes_and_goes(rt: HostRuntime) {
-    let mut node = node(&rt, Numbering::RunsOn);
-    play(&rt, &mut node, &DEVICE);
-    assert_eq!(rt; node.phase(), Phase::Idle);
+    has_a_device_that_comes_and_goes(&rt, &mut node(&rt, PLAIN));
+}
+
+fn overwrites_kept_changes(rt: &impl Abort, node: &mut impl Plays) {
+    for value in 10..15 {
+        let out = told(node, 3, Call::Change(1, value));
+        assert!(rt; out.is_ok_and(|out| out.packets.is_empty()));
+    }
+    assert_eq!(rt; lost_by(node), 2);
+    assert_eq!(rt; record_of(node).seq, 0);
 }
 
 #[test]
 fn kept_changes_are_overwritten(rt: HostRuntime) {
-    let mut node = node(&rt, Numbering::Restarts);
-    for value in 10..15 {
-        let out = told(&mut node, 3, Call::Change(1, value));
-        assert!(rt; out.is_ok_and(|out| out.packets.is_empty()));
-    }
-    assert_eq!(rt; node.lost(), 2);
-    assert_eq!(rt; node.record().seq, 0);
+    let kind = Kind {
+        numbering: Numbering::Restarts,
+        ..PLAIN
+    };
+    overwrites_kept_changes(&rt, &mut node(&rt, kind));
 }
+
+/// Groups and counts of changes that no node may have.
+const BAD: [(&str, usize); 7] = [
+    ("", 3),
+    ("a/b", 3),
+    ("a+", 3),
+    ("#", 3),
+    ("\0", 3),
+    ("G", 0),
+    ("G", 4_097),
+];
 
 #[test]
 fn a_bad_configuration_is_refused(rt: HostRuntime) {
-    for (group, capacity) in [
-        ("", 3),
-        ("a/b", 3),
-        ("a+", 3),
-        ("#", 3),
-        ("\0", 3),
-        ("G", 0),
-        ("G", 4_097),
-    ] {
-        let config = config(&rt, group, capacity, Numbering::RunsOn);
-        let fault = EdgeNode::new(rt.alloc(), config, FIRST, registry(&rt)).err();
+    for (group, capacity) in BAD {
+        let kind = Kind {
+            group,
+            capacity,
+            ..PLAIN
+        };
         assert_eq!(rt;
-            fault,
+            made(&rt, kind).err(),
             Some(EdgeFault::BadConfig),
             "of {group:?} and {capacity}"
         );
-        assert_eq!(rt; EdgeFault::BadConfig.number(), 63);
     }
+    assert_eq!(rt; EdgeFault::BadConfig.number(), 63);
 }

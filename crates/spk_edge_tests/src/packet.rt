@@ -1,30 +1,35 @@
 //! What packets of the server come to, as bytes of MQTT 3.1.1.
-use crate::host::{BAD, SUBSCRIBE, hosted, letters, node_of};
-use crate::node::{CONNECT, Call, FIRST, NBIRTH, assert_answer, told};
-use spk_edge::{EdgeFault, EdgeNode, Out, Phase};
+use crate::host::{BAD, HOSTED, SUBSCRIBE, letters};
+use crate::node::{
+    CONNECT, Call, FIRST, Kind, NBIRTH, PLAIN, Plays, assert_answer, node, phase_of, record_of,
+    told,
+};
+use spk_edge::{EdgeFault, Out, Phase};
 use spk_packets::{Packet, PacketFault, decode};
 use std::process::Abort;
 
 /// The packet that the bytes are. Where memory was refused it is read again.
 fn packet_of(rt: &(impl Abort + AllocGlobal), bytes: &[u8]) -> Packet {
-    let first = match decode(rt.alloc(), bytes) {
-        Err(PacketFault::NoMemory) => decode(rt.alloc(), bytes),
-        answer => answer,
-    };
-    let (packet, _) = first.expect(rt, "a packet");
-    packet
+    for _ in 0..2 {
+        match decode(rt.alloc(), bytes) {
+            Ok((packet, _)) => return packet,
+            Err(fault) => assert_eq!(rt; fault, PacketFault::NoMemory),
+        }
+    }
+    assert!(rt; false, "memory is there again");
+    Packet::PingReq
 }
 
 /// What a packet gives. Where memory was refused the call is made again.
 fn answered(
     rt: &(impl Abort + AllocGlobal),
-    node: &mut EdgeNode,
+    node: &mut impl Plays,
     now: u64,
     bytes: &[u8],
 ) -> Result<Out, EdgeFault> {
     let packet = packet_of(rt, bytes);
-    match node.packet(now, &packet) {
-        Err(EdgeFault::NoMemory) => node.packet(now, &packet),
+    match node.tell_packet(now, &packet) {
+        Err(EdgeFault::NoMemory) => node.tell_packet(now, &packet),
         answer => answer,
     }
 }
@@ -82,32 +87,46 @@ static ROWS: [Row; 11] = [
     (8, b"\x20\x02\x00\x00", Err(EdgeFault::WrongPhase)),
 ];
 
+fn takes_packets(rt: &(impl Abort + AllocGlobal), node: &mut impl Plays) {
+    assert_answer(rt, 5, told(node, 5, Call::Open), &Ok(&[CONNECT]));
+    for (now, bytes, wanted) in ROWS {
+        assert_answer(rt, now, answered(rt, node, now, bytes), &wanted);
+    }
+    assert_eq!(rt; phase_of(node), Phase::Born);
+}
+
 #[test]
 fn a_packet_is_a_call_and_what_is_done_is_acknowledged_first(rt: HostRuntime) {
-    let mut node = hosted(&rt);
-    assert_answer(&rt, 5, told(&mut node, 5, Call::Open), &Ok(&[CONNECT]));
-    for (now, bytes, wanted) in ROWS {
-        assert_answer(&rt, now, answered(&rt, &mut node, now, bytes), &wanted);
-    }
-    assert_eq!(rt; node.phase(), Phase::Born);
+    takes_packets(&rt, &mut node(&rt, HOSTED));
+}
+
+fn closes_if_not_accepted(rt: &(impl Abort + AllocGlobal), node: &mut impl Plays) {
+    assert_answer(rt, 5, told(node, 5, Call::Open), &Ok(&[CONNECT]));
+    let out = answered(rt, node, 6, b"\x20\x02\x00\x05").expect(rt, "it is taken");
+    assert!(rt; out.close && out.packets.is_empty() && out.writes.is_empty());
+    assert_eq!(rt; phase_of(node), Phase::Idle);
+    assert_eq!(rt; record_of(node).bd, 1);
 }
 
 #[test]
 fn a_node_that_is_not_accepted_closes(rt: HostRuntime) {
-    let mut node = hosted(&rt);
-    assert_answer(&rt, 5, told(&mut node, 5, Call::Open), &Ok(&[CONNECT]));
-    let out = answered(&rt, &mut node, 6, b"\x20\x02\x00\x05").expect(&rt, "it is taken");
-    assert!(rt; out.close && out.packets.is_empty() && out.writes.is_empty());
-    assert_eq!(rt; node.phase(), Phase::Idle);
-    assert_eq!(rt; node.record().bd, 1);
+    closes_if_not_accepted(&rt, &mut node(&rt, HOSTED));
+}
+
+fn has_a_name_too_long(rt: &impl Abort, node: &mut impl Plays) {
+    let answer = told(node, 5, Call::Open);
+    assert_answer(rt, 5, answer, &Err(EdgeFault::TooLarge));
+    assert_eq!(rt; phase_of(node), Phase::Idle);
+    assert_eq!(rt; record_of(node), FIRST);
 }
 
 #[test]
 fn a_name_too_long_for_a_topic_is_too_large(rt: HostRuntime) {
     let group = letters(&rt, 65_530);
-    let mut node = node_of(&rt, group.as_str(), 1);
-    let answer = told(&mut node, 5, Call::Open);
-    assert_answer(&rt, 5, answer, &Err(EdgeFault::TooLarge));
-    assert_eq!(rt; node.phase(), Phase::Idle);
-    assert_eq!(rt; node.record(), FIRST);
+    let kind = Kind {
+        group: group.as_str(),
+        capacity: 1,
+        ..PLAIN
+    };
+    has_a_name_too_long(&rt, &mut node(&rt, kind));
 }

@@ -1,8 +1,8 @@
 //! Each refusal in each phase, in the order in which refusals are asked for.
-use crate::host::{BAD, ONLINE, done, hosted_with, is_taken, letters, planned};
-use crate::node::Call;
+use crate::host::{BAD, HOSTED, ONLINE, STEPS, assert_refused, done, is_taken, letters, planned};
+use crate::node::{Call, Kind, Plays, node, phase_of};
 use spk_device::Refusal;
-use spk_edge::{Act, EdgeFault, EdgeNode, Phase};
+use spk_edge::{Act, EdgeFault, Phase};
 use spk_payload::Value;
 use std::process::Abort;
 
@@ -40,92 +40,111 @@ fn refused<'a>(null: &'a Option<Value>, flag: &'a Option<Value>) -> [Refused<'a>
     ]
 }
 
-#[test]
-fn what_is_refused_is_refused_in_each_phase(rt: HostRuntime) {
+fn refuses_in_each_phase(rt: &impl Abort, node: &mut impl Plays) {
     let null = None;
     let flag = Some(Value::Flag(true));
-    let mut node = hosted_with(&rt, "H", "D", None);
-    let steps = [
-        Call::Device(false),
-        Call::Open,
-        Call::Accepted,
-        Call::State(ONLINE),
-    ];
-    for step in steps {
-        done(&rt, &mut node, &[step]);
-        let phase = node.phase();
+    for step in STEPS {
+        done(rt, node, &[step]);
         for (act, why, taken) in refused(&null, &flag) {
-            let fits = is_taken(taken, phase);
-            let fault = if fits { why } else { EdgeFault::WrongPhase };
-            assert_eq!(rt; planned(&node, 9, act).err(), Some(fault));
-            let late = if fits {
-                EdgeFault::ClockEnd
+            let (fault, late) = if is_taken(taken, phase_of(node)) {
+                (why, EdgeFault::ClockEnd)
             } else {
-                EdgeFault::WrongPhase
+                (EdgeFault::WrongPhase, EdgeFault::WrongPhase)
             };
-            assert_eq!(rt; planned(&node, 1 << 63, act).err(), Some(late));
+            assert_refused(rt, node, act, Some(fault), late);
         }
     }
-    assert_eq!(rt; node.phase(), Phase::Born);
+    assert_eq!(rt; phase_of(node), Phase::Born);
+}
+
+#[test]
+fn what_is_refused_is_refused_in_each_phase(rt: HostRuntime) {
+    refuses_in_each_phase(&rt, &mut node(&rt, HOSTED));
 }
 
 /// The greatest moment.
 const LAST: u64 = (1 << 63) - 1;
 
-#[test]
-fn a_birth_behind_the_last_stamp_is_refused(rt: HostRuntime) {
-    let mut waiting = hosted_with(&rt, "H", "D", Some(LAST));
-    done(&rt, &mut waiting, &[Call::Open, Call::Accepted]);
-    let online = planned(&waiting, 9, Act::State(ONLINE));
+fn waits_behind_the_last_stamp(rt: &impl Abort, node: &mut impl Plays) {
+    done(rt, node, &[Call::Open, Call::Accepted]);
+    let online = planned(node, 9, Act::State(ONLINE));
     assert_eq!(rt; online.err(), Some(EdgeFault::ClockEnd));
-    assert_eq!(rt; waiting.phase(), Phase::Waiting);
-
-    let mut born = hosted_with(&rt, "H", "D", Some(LAST - 1));
-    done(
-        &rt,
-        &mut born,
-        &[Call::Open, Call::Accepted, Call::State(ONLINE)],
-    );
-    let again = planned(
-        &born,
-        9,
-        Act::Command("spBv1.0/G/NCMD/N", crate::node::REBIRTH),
-    );
-    assert_eq!(rt; again.err(), Some(EdgeFault::ClockEnd));
-    // other messages may repeat the last stamp
-    let other = planned(&born, 9, Act::Device("D", true));
-    assert!(rt; other.is_ok());
+    assert_eq!(rt; phase_of(node), Phase::Waiting);
 }
 
-/// The fault of what is too large.
-fn assert_too_large(rt: &impl Abort, node: &EdgeNode, act: Act<'_>) {
+fn is_not_born_again(rt: &impl Abort, node: &mut impl Plays) {
+    done(rt, node, &[Call::Open, Call::Accepted, Call::State(ONLINE)]);
+    let again = Act::Command("spBv1.0/G/NCMD/N", crate::node::REBIRTH);
+    assert_eq!(rt; planned(node, 9, again).err(), Some(EdgeFault::ClockEnd));
+    // other messages may repeat the last stamp
+    assert!(rt; planned(node, 9, Act::Device("D", true)).is_ok());
+}
+
+#[test]
+fn a_birth_behind_the_last_stamp_is_refused(rt: HostRuntime) {
+    let at_the_end = Kind {
+        stamp: Some(LAST),
+        ..HOSTED
+    };
+    waits_behind_the_last_stamp(&rt, &mut node(&rt, at_the_end));
+    let one_before = Kind {
+        stamp: Some(LAST - 1),
+        ..HOSTED
+    };
+    is_not_born_again(&rt, &mut node(&rt, one_before));
+}
+
+/// After these calls an act is too large, in this phase.
+fn is_too_large(
+    rt: &impl Abort,
+    node: &mut impl Plays,
+    calls: &[Call],
+    act: Act<'_>,
+    phase: Phase,
+) {
+    done(rt, node, calls);
     assert_eq!(rt; planned(node, 9, act).err(), Some(EdgeFault::TooLarge));
+    assert_eq!(rt; phase_of(node), phase);
+}
+
+/// A device of a name goes up.
+fn goes_up(rt: &impl Abort, node: &mut impl Plays, name: &str) {
+    let is_up = node.tell_device(9, name, true).is_ok();
+    assert!(rt; is_up || node.tell_device(9, name, true).is_ok());
+}
+
+const JOINING: [Call; 3] = [Call::Open, Call::Accepted, Call::State(ONLINE)];
+
+fn has_a_host_too_long(rt: &impl Abort, node: &mut impl Plays) {
+    is_too_large(rt, node, &[Call::Open], Act::Accepted, Phase::Connecting);
+}
+
+fn has_a_device_too_long(rt: &impl Abort, node: &mut impl Plays, name: &str) {
+    is_too_large(rt, node, &JOINING, Act::Device(name, true), Phase::Born);
+}
+
+fn has_a_birth_too_long(rt: &impl Abort, node: &mut impl Plays, name: &str) {
+    goes_up(rt, node, name);
+    let calls = [Call::Open, Call::Accepted];
+    is_too_large(rt, node, &calls, Act::State(ONLINE), Phase::Waiting);
 }
 
 #[test]
 fn what_is_too_large_is_refused_in_each_phase(rt: HostRuntime) {
     // "spBv1.0/STATE/" and a name of a host are a filter of over 65,535 bytes
     let host = letters(&rt, 65_522);
-    let mut node = hosted_with(&rt, host.as_str(), "D", None);
-    done(&rt, &mut node, &[Call::Open]);
-    assert_too_large(&rt, &node, Act::Accepted);
-    assert_eq!(rt; node.phase(), Phase::Connecting);
+    let kind = Kind {
+        primary: Some(host.as_str()),
+        ..HOSTED
+    };
+    has_a_host_too_long(&rt, &mut node(&rt, kind));
 
     // "spBv1.0/G/DBIRTH/N/" and a name of a device are a topic of over 65,535 bytes
     let device = letters(&rt, 65_517);
-    let mut node = hosted_with(&rt, "H", device.as_str(), None);
-    done(
-        &rt,
-        &mut node,
-        &[Call::Open, Call::Accepted, Call::State(ONLINE)],
-    );
-    assert_too_large(&rt, &node, Act::Device(device.as_str(), true));
-    assert_eq!(rt; node.phase(), Phase::Born);
-
-    let mut node = hosted_with(&rt, "H", device.as_str(), None);
-    let is_up = node.device(9, device.as_str(), true).is_ok();
-    assert!(rt; is_up || node.device(9, device.as_str(), true).is_ok());
-    done(&rt, &mut node, &[Call::Open, Call::Accepted]);
-    assert_too_large(&rt, &node, Act::State(ONLINE));
-    assert_eq!(rt; node.phase(), Phase::Waiting);
+    let kind = Kind {
+        device: device.as_str(),
+        ..HOSTED
+    };
+    has_a_device_too_long(&rt, &mut node(&rt, kind), device.as_str());
+    has_a_birth_too_long(&rt, &mut node(&rt, kind), device.as_str());
 }

@@ -1,15 +1,9 @@
 //! Long runs of a node: the numbers of its messages, and a full store.
-use crate::host::{node_of, planned};
-use crate::node::{Call, REBIRTH, node, told};
-use spk_edge::{Act, EdgeNode, Numbering, Published};
-use spk_payload::{Raw, Value};
+use crate::host::published;
+use crate::node::{Call, Kind, PLAIN, Plays, REBIRTH, lost_by, node, record_of, told};
+use spk_edge::{Act, Numbering, Published};
+use spk_payload::{Metric, Raw, Value};
 use std::process::Abort;
-
-/// What an input publishes.
-fn published(rt: &impl Abort, node: &mut EdgeNode, now: u64, act: Act<'_>) -> Vec<Published> {
-    let plan = planned(node, now, act).expect(rt, "a plan");
-    node.take_up(plan).messages
-}
 
 /// Counts what came: the messages, those since the last NBIRTH, and the stamp of the last one.
 #[derive(Debug, Drop)]
@@ -65,8 +59,7 @@ fn act_of<'a>(turn: u64, value: &'a Option<Value>) -> Act<'a> {
     }
 }
 
-fn run(rt: &(impl Abort + AllocGlobal), numbering: Numbering) {
-    let mut node = node(rt, numbering);
+fn run(rt: &impl Abort, node: &mut impl Plays, numbering: Numbering) {
     let mut count = Count {
         all: 0,
         since: 0,
@@ -75,62 +68,83 @@ fn run(rt: &(impl Abort + AllocGlobal), numbering: Numbering) {
     };
     for turn in 1u64..701 {
         if turn % 290 == 1 {
-            node.cut();
+            node.lose_connection();
             for act in [Act::Open, Act::Accepted] {
-                let messages = published(rt, &mut node, turn, act);
+                let messages = published(rt, node, turn, act);
                 assert_numbers(rt, numbering, &messages, &mut count);
             }
         }
         let value = Some(Value::Signed((turn % 1_000) as i64));
         let messages = published(
             rt,
-            &mut node,
+            node,
             turn.saturating_sub(turn % 3),
             act_of(turn, &value),
         );
         assert_numbers(rt, numbering, &messages, &mut count);
     }
     assert!(rt; count.all > 700 && count.births == 10, "{count:?}");
-    assert_eq!(rt; node.record().bd, 3);
+    assert_eq!(rt; record_of(node).bd, 3);
+}
+
+fn runs(rt: &(impl Abort + AllocGlobal), numbering: Numbering) {
+    let kind = Kind { numbering, ..PLAIN };
+    run(rt, &mut node(rt, kind), numbering);
 }
 
 #[test]
 fn the_numbers_of_a_node_that_runs_on_have_no_hole(rt: HostRuntime) {
-    run(&rt, Numbering::RunsOn);
+    runs(&rt, Numbering::RunsOn);
 }
 
 #[test]
 fn the_numbers_of_a_node_that_restarts_begin_anew_at_each_birth(rt: HostRuntime) {
-    run(&rt, Numbering::Restarts);
+    runs(&rt, Numbering::Restarts);
 }
 
-#[test]
-fn a_full_store_keeps_the_last_4096_changes(rt: HostRuntime) {
-    let mut node = node_of(&rt, "G", 4_096);
-    for value in 1_000..6_000 {
-        let out = told(&mut node, 3, Call::Change(1, value));
-        assert!(rt; out.is_ok_and(|out| out.packets.is_empty()), "of {value}");
-    }
-    assert_eq!(rt; node.lost(), 904);
-    for call in [Call::Open, Call::Accepted] {
-        assert!(rt; told(&mut node, 9, call).is_ok());
-    }
-    let mut wanted = 1_904;
+/// A historical metric of moment 3 with this number.
+fn is_kept(metric: &Metric, number: u32) -> bool {
+    let is_number = match &metric.value {
+        Some(Raw::Int(value)) => *value == number,
+        _ => false,
+    };
+    is_number && metric.historical == Some(true) && metric.timestamp == Some(3)
+}
+
+/// The numbers that 128 drains send, from this one on, and how many there are.
+fn drains(rt: &impl Abort, node: &mut impl Plays, first: u32) -> u32 {
+    let mut wanted = first;
     for _turn in 0..128 {
-        for message in &published(&rt, &mut node, 9, Act::Drain) {
+        for message in &published(rt, node, 9, Act::Drain) {
             assert_eq!(rt; message.payload.metrics.len(), 32);
             for metric in &message.payload.metrics {
-                assert!(rt; metric.historical == Some(true) && metric.timestamp == Some(3));
-                let value = metric.value.as_ref();
-                assert!(rt;
-                    matches!(value, Some(Raw::Int(number)) if *number == wanted),
-                    "{wanted}"
-                );
+                assert!(rt; is_kept(metric, wanted), "{wanted}");
                 wanted = wanted.saturating_add(1);
             }
         }
     }
-    assert_eq!(rt; wanted, 6_000);
-    assert!(rt; published(&rt, &mut node, 9, Act::Drain).is_empty());
-    assert_eq!(rt; node.lost(), 904);
+    wanted
+}
+
+fn keeps_the_last_4096(rt: &impl Abort, node: &mut impl Plays) {
+    for value in 1_000..6_000 {
+        let out = told(node, 3, Call::Change(1, value));
+        assert!(rt; out.is_ok_and(|out| out.packets.is_empty()), "of {value}");
+    }
+    assert_eq!(rt; lost_by(node), 904);
+    for call in [Call::Open, Call::Accepted] {
+        assert!(rt; told(node, 9, call).is_ok());
+    }
+    assert_eq!(rt; drains(rt, node, 1_904), 6_000);
+    assert!(rt; published(rt, node, 9, Act::Drain).is_empty());
+    assert_eq!(rt; lost_by(node), 904);
+}
+
+#[test]
+fn a_full_store_keeps_the_last_4096_changes(rt: HostRuntime) {
+    let kind = Kind {
+        capacity: 4_096,
+        ..PLAIN
+    };
+    keeps_the_last_4096(&rt, &mut node(&rt, kind));
 }

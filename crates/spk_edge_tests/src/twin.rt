@@ -1,8 +1,8 @@
 //! A long run of calls beside a second, plain telling of the rules: a node with the primary host H, the metric `t` 7
 //! (alias 1), and the device D with its own `t` 9 (alias 2), which keeps at most three changes.
-use crate::host::hosted;
-use crate::node::{Call, told};
-use spk_edge::{EdgeFault, EdgeNode, Out, Phase, Record};
+use crate::host::HOSTED;
+use crate::node::{Call, Plays, node, told};
+use spk_edge::{EdgeFault, Out, Phase, Record};
 use std::process::Abort;
 
 /// What came of all calls so far.
@@ -224,20 +224,43 @@ fn assert_told(rt: &impl Abort, told: Result<Out, EdgeFault>, wanted: Answer, ca
 }
 
 /// A node stands as the story says.
-fn assert_stands(rt: &impl Abort, node: &EdgeNode, story: &Story) {
-    assert_eq!(rt; node.phase(), story.phase);
-    assert_eq!(rt; node.lost(), story.lost);
-    let record = Record {
-        seq: (story.published % 256) as u8,
-        bd: (story.sessions % 256) as u8,
-        stamp: story.stamp,
-    };
-    assert_eq!(rt; node.record(), record);
+fn assert_stands(rt: &impl Abort, node: &impl Plays, story: &Story) {
+    let (phase, lost, record) = node.stands();
+    assert_eq!(rt; phase, story.phase);
+    assert_eq!(rt; lost, story.lost);
+    assert_eq!(rt; record.seq, (story.published % 256) as u8);
+    assert_eq!(rt; record.bd, (story.sessions % 256) as u8);
+    assert_eq!(rt; record.stamp, story.stamp);
+}
+
+/// One call, of which the node's answer and what it is then are the story's.
+fn play(rt: &impl Abort, node: &mut impl Plays, story: &mut Story, turn: u64, pick: u64) {
+    let now = turn.saturating_sub(pick % 7);
+    let call = call_of(pick);
+    let answer = told(node, now, call);
+    assert_told(rt, answer, expected(story, now, call), call);
+    if pick % 41 == 0 {
+        node.lose_connection();
+        story.phase = Phase::Idle;
+    }
+    assert_stands(rt, node, story);
+}
+
+fn plays_long(rt: &impl Abort, node: &mut impl Plays, story: &mut Story) {
+    let mut seed = 1u64;
+    for turn in 0u64..10_000 {
+        seed = seed
+            .wrapping_mul(6_364_136_223_846_793_005)
+            .wrapping_add(1_442_695_040_888_963_407);
+        play(rt, node, story, turn, seed >> 33);
+    }
+    // the run went through what it is for
+    assert!(rt; story.published > 512 && story.sessions > 256);
+    assert!(rt; story.lost > 9 && story.gone > 99);
 }
 
 #[test]
 fn a_long_run_is_as_it_is_told_a_second_time(rt: HostRuntime) {
-    let mut node = hosted(&rt);
     let mut story = Story {
         phase: Phase::Idle,
         heard: None,
@@ -251,31 +274,5 @@ fn a_long_run_is_as_it_is_told_a_second_time(rt: HostRuntime) {
         gone: 0,
         lost: 0,
     };
-    let mut seed = 1u64;
-    for turn in 0u64..10_000 {
-        seed = seed
-            .wrapping_mul(6_364_136_223_846_793_005)
-            .wrapping_add(1_442_695_040_888_963_407);
-        let pick = seed >> 33;
-        let now = turn.saturating_sub(pick % 7);
-        let call = call_of(pick);
-        let answer = told(&mut node, now, call);
-        assert_told(&rt, answer, expected(&mut story, now, call), call);
-        if pick % 41 == 0 {
-            node.cut();
-            story.phase = Phase::Idle;
-        }
-        assert_stands(&rt, &node, &story);
-    }
-    // the run went through what it is for
-    let (published, sessions, lost, gone) = (
-        story.published,
-        story.sessions,
-        story.lost,
-        story.gone,
-    );
-    assert!(rt;
-        published > 512 && sessions > 256 && lost > 9 && gone > 99,
-        "{published} {sessions} {lost} {gone}"
-    );
+    plays_long(&rt, &mut node(&rt, HOSTED), &mut story);
 }

@@ -10,7 +10,6 @@ use std::io;
 use std::io::{ErrorKind, Read, Write};
 use std::process::Abort;
 use std::sync::Wait;
-use std::test::Fail;
 
 /// What a device does at its end.
 #[derive(Clone, Copy, Debug, PartialEq, Eq)]
@@ -112,69 +111,63 @@ fn read_all<R: AllocGlobal + Wait>(
 }
 
 #[test]
-fn a_stream_is_its_packets_and_then_a_cut(rt: HostRuntime) -> Result<(), Fail> {
+fn a_stream_is_its_packets_and_then_a_cut(rt: HostRuntime) {
     for step in [1, 2, 3] {
         let mut reader = reader_of(&[0xc0, 0x00, 0xc0], step, Last::Ends);
-        let (packets, last, result) = read_all(&rt, &mut reader, 9, 0xc0).ok_or("no frames")?;
+        let (packets, last, result) = read_all(&rt, &mut reader, 9, 0xc0).expect(&rt, "frames");
         assert_eq!(rt; packets, 1);
         assert!(rt; matches!(last, Some(Frame::Cut)) && result.is_ok());
     }
-    Ok(())
 }
 
 #[test]
-fn what_is_no_packet_is_a_fault(rt: HostRuntime) -> Result<(), Fail> {
+fn what_is_no_packet_is_a_fault(rt: HostRuntime) {
     let mut reader = reader_of(&[0xc0, 0x00, 0x34, 0xc0, 0x00], 5, Last::Ends);
-    let (packets, last, result) = read_all(&rt, &mut reader, 9, 0xc0).ok_or("no frames")?;
+    let (packets, last, result) = read_all(&rt, &mut reader, 9, 0xc0).expect(&rt, "frames");
     assert_eq!(rt; packets, 1);
     assert!(rt; matches!(last, Some(Frame::Fault(PacketFault::QosTwo))) && result.is_ok());
-    Ok(())
 }
 
 #[test]
-fn a_reader_that_fails_ends_without_a_cut(rt: HostRuntime) -> Result<(), Fail> {
+fn a_reader_that_fails_ends_without_a_cut(rt: HostRuntime) {
     let mut reader = reader_of(&[0xc0], 1, Last::Fails);
-    let (packets, last, result) = read_all(&rt, &mut reader, 9, 0xc0).ok_or("no frames")?;
+    let (packets, last, result) = read_all(&rt, &mut reader, 9, 0xc0).expect(&rt, "frames");
     assert_eq!(rt; packets, 0);
     assert!(rt; last.is_none());
     assert_eq!(rt; result, Err(EngineFault::Device));
     assert_eq!(rt; EngineFault::Device.number(), 96);
-    Ok(())
 }
 
 #[test]
-fn turns_are_reads(rt: HostRuntime) -> Result<(), Fail> {
+fn turns_are_reads(rt: HostRuntime) {
     let bytes = [0xc0u8, 0, 0xc0, 0, 0xc0, 0, 0xc0, 0, 0xc0, 0, 0xc0, 0];
     let mut reader = reader_of(&bytes, 1, Last::Ends);
-    let (packets, last, result) = read_all(&rt, &mut reader, 10, 0xc0).ok_or("no frames")?;
+    let (packets, last, result) = read_all(&rt, &mut reader, 10, 0xc0).expect(&rt, "frames");
     assert_eq!(rt; packets, 5);
     assert!(rt; last.is_none());
     assert_eq!(rt; result, Err(EngineFault::TurnsSpent));
     assert_eq!(rt; EngineFault::TurnsSpent.number(), 94);
     assert_eq!(rt; reader.device.bytes.len(), 2);
     assert_eq!(rt; reader.taken(), 10);
-    Ok(())
 }
 
 #[test]
-fn an_interrupt_spends_a_turn_and_goes_on(rt: HostRuntime) -> Result<(), Fail> {
+fn an_interrupt_spends_a_turn_and_goes_on(rt: HostRuntime) {
     let mut reader = reader_of(&[0xc0, 0x00], 2, Last::Interrupts);
-    let (packets, last, result) = read_all(&rt, &mut reader, 3, 0xc0).ok_or("no frames")?;
+    let (packets, last, result) = read_all(&rt, &mut reader, 3, 0xc0).expect(&rt, "frames");
     assert_eq!(rt; packets, 1);
     assert!(rt; last.is_none());
     assert_eq!(rt; result, Err(EngineFault::TurnsSpent));
-    Ok(())
 }
 
 #[test]
-fn a_reader_without_a_taker_is_closed(rt: HostRuntime) -> Result<(), Fail> {
-    let (ingress, mut pass, taker) = opened(&rt).ok_or("no ingress")?;
+fn a_reader_without_a_taker_is_closed(rt: HostRuntime) {
+    let (ingress, mut pass, taker) = opened(&rt).expect(&rt, "an ingress");
     drop(taker);
     let mut reader = reader_of(&[0xc0, 0x00], 2, Last::Ends);
     let result = read_frames(&rt, rt.alloc(), &mut reader, &ingress, &mut pass, 3);
     assert_eq!(rt; result, Err(EngineFault::Closed));
     assert_eq!(rt; EngineFault::Closed.number(), 90);
-    Ok(())
 }
 
 /// A writer into an array that takes so many bytes at a time, and fails from so many calls on.

@@ -7,7 +7,6 @@ use spk_packets::PacketFault;
 use std::alloc::{AllocGlobal, Global};
 use std::process::Abort;
 use std::sync::Wait;
-use std::test::Fail;
 use std::thread;
 use std::thread::Threads;
 
@@ -78,52 +77,52 @@ pub(crate) fn opened<R: AllocGlobal + Wait>(
 }
 
 #[test]
-fn frames_come_in_the_order_of_their_putting(rt: HostRuntime) -> Result<(), Fail> {
-    let (ingress, passes, mut taker) = Ingress::open(&rt, rt.alloc(), 2, 2).map_err(
-        |_| "no ingress",
-    )?;
-    let (mut first, mut second) = two_of(&ingress, passes).ok_or("no passes")?;
+fn frames_come_in_the_order_of_their_putting(rt: HostRuntime) {
+    let (ingress, passes, mut taker) = Ingress::open(&rt, rt.alloc(), 2, 2).expect(
+        &rt,
+        "no ingress",
+    );
+    let (mut first, mut second) = two_of(&ingress, passes).expect(&rt, "two passes");
     assert!(rt; ingress.put(&rt, &mut first, Frame::Cut).is_ok());
     assert!(rt; ingress.put(&rt, &mut second, Frame::End).is_ok());
-    let taken = ingress.take(&rt, &mut taker).map_err(|_| "closed")?;
+    let taken = ingress.take(&rt, &mut taker).expect(&rt, "a frame");
     assert!(rt; taken.sender == 0 && taken.number == 0 && matches!(taken.frame, Frame::Cut));
-    let taken = ingress.take(&rt, &mut taker).map_err(|_| "closed")?;
+    let taken = ingress.take(&rt, &mut taker).expect(&rt, "a frame");
     assert!(rt; taken.sender == 1 && taken.number == 0 && matches!(taken.frame, Frame::End));
-    let passes = Vec::from_array(rt.alloc(), [first, second]).map_err(|_| "no memory")?;
+    let passes = Vec::from_array(rt.alloc(), [first, second]).expect(&rt, "memory");
     let counts = ingress
         .settle(&rt, rt.alloc(), passes, taker)
-        .map_err(|_| "unsettled")?;
+        .expect(&rt, "settled");
     assert_eq!(rt; counts.as_slice(), [1u64, 1].as_slice());
-    Ok(())
 }
 
 #[test]
-fn a_frame_left_is_unsettled(rt: HostRuntime) -> Result<(), Fail> {
-    let (ingress, mut first, second, taker) = opened(&rt, 2).ok_or("no ingress")?;
+fn a_frame_left_is_unsettled(rt: HostRuntime) {
+    let (ingress, mut first, second, taker) = opened(&rt, 2).expect(&rt, "an ingress");
     assert!(rt; ingress.put(&rt, &mut first, Frame::Cut).is_ok());
-    let passes = Vec::from_array(rt.alloc(), [first, second]).map_err(|_| "no memory")?;
+    let passes = Vec::from_array(rt.alloc(), [first, second]).expect(&rt, "memory");
     let fault = ingress.settle(&rt, rt.alloc(), passes, taker).err();
     assert_eq!(rt; fault, Some(SettleFault::Unsettled));
     assert_eq!(rt; SettleFault::Unsettled.number(), 93);
-    Ok(())
 }
 
 #[test]
-fn a_missing_pass_is_unsettled(rt: HostRuntime) -> Result<(), Fail> {
-    let (ingress, first, _second, taker) = opened(&rt, 2).ok_or("no ingress")?;
-    let passes = Vec::from_array(rt.alloc(), [first]).map_err(|_| "no memory")?;
+fn a_missing_pass_is_unsettled(rt: HostRuntime) {
+    let (ingress, first, _second, taker) = opened(&rt, 2).expect(&rt, "an ingress");
+    let passes = Vec::from_array(rt.alloc(), [first]).expect(&rt, "memory");
     let fault = ingress.settle(&rt, rt.alloc(), passes, taker).err();
     assert_eq!(rt; fault, Some(SettleFault::Unsettled));
-    Ok(())
 }
 
 #[test]
-fn a_put_without_a_taker_is_closed(rt: HostRuntime) -> Result<(), Fail> {
-    let (ingress, mut first, _second, taker) = opened(&rt, 2).ok_or("no ingress")?;
+fn a_put_without_a_taker_is_closed(rt: HostRuntime) {
+    let (ingress, mut first, _second, taker) = opened(&rt, 2).expect(&rt, "an ingress");
     drop(taker);
-    let closed = ingress.put(&rt, &mut first, Frame::End).err().ok_or("put")?;
+    let closed = ingress
+        .put(&rt, &mut first, Frame::End)
+        .err()
+        .expect(&rt, "closed");
     assert!(rt; closed.number() == 90 && matches!(closed.value, Frame::End));
-    Ok(())
 }
 
 #[test]
@@ -171,13 +170,11 @@ fn take_many<R: Wait>(rt: &R, ingress: &Ingress, mut taker: TakePass, count: u64
 }
 
 #[test]
-fn two_threads_put_what_a_third_takes(rt: HostRuntime) -> Result<(), Fail> {
-    let (ingress, first, second, taker) = opened(&rt, 8).ok_or("no ingress")?;
-    let counts = through_threads(&rt, rt.alloc(), ingress, first, second, taker).ok_or(
-        "unsettled",
-    )?;
+fn two_threads_put_what_a_third_takes(rt: HostRuntime) {
+    let (ingress, first, second, taker) = opened(&rt, 8).expect(&rt, "an ingress");
+    let counts = through_threads(&rt, rt.alloc(), ingress, first, second, taker);
+    let counts = counts.expect(&rt, "settled");
     assert_eq!(rt; counts.as_slice(), [1_000u64, 1_000].as_slice());
-    Ok(())
 }
 
 fn through_threads<R: Threads + Wait + Sync>(
@@ -286,8 +283,7 @@ fn through_many_threads<R: Threads + Wait + Sync>(rt: &R, alloc: Global) -> Opti
 }
 
 #[test]
-fn seventeen_threads_put_what_another_takes(rt: HostRuntime) -> Result<(), Fail> {
-    let counts = through_many_threads(&rt, rt.alloc()).ok_or("unsettled")?;
+fn seventeen_threads_put_what_another_takes(rt: HostRuntime) {
+    let counts = through_many_threads(&rt, rt.alloc()).expect(&rt, "settled");
     assert_eq!(rt; counts.as_slice(), [100u64; 17].as_slice());
-    Ok(())
 }

@@ -3,7 +3,6 @@ ghost use Rattle.spk_rings.specs.Ring.{AreEnds};
 use spk_rings::{Bytes, Inlet, Item, Outlet, RingFault, ring};
 use std::alloc::AllocGlobal;
 use std::process::Abort;
-use std::test::Fail;
 
 /// A packet of one byte. Where memory was refused it is made again.
 fn item(rt: &(impl Abort + AllocGlobal), byte: u8, cuts: u64) -> Item {
@@ -33,19 +32,21 @@ fn ring_of(rt: &(impl Abort + AllocGlobal), capacity: usize) -> (Outlet, Inlet)
 
 #[test]
 #[tactic(auto, using(crate::proofs::Ends::ends_offer, crate::proofs::Ends::ends_take))]
-fn a_full_ring_hands_the_item_back(rt: HostRuntime) -> Result<(), Fail> {
+fn a_full_ring_hands_the_item_back(rt: HostRuntime) {
     let (mut outlet, mut inlet) = ring_of(&rt, 1);
     assert!(rt; outlet.offer(item(&rt, 7, 2)).is_ok());
-    let full = outlet.offer(item(&rt, 8, 3)).err().ok_or("room for two")?;
+    let full = outlet
+        .offer(item(&rt, 8, 3))
+        .err()
+        .expect(&rt, "room for one");
     assert_eq!(rt; full.number(), 91);
     assert_eq!(rt; full.item.bytes.as_slice(), [8u8].as_slice());
     assert_eq!(rt; inlet.left(&mut outlet), 1);
-    let first = inlet.next().ok_or("nothing there")?;
+    let first = inlet.next().expect(&rt, "an item");
     assert_eq!(rt; first.cuts, 2);
     assert_eq!(rt; first.bytes.as_slice(), [7u8].as_slice());
     assert!(rt; inlet.next().is_none());
     assert_eq!(rt; inlet.left(&mut outlet), 0);
-    Ok(())
 }
 
 #[test]
@@ -71,21 +72,20 @@ fn capacities_are_1_to_65536(rt: HostRuntime) {
 
 #[test]
 #[tactic(auto, using(crate::proofs::Ends::ends_finish, crate::proofs::Ends::ends_offer, crate::proofs::Ends::ends_take, crate::proofs::Ends::token_take))]
-fn a_token_tells_what_is_left(rt: HostRuntime) -> Result<(), Fail> {
+fn a_token_tells_what_is_left(rt: HostRuntime) {
     let (mut outlet, mut inlet) = ring_of(&rt, 4);
     assert!(rt; outlet.offer(item(&rt, 0, 0)).is_ok());
     assert!(rt; outlet.offer(item(&rt, 1, 0)).is_ok());
     assert!(rt; !inlet.gone());
     let _first = inlet.next();
-    let mut token = outlet.finish().ok_or("the inlet is there")?;
+    let mut token = outlet.finish().expect(&rt, "the inlet is there");
     assert!(rt; inlet.gone());
     assert_eq!(rt; inlet.left_after(&mut token), 1);
-    let next = inlet.next().ok_or("an item is left")?;
+    let next = inlet.next().expect(&rt, "an item is left");
     assert_eq!(rt; next.bytes.as_slice(), [1u8].as_slice());
     assert!(rt; inlet.next().is_none());
     assert_eq!(rt; inlet.left_after(&mut token), 0);
     let (outlet, inlet) = ring_of(&rt, 4);
     drop(inlet);
     assert!(rt; outlet.finish().is_none());
-    Ok(())
 }
