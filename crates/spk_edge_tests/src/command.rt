@@ -1,5 +1,6 @@
 //! What commands ask of a node with the metric `t`, 1, and a device `D` with a metric `t`, 2, both Int32.
-use crate::node::{Call, PLAIN, Plays, REBIRTH, node, told};
+use crate::node::{Call, PLAIN, Plays, REBIRTH, play_on, told};
+use crate::which::Test;
 use spk_device::Alias;
 use spk_edge::{EdgeFault, Out, Write};
 use spk_payload::Value;
@@ -82,7 +83,7 @@ fn assert_writes(rt: &impl Abort, writes: &[Write], want: &[(Alias, i64)]) {
     }
 }
 
-fn does_commands(rt: &impl Abort, node: &mut impl Plays) {
+pub(crate) fn does_commands(rt: &impl Abort, node: &mut impl Plays) {
     assert!(rt; told(node, 5, Call::Open).is_ok());
     assert!(rt; told(node, 6, Call::Accepted).is_ok());
     for (topic, payload, want) in ROWS {
@@ -102,5 +103,5 @@ fn does_commands(rt: &impl Abort, node: &mut impl Plays) {
 /// A birth is all that a node publishes for a command.
 #[test]
 fn commands_are_done_whole_or_not_at_all(rt: HostRuntime) {
-    does_commands(&rt, &mut node(&rt, PLAIN));
+    play_on(&rt, PLAIN, Test::Commands);
 }

@@ -208,11 +208,22 @@ fn takes(
     commanded(node, topic, payload)
 }
 
+/// What a new node of one metric, once it waits, answers to a command.
+fn answer_of(
+    rt: &(impl Abort + AllocGlobal),
+    owner: Owner,
+    datatype: u32,
+    topic: &str,
+    payload: &[u8],
+) -> Result<Out, EdgeFault> {
+    takes(rt, &mut node(rt, owner, datatype), topic, payload)
+}
+
 #[test]
 fn a_value_of_each_datatype_is_written(rt: HostRuntime) {
     for (owner, topic) in TARGETS {
         for (datatype, payload, plain) in ROWS {
-            let answer = takes(&rt, &mut node(&rt, owner, datatype), topic, payload);
+            let answer = answer_of(&rt, owner, datatype, topic, payload);
             assert!(rt; is_answer(answer, plain), "of {datatype}: {payload:?}");
         }
     }

@@ -1,8 +1,9 @@
 //! A node with a primary host: STATE, kept changes, packets of the server, and the phases.
 use crate::node::{
-    CONNECT, Call, Kind, NBIRTH, NDEATH, PLAIN, Plays, Row, assert_answer, lost_by, node, phase_of,
-    play, told,
+    CONNECT, Call, Kind, NBIRTH, NDEATH, PLAIN, Plays, Row, assert_answer, lost_by, phase_of, play,
+    play_on, told,
 };
+use crate::which::Test;
 use spk_edge::{Act, EdgeFault, Phase, Plan, Published};
 use spk_state::StateFault;
 use std::process::Abort;
@@ -70,14 +71,14 @@ static HISTORY: [Row; 11] = [
     (11, Call::Drain, Ok(&[])),
 ];
 
-fn sends_kept_changes(rt: &impl Abort, node: &mut impl Plays) {
+pub(crate) fn sends_kept_changes(rt: &impl Abort, node: &mut impl Plays) {
     play(rt, node, &HISTORY);
     assert_eq!(rt; lost_by(node), 2);
 }
 
 #[test]
 fn kept_changes_go_out_once_the_host_is_online(rt: HostRuntime) {
-    sends_kept_changes(&rt, &mut node(&rt, HOSTED));
+    play_on(&rt, HOSTED, Test::KeptChanges);
 }
 
 static STATES: [Row; 17] = [
@@ -119,12 +120,12 @@ static STATES: [Row; 17] = [
     (9, Call::State(ONLINE), Ok(&[])),
 ];
 
-fn hears_its_host(rt: &impl Abort, node: &mut impl Plays) {
+pub(crate) fn hears_its_host(rt: &impl Abort, node: &mut impl Plays) {
     play(rt, node, &STATES);
     assert_eq!(rt; phase_of(node), Phase::Waiting);
 }
 
-fn hears_no_host(rt: &impl Abort, node: &mut impl Plays) {
+pub(crate) fn hears_no_host(rt: &impl Abort, node: &mut impl Plays) {
     for (now, call) in [(5, Call::Open), (6, Call::Accepted)] {
         assert!(rt; told(node, now, call).is_ok());
     }
@@ -136,8 +137,8 @@ fn hears_no_host(rt: &impl Abort, node: &mut impl Plays) {
 
 #[test]
 fn a_node_hears_its_primary_host_alone(rt: HostRuntime) {
-    hears_its_host(&rt, &mut node(&rt, HOSTED));
-    hears_no_host(&rt, &mut node(&rt, PLAIN));
+    play_on(&rt, HOSTED, Test::HearsItsHost);
+    play_on(&rt, PLAIN, Test::HearsNoHost);
 }
 
 /// A plan. Where memory was refused it is made again.
@@ -186,7 +187,7 @@ const DRAINS: [Option<(bool, usize)>; 5] = [
     None,
 ];
 
-fn sends_changes_of_one_owner(rt: &impl Abort, node: &mut impl Plays) {
+pub(crate) fn sends_changes_of_one_owner(rt: &impl Abort, node: &mut impl Plays) {
     done(rt, node, &[Call::Device(true)]);
     for value in 100..133 {
         done(rt, node, &[Call::Change(1, value)]);
@@ -212,10 +213,10 @@ const STORING: Kind<'static> = Kind {
 
 #[test]
 fn a_drain_sends_32_changes_of_one_owner(rt: HostRuntime) {
-    sends_changes_of_one_owner(&rt, &mut node(&rt, STORING));
+    play_on(&rt, STORING, Test::OneOwner);
 }
 
-fn drops_changes_of_a_device_that_is_down(rt: &impl Abort, node: &mut impl Plays) {
+pub(crate) fn drops_changes_of_a_device_that_is_down(rt: &impl Abort, node: &mut impl Plays) {
     let calls = [
         Call::Device(true),
         Call::Change(2, 10),
@@ -234,7 +235,7 @@ fn drops_changes_of_a_device_that_is_down(rt: &impl Abort, node: &mut impl Plays
 
 #[test]
 fn a_drain_drops_the_changes_of_a_device_that_is_down(rt: HostRuntime) {
-    drops_changes_of_a_device_that_is_down(&rt, &mut node(&rt, STORING));
+    play_on(&rt, STORING, Test::DeviceDown);
 }
 
 /// An act, and whether it is taken when Idle, Connecting, Waiting and Born.
@@ -289,7 +290,7 @@ pub(crate) fn assert_refused(
     assert_eq!(rt; planned(node, 1 << 63, act).err(), Some(late));
 }
 
-fn takes_acts_in_their_phases(rt: &impl Abort, node: &mut impl Plays) {
+pub(crate) fn takes_acts_in_their_phases(rt: &impl Abort, node: &mut impl Plays) {
     for step in STEPS {
         done(rt, node, &[step]);
         for (act, taken) in acts() {
@@ -306,5 +307,5 @@ fn takes_acts_in_their_phases(rt: &impl Abort, node: &mut impl Plays) {
 
 #[test]
 fn an_act_is_taken_in_its_phases_before_the_clock_ends(rt: HostRuntime) {
-    takes_acts_in_their_phases(&rt, &mut node(&rt, HOSTED));
+    play_on(&rt, HOSTED, Test::Phases);
 }

@@ -17,3 +17,5 @@ mod refusal;
 mod run;
 #[cfg(test)]
 mod twin;
+#[cfg(test)]
+mod which;

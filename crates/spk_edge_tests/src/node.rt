@@ -1,4 +1,5 @@
 //! A node by its calls, byte by byte.
+use crate::which::Test;
 use spk_device::{Alias, DeviceFault, Owner, Refusal, Registry};
 use spk_edge::{
     Act, EdgeConfig, EdgeFault, EdgeNode, Input, Numbering, Out, Phase, Plan, Published, Record,
@@ -132,8 +133,13 @@ fn made(rt: &(impl Abort + AllocGlobal), kind: Kind<'_>) -> Result<EdgeNode, Edg
 }
 
 /// A node. Where memory was refused it is made again.
-pub(crate) fn node(rt: &(impl Abort + AllocGlobal), kind: Kind<'_>) -> EdgeNode {
+fn node(rt: &(impl Abort + AllocGlobal), kind: Kind<'_>) -> EdgeNode {
     again(rt, made(rt, kind), || made(rt, kind))
+}
+
+/// Makes a node, and has a test play on it. What holds a node itself stands here alone.
+pub(crate) fn play_on(rt: &(impl Abort + AllocGlobal), kind: Kind<'_>, test: Test<'_>) {
+    test.play(rt, &mut node(rt, kind));
 }
 
 const DIGITS: &[u8; 16] = b"0123456789abcdef";
@@ -352,7 +358,7 @@ pub(crate) fn play(rt: &impl Abort, node: &mut impl Plays, rows: &[Row]) {
     }
 }
 
-fn is_born_twice(rt: &impl Abort, node: &mut impl Plays) {
+pub(crate) fn is_born_twice(rt: &impl Abort, node: &mut impl Plays) {
     assert_eq!(rt; phase_of(node), Phase::Idle);
     play(rt, node, &BORN_AGAIN);
     assert_eq!(rt; phase_of(node), Phase::Born);
@@ -373,20 +379,20 @@ fn is_born_twice(rt: &impl Abort, node: &mut impl Plays) {
 
 #[test]
 fn a_node_is_born_twice(rt: HostRuntime) {
-    is_born_twice(&rt, &mut node(&rt, PLAIN));
+    play_on(&rt, PLAIN, Test::BornTwice);
 }
 
-fn has_a_device_that_comes_and_goes(rt: &impl Abort, node: &mut impl Plays) {
+pub(crate) fn has_a_device_that_comes_and_goes(rt: &impl Abort, node: &mut impl Plays) {
     play(rt, node, &DEVICE);
     assert_eq!(rt; phase_of(node), Phase::Idle);
 }
 
 #[test]
 fn a_device_comes_and_goes(rt: HostRuntime) {
-    has_a_device_that_comes_and_goes(&rt, &mut node(&rt, PLAIN));
+    play_on(&rt, PLAIN, Test::DeviceComesAndGoes);
 }
 
-fn overwrites_kept_changes(rt: &impl Abort, node: &mut impl Plays) {
+pub(crate) fn overwrites_kept_changes(rt: &impl Abort, node: &mut impl Plays) {
     for value in 10..15 {
         let out = told(node, 3, Call::Change(1, value));
         assert!(rt; out.is_ok_and(|out| out.packets.is_empty()));
@@ -401,7 +407,7 @@ fn kept_changes_are_overwritten(rt: HostRuntime) {
         numbering: Numbering::Restarts,
         ..PLAIN
     };
-    overwrites_kept_changes(&rt, &mut node(&rt, kind));
+    play_on(&rt, kind, Test::Overwrites);
 }
 
 /// Groups and counts of changes that no node may have.

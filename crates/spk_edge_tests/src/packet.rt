@@ -1,9 +1,10 @@
 //! What packets of the server come to, as bytes of MQTT 3.1.1.
 use crate::host::{BAD, HOSTED, SUBSCRIBE, letters};
 use crate::node::{
-    CONNECT, Call, FIRST, Kind, NBIRTH, PLAIN, Plays, assert_answer, node, phase_of, record_of,
+    CONNECT, Call, FIRST, Kind, NBIRTH, PLAIN, Plays, assert_answer, phase_of, play_on, record_of,
     told,
 };
+use crate::which::Test;
 use spk_edge::{EdgeFault, Out, Phase};
 use spk_packets::{Packet, PacketFault, decode};
 use std::process::Abort;
@@ -87,7 +88,7 @@ static ROWS: [Row; 11] = [
     (8, b"\x20\x02\x00\x00", Err(EdgeFault::WrongPhase)),
 ];
 
-fn takes_packets(rt: &(impl Abort + AllocGlobal), node: &mut impl Plays) {
+pub(crate) fn takes_packets(rt: &(impl Abort + AllocGlobal), node: &mut impl Plays) {
     assert_answer(rt, 5, told(node, 5, Call::Open), &Ok(&[CONNECT]));
     for (now, bytes, wanted) in ROWS {
         assert_answer(rt, now, answered(rt, node, now, bytes), &wanted);
@@ -97,10 +98,10 @@ fn takes_packets(rt: &(impl Abort + AllocGlobal), node: &mut impl Plays) {
 
 #[test]
 fn a_packet_is_a_call_and_what_is_done_is_acknowledged_first(rt: HostRuntime) {
-    takes_packets(&rt, &mut node(&rt, HOSTED));
+    play_on(&rt, HOSTED, Test::Packets);
 }
 
-fn closes_if_not_accepted(rt: &(impl Abort + AllocGlobal), node: &mut impl Plays) {
+pub(crate) fn closes_if_not_accepted(rt: &(impl Abort + AllocGlobal), node: &mut impl Plays) {
     assert_answer(rt, 5, told(node, 5, Call::Open), &Ok(&[CONNECT]));
     let out = answered(rt, node, 6, b"\x20\x02\x00\x05").expect(rt, "it is taken");
     assert!(rt; out.close && out.packets.is_empty() && out.writes.is_empty());
@@ -110,10 +111,10 @@ fn closes_if_not_accepted(rt: &(impl Abort + AllocGlobal), node: &mut impl Plays
 
 #[test]
 fn a_node_that_is_not_accepted_closes(rt: HostRuntime) {
-    closes_if_not_accepted(&rt, &mut node(&rt, HOSTED));
+    play_on(&rt, HOSTED, Test::NotAccepted);
 }
 
-fn has_a_name_too_long(rt: &impl Abort, node: &mut impl Plays) {
+pub(crate) fn has_a_name_too_long(rt: &impl Abort, node: &mut impl Plays) {
     let answer = told(node, 5, Call::Open);
     assert_answer(rt, 5, answer, &Err(EdgeFault::TooLarge));
     assert_eq!(rt; phase_of(node), Phase::Idle);
@@ -128,5 +129,5 @@ fn a_name_too_long_for_a_topic_is_too_large(rt: HostRuntime) {
         capacity: 1,
         ..PLAIN
     };
-    has_a_name_too_long(&rt, &mut node(&rt, kind));
+    play_on(&rt, kind, Test::NameTooLong);
 }

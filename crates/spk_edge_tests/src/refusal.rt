@@ -1,6 +1,7 @@
 //! Each refusal in each phase, in the order in which refusals are asked for.
 use crate::host::{BAD, HOSTED, ONLINE, STEPS, assert_refused, done, is_taken, letters, planned};
-use crate::node::{Call, Kind, Plays, node, phase_of};
+use crate::node::{Call, Kind, Plays, phase_of, play_on};
+use crate::which::Test;
 use spk_device::Refusal;
 use spk_edge::{Act, EdgeFault, Phase};
 use spk_payload::Value;
@@ -40,7 +41,7 @@ fn refused<'a>(null: &'a Option<Value>, flag: &'a Option<Value>) -> [Refused<'a>
     ]
 }
 
-fn refuses_in_each_phase(rt: &impl Abort, node: &mut impl Plays) {
+pub(crate) fn refuses_in_each_phase(rt: &impl Abort, node: &mut impl Plays) {
     let null = None;
     let flag = Some(Value::Flag(true));
     for step in STEPS {
@@ -59,20 +60,20 @@ fn refuses_in_each_phase(rt: &impl Abort, node: &mut impl Plays) {
 
 #[test]
 fn what_is_refused_is_refused_in_each_phase(rt: HostRuntime) {
-    refuses_in_each_phase(&rt, &mut node(&rt, HOSTED));
+    play_on(&rt, HOSTED, Test::Refusals);
 }
 
 /// The greatest moment.
 const LAST: u64 = (1 << 63) - 1;
 
-fn waits_behind_the_last_stamp(rt: &impl Abort, node: &mut impl Plays) {
+pub(crate) fn waits_behind_the_last_stamp(rt: &impl Abort, node: &mut impl Plays) {
     done(rt, node, &[Call::Open, Call::Accepted]);
     let online = planned(node, 9, Act::State(ONLINE));
     assert_eq!(rt; online.err(), Some(EdgeFault::ClockEnd));
     assert_eq!(rt; phase_of(node), Phase::Waiting);
 }
 
-fn is_not_born_again(rt: &impl Abort, node: &mut impl Plays) {
+pub(crate) fn is_not_born_again(rt: &impl Abort, node: &mut impl Plays) {
     done(rt, node, &[Call::Open, Call::Accepted, Call::State(ONLINE)]);
     let again = Act::Command("spBv1.0/G/NCMD/N", crate::node::REBIRTH);
     assert_eq!(rt; planned(node, 9, again).err(), Some(EdgeFault::ClockEnd));
@@ -86,12 +87,12 @@ fn a_birth_behind_the_last_stamp_is_refused(rt: HostRuntime) {
         stamp: Some(LAST),
         ..HOSTED
     };
-    waits_behind_the_last_stamp(&rt, &mut node(&rt, at_the_end));
+    play_on(&rt, at_the_end, Test::LastStamp);
     let one_before = Kind {
         stamp: Some(LAST - 1),
         ..HOSTED
     };
-    is_not_born_again(&rt, &mut node(&rt, one_before));
+    play_on(&rt, one_before, Test::NotBornAgain);
 }
 
 /// After these calls an act is too large, in this phase.
@@ -115,15 +116,15 @@ fn goes_up(rt: &impl Abort, node: &mut impl Plays, name: &str) {
 
 const JOINING: [Call; 3] = [Call::Open, Call::Accepted, Call::State(ONLINE)];
 
-fn has_a_host_too_long(rt: &impl Abort, node: &mut impl Plays) {
+pub(crate) fn has_a_host_too_long(rt: &impl Abort, node: &mut impl Plays) {
     is_too_large(rt, node, &[Call::Open], Act::Accepted, Phase::Connecting);
 }
 
-fn has_a_device_too_long(rt: &impl Abort, node: &mut impl Plays, name: &str) {
+pub(crate) fn has_a_device_too_long(rt: &impl Abort, node: &mut impl Plays, name: &str) {
     is_too_large(rt, node, &JOINING, Act::Device(name, true), Phase::Born);
 }
 
-fn has_a_birth_too_long(rt: &impl Abort, node: &mut impl Plays, name: &str) {
+pub(crate) fn has_a_birth_too_long(rt: &impl Abort, node: &mut impl Plays, name: &str) {
     goes_up(rt, node, name);
     let calls = [Call::Open, Call::Accepted];
     is_too_large(rt, node, &calls, Act::State(ONLINE), Phase::Waiting);
@@ -137,7 +138,7 @@ fn what_is_too_large_is_refused_in_each_phase(rt: HostRuntime) {
         primary: Some(host.as_str()),
         ..HOSTED
     };
-    has_a_host_too_long(&rt, &mut node(&rt, kind));
+    play_on(&rt, kind, Test::HostTooLong);
 
     // "spBv1.0/G/DBIRTH/N/" and a name of a device are a topic of over 65,535 bytes
     let device = letters(&rt, 65_517);
@@ -145,6 +146,6 @@ fn what_is_too_large_is_refused_in_each_phase(rt: HostRuntime) {
         device: device.as_str(),
         ..HOSTED
     };
-    has_a_device_too_long(&rt, &mut node(&rt, kind), device.as_str());
-    has_a_birth_too_long(&rt, &mut node(&rt, kind), device.as_str());
+    play_on(&rt, kind, Test::DeviceTooLong(device.as_str()));
+    play_on(&rt, kind, Test::BirthTooLong(device.as_str()));
 }

@@ -1,6 +1,7 @@
 //! Long runs of a node: the numbers of its messages, and a full store.
 use crate::host::published;
-use crate::node::{Call, Kind, PLAIN, Plays, REBIRTH, lost_by, node, record_of, told};
+use crate::node::{Call, Kind, PLAIN, Plays, REBIRTH, lost_by, play_on, record_of, told};
+use crate::which::Test;
 use spk_edge::{Act, Numbering, Published};
 use spk_payload::{Metric, Raw, Value};
 use std::process::Abort;
@@ -59,7 +60,7 @@ fn act_of<'a>(turn: u64, value: &'a Option<Value>) -> Act<'a> {
     }
 }
 
-fn run(rt: &impl Abort, node: &mut impl Plays, numbering: Numbering) {
+pub(crate) fn run(rt: &impl Abort, node: &mut impl Plays, numbering: Numbering) {
     let mut count = Count {
         all: 0,
         since: 0,
@@ -89,7 +90,7 @@ fn run(rt: &impl Abort, node: &mut impl Plays, numbering: Numbering) {
 
 fn runs(rt: &(impl Abort + AllocGlobal), numbering: Numbering) {
     let kind = Kind { numbering, ..PLAIN };
-    run(rt, &mut node(rt, kind), numbering);
+    play_on(rt, kind, Test::Run(numbering));
 }
 
 #[test]
@@ -126,7 +127,7 @@ fn drains(rt: &impl Abort, node: &mut impl Plays, first: u32) -> u32 {
     wanted
 }
 
-fn keeps_the_last_4096(rt: &impl Abort, node: &mut impl Plays) {
+pub(crate) fn keeps_the_last_4096(rt: &impl Abort, node: &mut impl Plays) {
     for value in 1_000..6_000 {
         let out = told(node, 3, Call::Change(1, value));
         assert!(rt; out.is_ok_and(|out| out.packets.is_empty()), "of {value}");
@@ -146,5 +147,5 @@ fn a_full_store_keeps_the_last_4096_changes(rt: HostRuntime) {
         capacity: 4_096,
         ..PLAIN
     };
-    keeps_the_last_4096(&rt, &mut node(&rt, kind));
+    play_on(&rt, kind, Test::Keeps4096);
 }

@@ -12,15 +12,9 @@ mod levels;
 mod matching;
 mod node;
 mod nodes;
-#[cfg(test)]
-mod plain_list_tests;
 mod spark;
-#[cfg(test)]
-mod tests;
 mod topic;
 mod tree;
-#[cfg(test)]
-mod tree_tests;
 mod walk;
 
 pub use fault::TopicFault;

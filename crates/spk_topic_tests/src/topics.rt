@@ -1,4 +1,5 @@
-use crate::{Filter, Spark, Topic, TopicFault, Verb, matches};
+//! Topic names, topic filters and the topics of Sparkplug.
+use spk_topics::{Filter, Spark, Topic, TopicFault, Verb, matches};
 use std::alloc::{AllocError, Global};
 use std::process::Abort;
 use std::test::Fail;

@@ -1,5 +1,6 @@
-use crate::tree_tests::{find, grant, take};
-use crate::{Filter, Topic, Tree, matches};
+//! Three hundred grants beside a plain list of them.
+use crate::tree::{find, grant, take};
+use spk_topics::{Filter, Topic, Tree, matches};
 use std::alloc::{AllocError, Global};
 use std::process::Abort;
 use std::test::Fail;
