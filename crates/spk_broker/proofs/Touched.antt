@@ -20,7 +20,7 @@ use Rattle.spk_broker.specs.declared.guest.Guest.{Guest}
 use Rattle.spk_broker.specs.declared.seat.Seat.{Seat}
 use Rattle.spk_broker.proofs.Changes.{whole-at}
 use Rattle.spk_broker.proofs.Near.{found-sits}
-use Rattle.spk_broker.proofs.Visits.{calling-length, place-is}
+use Rattle.spk_broker.proofs.Visits.{calling-length, place-is, push-long, push-new, push-old}
 
 -- ---- places
 
@@ -111,14 +111,13 @@ touched-more ps p old new t v =
           subst (λ (b : Both). b ≡ whole b.was) (sym (v.rest i d outs.0)) (t.rest i d (omega (arith, lt, long)) outs.1);
     }
 
-pub few-touched : (sender : Option ℕ) (places : Option (Vec ℕ Global)) (p : ℕ) (ps : Vec ℕ Global) (more : List ℕ) (old new : Desk) → sender ≡ Some p → places ≡ Some ps → more ≡ ps.items ++ p ∷ []
-    → IsAlone sender old → IfSome places (λ (l : Vec ℕ Global). AreVisited l.items old.seats.items new.seats.items) → new.guests ≡ old.guests → OnlyAt more new
-few-touched sender places p ps more old new e f m here there same =
+pub few-touched : (sender : Option ℕ) (places : Option (Vec ℕ Global)) (p : ℕ) (ps : Vec ℕ Global) (old new : Desk) → sender ≡ Some p → places ≡ Some ps
+    → IsAlone sender old → IfSome places (λ (l : Vec ℕ Global). AreVisited l.items old.seats.items new.seats.items) → new.guests ≡ old.guests → OnlyAt (ps.items ++ p ∷ []) new
+few-touched sender places p ps old new e f here there same =
     let alone : OnlyAt (p ∷ []) old = subst (λ o. IsAlone o old) e here in
     record {
-      seats = subst (λ l. AreTouched l new.seats.items) (sym m)
-          (touched-more ps.items p old.seats.items new.seats.items alone.seats
-          (subst (λ o. IfSome o (λ (l : Vec ℕ Global). AreVisited l.items old.seats.items new.seats.items)) f there));
+      seats = touched-more ps.items p old.seats.items new.seats.items alone.seats
+          (subst (λ o. IfSome o (λ (l : Vec ℕ Global). AreVisited l.items old.seats.items new.seats.items)) f there);
       guests = subst (λ (g : Vec Guest Global). flat_map guest_now g.items ≡ map guest_was g.items) (sym same) alone.guests;
     }
 
@@ -204,6 +203,50 @@ settling-step ps j start cur ended gone e new c t low now left is =
           (λ same. stays-there new.now (sym is ∙ parts.1))
           (λ ne. ⊎_elim (λ old. c.there parts.0 k d old klow) (λ ge. let last : k ≡ j = omega (arith, ge, lt) in absurd (ne (ap (λ q. get_or ps q 0) last))) (cases_lt k j));
     }
+
+-- the same at a place that is written otherwise
+settling-next : (ps : List ℕ) (j p : ℕ) (start cur : List Both) (ended gone : Bool) (e new : Both) → p ≡ get_or ps j 0 → Settling ps j start cur ended → AreTouched ps start → j < length ps
+    → new.now ≡ (get_or cur p e).now → seat_left new ≡ option_list (get_or cur p e).now → gone ≡ has_ended new
+    → Settling ps (j + 1) start (set cur p new) (ended || gone)
+settling-next ps j p start cur ended gone e new at c t low now left is =
+    subst (λ q. Settling ps (j + 1) start (set cur q new) (ended || gone)) (sym at)
+    (settling-step ps j start cur ended gone e new c t low
+    (subst (λ q. new.now ≡ (get_or cur q e).now) at now)
+    (subst (λ q. seat_left new ≡ option_list (get_or cur q e).now) at left) is)
+
+-- of these places and one behind them the next, and then the last
+pub settling-front : (ps : List ℕ) (p j : ℕ) (start cur : List Both) (ended gone : Bool) (e new : Both) → Settling (ps ++ p ∷ []) j start cur ended → AreTouched (ps ++ p ∷ []) start → j < length ps
+    → new.now ≡ (get_or cur (get_or ps j 0) e).now → seat_left new ≡ option_list (get_or cur (get_or ps j 0) e).now → gone ≡ has_ended new
+    → Settling (ps ++ p ∷ []) (j + 1) start (set cur (get_or ps j 0) new) (ended || gone)
+settling-front ps p j start cur ended gone e new c t low now left is =
+    let more = push-long ps p in
+    settling-next (ps ++ p ∷ []) j (get_or ps j 0) start cur ended gone e new (sym (push-old ps p j low)) c t (omega (arith, low, more)) now left is
+
+pub settling-last : (ps : List ℕ) (p j : ℕ) (start cur : List Both) (ended gone : Bool) (e new : Both) → Settling (ps ++ p ∷ []) j start cur ended → AreTouched (ps ++ p ∷ []) start → length ps ≤ j → j ≤ length ps
+    → new.now ≡ (get_or cur p e).now → seat_left new ≡ option_list (get_or cur p e).now → gone ≡ has_ended new
+    → Settling (ps ++ p ∷ []) (j + 1) start (set cur p new) (ended || gone)
+settling-last ps p j start cur ended gone e new c t above under now left is =
+    let more = push-long ps p in
+    let last : j ≡ length ps = omega (arith, above, under) in
+    settling-next (ps ++ p ∷ []) j p start cur ended gone e new (sym (push-new ps p j last)) c t (omega (arith, under, more)) now left is
+
+pub all-places : (ps : List ℕ) (p j : ℕ) → length ps ≤ j → length (ps ++ p ∷ []) ≤ j + 1
+all-places ps p j above = let more = push-long ps p in omega (arith, above, more)
+
+-- sessions stand there
+pub front-low : (ps : List ℕ) (p k : ℕ) (start cur : List Both) → AreTouched (ps ++ p ∷ []) start → length cur ≡ length start → k < length ps → get_or ps k 0 < length cur
+front-low ps p k start cur t long low =
+    let more = push-long ps p in
+    let here = t.low k (omega (arith, low, more)) in
+    let same = push-old ps p k low in
+    omega (arith, here, same, long)
+
+pub last-low : (ps : List ℕ) (p : ℕ) (start cur : List Both) → AreTouched (ps ++ p ∷ []) start → length cur ≡ length start → p < length cur
+last-low ps p start cur t long =
+    let more = push-long ps p in
+    let here = t.low (length ps) (omega (arith, more)) in
+    let same = push-new ps p (length ps) refl in
+    omega (arith, here, same, long)
 
 -- ---- at the end
 

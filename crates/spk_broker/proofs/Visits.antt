@@ -123,16 +123,16 @@ found-called (Some ps) f found l seats is same h = λ low top topic r passed i d
 
 -- ---- the places of the numbers that were found, one after the other
 
-push-long : (ps : List ℕ) (p : ℕ) → length (ps ++ p ∷ []) ≡ length ps + 1
+pub push-long : (ps : List ℕ) (p : ℕ) → length (ps ++ p ∷ []) ≡ length ps + 1
 push-long [] p = refl
 push-long (x ∷ ps) p = let rest = push-long ps p in omega (arith, rest)
 
-push-old : (ps : List ℕ) (p k : ℕ) → k < length ps → get_or (ps ++ p ∷ []) k 0 ≡ get_or ps k 0
+pub push-old : (ps : List ℕ) (p k : ℕ) → k < length ps → get_or (ps ++ p ∷ []) k 0 ≡ get_or ps k 0
 push-old [] p k low = absurd (omega (arith, low))
 push-old (x ∷ ps) p zero low = refl
 push-old (x ∷ ps) p (suc k) low = push-old ps p k (omega (arith, low))
 
-push-new : (ps : List ℕ) (p k : ℕ) → k ≡ length ps → get_or (ps ++ p ∷ []) k 0 ≡ p
+pub push-new : (ps : List ℕ) (p k : ℕ) → k ≡ length ps → get_or (ps ++ p ∷ []) k 0 ≡ p
 push-new [] p zero e = refl
 push-new [] p (suc k) e = absurd (omega (arith, e))
 push-new (x ∷ ps) p zero e = absurd (omega (arith, e))

@@ -7,7 +7,7 @@ ghost use Rattle.spk_broker.specs.declared.fault.BrokerFault.TheVariants as Brok
 ghost use Rattle.spk_broker.specs.declared.desk.Desk.{Desk};
 ghost use Rattle.spk_broker.specs.Drafts.{draft_view};
 ghost use Rattle.indexmap.specs.IndexMap.{spare};
-ghost use Rattle.spk_broker.specs.Endings.{IsFit, IsReady, ended};
+ghost use Rattle.spk_broker.specs.Endings.{IsFit, IsReady, alone_at, ended, few_at};
 ghost use Rattle.spk_broker.specs.Sent.{sent_view};
 ghost use Rattle.spk_broker.specs.Touched.{AreVisited, IsAlone};
 ghost use Rattle.spk_broker.specs.View.{IsSettled, Stands, desk_was};
@@ -25,8 +25,8 @@ pub(crate) enum Ending {
     Nothing,
     /// Nothing, and only the session at this place may have changed.
     One(usize),
-    /// Nothing, and only the sessions at these places may have changed.
-    Few(Vec<usize>),
+    /// Nothing, and only the sessions at these places and the sender's may have changed.
+    Few { places: Vec<usize>, sender: usize },
     Enters(Entry),
     /// The connection at this place acknowledged a message. Only its session may have changed.
     Acked { conn: Conn, place: usize, id: u16 },
@@ -35,6 +35,7 @@ pub(crate) enum Ending {
 impl Ending {
     /// Nothing follows, and only the session at this place may have changed, where it is known.
     pub(crate) fn alone(place: Option<usize>) -> Ending
+        ensures exact { result ≡ alone_at place }
         ensures nothing { (b : plain.Broker) → ended result b ≡ b }
         ensures ready { (d : Desk) → IsAlone place d → IsReady result d }
     {
@@ -45,8 +46,9 @@ impl Ending {
     }
 
     /// Nothing follows a message. Where it's known at which places it called, and where the one sits that sent it, only the
-    /// sessions there may have changed. Where memory is refused that isn't kept.
+    /// sessions there may have changed. It takes no memory.
     pub(crate) fn few(places: Option<Vec<usize>>, sender: Option<usize>) -> Ending
+        ensures exact { result ≡ few_at sender places }
         ensures nothing { (b : plain.Broker) → ended result b ≡ b }
         ensures ready { (old new : Desk) → IsAlone sender old
             → IfSome places (λ ps. AreVisited ps.items old.seats.items new.seats.items)
@@ -55,13 +57,10 @@ impl Ending {
         let Some(sender) = sender else {
             return Ending::Nothing;
         };
-        let Some(mut places) = places else {
+        let Some(places) = places else {
             return Ending::Nothing;
         };
-        if places.push(sender).is_err() {
-            return Ending::Nothing;
-        }
-        Ending::Few(places)
+        Ending::Few { places, sender }
     }
 }
 
@@ -75,7 +74,7 @@ impl Desk {
         ensures settled { IsSettled self.new }
     {
         match ending {
-            Ending::Nothing | Ending::One(_) | Ending::Few(_) => {}
+            Ending::Nothing | Ending::One(_) | Ending::Few { .. } => {}
             Ending::Enters(entry) => self.enter(entry),
             Ending::Acked { conn, place, id } => self.ack(conn, place, id),
         }
@@ -92,9 +91,12 @@ impl Desk {
         ensures fit { IsFit ending.now self.new.seats }
     {
         match ending {
-            Ending::One(place) => self.settle_at(draft, &[*place]),
-            Ending::Few(places) => self.settle_at(draft, places),
-            Ending::Acked { place, .. } => self.settle_at(draft, &[*place]),
+            Ending::One(place) => self.settle_at(draft, &[], *place),
+            Ending::Few {
+                places,
+                sender: place,
+            } => self.settle_at(draft, places, *place),
+            Ending::Acked { place, .. } => self.settle_at(draft, &[], *place),
             _ => self.settle(draft),
         }
     }

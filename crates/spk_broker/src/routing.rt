@@ -1,5 +1,5 @@
 //! Routing: each message that waits goes to all sessions before the next.
-ghost use Rattle.std.specs.Prelude.{ℕ, ◌≡◌, ◌+◌, ◌≤◌, List, length, IfOk, IfSome, OnOk, map};
+ghost use Rattle.std.specs.Prelude.{ℕ, ◌≡◌, ◌+◌, ◌≤◌, [], List, length, IfOk, IfSome, OnOk, map};
 ghost use Rattle.std.specs.List.{flat_map};
 ghost use Rattle.indexmap.specs.IndexMap.{spare};
 ghost use Rattle.spk_broker_rules.specs.Lawful.{Rises};
@@ -7,7 +7,7 @@ ghost use Rattle.spk_broker_rules.specs.Plan.{Route};
 ghost use Rattle.spk_broker_rules.specs.Step.{Turn, act, route_one, serve};
 ghost use Rattle.spk_broker.specs.Called.{AreCalled, ArePlaces};
 ghost use Rattle.spk_broker.specs.Drafts.{draft_view};
-ghost use Rattle.spk_broker.specs.Endings.{IsReady, Leads};
+ghost use Rattle.spk_broker.specs.Endings.{IsReady, Leads, alone_at};
 ghost use Rattle.spk_broker.specs.Filing.{AreInOrder, ArePassed, IsIndex};
 ghost use Rattle.spk_broker.specs.Parts.{post_view};
 ghost use Rattle.spk_broker.specs.Rounds.{kept_with, left_of_round, with_round};
@@ -159,6 +159,7 @@ impl Desk {
         requires alone { IsAlone place self.old }
         ensures done { IfOk result (λ e. (t : Turn) → Stands self.old draft.old t
             → Leads self.new draft.new e (act Route t)) }
+        ensures alone { IfOk result (λ e. (draft_view draft.old).waiting ≡ [] → e ≡ alone_at place) }
         ensures ready { IfOk result (λ e. IsReady e self.new) }
         ensures same { desk_was self.new ≡ desk_was self.old }
     {

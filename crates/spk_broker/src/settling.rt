@@ -1,5 +1,5 @@
 //! How a call ends: what was drafted stands, or is taken back.
-ghost use Rattle.std.specs.Prelude.{◌≡◌, ◌≤◌, length, map, is_ok, IfErr, IfOk, OnErr, OnOk, vec_capacity, vec_len};
+ghost use Rattle.std.specs.Prelude.{◌≡◌, ◌≤◌, ◌∷◌, ◌++◌, [], length, map, is_ok, IfErr, IfOk, OnErr, OnOk, vec_capacity, vec_len};
 ghost use Rattle.indexmap.specs.IndexMap.{spare};
 ghost use Rattle.spk_broker_rules.specs.Step.{Turn};
 ghost use Rattle.spk_broker.specs.declared.fault.BrokerFault.TheVariants as BrokerFault;
@@ -36,17 +36,17 @@ impl Desk {
         }
     }
 
-    /// What was drafted stands, where the call has changed only the sessions at these places, and no connection without
-    /// CONNECT. It takes no memory.
-    pub(crate) fn settle_at(&mut self, draft: Draft, places: &[usize]) -> Out
+    /// What was drafted stands, where the call has changed only the sessions at these places and at that one, and no
+    /// connection without CONNECT. It takes no memory.
+    pub(crate) fn settle_at(&mut self, draft: Draft, places: &[usize], place: usize) -> Out
         requires room { length (draft_view draft).keeps ≤ spare self.old.retained }
-        requires only { OnlyAt places.now self.old }
+        requires only { OnlyAt (places.now ++ place ∷ []) self.old }
         ensures done { (t : Turn) → Stands self.old draft t → desk_was self.new ≡ t.broker }
         ensures settled { IsSettled self.new }
         ensures sends { map sent_view result.sends.items ≡ (draft_view draft).sends }
         ensures closes { result.closes.items ≡ (draft_view draft).closes }
     {
-        turning::settle_at(&mut self.seats, places);
+        turning::settle_at(&mut self.seats, places, place);
         retain_all(&mut self.retained, draft.keeps);
         self.clock_before = self.clock;
         Out {

@@ -1,10 +1,10 @@
 //! Whether the grants are few enough for an index of them (own rule).
-ghost use Rattle.std.specs.Prelude.{◌≡◌, ◌+◌, ◌≤◌, IfSome, length, map, true};
-ghost use Rattle.std.specs.List.{flat_map};
+ghost use Rattle.std.specs.Prelude.{◌≡◌, ◌+◌, ◌<◌, ◌≤◌, MatchOption, false, length, map, true};
 ghost use Rattle.spk_topics.specs.Levels.{levels};
 ghost use Rattle.spk_broker.specs.Parts.{grant_view};
 ghost use Rattle.spk_broker.specs.Sizes.{size_of, size_of_all, size_of_grants};
-ghost use Rattle.spk_broker.specs.View.{seat_now};
+ghost use Rattle.spk_broker.specs.Asking.{seats_now};
+ghost use Rattle.spk_broker.specs.View.{seat_was};
 
 use crate::seat::{Grant, Seat};
 
@@ -37,7 +37,8 @@ fn size(filter: &str) -> usize
 
 /// What is left once these grants have taken their part; none where they take more.
 fn left_by(grants: &[Grant], left: usize) -> Option<usize>
-    ensures { IfSome result (λ rest. rest + size_of_grants (map grant_view grants.now) ≤ left) }
+    ensures { MatchOption result (left < size_of_grants (map grant_view grants.now))
+        (λ rest. rest + size_of_grants (map grant_view grants.now) ≡ left) }
 {
     let mut rest = left;
     for grant in grants {
@@ -46,9 +47,11 @@ fn left_by(grants: &[Grant], left: usize) -> Option<usize>
     Some(rest)
 }
 
-/// Whether the grants of these sessions are few enough.
+/// Whether the grants of these sessions are few enough. In the midst of a call those of one that ended count too.
 pub(crate) fn is_small(seats: &[Seat]) -> bool
-    ensures { result ≡ true → size_of_all (flat_map seat_now seats.now) ≤ 100000 }
+    ensures small { result ≡ true → size_of_all (seats_now seats.now) ≤ 100000 }
+    ensures large { seats_now seats.now ≡ map seat_was seats.now → result ≡ false
+        → 100000 < size_of_all (seats_now seats.now) }
 {
     let mut left = MOST_LEVELS;
     for seat in seats {

@@ -1,5 +1,5 @@
 //! How sessions come out of a call, and how their connections leave.
-ghost use Rattle.std.specs.Prelude.{◌≡◌, ◌++◌, ◌≤◌, OnOk, Some, is_some, map, false, true, vec_capacity, vec_len};
+ghost use Rattle.std.specs.Prelude.{◌≡◌, ◌++◌, ◌∷◌, ◌≤◌, [], OnOk, Some, is_some, map, false, true, vec_capacity, vec_len};
 ghost use Rattle.std.specs.List.{flat_map, list_any};
 ghost use Rattle.std.specs.Option.{option_map};
 ghost use Rattle.spk_broker_rules.specs.Step.{left_behind, will_at};
@@ -167,9 +167,9 @@ pub(crate) fn undo(seats: &mut [Seat])
     }
 }
 
-/// What was drafted of those at these places stands. Whether one of them ended.
-fn settle_places(seats: &mut [Seat], places: &[usize]) -> bool
-    requires { AreTouched places.now seats.old }
+/// What was drafted of those at these places and at that one stands. Whether one of them ended.
+fn settle_places(seats: &mut [Seat], places: &[usize], last: usize) -> bool
+    requires { AreTouched (places.now ++ last ∷ []) seats.old }
     ensures ended { result ≡ false → list_any has_ended seats.new ≡ false }
     ensures now { flat_map seat_now seats.new ≡ flat_map seat_now seats.old }
     ensures left { flat_map seat_left seats.new ≡ flat_map seat_now seats.old }
@@ -179,16 +179,18 @@ fn settle_places(seats: &mut [Seat], places: &[usize]) -> bool
         let gone = seats[*place].settle_ended();
         ended = ended | gone;
     }
-    ended
+    let other = seats[last].settle_ended();
+    ended | other
 }
 
-/// What was drafted stands, where only the sessions at these places may have changed; which of them ended is gone.
-pub(crate) fn settle_at(seats: &mut Vec<Seat>, places: &[usize])
-    requires { AreTouched places.now seats.old.items }
+/// What was drafted stands, where only the sessions at these places and at that one may have changed; which of them ended is
+/// gone.
+pub(crate) fn settle_at(seats: &mut Vec<Seat>, places: &[usize], place: usize)
+    requires { AreTouched (places.now ++ place ∷ []) seats.old.items }
     ensures was { map seat_was seats.new.items ≡ flat_map seat_now seats.old.items }
     ensures now { flat_map seat_now seats.new.items ≡ flat_map seat_now seats.old.items }
 {
-    if settle_places(seats, places) {
+    if settle_places(seats, places, place) {
         seats.retain(|seat| seat.is_there());
     }
 }

@@ -1,19 +1,39 @@
-use Rattle.spk_broker.proofs.Touched.{settled-left, settled-now, settled-there, settling-start, settling-step}
+use Rattle.std.proofs.Common.{◌+◌, ◌++◌, ◌∷◌, [], ◌||◌, set}
+use Rattle.spk_broker.proofs.Touched.{Settling, all-places, front-low, last-low, settled-left, settled-now, settled-there, settling-front, settling-last, settling-start}
 use Rattle.spk_broker.proofs.turning.settle_places.Goals as goal
 
+pub bounds-seats-place : goal.bounds-seats-place
+bounds-seats-place c = front-low c.args.places.now c.args.last c.loop-place.place-index c.args.seats.now c.loop-place.seats c.requires c.loop-place.invariant.long c.loop-place-test.true
+
+pub bounds-seats-last : goal.bounds-seats-last
+bounds-seats-last c = last-low c.args.places.now c.args.last c.args.seats.now c.loop-place.seats c.requires c.loop-place.invariant.long
+
 pub loop-place-init : goal.loop-place-init
-loop-place-init c = settling-start c.args.places.now c.args.seats.now
+loop-place-init c = settling-start (c.args.places.now ++ c.args.last ∷ []) c.args.seats.now
 
 pub loop-place-preserved : goal.loop-place-preserved
 loop-place-preserved c =
-    settling-step c.args.places.now c.loop-place.place-index c.args.seats.now c.loop-place.seats c.loop-place.ended c.settle_ended-gone.result c.index-seats-place.result c.settle_ended-gone.new.self
+    settling-front c.args.places.now c.args.last c.loop-place.place-index c.args.seats.now c.loop-place.seats c.loop-place.ended c.settle_ended-gone.result c.index-seats-place.result c.settle_ended-gone.new.self
     c.loop-place.invariant c.requires c.loop-place-test.true c.settle_ended-gone.ensures.now c.settle_ended-gone.ensures.left c.settle_ended-gone.ensures.ended
 
+-- all are settled
+all-settled : (c : goal.After-settle_ended-other)
+    → Settling (c.args.places.now ++ c.args.last ∷ []) (c.loop-place.place-index + 1) c.args.seats.now (set c.loop-place.seats c.args.last c.settle_ended-other.new.self) (c.loop-place.ended || c.settle_ended-other.result)
+all-settled c =
+    settling-last c.args.places.now c.args.last c.loop-place.place-index c.args.seats.now c.loop-place.seats c.loop-place.ended c.settle_ended-other.result c.index-seats-last.result c.settle_ended-other.new.self
+    c.loop-place.invariant c.requires c.loop-place-test.false c.loop-place.auto.place-index-end c.settle_ended-other.ensures.now c.settle_ended-other.ensures.left c.settle_ended-other.ensures.ended
+
 pub returns-clause-now : goal.returns-clause-now
-returns-clause-now c = settled-now c.args.places.now c.loop-place.place-index c.args.seats.now c.loop-place.seats c.loop-place.ended c.loop-place.invariant
+returns-clause-now c =
+    settled-now (c.args.places.now ++ c.args.last ∷ []) (c.loop-place.place-index + 1) c.args.seats.now (set c.loop-place.seats c.args.last c.settle_ended-other.new.self)
+    (c.loop-place.ended || c.settle_ended-other.result) (all-settled c)
 
 pub returns-clause-left : goal.returns-clause-left
-returns-clause-left c = settled-left c.args.places.now c.loop-place.place-index c.args.seats.now c.loop-place.seats c.loop-place.ended c.loop-place.invariant c.requires c.loop-place-test.false
+returns-clause-left c =
+    settled-left (c.args.places.now ++ c.args.last ∷ []) (c.loop-place.place-index + 1) c.args.seats.now (set c.loop-place.seats c.args.last c.settle_ended-other.new.self)
+    (c.loop-place.ended || c.settle_ended-other.result) (all-settled c) c.requires (all-places c.args.places.now c.args.last c.loop-place.place-index c.loop-place-test.false)
 
 pub returns-clause-ended : goal.returns-clause-ended
-returns-clause-ended c = settled-there c.args.places.now c.loop-place.place-index c.args.seats.now c.loop-place.seats c.loop-place.ended c.loop-place.invariant c.requires c.loop-place-test.false
+returns-clause-ended c =
+    settled-there (c.args.places.now ++ c.args.last ∷ []) (c.loop-place.place-index + 1) c.args.seats.now (set c.loop-place.seats c.args.last c.settle_ended-other.new.self)
+    (c.loop-place.ended || c.settle_ended-other.result) (all-settled c) c.requires (all-places c.args.places.now c.args.last c.loop-place.place-index c.loop-place-test.false)
