@@ -33,44 +33,114 @@ const FIRST: Record = Record {
     stamp: None,
 };
 
-/// It is born at 6, and has changed at 7.
+/// What the tests ask of an edge node. What is written over any that answers it is proved without the parts of a node.
+trait Joins {
+    fn is_born(&mut self) -> bool;
+
+    fn stands(&self) -> (Phase, Record, u64, usize);
+
+    fn lose_connection(&mut self);
+
+    fn sends_nothing_for(&mut self, value: &Option<Value>) -> bool;
+
+    fn drains_nothing(&mut self) -> bool;
+}
+
+impl Joins for EdgeNode {
+    /// It is born at 6, and has changed at 7.
+    fn is_born(&mut self) -> bool {
+        self.open(5).is_ok()
+            && self.accepted(6).is_ok()
+            && self.change(7, 1, &Some(Value::Signed(8))).is_ok()
+    }
+
+    fn stands(&self) -> (Phase, Record, u64, usize) {
+        (self.phase(), self.record(), self.lost(), self.kept())
+    }
+
+    fn lose_connection(&mut self) {
+        self.cut();
+    }
+
+    fn sends_nothing_for(&mut self, value: &Option<Value>) -> bool {
+        match self.change(8, 2, value) {
+            Ok(out) => out.packets.is_empty(),
+            Err(_) => false,
+        }
+    }
+
+    fn drains_nothing(&mut self) -> bool {
+        match self.drain(9) {
+            Ok(out) => out.packets.is_empty(),
+            Err(_) => false,
+        }
+    }
+}
+
 fn node(alloc: Global) -> Option<EdgeNode> {
     let (config, registry) = setup(alloc)?;
-    let mut node = EdgeNode::new(alloc, config, FIRST, registry).ok()?;
-    let _sent = node.open(5).ok()?;
-    let _sent = node.accepted(6).ok()?;
-    let _sent = node.change(7, 1, &Some(Value::Signed(8))).ok()?;
-    Some(node)
+    EdgeNode::new(alloc, config, FIRST, registry).ok()
+}
+
+/// What a test does on a node.
+#[derive(Clone, Copy)]
+enum Test {
+    Cut,
+    Same,
+}
+
+impl Test {
+    fn play(self, rt: &(impl Abort + AllocGlobal), node: &mut impl Joins) {
+        match self {
+            Test::Cut => is_cut(rt, node),
+            Test::Same => is_the_same(rt, node),
+        }
+    }
+}
+
+/// Makes a node, and has a test play on it. What holds a node itself stands here alone.
+fn play_on(rt: &(impl Abort + AllocGlobal), test: Test) {
+    if let Some(mut node) = node(rt.alloc()) {
+        test.play(rt, &mut node);
+    }
+}
+
+fn is_cut(rt: &impl Abort, node: &mut impl Joins) {
+    if !node.is_born() {
+        return;
+    }
+    let (phase, record, _, _) = node.stands();
+    assert_eq!(rt; phase, Phase::Born);
+    assert!(rt; record.seq == 2 && record.bd == 1 && record.stamp == Some(7));
+    node.lose_connection();
+    let (phase, _, lost, kept) = node.stands();
+    assert_eq!(rt; phase, Phase::Idle);
+    assert!(rt; lost == 0 && kept == 0);
 }
 
 #[test]
 fn an_edge_node_is_cut(rt: HostRuntime) {
-    let Some(mut node) = node(rt.alloc()) else {
-        return;
-    };
-    assert_eq!(rt; node.phase(), Phase::Born);
-    let record = node.record();
-    assert!(rt; record.seq == 2 && record.bd == 1 && record.stamp == Some(7));
-    node.cut();
-    assert_eq!(rt; node.phase(), Phase::Idle);
-    assert!(rt; node.lost() == 0 && node.kept() == 0);
+    play_on(&rt, Test::Cut);
 }
 
-/// A node, and the text that its second metric has.
-fn node_and_text(alloc: Global) -> Option<(EdgeNode, Option<Value>)> {
-    let text = Value::Words(String::from_str(alloc, "on").ok()?);
-    Some((node(alloc)?, Some(text)))
+/// The text that a node's second metric has.
+fn text(alloc: Global) -> Option<Value> {
+    Some(Value::Words(String::from_str(alloc, "on").ok()?))
+}
+
+fn is_the_same(rt: &(impl Abort + AllocGlobal), node: &mut impl Joins) {
+    let Some(text) = text(rt.alloc()) else {
+        return;
+    };
+    if node.is_born() {
+        assert!(rt; node.sends_nothing_for(&Some(text)));
+        assert!(rt; node.drains_nothing());
+    }
 }
 
 #[test]
 fn a_text_that_is_there_already_isnt_copied(rt: HostRuntime) {
-    let Some((mut node, text)) = node_and_text(rt.alloc()) else {
-        return;
-    };
-    let same = node.change(8, 2, &text);
-    assert!(rt; same.is_ok_and(|out| out.packets.is_empty()));
-    let drained = node.drain(9);
-    assert!(rt; drained.is_ok_and(|out| out.packets.is_empty()));
+    play_on(&rt, Test::Same);
 }
 
 fn host_config(alloc: Global) -> Option<HostConfig> {
@@ -83,22 +153,54 @@ fn host_config(alloc: Global) -> Option<HostConfig> {
     })
 }
 
-/// A host within its first session.
+/// What the tests ask of a host.
+trait Hosts {
+    fn begins(&mut self) -> bool;
+
+    fn ends(&mut self);
+
+    fn knows_nothing(&self) -> bool;
+
+    fn ticks_in_vain(&mut self) -> bool;
+}
+
+impl Hosts for Host {
+    fn begins(&mut self) -> bool {
+        self.connected(0).is_ok()
+    }
+
+    fn ends(&mut self) {
+        self.ended();
+    }
+
+    fn knows_nothing(&self) -> bool {
+        self.nodes().is_empty()
+            && self.view("G", "N").is_none()
+            && self.phase("G", "N") == spk_sequence::Phase::Unknown
+    }
+
+    fn ticks_in_vain(&mut self) -> bool {
+        matches!(self.tick(5), Err(HostFault::WrongPhase))
+    }
+}
+
 fn host(alloc: Global) -> Option<Host> {
-    let mut host = Host::new(alloc, host_config(alloc)?).ok()?;
-    let _sent = host.connected(0).ok()?;
-    Some(host)
+    Host::new(alloc, host_config(alloc)?).ok()
+}
+
+fn ends_its_session(rt: &impl Abort, host: &mut impl Hosts) {
+    if host.begins() {
+        host.ends();
+        assert!(rt; host.knows_nothing());
+        assert!(rt; host.ticks_in_vain());
+    }
 }
 
 #[test]
 fn a_host_session_ends(rt: HostRuntime) {
-    let Some(mut host) = host(rt.alloc()) else {
-        return;
-    };
-    host.ended();
-    assert!(rt; host.nodes().is_empty() && host.view("G", "N").is_none());
-    assert_eq!(rt; host.phase("G", "N"), spk_sequence::Phase::Unknown);
-    assert!(rt; matches!(host.tick(5), Err(HostFault::WrongPhase)));
+    if let Some(mut host) = host(rt.alloc()) {
+        ends_its_session(&rt, &mut host);
+    }
 }
 
 /// The host H0, which begins its session at 0.
@@ -110,43 +212,77 @@ fn world(alloc: Global) -> Option<World> {
     World::new(alloc, nodes, hosts).ok()
 }
 
+/// What the tests ask of a world.
+trait Worlds {
+    fn is_done(&mut self, event: &Event) -> bool;
+
+    fn published(&self, node: usize) -> Option<usize>;
+
+    fn consumed(&self, host: usize, node: usize) -> Option<usize>;
+
+    fn has_host(&self, host: usize) -> bool;
+
+    fn shows(&self, host: usize, node: &str) -> Option<bool>;
+}
+
+impl Worlds for World {
+    fn is_done(&mut self, event: &Event) -> bool {
+        self.step(event).is_ok()
+    }
+
+    fn published(&self, node: usize) -> Option<usize> {
+        World::published(self, node).map(|list| list.len())
+    }
+
+    fn consumed(&self, host: usize, node: usize) -> Option<usize> {
+        World::consumed(self, host, node).map(|list| list.len())
+    }
+
+    fn has_host(&self, host: usize) -> bool {
+        self.host(host).is_some()
+    }
+
+    /// Whether a host shows a node's `t`; none where there is no such host, or it knows no such node.
+    fn shows(&self, host: usize, node: &str) -> Option<bool> {
+        let view = self.host(host)?.view("G", node)?;
+        Some(view.metric("t").is_some())
+    }
+}
+
 /// The birth was handed to the host, and the change behind it wasn't.
-fn run(alloc: Global) -> Option<World> {
+fn runs(world: &mut impl Worlds) -> bool {
     let (host, node) = (0, 0);
-    let mut world = world(alloc)?;
-    let _done = world.step(&Event::Open { node, now: 5 }).ok()?;
-    let _done = world.step(&Event::Accepted { node, now: 6 }).ok()?;
     let change = Event::Set {
         node,
         now: 7,
         alias: 1,
         value: Some(Value::Signed(8)),
     };
-    let _done = world.step(&change).ok()?;
     let hand = Event::Hand {
         host,
         node,
         position: 0,
         now: 8,
     };
-    let _done = world.step(&hand).ok()?;
-    Some(world)
+    world.is_done(&Event::Open { node, now: 5 })
+        && world.is_done(&Event::Accepted { node, now: 6 })
+        && world.is_done(&change)
+        && world.is_done(&hand)
+}
+
+fn looks_at(rt: &impl Abort, world: &mut impl Worlds) {
+    if runs(world) {
+        assert!(rt; world.published(0) == Some(2) && world.published(1).is_none());
+        assert!(rt; world.consumed(0, 0) == Some(1) && world.consumed(1, 0).is_none());
+        assert!(rt; world.has_host(0) && !world.has_host(1));
+        assert!(rt; world.shows(0, "N") == Some(true));
+        assert!(rt; world.shows(0, "M").is_none());
+    }
 }
 
 #[test]
 fn a_world_is_looked_at(rt: HostRuntime) {
-    let Some(world) = run(rt.alloc()) else {
-        return;
-    };
-    assert_eq!(rt; world.published(0).map(|list| list.len()), Some(2));
-    assert_eq!(rt; world.consumed(0, 0).map(|list| list.len()), Some(1));
-    assert!(rt; world.published(1).is_none() && world.consumed(1, 0).is_none());
-    assert!(rt; world.host(1).is_none());
-    let Some(host) = world.host(0) else {
-        assert!(rt; false);
-        return;
-    };
-    assert!(rt; host.view("G", "M").is_none());
-    let shown = host.view("G", "N").and_then(|view| view.metric("t"));
-    assert!(rt; shown.is_some());
+    if let Some(mut world) = world(rt.alloc()) {
+        looks_at(&rt, &mut world);
+    }
 }
