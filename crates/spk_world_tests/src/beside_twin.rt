@@ -1,6 +1,7 @@
 //! Long runs of three nodes and two hosts beside a second, plain telling of the rules. Node 0 runs on, node 1 runs on and
 //! has a primary host, node 2's numbers restart. Each has the metrics `t`, `s` and `f` (aliases 1 to 3), and the device D
 //! with its own `t` (alias 4).
+use crate::acts::{Plays, Registers, config, host, text};
 use crate::twin::{Hearer, Pair, Source, Twin};
 use spk_device::{Owner, Registry};
 use spk_edge::{EdgeConfig, EdgeFault, Numbering};
@@ -10,7 +11,6 @@ use spk_sequence::{Match, Step, Width};
 use spk_world::{Consumed, Done, Event, Published, World, WorldFault};
 use std::alloc::Global;
 use std::process::Abort;
-use std::test::Fail;
 
 /// How many nodes and hosts there are.
 const NODES: usize = 3;
@@ -40,65 +40,57 @@ impl Dice {
     }
 }
 
-/// A text. Where memory was refused it is made again.
-fn text(alloc: Global, words: &str) -> Option<String> {
-    match String::from_str(alloc, words) {
-        Ok(text) => Some(text),
-        Err(_) => String::from_str(alloc, words).ok(),
-    }
+/// The metrics and the device.
+fn fill(registry: &mut impl Registers) -> Option<()> {
+    registry.put_metric(Owner::Node, "t", 3, None)?;
+    registry.put_metric(Owner::Node, "s", 12, None)?;
+    registry.put_metric(Owner::Node, "f", 11, None)?;
+    registry.put_device("D")?;
+    registry.put_metric(Owner::Device(0), "t", 3, None)
 }
 
 fn registry(alloc: Global) -> Option<Registry> {
     let mut registry = Registry::new(alloc);
-    let _first = registry.add_metric(Owner::Node, "t", 3, None).ok()?;
-    let _second = registry.add_metric(Owner::Node, "s", 12, None).ok()?;
-    let _third = registry.add_metric(Owner::Node, "f", 11, None).ok()?;
-    registry.add_device("D").ok()?;
-    let _fourth = registry.add_metric(Owner::Device(0), "t", 3, None).ok()?;
+    fill(&mut registry)?;
     Some(registry)
 }
 
-fn config(
-    alloc: Global,
-    node: &str,
-    primary: Option<String>,
-    numbering: Numbering,
-) -> Option<EdgeConfig> {
-    Some(EdgeConfig {
-        group: text(alloc, "G")?,
-        node: text(alloc, node)?,
-        primary,
-        keep: 0,
-        capacity: 3,
-        numbering,
-    })
-}
+/// A node's name, its primary host and its numbering.
+type Node = (&'static str, Option<&'static str>, Numbering);
 
-fn host(alloc: Global, name: &str, wait: u64, width: Width) -> Option<HostConfig> {
-    Some(HostConfig {
-        name: text(alloc, name)?,
-        group: text(alloc, "G")?,
-        wait,
-        keep: 0,
-        width,
-    })
+fn made(alloc: Global, node: Node) -> Option<(EdgeConfig, Registry)> {
+    let config = config(alloc, node.0, node.1, node.2)?;
+    let registry = registry(alloc)?;
+    Some((config, registry))
 }
 
 const WAITS: [u64; HOSTS] = [150, 1_500];
 
+static EDGES: [Node; NODES] = [
+    ("A", None, Numbering::RunsOn),
+    ("B", Some("H0"), Numbering::RunsOn),
+    ("C", None, Numbering::Restarts),
+];
+
+fn nodes(alloc: Global) -> Option<Vec<(EdgeConfig, Registry)>> {
+    let mut nodes = Vec::new(alloc);
+    for node in EDGES {
+        nodes.push(made(alloc, node)?).ok()?;
+    }
+    Some(nodes)
+}
+
+fn hosts(alloc: Global, width: Width) -> Option<Vec<HostConfig>> {
+    let mut hosts = Vec::new(alloc);
+    for (name, wait) in [("H0", WAITS[0]), ("H1", WAITS[1])] {
+        hosts.push(host(alloc, name, wait, width)?).ok()?;
+    }
+    Some(hosts)
+}
+
 fn world(alloc: Global, width: Width) -> Option<World> {
-    let primary = Some(text(alloc, "H0")?);
-    let first = config(alloc, "A", None, Numbering::RunsOn)?;
-    let second = config(alloc, "B", primary, Numbering::RunsOn)?;
-    let third = config(alloc, "C", None, Numbering::Restarts)?;
-    let mut nodes = Vec::with_capacity(alloc, NODES).ok()?;
-    nodes.push((first, registry(alloc)?)).ok()?;
-    nodes.push((second, registry(alloc)?)).ok()?;
-    nodes.push((third, registry(alloc)?)).ok()?;
-    let mut hosts = Vec::with_capacity(alloc, HOSTS).ok()?;
-    hosts.push(host(alloc, "H0", WAITS[0], width)?).ok()?;
-    hosts.push(host(alloc, "H1", WAITS[1], width)?).ok()?;
-    World::new(alloc, nodes, hosts).ok()
+    let nodes = nodes(alloc)?;
+    World::new(alloc, nodes, hosts(alloc, width)?).ok()
 }
 
 fn twin(alloc: Global, width: u64) -> Option<Twin> {
@@ -316,20 +308,16 @@ fn told_node(event: &Event) -> Option<(usize, bool)> {
     }
 }
 
-fn sent_by(world: &World, node: usize) -> &[Published] {
-    world.published(node).unwrap_or(&[])
-}
-
 /// An event of a node: its answer is the count of what was published since, and the twin hears it.
 fn assert_told(
     rt: &impl Abort,
-    world: &World,
+    world: &impl Plays,
     twin: &mut Twin,
     answer: Result<Done, WorldFault>,
     node: usize,
     opens: bool,
 ) {
-    let published = sent_by(world, node);
+    let published = world.sent_by(node);
     let before = twin.nodes.get(node).map_or(0, |source| source.sent.len());
     let added = published.len().saturating_sub(before);
     match answer {
@@ -349,27 +337,44 @@ fn assert_told(
     }
 }
 
-/// What a host consumed is at the positions that the twin says, and is what was published there.
-fn assert_consumed(rt: &impl Abort, consumed: &[Consumed], published: &[Published], pair: &Pair) {
-    assert_eq!(rt; consumed.len(), pair.consumed.len());
-    for (message, position) in consumed.iter().zip(pair.consumed.iter()) {
-        assert_eq!(rt; message.position, *position);
-        let is_same = match published.get(message.position as usize) {
-            Some(sent) => sent.topic == message.topic && sent.payload == message.payload,
-            None => false,
-        };
-        assert!(rt; is_same, "at {position}");
+/// A message that was consumed is at a position, and is what was published there.
+fn is_at(message: &Consumed, published: &[Published], position: u64) -> bool {
+    match published.get(position as usize) {
+        Some(sent) => message.position == position
+            && sent.topic == message.topic
+            && sent.payload == message.payload,
+        None => false,
     }
 }
 
-fn assert_all_consumed(rt: &impl Abort, world: &World, twin: &Twin) {
+/// What a host consumed is at the positions that the twin says, and is what was published there.
+fn are_at(consumed: &[Consumed], published: &[Published], positions: &[u64]) -> bool {
+    for (message, position) in consumed.iter().zip(positions) {
+        if !is_at(message, published, *position) {
+            return false;
+        }
+    }
+    consumed.len() == positions.len()
+}
+
+/// What a host consumed of a node is what the twin says, and is a prefix of each birth.
+fn is_consumed(world: &impl Plays, twin: &Twin, host: usize, node: usize) -> bool {
+    match (twin.pair(host, node), twin.nodes.get(node)) {
+        (Some(pair), Some(source)) => {
+            let (consumed, published) = (world.heard_by(host, node), world.sent_by(node));
+            are_at(consumed, published, pair.consumed.as_slice()) && pair.are_prefixes(source)
+        }
+        _ => false,
+    }
+}
+
+fn assert_all_consumed(rt: &impl Abort, world: &impl Plays, twin: &Twin) {
     for host in 0..HOSTS {
         for node in 0..NODES {
-            if let (Some(pair), Some(source)) = (twin.pair(host, node), twin.nodes.get(node)) {
-                let consumed = world.consumed(host, node).unwrap_or(&[]);
-                assert_consumed(rt, consumed, sent_by(world, node), pair);
-                assert!(rt; pair.are_prefixes(source));
-            }
+            assert!(rt;
+                is_consumed(world, twin, host, node),
+                "of {host} and {node}"
+            );
         }
     }
 }
@@ -437,12 +442,12 @@ fn count(counts: &mut [u64; SORTS], event: &Event, answer: Result<Done, WorldFau
 /// One event is done by the world and by the twin, and their answers are the same.
 fn assert_step(
     rt: &impl Abort,
-    world: &mut World,
+    world: &mut impl Plays,
     twin: &mut Twin,
     event: &Event,
 ) -> Result<Done, WorldFault> {
-    let answer = match world.step(event) {
-        Err(WorldFault::NoMemory) => world.step(event),
+    let answer = match world.tell(event) {
+        Err(WorldFault::NoMemory) => world.tell(event),
         answer => answer,
     };
     if let Some(wanted) = twin.answer(event) {
@@ -466,42 +471,67 @@ fn assert_counted(rt: &impl Abort, counts: &[u64; SORTS], width: u64) {
     }
 }
 
-/// A run at a width.
-fn run(rt: &(impl Abort + AllocGlobal), places: u8, seed: u64) -> Result<(), Fail> {
-    let width = Width::new(places).ok_or("width")?;
-    let mut world = match world(rt.alloc(), width) {
-        Some(world) => world,
-        None => world(rt.alloc(), width).ok_or("a world")?,
-    };
-    let mut twin = match twin(rt.alloc(), u64::from(places)) {
-        Some(twin) => twin,
-        None => twin(rt.alloc(), u64::from(places)).ok_or("a twin")?,
-    };
+/// A turn of both.
+fn turn(
+    rt: &(impl Abort + AllocGlobal),
+    world: &mut impl Plays,
+    twin: &mut Twin,
+    dice: &mut Dice,
+    counts: &mut [u64; SORTS],
+    turn: u64,
+) {
+    let event = event_of(rt.alloc(), dice, twin, turn).expect(rt, "an event");
+    let answer = assert_step(rt, world, twin, &event);
+    count(counts, &event, answer);
+    if turn % 100 == 99 {
+        assert_all_consumed(rt, world, twin);
+    }
+}
+
+/// All turns.
+fn play(rt: &(impl Abort + AllocGlobal), world: &mut impl Plays, twin: &mut Twin, seed: u64) {
     let mut dice = Dice { seed };
     let mut counts = [0u64; SORTS];
-    for turn in 0..EVENTS {
-        let event = event_of(rt.alloc(), &mut dice, &twin, turn).ok_or("an event")?;
-        let answer = assert_step(rt, &mut world, &mut twin, &event);
-        count(&mut counts, &event, answer);
-        if turn % 100 == 99 {
-            assert_all_consumed(rt, &world, &twin);
-        }
+    for place in 0..EVENTS {
+        turn(rt, world, twin, &mut dice, &mut counts, place);
     }
-    assert_counted(rt, &counts, u64::from(places));
-    Ok(())
+    assert_counted(rt, &counts, twin.width);
+}
+
+/// A world. Where memory was refused it is made again.
+fn new_world(rt: &(impl Abort + AllocGlobal), width: Width) -> World {
+    match world(rt.alloc(), width) {
+        Some(world) => world,
+        None => world(rt.alloc(), width).expect(rt, "memory is there again"),
+    }
+}
+
+/// A twin. Where memory was refused it is made again.
+fn new_twin(rt: &(impl Abort + AllocGlobal), width: u64) -> Twin {
+    match twin(rt.alloc(), width) {
+        Some(twin) => twin,
+        None => twin(rt.alloc(), width).expect(rt, "memory is there again"),
+    }
+}
+
+/// A run at a width.
+fn run(rt: &(impl Abort + AllocGlobal), places: u8, seed: u64) {
+    let width = Width::new(places).expect(rt, "a width");
+    let mut twin = new_twin(rt, u64::from(places));
+    play(rt, &mut new_world(rt, width), &mut twin, seed);
 }
 
 #[test]
-fn a_long_run_at_width_1_is_as_it_is_told_a_second_time(rt: HostRuntime) -> Result<(), Fail> {
-    run(&rt, 1, 2)
+fn a_long_run_at_width_1_is_as_it_is_told_a_second_time(rt: HostRuntime) {
+    run(&rt, 1, 2);
 }
 
 #[test]
-fn a_long_run_at_width_64_is_as_it_is_told_a_second_time(rt: HostRuntime) -> Result<(), Fail> {
-    run(&rt, 64, 1)
+fn a_long_run_at_width_64_is_as_it_is_told_a_second_time(rt: HostRuntime) {
+    run(&rt, 64, 1);
 }
 
 #[test]
-fn a_long_run_at_width_96_is_as_it_is_told_a_second_time(rt: HostRuntime) -> Result<(), Fail> {
-    run(&rt, 96, 3)
+fn a_long_run_at_width_96_is_as_it_is_told_a_second_time(rt: HostRuntime) {
+    run(&rt, 96, 3);
 }
