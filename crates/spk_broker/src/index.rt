@@ -1,5 +1,5 @@
 //! The index of grants: whom a message may concern.
-ghost use Rattle.std.specs.Prelude.{◌≡◌, ◌≤◌, ℕ, List, IfSome, OnOk, None, Some, is_some, true, string_bytes};
+ghost use Rattle.std.specs.Prelude.{◌≡◌, ◌≤◌, ℕ, List, IfSome, OnOk, None, Some, false, is_some, true, string_bytes};
 ghost use Rattle.std.specs.List.{flat_map};
 ghost use Rattle.std.specs.FinMap as finite;
 ghost use Rattle.spk_packets.specs.View.{view};
@@ -128,8 +128,8 @@ impl Seat {
     }
 }
 
-/// The index for what this packet does: none where it may change grants, and a new one where enough publishes went
-/// without.
+/// The index for what this packet does: none where it may change grants, else the one that there is, and a new one where
+/// enough publishes went without.
 pub(crate) fn next_index(
     tree: Option<Tree>,
     desk: &Desk,
@@ -139,6 +139,7 @@ pub(crate) fn next_index(
     requires { IsIndex tree (desk_now desk.now).seats }
     ensures index { IsIndex result (desk_now desk.now).seats }
     ensures dropped { regrants (view packet.now) ≡ true → result ≡ None }
+    ensures kept { regrants (view packet.now) ≡ false → is_some tree ≡ true → result ≡ tree }
 {
     match packet {
         Packet::Subscribe { .. } | Packet::Unsubscribe { .. } => {
