@@ -1,6 +1,6 @@
 //! Commands with a value of each datatype, as Sparkplug 3.0.0 (6.4.16) writes it in a payload.
 use crate::command::commanded;
-use crate::node::{Call, FIRST, PLAIN, Plays, again, config, told};
+use crate::node::{Call, FIRST, PLAIN, Plays, config, told};
 use spk_device::{DeviceFault, Owner, Registry};
 use spk_edge::{EdgeFault, EdgeNode, Out, Write};
 use spk_payload::Value;
@@ -170,9 +170,15 @@ fn made(
     )
 }
 
-/// A node of one metric.
+/// A node of one metric. Where memory was refused it is made again.
 fn node(rt: &(impl Abort + AllocGlobal), owner: Owner, datatype: u32) -> EdgeNode {
-    again(rt, made(rt, owner, datatype), || made(rt, owner, datatype))
+    match made(rt, owner, datatype) {
+        Ok(node) => node,
+        Err(fault) => {
+            assert_eq!(rt; fault, EdgeFault::NoMemory);
+            made(rt, owner, datatype).expect(rt, "memory is there again")
+        }
+    }
 }
 
 /// Whether one value was written, and it is this one.

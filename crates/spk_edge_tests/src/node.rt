@@ -16,18 +16,6 @@ pub(crate) fn text(rt: &(impl Abort + AllocGlobal), words: &str) -> String {
     }
 }
 
-/// The first answer, or where memory was refused the second one.
-pub(crate) fn again<T>(
-    rt: &impl Abort,
-    first: Result<T, EdgeFault>,
-    second: impl FnOnce() -> Result<T, EdgeFault>,
-) -> T {
-    match first {
-        Err(EdgeFault::NoMemory) => second().expect(rt, "memory is there again"),
-        answer => answer.expect(rt, "a node"),
-    }
-}
-
 /// What registries are made of. Where memory was refused a call is made again.
 trait Registers {
     fn metric(&mut self, owner: Owner, value: i64) -> Result<Alias, DeviceFault>;
@@ -134,7 +122,13 @@ fn made(rt: &(impl Abort + AllocGlobal), kind: Kind<'_>) -> Result<EdgeNode, Edg
 
 /// A node. Where memory was refused it is made again.
 fn node(rt: &(impl Abort + AllocGlobal), kind: Kind<'_>) -> EdgeNode {
-    again(rt, made(rt, kind), || made(rt, kind))
+    match made(rt, kind) {
+        Ok(node) => node,
+        Err(fault) => {
+            assert_eq!(rt; fault, EdgeFault::NoMemory);
+            made(rt, kind).expect(rt, "memory is there again")
+        }
+    }
 }
 
 /// Makes a node, and has a test play on it. What holds a node itself stands here alone.
