@@ -1,5 +1,6 @@
 -- What the threads hand on, one edge after another, and what is tied after the joins.
-use Rattle.std.proofs.Common.{◌≡◌, ◌∙◌, inl, inr, ℕ, zero, suc, ◌+◌, List, [], ◌∷◌, ◌++◌, length, Option, Some, None, IfSome, option_to_list, refl, sym, ap, subst, arith, length-append, append-nil}
+use Rattle.std.proofs.Common.{◌≡◌, ◌∙◌, inl, inr, ℕ, zero, suc, ◌+◌, List, [], ◌∷◌, ◌++◌, length, map, Option, Some, None, IfSome, option_to_list, refl, sym, ap, subst, arith, length-append, append-nil}
+use Rattle.std.proofs.lemmas.List.{map-append}
 use Rattle.std.specs.List.{slice_get}
 use Rattle.spk_ingress.specs.Lanes.{share_of}
 use Rattle.spk_ingress.specs.Passes.{AllPutInto, AllTaken, PutsInto, frames_put, frames_taken}
@@ -15,7 +16,7 @@ use Rattle.spk_plant.specs.Done.{AllInto, AreApart, AreDone, AreReady, AreTheirs
 use Rattle.spk_plant.specs.Start.{HasAt}
 use Rattle.spk_plant.specs.declared.report.NodeReport.{NodeReport}
 use Rattle.spk_plant.specs.declared.report.Report.{Report}
-use Rattle.spk_plant.specs.declared.threads.Ends.{Ends}
+use Rattle.spk_plant.specs.declared.choice.Ends.{Ends}
 use Rattle.spk_plant.proofs.Places.{get_last, get_more, get_parts, has_last, has_more}
 
 -- ---- the edges' threads
@@ -110,6 +111,7 @@ apart_snoc es ts rs ps e t r p tokens own report front all =
             let place : length ts ≡ k = tokens ∙ sym last.0 in
             subst (λ j. HasAt (Option Token) (IsFrontOf x) (ts ++ t ∷ []) j) place (has_last (IsFrontOf x) ts t (subst (λ y. IsFrontOf y t) (sym last.1) front))
       ];
+      all = ap (λ xs. xs ++ p ∷ []) all.all ∙ (ap (λ x. map (λ (y : EdgeEnd). y.pass) es ++ x ∷ []) (sym own) ∙ sym (map-append (λ (y : EdgeEnd). y.pass) es (e ∷ [])));
     }
 
 pub apart_push : (es fs : List EdgeEnd) (ts us : List (Option Token)) (rs qs : List NodeReport) (ps ws : List PutPass) (e : EdgeEnd) (t : Option Token) (r : NodeReport) (p : PutPass)

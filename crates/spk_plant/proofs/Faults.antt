@@ -4,11 +4,7 @@ use Rattle.spk_plan.specs.declared.plan.Plan.{Plan}
 use Rattle.spk_plan.specs.declared.fault.PlantFault.{PlantFault}
 use Rattle.spk_plan.specs.declared.fault.PlantFault.TheVariants as fault
 use Rattle.spk_plan_rules.specs.Plan.{AreEdges, CanRun}
-use Rattle.spk_plant.specs.Report.{IsFault}
-
-is_bad : PlantFault → Type 0
-is_bad fault.BadPlan = Unit {0}
-is_bad _ = ⊥
+use Rattle.spk_plant.specs.Choice.{IsRefused}
 
 edges_at : (p : Plan) (group host : List ℕ) → group ≡ string_bytes p.group → host ≡ string_bytes p.host → CanRun p → AreEdges group host p.nodes.items
 edges_at p group host g h can =
@@ -16,16 +12,8 @@ edges_at p group host g h can =
 
 -- memory was refused, or no edge nodes can be made of these names
 pub no_edges : (p : Plan) (e : PlantFault) (group host : List ℕ) → group ≡ string_bytes p.group → host ≡ string_bytes p.host
-    → (e ≡ fault.NoMemory) ⊎ ((e ≡ fault.BadPlan) × (AreEdges group host p.nodes.items → ⊥)) → IsFault p e
-unfolding is_bad
-no_edges p e group host g h why =
-    record {
-      bad = λ is can. elim why [
-        | inl memory ↦ subst is_bad memory (subst is_bad (sym is) tt)
-        | inr wrong ↦ wrong.1 (edges_at p group host g h can)
-      ];
-      only = λ _. elim why [
-        | inl memory ↦ inr memory
-        | inr wrong ↦ inl wrong.0
-      ];
-    }
+    → (e ≡ fault.NoMemory) ⊎ ((e ≡ fault.BadPlan) × (AreEdges group host p.nodes.items → ⊥)) → IsRefused p e
+no_edges p e group host g h why = elim why [
+  | inl memory ↦ inl memory
+  | inr wrong ↦ inr (wrong.0, λ can. wrong.1 (edges_at p group host g h can))
+]

@@ -40,7 +40,7 @@ use Rattle.spk_plant.specs.Report.{IsHost, IsLogged, IsNode, IsNodeAt, RunsAs}
 use Rattle.spk_plant.specs.Start.{AreParts, HasAt, IsPass, IsRing, IsStart}
 use Rattle.spk_plant.specs.declared.report.NodeReport.{NodeReport}
 use Rattle.spk_plant.specs.declared.report.Report.{Report}
-use Rattle.spk_plant.specs.declared.threads.Ends.{Ends}
+use Rattle.spk_plant.specs.declared.choice.Ends.{Ends}
 
 -- what a token holds is what its ring got
 pub token_gives : (os : List Outlet) (got : ℕ → List Item) (ts : List (Option Token)) (k : ℕ) (t : Option Token) (token : Token)
@@ -181,4 +181,7 @@ ties p n ss b h ends parts d =
       taker = d.broker.pass;
       into = λ k e at. (d.edges.each k e at).holds.into;
       pass = d.host.puts_into;
+      senders = parts.senders ∙ ap (λ m. m + 1) (sym size);
+      places = λ k e at. (d.edges.each k e at).holds.sender ∙ (parts.passes k (d.edges.each k e at).element (d.edges.each k e at).there).sender;
+      place = d.host.sender ∙ (parts.pass.sender ∙ sym size);
     }

@@ -1,5 +1,5 @@
 -- What the threads of a plant hand on when they are joined.
-use Rattle.std.specs.Prelude.{◌≡◌, ℕ, ◌+◌, List, [], ◌++◌, length, Option, Some}
+use Rattle.std.specs.Prelude.{◌≡◌, ℕ, ◌+◌, List, [], ◌++◌, length, map, Option, Some}
 use Rattle.std.specs.List.{slice_get}
 use Rattle.spk_edge.specs.Along.{node_of}
 use Rattle.spk_edge_rules.specs.Config.{Setup}
@@ -21,7 +21,7 @@ use Rattle.spk_plant.specs.declared.report.Report.{Report}
 use Rattle.spk_broker_body.specs.declared.part.BrokerStart.{BrokerStart}
 use Rattle.spk_host_body.specs.declared.ends.HostStart.{HostStart}
 use Rattle.spk_rings.specs.declared.inlet.Inlet.{Inlet}
-use Rattle.spk_plant.specs.declared.threads.Ends.{Ends}
+use Rattle.spk_plant.specs.declared.choice.Ends.{Ends}
 
 -- the pass may be used where the thread begins
 abbrev pub AreReady : Ingress → List EdgeStart → Type 0
@@ -57,7 +57,7 @@ AreTheirs es ts = (k : ℕ) (e : EdgeEnd) (t : Token) → slice_get es k ≡ Som
 abbrev pub AllInto : Ingress → List EdgeEnd → Type 0
 AllInto n es = (k : ℕ) (e : EdgeEnd) → slice_get es k ≡ Some e → PutsInto n e.pass
 
--- passes and tokens are of this ingress and of these rings
+-- passes and tokens are of this ingress and of these rings, and each sender has its pass
 pub record AreTied (n : Ingress) (ends : Ends) : Type 0 where
   pub sized : length ends.broker.tokens.items ≡ length ends.edges.items + 1
   pub tokens : AreTheirs ends.edges.items ends.broker.tokens.items
@@ -65,6 +65,9 @@ pub record AreTied (n : Ingress) (ends : Ends) : Type 0 where
   pub taker : TakesFrom n ends.broker.pass
   pub into : AllInto n ends.edges.items
   pub pass : PutsInto n ends.host.pass
+  pub senders : n.senders ≡ length ends.edges.items + 1
+  pub places : (k : ℕ) (e : EdgeEnd) → slice_get ends.edges.items k ≡ Some e → e.pass.sender ≡ k
+  pub place : ends.host.pass.sender ≡ length ends.edges.items
 
 -- what was taken out of a ring is a front of what it got
 pub record IsFrontOf (e : EdgeEnd) (t : Option Token) : Type 0 where
@@ -85,6 +88,7 @@ pub record AreApart (es : List EdgeEnd) (ts : List (Option Token)) (rs : List No
   pub passes : (k : ℕ) (e : EdgeEnd) → slice_get es k ≡ Some e → slice_get ps k ≡ Some e.pass
   pub owners : (k : ℕ) (p : PutPass) → slice_get ps k ≡ Some p → HasAt EdgeEnd (λ e. e.pass ≡ p) es k
   pub fronts : (k : ℕ) (e : EdgeEnd) → slice_get es k ≡ Some e → HasAt (Option Token) (IsFrontOf e) ts k
+  pub all : ps ≡ map (λ (e : EdgeEnd). e.pass) es
 
 -- the host's ring is empty: what was taken out is what it got
 pub record IsAllOf (i : Inlet) (t : Option Token) : Type 0 where

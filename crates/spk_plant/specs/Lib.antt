@@ -1,3 +1,4 @@
 pub mod Start
 pub mod Done
 pub mod Report
+pub mod Choice

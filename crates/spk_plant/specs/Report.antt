@@ -1,5 +1,5 @@
 -- What a report of a plant says: a log of its broker, and of each thread what it did along it (own rules).
-use Rattle.std.specs.Prelude.{◌≡◌, ◌⊎◌, ℕ, ◌+◌, ◌-◌, ◌*◌, ◌^◌, ◌<◌, true, List, [], ◌∷◌, ◌++◌, length, map, Some}
+use Rattle.std.specs.Prelude.{◌≡◌, ℕ, ◌+◌, ◌-◌, ◌*◌, ◌^◌, ◌<◌, true, List, [], ◌∷◌, ◌++◌, length, map, Some}
 use Rattle.std.specs.List.{AllByRecursion, slice_get}
 use Rattle.spk_edge.specs.Along.{AllWhole, messages_from}
 use Rattle.spk_edge.specs.View.{message_view}
@@ -10,8 +10,6 @@ use Rattle.spk_ingress.specs.declared.frame.Frame.{Frame}
 use Rattle.spk_ingress.specs.declared.frame.Frame.TheVariants as frame
 use Rattle.spk_ingress.specs.declared.rule.Message.{Message}
 use Rattle.spk_rings.specs.declared.item.Item.{Item}
-use Rattle.spk_plan.specs.declared.fault.PlantFault.{PlantFault}
-use Rattle.spk_plan.specs.declared.fault.PlantFault.TheVariants as fault
 use Rattle.spk_plan.specs.declared.plan.Plan.{Plan}
 use Rattle.spk_plan.specs.declared.plan.PlanNode.{PlanNode}
 use Rattle.spk_plan.specs.declared.script.Step.{Step}
@@ -29,7 +27,7 @@ use Rattle.spk_host_body.specs.Calls.{packets_of}
 use Rattle.spk_host_body.specs.Told.{AreToldBy, calls_of, consumed_by, consumptions, heard_in, told_in}
 use Rattle.spk_host_body.specs.declared.ends.Given.{Given}
 use Rattle.spk_plant.specs.Done.{IsFront}
-use Rattle.spk_plan_rules.specs.Plan.{CanRun, host_in, setup_in}
+use Rattle.spk_plan_rules.specs.Plan.{host_in, setup_in}
 use Rattle.spk_plant.specs.Start.{HasAt}
 use Rattle.spk_plant.specs.declared.report.NodeReport.{NodeReport}
 use Rattle.spk_plant.specs.declared.report.Report.{Report}
@@ -88,8 +86,3 @@ pub record RunsAs (p : Plan) (r : Report) : Type 0 where
   pub sized : length r.nodes.items ≡ length p.nodes.items
   pub nodes : (k : ℕ) (x : NodeReport) → slice_get r.nodes.items k ≡ Some x → IsNodeAt p log k x
   pub host : IsHost (host_in p) (share_of (length p.nodes.items) (taken_of log)) (got_of (length p.nodes.items) log) r.given.items
-
--- Why there is no report: BadPlan exactly where the plan can't run, unless memory was refused before.
-pub record IsFault (p : Plan) (e : PlantFault) : Type 0 where
-  pub bad : e ≡ fault.BadPlan → CanRun p → ⊥
-  pub only : (CanRun p → ⊥) → (e ≡ fault.BadPlan) ⊎ (e ≡ fault.NoMemory)

@@ -2,6 +2,7 @@
 //! the report of what they did. No standard speaks of a plant (own rule).
 #![tactic(auto)]
 
+mod choice;
 mod plant;
 mod report;
 mod start;

@@ -1,7 +1,8 @@
 //! A plant, from its plan to its report.
 ghost use Rattle.std.specs.Prelude.{IfOk, IfErr, OnOk};
 ghost use Rattle.spk_plan_rules.specs.Plan.{CanRun, IsMade};
-ghost use Rattle.spk_plant.specs.Report.{IsFault, RunsAs};
+ghost use Rattle.spk_plant.specs.Choice.{IsFault};
+ghost use Rattle.spk_plant.specs.Report.{RunsAs};
 
 use crate::report::Report;
 use crate::start::{Parts, parts_of};
@@ -19,8 +20,10 @@ use std::thread::Threads;
 ///
 /// Refused with BadPlan (92) where there are no or over 16 nodes, two of one name, a node with over 200 `Open` steps or over 100,000
 /// changes, a ring outside 4 to 65,536, an ingress outside 1 to 65,536, or names and capacities of which no edge node or no host can
-/// be made; with NoMemory (1) where a growth was refused; with Closed (90) where the frames' taker or their senders are gone; and with
-/// Unsettled (93) where frames or packets are left at the end. Where the machine has no further thread, the plan may never end.
+/// be made; with NoMemory (1) where a growth was refused; with the fault of a thread that failed, Closed (90) where the frames' taker or
+/// their senders are gone, of several faults the broker's, else that of the first edge node in the plan's order, else the host's; and with
+/// Unsettled (93) where all threads ran to their ends and a ring's token isn't there, the host's ring isn't empty, or frames weren't
+/// taken. Where the machine has no further thread, the plan may never end.
 pub fn run_plant<R: Threads + Wait + Sync, G: Gate + Sync>(
     rt: &R,
     alloc: Global,

@@ -7,7 +7,7 @@ ghost use Rattle.spk_host.specs.Inputs.{new_host};
 ghost use Rattle.spk_host_session.specs.Data as host_names;
 ghost use Rattle.spk_rings.specs.Ring.{IsCapacity};
 ghost use Rattle.spk_plan_rules.specs.Plan.{AreEdges, CanRun, edge_setup, host_config, is_edge};
-ghost use Rattle.spk_plant.specs.Report.{IsFault};
+ghost use Rattle.spk_plant.specs.Choice.{IsRefused};
 ghost use Rattle.spk_plant.specs.Start.{AreParts, AreRings, AreStarts, IsRing, IsStart};
 
 use spk_broker_body::BrokerStart;
@@ -191,11 +191,11 @@ fn host_of(
     Ok(host)
 }
 
-/// What all threads of a plan begin with.
+/// What all threads of a plan begin with. BadPlan (92) only where it can't run.
 pub(crate) fn parts_of<R: Wait>(rt: &R, alloc: Global, plan: Plan) -> Result<Parts, PlantFault>
     ensures parts { IfOk result (λ r. AreParts plan r.ingress r.edges.items r.broker r.host) }
     ensures can { OnOk result (CanRun plan) }
-    ensures fault { IfErr result (IsFault plan) }
+    ensures fault { IfErr result (IsRefused plan) }
 {
     if !is_within(&plan) {
         return Err(PlantFault::BadPlan);

@@ -1,38 +1,22 @@
 //! The threads of a plant, started and joined.
-ghost use Rattle.std.specs.Prelude.{◌≡◌, ◌≢◌, ◌≤◌, ◌+◌, [], ◌∷◌, ◌++◌, length, IfOk, IfErr, IfSome, None};
+ghost use Rattle.std.specs.Prelude.{◌≡◌, ◌⊎◌, ◌≤◌, ◌+◌, [], ◌∷◌, ◌++◌, length, IfOk, IfErr, IfSome, None};
 ghost use Rattle.std.specs.Thread.{IsSync};
 ghost use Rattle.spk_ingress.specs.Passes.{PutsInto};
 ghost use Rattle.spk_broker_body.specs.Done.{BrokerDone, BrokerReady};
-ghost use Rattle.spk_host_body.specs.Ends.{HostDone, HostReady};
+ghost use Rattle.spk_edge_body.specs.Done.{EdgeFailed};
+ghost use Rattle.spk_host_body.specs.Ends.{HostBroke, HostDone, HostReady};
+ghost use Rattle.spk_plant.specs.Choice.{IsChosen, IsCommon, IsOfEdges};
 ghost use Rattle.spk_plant.specs.Done.{AllDone, AreDone, AreReady, IsEdgeDone};
 
+use crate::choice::{Ends, edges_of, ends_of};
 use spk_broker_body::{BrokerEnd, BrokerStart, run_broker};
-use spk_edge_body::{EdgeEnd, EdgeStart, run_edge};
-use spk_host_body::{HostEnd, HostStart, run_host};
+use spk_edge_body::{EdgeEnd, EdgeFailure, EdgeStart, run_edge};
+use spk_host_body::{HostEnd, HostFailed, HostStart, run_host};
 use spk_ingress::Ingress;
 use spk_plan::{Gate, PlantFault};
 use std::alloc::{AllocError, Global};
 use std::sync::Wait;
 use std::thread::{Parker, Threads, join};
-
-/// What the threads hand on at their ends.
-#[derive(Drop)]
-pub(crate) struct Ends {
-    pub(crate) edges: Vec<EdgeEnd>,
-    pub(crate) broker: BrokerEnd,
-    pub(crate) host: HostEnd,
-}
-
-/// The fault of a thread. It is never that the plan is none.
-fn fault_of(fault: PlantFault) -> PlantFault
-    ensures { result ≢ PlantFault.BadPlan }
-{
-    match fault {
-        PlantFault::NoMemory => PlantFault::NoMemory,
-        PlantFault::Closed => PlantFault::Closed,
-        PlantFault::BadPlan | PlantFault::Unsettled => PlantFault::Unsettled,
-    }
-}
 
 /// One edge's thread.
 fn one_edge<R: Wait, G: Gate>(
@@ -42,53 +26,12 @@ fn one_edge<R: Wait, G: Gate>(
     gate: &G,
     bell: &Parker,
     start: EdgeStart,
-) -> Result<EdgeEnd, PlantFault>
+) -> Result<EdgeEnd, EdgeFailure>
     requires { PutsInto ingress.now start.pass }
     ensures done { IfOk result (λ e. IsEdgeDone ingress.now start e) }
-    ensures fault { IfErr result (λ e. e ≢ PlantFault.BadPlan) }
+    ensures failed { IfErr result (EdgeFailed start) }
 {
-    match run_edge(rt, alloc, ingress, gate, bell, start) {
-        Ok(end) => Ok(end),
-        Err(failure) => Err(fault_of(failure.fault)),
-    }
-}
-
-/// The broker's thread.
-fn the_broker<R: Wait, G: Gate>(
-    rt: &R,
-    alloc: Global,
-    ingress: &Ingress,
-    gate: &G,
-    bells: &[Parker],
-    start: BrokerStart,
-) -> Result<BrokerEnd, PlantFault>
-    requires { BrokerReady ingress.now start }
-    ensures done { IfOk result (λ e. BrokerDone ingress.now start e) }
-    ensures fault { IfErr result (λ e. e ≢ PlantFault.BadPlan) }
-{
-    match run_broker(rt, alloc, ingress, gate, bells, start) {
-        Ok(end) => Ok(end),
-        Err(fault) => Err(fault_of(fault)),
-    }
-}
-
-/// The host's thread.
-fn the_host<R: Wait, G: Gate>(
-    rt: &R,
-    alloc: Global,
-    ingress: &Ingress,
-    gate: &G,
-    bell: &Parker,
-    start: HostStart,
-) -> Result<HostEnd, PlantFault>
-    requires { HostReady ingress.now start }
-    ensures done { IfOk result (λ e. HostDone ingress.now start e) }
-    ensures fault { IfErr result (λ e. e ≢ PlantFault.BadPlan) }
-{
-    match run_host(rt, alloc, ingress, gate, bell, start) {
-        Ok(end) => Ok(end),
-        Err(failed) => Err(fault_of(failed.fault)),
-    }
+    run_edge(rt, alloc, ingress, gate, bell, start)
 }
 
 /// So many bells, at which threads are parked while their rings are empty.
@@ -114,7 +57,8 @@ fn next_of(ingress: &Ingress, starts: &mut Vec<EdgeStart>) -> Option<EdgeStart>
     starts.pop()
 }
 
-/// The edges' threads: the last one's beside all others, which are run likewise. Each has the bell of its place.
+/// The edges' threads: the last one's beside all others, which are run likewise. Each has the bell of its place. Of several faults the
+/// first edge node's is answered.
 fn run_edges<R: Threads + Wait + Sync, G: Gate + Sync>(
     rt: &R,
     alloc: Global,
@@ -126,7 +70,7 @@ fn run_edges<R: Threads + Wait + Sync, G: Gate + Sync>(
     requires ready { AreReady ingress.now starts.items }
     requires bells { length starts.items ≤ length bells.now }
     ensures done { IfOk result (λ es. AreDone ingress.now starts.items es.items) }
-    ensures fault { IfErr result (λ e. e ≢ PlantFault.BadPlan) }
+    ensures fault { IfErr result (IsOfEdges ingress.now starts.items) }
 {
     let Some(start) = next_of(ingress, &mut starts) else {
         return Ok(Vec::new(alloc));
@@ -134,31 +78,23 @@ fn run_edges<R: Threads + Wait + Sync, G: Gate + Sync>(
     let bell = &bells[starts.len()];
     let (last, others) = join(
         rt,
-        move || -> Result<EdgeEnd, PlantFault>
+        move || -> Result<EdgeEnd, EdgeFailure>
             requires { PutsInto ingress.now start.pass }
             ensures done { IfOk result (λ e. IsEdgeDone ingress.entry.now start e) }
-            ensures fault { IfErr result (λ e. e ≢ PlantFault.BadPlan) }
+            ensures failed { IfErr result (EdgeFailed start) }
         { one_edge(rt, alloc, ingress, gate, bell, start) },
         move || -> Result<Vec<EdgeEnd>, PlantFault>
             requires { IsSync R.row × IsSync G.row × AreReady ingress.now starts.items
                 × (length starts.items ≤ length bells.now) }
             ensures done { IfOk result (λ es. AreDone ingress.entry.now starts.items es.items) }
-            ensures fault { IfErr result (λ e. e ≢ PlantFault.BadPlan) }
+            ensures fault { IfErr result (IsOfEdges ingress.entry.now starts.items) }
         { run_edges(rt, alloc, ingress, gate, bells, starts) },
     );
-    let last = match last {
-        Ok(last) => last,
-        Err(fault) => return Err(fault),
-    };
-    let mut ends = match others {
-        Ok(ends) => ends,
-        Err(fault) => return Err(fault),
-    };
-    ends.push(last)?;
-    Ok(ends)
+    edges_of(others, last)
 }
 
-/// All threads: the edges' beside the broker's and the host's. Of several faults the broker's is answered, else an edge's.
+/// All threads: the edges' beside the broker's and the host's. Of several faults the broker's is answered, else that of the first edge
+/// node, else the host's.
 pub(crate) fn run_all<R: Threads + Wait + Sync, G: Gate + Sync>(
     rt: &R,
     alloc: Global,
@@ -172,7 +108,8 @@ pub(crate) fn run_all<R: Threads + Wait + Sync, G: Gate + Sync>(
     requires broker { BrokerReady ingress.now broker }
     requires host { HostReady ingress.now host }
     ensures done { IfOk result (λ e. AllDone ingress.now edges.items broker host e) }
-    ensures fault { IfErr result (λ e. e ≢ PlantFault.BadPlan) }
+    ensures fault { IfErr result (λ e. (e ≡ PlantFault.NoMemory)
+        ⊎ IsChosen ingress.now edges.items broker host e) }
 {
     let bells = bells_of(alloc, edges.len() + 1)?;
     let bells = bells.as_slice();
@@ -183,32 +120,18 @@ pub(crate) fn run_all<R: Threads + Wait + Sync, G: Gate + Sync>(
             requires { IsSync R.row × IsSync G.row × AreReady ingress.now edges.items
                 × (length edges.items ≤ length bells.now) }
             ensures done { IfOk result (λ es. AreDone ingress.entry.now edges.items es.items) }
-            ensures fault { IfErr result (λ e. e ≢ PlantFault.BadPlan) }
+            ensures fault { IfErr result (IsOfEdges ingress.entry.now edges.items) }
         { run_edges(rt, alloc, ingress, gate, bells, edges) },
-        move || -> (Result<BrokerEnd, PlantFault>, Result<HostEnd, PlantFault>)
-            requires { IsSync R.row × IsSync G.row × BrokerReady ingress.now broker × HostReady ingress.now host }
+        move || -> (Result<BrokerEnd, PlantFault>, Result<HostEnd, HostFailed>)
+            requires { IsSync R.row × IsSync G.row × BrokerReady ingress.now broker
+                × HostReady ingress.now host }
             ensures broker { IfOk result.0 (λ e. BrokerDone ingress.entry.now broker e) }
             ensures host { IfOk result.1 (λ e. HostDone ingress.entry.now host e) }
-            ensures faults { IfErr result.0 (λ e. e ≢ PlantFault.BadPlan) × IfErr result.1 (λ e. e ≢ PlantFault.BadPlan) }
+            ensures broker_fault { IfErr result.0 IsCommon }
+            ensures host_fault { IfErr result.1 (HostBroke ingress.entry.now host) }
         { run_two(rt, alloc, ingress, gate, bells, bell, broker, host) },
     );
-    let broker = match broker {
-        Ok(broker) => broker,
-        Err(fault) => return Err(fault),
-    };
-    let edges = match edges {
-        Ok(edges) => edges,
-        Err(fault) => return Err(fault),
-    };
-    let host = match host {
-        Ok(host) => host,
-        Err(fault) => return Err(fault),
-    };
-    Ok(Ends {
-        edges,
-        broker,
-        host,
-    })
+    ends_of(broker, edges, host)
 }
 
 /// The broker's thread beside the host's, which has this bell.
@@ -221,24 +144,25 @@ fn run_two<R: Threads + Wait + Sync, G: Gate + Sync>(
     bell: &Parker,
     broker: BrokerStart,
     host: HostStart,
-) -> (Result<BrokerEnd, PlantFault>, Result<HostEnd, PlantFault>)
+) -> (Result<BrokerEnd, PlantFault>, Result<HostEnd, HostFailed>)
     requires broker { BrokerReady ingress.now broker }
     requires host { HostReady ingress.now host }
     ensures broker { IfOk result.0 (λ e. BrokerDone ingress.now broker e) }
     ensures host { IfOk result.1 (λ e. HostDone ingress.now host e) }
-    ensures faults { IfErr result.0 (λ e. e ≢ PlantFault.BadPlan) × IfErr result.1 (λ e. e ≢ PlantFault.BadPlan) }
+    ensures broker_fault { IfErr result.0 IsCommon }
+    ensures host_fault { IfErr result.1 (HostBroke ingress.now host) }
 {
     join(
         rt,
         move || -> Result<BrokerEnd, PlantFault>
             requires { BrokerReady ingress.now broker }
             ensures done { IfOk result (λ e. BrokerDone ingress.entry.now broker e) }
-            ensures fault { IfErr result (λ e. e ≢ PlantFault.BadPlan) }
-        { the_broker(rt, alloc, ingress, gate, bells, broker) },
-        move || -> Result<HostEnd, PlantFault>
+            ensures fault { IfErr result IsCommon }
+        { run_broker(rt, alloc, ingress, gate, bells, broker) },
+        move || -> Result<HostEnd, HostFailed>
             requires { HostReady ingress.now host }
             ensures done { IfOk result (λ e. HostDone ingress.entry.now host e) }
-            ensures fault { IfErr result (λ e. e ≢ PlantFault.BadPlan) }
-        { the_host(rt, alloc, ingress, gate, bell, host) },
+            ensures fault { IfErr result (HostBroke ingress.entry.now host) }
+        { run_host(rt, alloc, ingress, gate, bell, host) },
     )
 }

@@ -1,9 +1,10 @@
 //! What is tied once all threads are joined.
-ghost use Rattle.std.specs.Prelude.{◌≡◌, ◌≢◌, [], ◌∷◌, ◌++◌, length, IfOk, IfErr, IfSome, Some};
+ghost use Rattle.std.specs.Prelude.{◌≡◌, ◌⊎◌, ◌<◌, [], ◌∷◌, ◌++◌, length, IfOk, IfErr, IfSome, Some, None};
+ghost use Rattle.spk_plant.specs.Choice.{IsMissing, IsUnsettled};
 ghost use Rattle.spk_plant.specs.Done.{AreApart, AreTheirs, AreTied, IsTied};
 
+use crate::choice::Ends;
 use crate::report::{NodeReport, Report};
-use crate::threads::Ends;
 use spk_broker_body::BrokerEnd;
 use spk_edge_body::EdgeEnd;
 use spk_host_body::HostEnd;
@@ -15,7 +16,9 @@ use std::sync::Wait;
 
 /// The last token, if the ring's inlet was there.
 fn last_of(tokens: &mut Vec<Option<Token>>) -> Option<Token>
-    ensures { IfSome result (λ t. tokens.old.items ≡ tokens.new.items ++ Some t ∷ []) }
+    requires { 0 < length tokens.old.items }
+    ensures there { IfSome result (λ t. tokens.old.items ≡ tokens.new.items ++ Some t ∷ []) }
+    ensures missing { result ≡ None → IsMissing tokens.old.items }
 {
     tokens.pop()?
 }
@@ -29,7 +32,8 @@ fn apart(
     requires sized { length tokens.items ≡ length ends.items }
     requires theirs { AreTheirs ends.items tokens.items }
     ensures apart { IfOk result (λ r. AreApart ends.items tokens.items r.0.items r.1.items) }
-    ensures fault { IfErr result (λ e. e ≢ PlantFault.BadPlan) }
+    ensures fault { IfErr result (λ e. (e ≡ PlantFault.NoMemory)
+        ⊎ ((e ≡ PlantFault.Unsettled) × IsMissing tokens.items)) }
 {
     let Some(end) = ends.pop() else {
         return Ok((Vec::new(alloc), Vec::new(alloc)));
@@ -55,7 +59,7 @@ fn apart(
 }
 
 /// The report of a plant whose threads have ended. Unsettled (93) where a ring's token isn't there, the host's ring isn't
-/// empty, or frames are left.
+/// empty, or frames weren't taken; NoMemory (1) where a growth was refused.
 pub(crate) fn report_of<R: Wait>(
     rt: &R,
     alloc: Global,
@@ -64,7 +68,8 @@ pub(crate) fn report_of<R: Wait>(
 ) -> Result<Report, PlantFault>
     requires { AreTied ingress ends }
     ensures tied { IfOk result (IsTied ends) }
-    ensures fault { IfErr result (λ e. e ≢ PlantFault.BadPlan) }
+    ensures fault { IfErr result (λ e. (e ≡ PlantFault.NoMemory)
+        ⊎ ((e ≡ PlantFault.Unsettled) × IsUnsettled ends)) }
 {
     let Ends {
         edges,
