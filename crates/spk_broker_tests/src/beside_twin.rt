@@ -1,5 +1,6 @@
 //! Random runs of five clients beside a slow telling of the rules: connects with and without clean session, wills, take-overs,
 //! overlapping filters, retained messages, acknowledgements, silence, drops. All sends and closes of each call are compared.
+use crate::broker::Talks;
 use crate::twin::{BAD_FILTER, Event, FILTERS, Hello, Post, Stand, TOPICS, Twin, packet, publish};
 use spk_broker::{Broker, BrokerFault, Out};
 use spk_packets::{PacketFault, decode};
@@ -168,39 +169,39 @@ fn bytes_of(alloc: Global, event: Event) -> Result<Vec<u8>, AllocError> {
 /// A packet, as its bytes are read.
 fn say(
     alloc: Global,
-    broker: &mut Broker,
+    broker: &mut impl Talks,
     conn: u64,
     bytes: &[u8],
     now: u64,
 ) -> Result<Out, BrokerFault> {
     match decode(alloc, bytes) {
-        Ok((packet, _)) => broker.packet(conn, &packet, now),
+        Ok((packet, _)) => broker.heard(conn, &packet, now),
         Err(PacketFault::NoMemory) => Err(BrokerFault::NoMemory),
-        Err(fault) => broker.fault(conn, fault, now),
+        Err(fault) => broker.faulted(conn, fault, now),
     }
 }
 
 fn call(
     alloc: Global,
-    broker: &mut Broker,
+    broker: &mut impl Talks,
     conn: u64,
     event: Event,
     now: u64,
 ) -> Result<Out, BrokerFault> {
     match event {
         Event::Opens => {
-            broker.open(now)?;
+            broker.opened(now)?;
             Ok(Out {
                 sends: Vec::new(alloc),
                 closes: Vec::new(alloc),
             })
         }
-        Event::Faults(true) => broker.fault(conn, PacketFault::BadLevel, now),
-        Event::Faults(_is_level) => broker.fault(conn, PacketFault::BadFlags, now),
-        Event::Ends => broker.closed(conn, now),
-        Event::Ticks => broker.tick(now),
-        Event::Refused(true) => broker.refused(conn, Sort::QosZero, now),
-        Event::Refused(_is_plain) => broker.refused(conn, Sort::Other, now),
+        Event::Faults(true) => broker.faulted(conn, PacketFault::BadLevel, now),
+        Event::Faults(_is_level) => broker.faulted(conn, PacketFault::BadFlags, now),
+        Event::Ends => broker.ended(conn, now),
+        Event::Ticks => broker.ticked(now),
+        Event::Refused(true) => broker.dropped(conn, Sort::QosZero, now),
+        Event::Refused(_is_plain) => broker.dropped(conn, Sort::Other, now),
         _ => {
             let bytes = bytes_of(alloc, event)?;
             say(alloc, broker, conn, bytes.as_slice(), now)
@@ -211,7 +212,7 @@ fn call(
 /// The call, made again where memory was refused.
 fn answer(
     alloc: Global,
-    broker: &mut Broker,
+    broker: &mut impl Talks,
     conn: u64,
     event: Event,
     now: u64,
@@ -248,7 +249,6 @@ fn is_same(out: &Out, twin: &Twin) -> bool {
 #[derive(Drop)]
 struct Run {
     dice: Dice,
-    broker: Broker,
     twin: Twin,
     given: u64,
     now: u64,
@@ -259,7 +259,6 @@ impl Run {
     fn new(alloc: Global, seed: u64) -> Run {
         Run {
             dice: Dice { seed },
-            broker: Broker::new(alloc, LIMIT),
             twin: Twin::new(alloc),
             given: 0,
             now: 0,
@@ -279,7 +278,7 @@ impl Run {
     }
 
     /// One event. False where the answers differ.
-    fn turn(&mut self, alloc: Global) -> Result<bool, AllocError> {
+    fn turn(&mut self, alloc: Global, broker: &mut impl Talks) -> Result<bool, AllocError> {
         let someone = self.someone();
         let event = self.dice.event(self.twin.stand(someone));
         self.now = self.now.saturating_add(u64::from(self.dice.roll(200)));
@@ -291,7 +290,7 @@ impl Run {
         }
         let is_open = self.twin.tells(conn, event, now, usize::from(LIMIT))?;
         self.sent = self.sent.saturating_add(self.twin.sends.len());
-        Ok(match answer(alloc, &mut self.broker, conn, event, now) {
+        Ok(match answer(alloc, broker, conn, event, now) {
             Ok(out) => is_open && is_same(&out, &self.twin),
             Err(BrokerFault::NoSuchConn) => !is_open,
             Err(_fault) => false,
@@ -300,10 +299,15 @@ impl Run {
 }
 
 /// So many events: how many sends were compared, and how many events were told alike.
-fn played(alloc: Global, seed: u64, events: usize) -> Result<(usize, usize), AllocError> {
+fn played(
+    alloc: Global,
+    broker: &mut impl Talks,
+    seed: u64,
+    events: usize,
+) -> Result<(usize, usize), AllocError> {
     let mut run = Run::new(alloc, seed);
     for place in 0..events {
-        if !run.turn(alloc)? {
+        if !run.turn(alloc, broker)? {
             return Ok((run.sent, place));
         }
     }
@@ -314,7 +318,8 @@ fn played(alloc: Global, seed: u64, events: usize) -> Result<(usize, usize), All
 fn random_runs_are_as_the_rules_tell_them(rt: HostRuntime) -> Result<(), Fail> {
     let mut sends = 0usize;
     for seed in 0..100 {
-        let (sent, alike) = played(rt.alloc(), seed, 200)?;
+        let mut broker = Broker::new(rt.alloc(), LIMIT);
+        let (sent, alike) = played(rt.alloc(), &mut broker, seed, 200)?;
         assert_eq!(rt; alike, 200, "run {seed}");
         sends = sends.saturating_add(sent);
     }

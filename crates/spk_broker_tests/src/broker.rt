@@ -2,7 +2,7 @@
 //! memory is asked for: nothing has changed then, and the call is made again.
 
 use spk_broker::{Broker, BrokerFault, Conn, Out};
-use spk_packets::{PacketFault, decode};
+use spk_packets::{Packet, PacketFault, decode};
 use spk_session::Sort;
 use std::alloc::Global;
 use std::test::Fail;
@@ -20,6 +20,48 @@ pub(crate) enum Event {
     Drops,
 }
 
+/// What the tests ask of a broker. They are written over any type that answers it, since a function over a type parameter is
+/// proved without the parts of a broker.
+pub(crate) trait Talks {
+    fn opened(&mut self, now: u64) -> Result<Conn, BrokerFault>;
+
+    fn heard(&mut self, conn: Conn, packet: &Packet, now: u64) -> Result<Out, BrokerFault>;
+
+    fn faulted(&mut self, conn: Conn, fault: PacketFault, now: u64) -> Result<Out, BrokerFault>;
+
+    fn ended(&mut self, conn: Conn, now: u64) -> Result<Out, BrokerFault>;
+
+    fn ticked(&mut self, now: u64) -> Result<Out, BrokerFault>;
+
+    fn dropped(&mut self, conn: Conn, sort: Sort, now: u64) -> Result<Out, BrokerFault>;
+}
+
+impl Talks for Broker {
+    fn opened(&mut self, now: u64) -> Result<Conn, BrokerFault> {
+        self.open(now)
+    }
+
+    fn heard(&mut self, conn: Conn, packet: &Packet, now: u64) -> Result<Out, BrokerFault> {
+        self.packet(conn, packet, now)
+    }
+
+    fn faulted(&mut self, conn: Conn, fault: PacketFault, now: u64) -> Result<Out, BrokerFault> {
+        self.fault(conn, fault, now)
+    }
+
+    fn ended(&mut self, conn: Conn, now: u64) -> Result<Out, BrokerFault> {
+        self.closed(conn, now)
+    }
+
+    fn ticked(&mut self, now: u64) -> Result<Out, BrokerFault> {
+        self.tick(now)
+    }
+
+    fn dropped(&mut self, conn: Conn, sort: Sort, now: u64) -> Result<Out, BrokerFault> {
+        self.refused(conn, sort, now)
+    }
+}
+
 pub(crate) type Sends = &'static [(Conn, &'static [u8])];
 
 /// Of which connection, what, and when; then what is sent, and who is closed.
@@ -27,35 +69,35 @@ pub(crate) type Row = (Conn, Event, u64, Sends, &'static [Conn]);
 
 fn call(
     alloc: Global,
-    broker: &mut Broker,
+    broker: &mut impl Talks,
     conn: Conn,
     event: &Event,
     now: u64,
 ) -> Result<Out, BrokerFault> {
     match event {
         Event::Opens => {
-            broker.open(now)?;
+            broker.opened(now)?;
             Ok(Out {
                 sends: Vec::new(alloc),
                 closes: Vec::new(alloc),
             })
         }
         Event::Says(bytes) => match decode(alloc, bytes) {
-            Ok((packet, _)) => broker.packet(conn, &packet, now),
+            Ok((packet, _)) => broker.heard(conn, &packet, now),
             Err(PacketFault::NoMemory) => Err(BrokerFault::NoMemory),
-            Err(fault) => broker.fault(conn, fault, now),
+            Err(fault) => broker.faulted(conn, fault, now),
         },
-        Event::Faults => broker.fault(conn, PacketFault::BadLevel, now),
-        Event::Ends => broker.closed(conn, now),
-        Event::Ticks => broker.tick(now),
-        Event::Drops => broker.refused(conn, Sort::QosZero, now),
+        Event::Faults => broker.faulted(conn, PacketFault::BadLevel, now),
+        Event::Ends => broker.ended(conn, now),
+        Event::Ticks => broker.ticked(now),
+        Event::Drops => broker.dropped(conn, Sort::QosZero, now),
     }
 }
 
 /// The call, made again where memory was refused.
 pub(crate) fn answer(
     alloc: Global,
-    broker: &mut Broker,
+    broker: &mut impl Talks,
     conn: Conn,
     event: &Event,
     now: u64,
@@ -65,6 +107,21 @@ pub(crate) fn answer(
         answer => answer,
     }
 }
+
+/// Each is taken, at the moment 0.
+pub(crate) fn all_told(
+    alloc: Global,
+    broker: &mut impl Talks,
+    events: &[(Conn, Event)],
+) -> Result<(), BrokerFault> {
+    for (conn, event) in events {
+        let _ = answer(alloc, broker, *conn, event, 0)?;
+    }
+    Ok(())
+}
+
+/// A client comes.
+static COMES: [(Conn, Event); 2] = [(1, Event::Opens), (1, Event::Says(HELLO))];
 
 /// Whether exactly this is sent and closed, in this order.
 pub(crate) fn is_right(out: &Out, sends: &[(Conn, &[u8])], closes: &[Conn]) -> bool {
@@ -82,7 +139,7 @@ pub(crate) fn is_right(out: &Out, sends: &[(Conn, &[u8])], closes: &[Conn]) -> b
 /// How many rows are right before the first that isn't.
 pub(crate) fn plays(
     alloc: Global,
-    broker: &mut Broker,
+    broker: &mut impl Talks,
     rows: &[Row],
 ) -> Result<usize, BrokerFault> {
     for (place, (conn, event, now, sends, closes)) in rows.iter().enumerate() {
@@ -108,7 +165,7 @@ const WELCOME_BACK: &[u8] = b"\x20\x02\x01\x00";
 const DISCONNECT: &[u8] = b"\xe0\x00";
 
 /// First packets, the greatest grant of two filters, PUBACK before what the publish sends, PINGREQ.
-const FIRST: [Row; 9] = [
+static FIRST: [Row; 9] = [
     (1, Event::Opens, 0, &[], &[]),
     (1, Event::Says(HELLO), 0, &[(1, WELCOME)], &[]),
     (2, Event::Opens, 0, &[], &[]),
@@ -142,7 +199,7 @@ const FIRST: [Row; 9] = [
 ];
 
 /// A take-over: the older one's will, then the newer one's CONNACK; the older one is closed.
-const TAKE_OVER: [Row; 7] = [
+static TAKE_OVER: [Row; 7] = [
     (1, Event::Opens, 0, &[], &[]),
     (
         1,
@@ -171,7 +228,7 @@ const TAKE_OVER: [Row; 7] = [
 ];
 
 /// A retained message, kept and removed; silence; bytes of another level before and after CONNECT.
-const RETAINED: [Row; 13] = [
+static RETAINED: [Row; 13] = [
     (1, Event::Opens, 0, &[], &[]),
     (1, Event::Says(HELLO), 0, &[(1, WELCOME)], &[]),
     (1, Event::Says(b"\x31\x04\x00\x01ax"), 0, &[], &[]),
@@ -206,7 +263,7 @@ const RETAINED: [Row; 13] = [
 ];
 
 /// What a kept session keeps while it is away, and what is sent again.
-const KEPT: [Row; 22] = [
+static KEPT: [Row; 22] = [
     (1, Event::Opens, 0, &[], &[]),
     (1, Event::Says(X_STAYS), 0, &[(1, WELCOME)], &[]),
     (
@@ -255,23 +312,25 @@ const KEPT: [Row; 22] = [
     (7, Event::Says(X_STAYS), 0, &[(7, WELCOME)], &[]),
 ];
 
+/// How many rows of a table are right with a new broker.
+fn rows_right(alloc: Global, rows: &[Row]) -> Result<usize, BrokerFault> {
+    plays(alloc, &mut Broker::new(alloc, 128), rows)
+}
+
 #[test]
 fn rows_are_right(rt: HostRuntime) -> Result<(), Fail> {
     let tables: [&[Row]; 4] = [&FIRST, &TAKE_OVER, &RETAINED, &KEPT];
     for rows in tables {
-        let mut broker = Broker::new(rt.alloc(), 128);
-        assert_eq!(rt; plays(rt.alloc(), &mut broker, rows)?, rows.len());
+        assert_eq!(rt; rows_right(rt.alloc(), rows)?, rows.len());
     }
     Ok(())
 }
 
 /// How many drops close a connection, where there are at most 300.
-fn drops_that_close(alloc: Global, limit: u16) -> Result<usize, BrokerFault> {
-    let mut broker = Broker::new(alloc, limit);
-    let _ = answer(alloc, &mut broker, 1, &Event::Opens, 0)?;
-    let _ = answer(alloc, &mut broker, 1, &Event::Says(HELLO), 0)?;
+fn drops_that_close(alloc: Global, broker: &mut impl Talks) -> Result<usize, BrokerFault> {
+    all_told(alloc, broker, &COMES)?;
     for drops in 1..300 {
-        let out = answer(alloc, &mut broker, 1, &Event::Drops, 0)?;
+        let out = answer(alloc, broker, 1, &Event::Drops, 0)?;
         if out.closes.as_slice() == [1].as_slice() {
             return Ok(drops);
         }
@@ -279,24 +338,31 @@ fn drops_that_close(alloc: Global, limit: u16) -> Result<usize, BrokerFault> {
     Ok(0)
 }
 
+/// Limits, and the drops that close.
+static DROPS: [(u16, usize); 3] = [(64, 64), (254, 254), (0, 1)];
+
 #[test]
 fn the_limit_of_drops_is_the_one_that_closes(rt: HostRuntime) -> Result<(), Fail> {
-    assert_eq!(rt; drops_that_close(rt.alloc(), 64)?, 64);
-    assert_eq!(rt; drops_that_close(rt.alloc(), 254)?, 254);
-    assert_eq!(rt; drops_that_close(rt.alloc(), 0)?, 1);
+    for (limit, wanted) in &DROPS {
+        let drops = drops_that_close(rt.alloc(), &mut Broker::new(rt.alloc(), *limit))?;
+        assert_eq!(rt; drops, *wanted, "at {limit}");
+    }
     Ok(())
 }
 
+/// A client comes, and subscribes.
+static ASKS: [(Conn, Event); 3] = [
+    (1, Event::Opens),
+    (1, Event::Says(HELLO)),
+    (1, Event::Says(b"\x82\x08\x00\x05\x00\x03a/+\x00")),
+];
+
 /// How many of 40 publishes go to their own connection alone: the broker makes its index of grants on the way.
-fn heard_alone(alloc: Global) -> Result<usize, BrokerFault> {
-    let mut broker = Broker::new(alloc, 128);
-    let _ = answer(alloc, &mut broker, 1, &Event::Opens, 0)?;
-    let _ = answer(alloc, &mut broker, 1, &Event::Says(HELLO), 0)?;
-    let asked = Event::Says(b"\x82\x08\x00\x05\x00\x03a/+\x00");
-    let _ = answer(alloc, &mut broker, 1, &asked, 0)?;
+fn heard_alone(alloc: Global, broker: &mut impl Talks) -> Result<usize, BrokerFault> {
+    all_told(alloc, broker, &ASKS)?;
     for said in 0..40 {
         let value = Event::Says(b"\x30\x06\x00\x03a/b7");
-        let out = answer(alloc, &mut broker, 1, &value, 0)?;
+        let out = answer(alloc, broker, 1, &value, 0)?;
         if !is_right(&out, &[(1, b"\x30\x06\x00\x03a/b7")], &[]) {
             return Ok(said);
         }
@@ -306,18 +372,25 @@ fn heard_alone(alloc: Global) -> Result<usize, BrokerFault> {
 
 #[test]
 fn a_publish_goes_to_who_subscribed_with_an_index_too(rt: HostRuntime) -> Result<(), Fail> {
-    assert_eq!(rt; heard_alone(rt.alloc())?, 40);
+    assert_eq!(rt;
+        heard_alone(rt.alloc(), &mut Broker::new(rt.alloc(), 128))?,
+        40
+    );
     Ok(())
+}
+
+/// A thousand connections open, one more doesn't, and it isn't there.
+fn opens_a_thousand(alloc: Global, broker: &mut impl Talks) -> Result<bool, BrokerFault> {
+    for _ in 1..1001 {
+        let _ = answer(alloc, broker, 0, &Event::Opens, 0)?;
+    }
+    let is_full = broker.opened(0) == Err(BrokerFault::Limit);
+    Ok(is_full && broker.ended(1001, 0) == Err(BrokerFault::NoSuchConn))
 }
 
 #[test]
 fn a_thousand_connections_are_open_at_most(rt: HostRuntime) -> Result<(), Fail> {
-    let mut broker = Broker::new(rt.alloc(), 128);
-    for _ in 1..1001 {
-        let _ = answer(rt.alloc(), &mut broker, 0, &Event::Opens, 0)?;
-    }
-    assert!(rt; broker.open(0) == Err(BrokerFault::Limit));
-    assert!(rt; broker.closed(1001, 0) == Err(BrokerFault::NoSuchConn));
+    assert!(rt; opens_a_thousand(rt.alloc(), &mut Broker::new(rt.alloc(), 128))?);
     assert_eq!(rt; BrokerFault::Limit.number(), 31);
     assert_eq!(rt; BrokerFault::NoSuchConn.number(), 30);
     Ok(())

@@ -1,6 +1,6 @@
 //! What comes from a client that keeps no rule: bytes that are no packet, packets in the wrong place. Each closes its connection,
 //! nothing of it takes effect, and its will is routed once.
-use crate::broker::{Event, HELLO, Row, WELCOME, X, answer, is_right, plays};
+use crate::broker::{Event, HELLO, Row, Talks, WELCOME, X, all_told, answer, is_right, plays};
 use spk_broker::{Broker, BrokerFault};
 use std::alloc::Global;
 use std::test::Fail;
@@ -42,17 +42,24 @@ static CLOSING: [&[u8]; 27] = [
     b"\xa2\x09\x00\x01\x00\x01#\x00\x02+a",
 ];
 
+/// One subscribes to all, and another with a will comes.
+static BEFORE: [(u64, Event); 5] = [
+    (1, Event::Opens),
+    (1, Event::Says(HELLO)),
+    (1, Event::Says(b"\x82\x06\x00\x01\x00\x01#\x00")),
+    (2, Event::Opens),
+    (2, Event::Says(WILLED)),
+];
+
 /// Whether these bytes of a client with a will close it, and send its will alone to who has the filter `#`.
-fn closes(alloc: Global, bytes: &'static [u8]) -> Result<bool, BrokerFault> {
-    let mut broker = Broker::new(alloc, 128);
-    let _ = answer(alloc, &mut broker, 1, &Event::Opens, 0)?;
-    let _ = answer(alloc, &mut broker, 1, &Event::Says(HELLO), 0)?;
-    let all = Event::Says(b"\x82\x06\x00\x01\x00\x01#\x00");
-    let _ = answer(alloc, &mut broker, 1, &all, 0)?;
-    let _ = answer(alloc, &mut broker, 2, &Event::Opens, 0)?;
-    let _ = answer(alloc, &mut broker, 2, &Event::Says(WILLED), 0)?;
-    let out = answer(alloc, &mut broker, 2, &Event::Says(bytes), 0)?;
-    let again = broker.closed(2, 0);
+fn closes(
+    alloc: Global,
+    broker: &mut impl Talks,
+    bytes: &'static [u8],
+) -> Result<bool, BrokerFault> {
+    all_told(alloc, broker, &BEFORE)?;
+    let out = answer(alloc, broker, 2, &Event::Says(bytes), 0)?;
+    let again = broker.ended(2, 0);
     Ok(is_right(&out, &[(1, WILL)], &[2]) && again == Err(BrokerFault::NoSuchConn))
 }
 
@@ -61,7 +68,8 @@ fn a_client_that_keeps_no_rule_is_closed_and_its_will_is_routed_once(
     rt: HostRuntime,
 ) -> Result<(), Fail> {
     for bytes in CLOSING {
-        assert!(rt; closes(rt.alloc(), bytes)?, "{bytes:?}");
+        let is_right = closes(rt.alloc(), &mut Broker::new(rt.alloc(), 128), bytes)?;
+        assert!(rt; is_right, "{bytes:?}");
     }
     Ok(())
 }
@@ -83,27 +91,36 @@ static FIRST: [&[u8]; 10] = [
 /// Whether these bytes close a connection without CONNECT, and send these.
 fn turns_away(
     alloc: Global,
+    broker: &mut impl Talks,
     bytes: &'static [u8],
     sends: &[(u64, &[u8])],
 ) -> Result<bool, BrokerFault> {
-    let mut broker = Broker::new(alloc, 128);
-    let _ = answer(alloc, &mut broker, 1, &Event::Opens, 0)?;
-    let out = answer(alloc, &mut broker, 1, &Event::Says(bytes), 0)?;
+    let _ = answer(alloc, broker, 1, &Event::Opens, 0)?;
+    let out = answer(alloc, broker, 1, &Event::Says(bytes), 0)?;
     Ok(is_right(&out, sends, &[1]))
+}
+
+/// The same with a new broker.
+fn is_turned_away(
+    alloc: Global,
+    bytes: &'static [u8],
+    sends: &[(u64, &[u8])],
+) -> Result<bool, BrokerFault> {
+    turns_away(alloc, &mut Broker::new(alloc, 128), bytes, sends)
 }
 
 #[test]
 fn what_is_no_connect_closes_as_first_packet(rt: HostRuntime) -> Result<(), Fail> {
     for bytes in FIRST {
-        assert!(rt; turns_away(rt.alloc(), bytes, &[])?, "{bytes:?}");
+        assert!(rt; is_turned_away(rt.alloc(), bytes, &[])?, "{bytes:?}");
     }
     let level = b"\x10\x0c\x00\x04MQTT\x05\x02\x00\x3c\x00\x00";
-    assert!(rt; turns_away(rt.alloc(), level, &[(1, b"\x20\x02\x00\x01")])?);
+    assert!(rt; is_turned_away(rt.alloc(), level, &[(1, b"\x20\x02\x00\x01")])?);
     Ok(())
 }
 
 /// An acknowledgement of nothing, and UNSUBSCRIBE of a filter that doesn't stand.
-const HARMLESS: [Row; 5] = [
+static HARMLESS: [Row; 5] = [
     (1, Event::Opens, 0, &[], &[]),
     (1, Event::Says(HELLO), 0, &[(1, WELCOME)], &[]),
     (1, Event::Says(b"\x40\x02\x00\x09"), 0, &[], &[]),
@@ -119,7 +136,7 @@ const HARMLESS: [Row; 5] = [
 
 #[test]
 fn what_there_is_nothing_of_is_passed_over(rt: HostRuntime) -> Result<(), Fail> {
-    let mut broker = Broker::new(rt.alloc(), 128);
-    assert_eq!(rt; plays(rt.alloc(), &mut broker, &HARMLESS)?, HARMLESS.len());
+    let right = plays(rt.alloc(), &mut Broker::new(rt.alloc(), 128), &HARMLESS)?;
+    assert_eq!(rt; right, HARMLESS.len());
     Ok(())
 }

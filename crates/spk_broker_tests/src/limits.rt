@@ -1,21 +1,22 @@
 //! The broker's own limits: grants, retained topics, kept sessions and unacknowledged messages, each at its last one and one beyond.
+use crate::broker::Talks;
 use spk_broker::{Broker, BrokerFault, Out};
 use spk_packets::{Packet, Request};
 use std::alloc::{AllocError, Global};
 use std::test::Fail;
 
 /// What a packet gives; the call is made again where memory was refused.
-fn said(broker: &mut Broker, conn: u64, packet: &Packet) -> Option<Out> {
-    match broker.packet(conn, packet, 0) {
-        Err(BrokerFault::NoMemory) => broker.packet(conn, packet, 0).ok(),
+fn said(broker: &mut impl Talks, conn: u64, packet: &Packet) -> Option<Out> {
+    match broker.heard(conn, packet, 0) {
+        Err(BrokerFault::NoMemory) => broker.heard(conn, packet, 0).ok(),
         answer => answer.ok(),
     }
 }
 
-fn opens(broker: &mut Broker) -> u64 {
-    match broker.open(0) {
+fn opens(broker: &mut impl Talks) -> u64 {
+    match broker.opened(0) {
         Ok(conn) => conn,
-        Err(_fault) => broker.open(0).unwrap_or(0),
+        Err(_fault) => broker.opened(0).unwrap_or(0),
     }
 }
 
@@ -27,29 +28,13 @@ fn last_code(out: &Out) -> u8 {
     }
 }
 
-/// The last code of the answer to a packet.
-fn code(broker: &mut Broker, conn: u64, packet: &Packet) -> u8 {
-    match said(broker, conn, packet) {
-        Some(out) => last_code(&out),
-        None => 255,
-    }
-}
-
-/// How many sends a packet gives.
-fn count(broker: &mut Broker, conn: u64, packet: &Packet) -> usize {
-    match said(broker, conn, packet) {
-        Some(out) => out.sends.len(),
-        None => 0,
-    }
-}
-
 /// A letter and a number.
 fn name(alloc: Global, letter: &str, number: u16) -> Result<String, AllocError> {
     format!(in alloc; "{letter}{number}")
 }
 
 /// A new connection of a client, and the code of its CONNACK.
-fn joins(broker: &mut Broker, client: String, clean: bool) -> (u64, u8) {
+fn joins(broker: &mut impl Talks, client: String, clean: bool) -> (u64, u8) {
     let conn = opens(broker);
     let connect = Packet::Connect {
         client,
@@ -57,7 +42,7 @@ fn joins(broker: &mut Broker, client: String, clean: bool) -> (u64, u8) {
         keep: 0,
         will: None,
     };
-    let answer = code(broker, conn, &connect);
+    let answer = code_of(said(broker, conn, &connect));
     (conn, answer)
 }
 
@@ -85,88 +70,174 @@ fn retains(alloc: Global, number: u16, payload: &[u8]) -> Result<Packet, AllocEr
     })
 }
 
-/// A hundred clients with a hundred filters each, then one filter more: the codes of the last grant, of the one more, and of
-/// one that stands.
-fn grants(alloc: Global) -> Result<(u8, u8, u8), AllocError> {
-    let mut broker = Broker::new(alloc, 128);
-    let hundred = asks(alloc, "f", 0, 100)?;
-    let mut last = 0;
-    for _ in 0..100 {
-        let (conn, _code) = joins(&mut broker, String::new(alloc), true);
-        last = code(&mut broker, conn, &hundred);
-    }
-    let more = code(&mut broker, 100, &asks(alloc, "f", 100, 101)?);
-    let standing = code(&mut broker, 1, &asks(alloc, "f", 0, 1)?);
-    Ok((last, more, standing))
-}
-
-#[test]
-fn filter_10001_is_refused(rt: HostRuntime) -> Result<(), Fail> {
-    assert_eq!(rt; grants(rt.alloc())?, (1, 128, 1));
-    Ok(())
-}
-
-/// With 10,000 topics retained, one more: what a SUBSCRIBE to the last, to the one more, and to the one more once another
-/// was removed sends, SUBACK with it.
-fn topics(alloc: Global) -> Result<(usize, usize, usize), AllocError> {
-    let mut broker = Broker::new(alloc, 128);
-    let (conn, _code) = joins(&mut broker, String::new(alloc), true);
-    for number in 0..10_001 {
-        let _ = said(&mut broker, conn, &retains(alloc, number, b"7")?);
-    }
-    let last = count(&mut broker, conn, &asks(alloc, "t", 9_999, 10_000)?);
-    let ask = asks(alloc, "t", 10_000, 10_001)?;
-    let more = count(&mut broker, conn, &ask);
-    let _ = said(&mut broker, conn, &retains(alloc, 5, b"")?);
-    let _ = said(&mut broker, conn, &retains(alloc, 10_000, b"7")?);
-    let then = count(&mut broker, conn, &ask);
-    Ok((last, more, then))
-}
-
-#[test]
-fn topic_10001_is_not_retained(rt: HostRuntime) -> Result<(), Fail> {
-    assert_eq!(rt; topics(rt.alloc())?, (2, 1, 2));
-    Ok(())
-}
-
-/// The codes of CONNACK for the thousandth kept session, for one more, and for one that stands.
-fn kept(alloc: Global) -> Result<(u8, u8, u8), AllocError> {
-    let mut broker = Broker::new(alloc, 128);
-    let mut last = 255;
-    for number in 0..1_000 {
-        let (conn, code) = joins(&mut broker, name(alloc, "c", number)?, false);
-        last = code;
-        let _ = said(&mut broker, conn, &Packet::Disconnect);
-    }
-    let (_conn, more) = joins(&mut broker, name(alloc, "c", 1_000)?, false);
-    let (_conn, standing) = joins(&mut broker, name(alloc, "c", 7)?, false);
-    Ok((last, more, standing))
-}
-
-#[test]
-fn kept_session_1001_is_turned_away(rt: HostRuntime) -> Result<(), Fail> {
-    assert_eq!(rt; kept(rt.alloc())?, (0, 3, 0));
-    Ok(())
-}
-
-/// Which message of QoS 1 closes who doesn't acknowledge.
-fn unacknowledged(alloc: Global) -> Result<u16, AllocError> {
-    let mut broker = Broker::new(alloc, 128);
-    let (conn, _code) = joins(&mut broker, String::new(alloc), true);
-    let (other, _code) = joins(&mut broker, String::new(alloc), true);
-    let _ = said(&mut broker, conn, &asks(alloc, "t", 0, 1)?);
-    let value = Packet::Publish {
+/// A publish of QoS 1 on the topic of the number 0.
+fn publishes(alloc: Global) -> Result<Packet, AllocError> {
+    Ok(Packet::Publish {
         dup: false,
         qos: 1,
         retain: false,
         topic: name(alloc, "t", 0)?,
         id: Some(7),
         payload: Vec::new(alloc),
-    };
+    })
+}
+
+/// What a client says.
+#[derive(Clone, Copy)]
+enum Says {
+    /// A SUBSCRIBE for the filters of these numbers.
+    Asks(&'static str, u16, u16),
+    /// A retained publish.
+    Retains(u16, &'static [u8]),
+    Publishes,
+    Leaves,
+}
+
+fn packet_of(alloc: Global, says: Says) -> Result<Packet, AllocError> {
+    match says {
+        Says::Asks(letter, from, to) => asks(alloc, letter, from, to),
+        Says::Retains(number, payload) => retains(alloc, number, payload),
+        Says::Publishes => publishes(alloc),
+        Says::Leaves => Ok(Packet::Disconnect),
+    }
+}
+
+/// What a packet gives.
+fn gives(
+    alloc: Global,
+    broker: &mut impl Talks,
+    conn: u64,
+    says: Says,
+) -> Result<Option<Out>, AllocError> {
+    let packet = packet_of(alloc, says)?;
+    Ok(said(broker, conn, &packet))
+}
+
+/// The last code of an answer.
+fn code_of(answer: Option<Out>) -> u8 {
+    match answer {
+        Some(out) => last_code(&out),
+        None => 255,
+    }
+}
+
+/// The last code of the answer to a packet.
+fn code(alloc: Global, broker: &mut impl Talks, conn: u64, says: Says) -> Result<u8, AllocError> {
+    Ok(code_of(gives(alloc, broker, conn, says)?))
+}
+
+/// How many sends an answer has.
+fn count_of(answer: Option<Out>) -> usize {
+    match answer {
+        Some(out) => out.sends.len(),
+        None => 0,
+    }
+}
+
+/// How many sends a packet gives.
+fn count(
+    alloc: Global,
+    broker: &mut impl Talks,
+    conn: u64,
+    says: Says,
+) -> Result<usize, AllocError> {
+    Ok(count_of(gives(alloc, broker, conn, says)?))
+}
+
+/// Whether a packet is taken, and closes nobody.
+fn passes(
+    alloc: Global,
+    broker: &mut impl Talks,
+    conn: u64,
+    says: Says,
+) -> Result<bool, AllocError> {
+    Ok(match gives(alloc, broker, conn, says)? {
+        Some(out) => out.closes.is_empty(),
+        None => false,
+    })
+}
+
+/// A new connection without a client id.
+fn comes(alloc: Global, broker: &mut impl Talks) -> u64 {
+    joins(broker, String::new(alloc), true).0
+}
+
+/// The code of the CONNACK for a kept session, and the connection.
+fn stays(alloc: Global, broker: &mut impl Talks, number: u16) -> Result<(u64, u8), AllocError> {
+    let client = name(alloc, "c", number)?;
+    Ok(joins(broker, client, false))
+}
+
+/// A hundred clients with a hundred filters each, then one filter more: the codes of the last grant, of the one more, and of
+/// one that stands.
+fn grants(alloc: Global, broker: &mut impl Talks) -> Result<(u8, u8, u8), AllocError> {
+    let mut last = 0;
+    for _ in 0..100 {
+        let conn = comes(alloc, broker);
+        last = code(alloc, broker, conn, Says::Asks("f", 0, 100))?;
+    }
+    let more = code(alloc, broker, 100, Says::Asks("f", 100, 101))?;
+    let standing = code(alloc, broker, 1, Says::Asks("f", 0, 1))?;
+    Ok((last, more, standing))
+}
+
+#[test]
+fn filter_10001_is_refused(rt: HostRuntime) -> Result<(), Fail> {
+    let codes = grants(rt.alloc(), &mut Broker::new(rt.alloc(), 128))?;
+    assert_eq!(rt; codes, (1, 128, 1));
+    Ok(())
+}
+
+/// With 10,000 topics retained, one more: what a SUBSCRIBE to the last, to the one more, and to the one more once another
+/// was removed sends, SUBACK with it.
+fn topics(alloc: Global, broker: &mut impl Talks) -> Result<(usize, usize, usize), AllocError> {
+    let conn = comes(alloc, broker);
+    for number in 0..10_001 {
+        passes(alloc, broker, conn, Says::Retains(number, b"7"))?;
+    }
+    let last = count(alloc, broker, conn, Says::Asks("t", 9_999, 10_000))?;
+    let more = count(alloc, broker, conn, Says::Asks("t", 10_000, 10_001))?;
+    passes(alloc, broker, conn, Says::Retains(5, b""))?;
+    passes(alloc, broker, conn, Says::Retains(10_000, b"7"))?;
+    let then = count(alloc, broker, conn, Says::Asks("t", 10_000, 10_001))?;
+    Ok((last, more, then))
+}
+
+#[test]
+fn topic_10001_is_not_retained(rt: HostRuntime) -> Result<(), Fail> {
+    let sends = topics(rt.alloc(), &mut Broker::new(rt.alloc(), 128))?;
+    assert_eq!(rt; sends, (2, 1, 2));
+    Ok(())
+}
+
+/// The codes of CONNACK for the thousandth kept session, for one more, and for one that stands.
+fn kept(alloc: Global, broker: &mut impl Talks) -> Result<(u8, u8, u8), AllocError> {
+    let mut last = 255;
+    for number in 0..1_000 {
+        let (conn, code) = stays(alloc, broker, number)?;
+        last = code;
+        passes(alloc, broker, conn, Says::Leaves)?;
+    }
+    let more = stays(alloc, broker, 1_000)?.1;
+    let standing = stays(alloc, broker, 7)?.1;
+    Ok((last, more, standing))
+}
+
+#[test]
+fn kept_session_1001_is_turned_away(rt: HostRuntime) -> Result<(), Fail> {
+    let codes = kept(rt.alloc(), &mut Broker::new(rt.alloc(), 128))?;
+    assert_eq!(rt; codes, (0, 3, 0));
+    Ok(())
+}
+
+/// Which message of QoS 1 closes who doesn't acknowledge.
+fn unacknowledged(alloc: Global, broker: &mut impl Talks) -> Result<u16, AllocError> {
+    let conn = comes(alloc, broker);
+    let other = comes(alloc, broker);
+    passes(alloc, broker, conn, Says::Asks("t", 0, 1))?;
     for number in 1..1_100 {
-        match said(&mut broker, other, &value) {
-            Some(out) if out.closes.is_empty() => {}
-            _ => return Ok(number),
+        if !passes(alloc, broker, other, Says::Publishes)? {
+            return Ok(number);
         }
     }
     Ok(0)
@@ -174,7 +245,8 @@ fn unacknowledged(alloc: Global) -> Result<u16, AllocError> {
 
 #[test]
 fn unacknowledged_message_1025_closes(rt: HostRuntime) -> Result<(), Fail> {
-    assert_eq!(rt; unacknowledged(rt.alloc())?, 1_025);
+    let number = unacknowledged(rt.alloc(), &mut Broker::new(rt.alloc(), 128))?;
+    assert_eq!(rt; number, 1_025);
     Ok(())
 }
 
@@ -188,44 +260,58 @@ fn deep(alloc: Global, last: &str) -> Result<String, AllocError> {
     Ok(text)
 }
 
-/// A new client with a grant of a filter as deep.
-fn asks_deep(alloc: Global, broker: &mut Broker, last: &str) -> Result<u8, AllocError> {
-    let (conn, _code) = joins(broker, String::new(alloc), true);
+/// A SUBSCRIBE for a filter as deep.
+fn deep_filter(alloc: Global, last: &str) -> Result<Packet, AllocError> {
+    let filter = deep(alloc, last)?;
     let mut filters = Vec::new(alloc);
-    filters.push(Request {
-        filter: deep(alloc, last)?,
-        qos: 0,
-    })?;
-    Ok(code(broker, conn, &Packet::Subscribe { id: 1, filters }))
+    filters.push(Request { filter, qos: 0 })?;
+    Ok(Packet::Subscribe { id: 1, filters })
 }
 
-/// Four clients with a filter of 32,768 levels each, more than an index may have together: the least and the most of them that each of 20
-/// publishes reached, on a topic that three of the filters fit.
-fn reached_deep(alloc: Global) -> Result<(usize, usize), AllocError> {
-    let mut broker = Broker::new(alloc, 128);
-    for last in ["a", "+", "#", "b"] {
-        asks_deep(alloc, &mut broker, last)?;
-    }
-    let publish = Packet::Publish {
+/// A new client with a grant of a filter as deep.
+fn asks_deep(alloc: Global, broker: &mut impl Talks, last: &str) -> Result<u8, AllocError> {
+    let conn = comes(alloc, broker);
+    let packet = deep_filter(alloc, last)?;
+    Ok(code_of(said(broker, conn, &packet)))
+}
+
+/// A publish on a topic as deep.
+fn deep_publish(alloc: Global) -> Result<Packet, AllocError> {
+    Ok(Packet::Publish {
         dup: false,
         qos: 0,
         retain: false,
         topic: deep(alloc, "a")?,
         id: None,
         payload: Vec::new(alloc),
-    };
+    })
+}
+
+/// The least and the most connections that each of 20 publishes reached.
+fn reached(broker: &mut impl Talks, publish: &Packet) -> (usize, usize) {
     let mut least = usize::MAX;
     let mut most = 0;
     for _ in 0..20 {
-        let reached = count(&mut broker, 1, &publish);
+        let reached = count_of(said(broker, 1, publish));
         least = least.min(reached);
         most = most.max(reached);
     }
-    Ok((least, most))
+    (least, most)
+}
+
+/// Four clients with a filter of 32,768 levels each, more than an index may have together: the least and the most of them that each of 20
+/// publishes reached, on a topic that three of the filters fit.
+fn reached_deep(alloc: Global, broker: &mut impl Talks) -> Result<(usize, usize), AllocError> {
+    for last in ["a", "+", "#", "b"] {
+        asks_deep(alloc, broker, last)?;
+    }
+    let publish = deep_publish(alloc)?;
+    Ok(reached(broker, &publish))
 }
 
 #[test]
 fn a_publish_is_routed_among_more_levels_than_an_index_has(rt: HostRuntime) -> Result<(), Fail> {
-    assert_eq!(rt; reached_deep(rt.alloc())?, (3, 3));
+    let reached = reached_deep(rt.alloc(), &mut Broker::new(rt.alloc(), 128))?;
+    assert_eq!(rt; reached, (3, 3));
     Ok(())
 }

@@ -1,20 +1,15 @@
 //! Unfriendly clients of `serve`, over loopback.
-ghost use Rattle.std.specs.Prelude.{◌≡◌};
-
-use crate::serve::{CONNECT, DISCONNECT, Narrow, WILLED, client, ends, free_port, gets, send};
-use spk_runtime::serve;
-use std::io::{Read, Write};
-use std::net::{Shutdown, TcpStream};
+use crate::serve::{
+    CONNECT, DISCONNECT, PING, PONG, Turn, WATCH, WATCHED, WELCOME, WILL, WILLED, client, ends,
+    send, serves,
+};
+use std::io::Read;
+use std::net::{Net, Shutdown, TcpListener, TcpStream};
 use std::process::Abort;
-use std::thread::join;
-
-/// SUBSCRIBE to `w` at QoS 0, and its SUBACK.
-const WATCH: [u8; 8] = [0x82, 6, 0, 1, 0, 1, b'w', 0];
-
-const WATCHED: [u8; 5] = [0x90, 3, 0, 1, 0];
+use std::time::Clock;
 
 /// The greatest packet has 1,048,576 bytes (own rule); this is the head of one with a byte more: 1,048,573 behind its four.
-const TOO_LARGE: [u8; 4] = [0x30, 0xfd, 0xff, 0x3f];
+const TOO_LARGE: &[u8] = b"\x30\xfd\xff\x3f";
 
 /// How many messages pass: so many times so many.
 const ROUNDS: u32 = 250;
@@ -34,7 +29,7 @@ fn message() -> [u8; 1024] {
 }
 
 /// What still comes until the connection ends, in bytes.
-fn rest(stream: &TcpStream) -> u64 {
+pub(crate) fn rest(stream: &TcpStream) -> u64 {
     let mut found = [0u8; 1024];
     let mut total = 0u64;
     let mut reader = stream;
@@ -47,97 +42,107 @@ fn rest(stream: &TcpStream) -> u64 {
     total
 }
 
-/// Connects, and subscribes to `w`.
-fn watch(rt: &impl Abort, stream: &TcpStream) {
-    send(rt, stream, &CONNECT);
-    gets(rt, stream, &[0x20, 2, 0, 0]);
-    send(rt, stream, &WATCH);
-    gets(rt, stream, &WATCHED);
+/// A client whose CONNECT is cut before a byte.
+fn cut_at(rt: &impl Abort, stream: &TcpStream, cut: usize) {
+    send(rt, stream, WILLED.get(..cut).expect(rt, "its first bytes"));
+    stream.shutdown(Shutdown::Write).expect(rt, "an end");
+    ends(rt, stream);
 }
+
+/// One client for each byte of a CONNECT, cut before it.
+pub(crate) fn cuts<R>(rt: &R, port: u16)
+where
+    R: Net<Listener = TcpListener, Stream = TcpStream> + Clock + Abort,
+{
+    for cut in 0..20usize {
+        cut_at(rt, &client(rt, port), cut);
+    }
+}
+
+static CUT: [Turn; 13] = [
+    Turn::Comes,
+    Turn::Sends(0, CONNECT),
+    Turn::Gets(0, WELCOME),
+    Turn::Sends(0, WATCH),
+    Turn::Gets(0, WATCHED),
+    Turn::Cuts,
+    Turn::Sends(0, PING),
+    Turn::Gets(0, PONG),
+    // the whole one, as a check that its will would come
+    Turn::Comes,
+    Turn::Sends(1, WILLED),
+    Turn::Gets(1, WELCOME),
+    Turn::Shuts(1, false),
+    Turn::Gets(0, WILL),
+];
 
 #[test]
 fn a_connect_that_is_cut_routes_no_will(rt: HostRuntime) {
-    let port = free_port(&rt);
-    let mut out = Narrow { room: 64 };
-    let (served, ()) = join(
-        &rt,
-        || serve(&rt, rt.alloc(), port, 22, &mut out),
-        || {
-            let watcher = client(&rt, port);
-            watch(&rt, &watcher);
-            for cut in 0..20usize {
-                let lost = client(&rt, port);
-                send(&rt, &lost, &WILLED[..cut]);
-                lost.shutdown(Shutdown::Write).expect(&rt, "an end");
-                ends(&rt, &lost);
-            }
-            send(&rt, &watcher, &[0xc0, 0]);
-            gets(&rt, &watcher, &[0xd0, 0]);
-            // the whole one, as a check that its will would come
-            let whole = client(&rt, port);
-            send(&rt, &whole, &WILLED);
-            gets(&rt, &whole, &[0x20, 2, 0, 0]);
-            whole.shutdown(Shutdown::Write).expect(&rt, "an end");
-            gets(&rt, &watcher, &[0x30, 4, 0, 1, b'w', b'g']);
-        },
-    );
-    assert_eq!(rt; served, Ok(22));
+    serves(&rt, 22, &CUT);
 }
+
+static LARGE: [Turn; 11] = [
+    Turn::Comes,
+    Turn::Sends(0, CONNECT),
+    Turn::Gets(0, WELCOME),
+    Turn::Sends(0, WATCH),
+    Turn::Gets(0, WATCHED),
+    Turn::Comes,
+    Turn::Sends(1, WILLED),
+    Turn::Gets(1, WELCOME),
+    Turn::Sends(1, TOO_LARGE),
+    Turn::Ends(1),
+    Turn::Gets(0, WILL),
+];
 
 #[test]
 fn a_packet_over_the_limit_is_refused_at_its_head(rt: HostRuntime) {
-    let port = free_port(&rt);
-    let mut out = Narrow { room: 64 };
-    let (served, ()) = join(
-        &rt,
-        || serve(&rt, rt.alloc(), port, 2, &mut out),
-        || {
-            let watcher = client(&rt, port);
-            watch(&rt, &watcher);
-            let large = client(&rt, port);
-            send(&rt, &large, &WILLED);
-            gets(&rt, &large, &[0x20, 2, 0, 0]);
-            send(&rt, &large, &TOO_LARGE);
-            ends(&rt, &large);
-            gets(&rt, &watcher, &[0x30, 4, 0, 1, b'w', b'g']);
-        },
-    );
-    assert_eq!(rt; served, Ok(2));
+    serves(&rt, 2, &LARGE);
 }
+
+/// So many messages of one client come to another.
+fn round(rt: &impl Abort, speaker: &TcpStream, awake: &TcpStream, sent: &[u8; 1024]) {
+    for _ in 0..TOGETHER {
+        send(rt, speaker, sent);
+    }
+    let mut found = [0u8; 1024];
+    let mut reader = awake;
+    for _ in 0..TOGETHER {
+        reader.read_exact(&mut found).expect(rt, "a message");
+        assert!(rt; found == *sent);
+    }
+}
+
+/// All messages of one client come to another.
+pub(crate) fn floods(rt: &impl Abort, speaker: &TcpStream, awake: &TcpStream) {
+    let sent = message();
+    for _ in 0..ROUNDS {
+        round(rt, speaker, awake, &sent);
+    }
+}
+
+static ASLEEP: [Turn; 17] = [
+    Turn::Comes,
+    Turn::Sends(0, CONNECT),
+    Turn::Gets(0, WELCOME),
+    Turn::Sends(0, WATCH),
+    Turn::Gets(0, WATCHED),
+    Turn::Comes,
+    Turn::Sends(1, CONNECT),
+    Turn::Gets(1, WELCOME),
+    Turn::Sends(1, WATCH),
+    Turn::Gets(1, WATCHED),
+    Turn::Comes,
+    Turn::Sends(2, CONNECT),
+    Turn::Gets(2, WELCOME),
+    Turn::Floods(2, 1),
+    // its ring is full long before, and 128 refused sends close it
+    Turn::Rest(0, 16_000 * 1024),
+    Turn::Sends(1, DISCONNECT),
+    Turn::Ends(1),
+];
 
 #[test]
 fn one_that_never_reads_costs_no_other_a_message(rt: HostRuntime) {
-    let port = free_port(&rt);
-    let mut out = Narrow { room: 64 };
-    let (served, ()) = join(
-        &rt,
-        || serve(&rt, rt.alloc(), port, 3, &mut out),
-        || {
-            let asleep = client(&rt, port);
-            watch(&rt, &asleep);
-            let awake = client(&rt, port);
-            watch(&rt, &awake);
-            let speaker = client(&rt, port);
-            send(&rt, &speaker, &CONNECT);
-            gets(&rt, &speaker, &[0x20, 2, 0, 0]);
-            let sent = message();
-            let mut found = [0u8; 1024];
-            for _ in 0..ROUNDS {
-                for _ in 0..TOGETHER {
-                    send(&rt, &speaker, &sent);
-                }
-                for _ in 0..TOGETHER {
-                    let mut reader = &awake;
-                    reader.read_exact(&mut found).expect(&rt, "a message");
-                    assert_eq!(rt; found, sent);
-                }
-            }
-            // its ring is full long before, and 128 refused sends close it
-            let got = rest(&asleep);
-            assert!(rt; got < 16_000 * 1024);
-            send(&rt, &awake, &DISCONNECT);
-            ends(&rt, &awake);
-        },
-    );
-    assert_eq!(rt; served, Ok(3));
+    serves(&rt, 3, &ASLEEP);
 }
