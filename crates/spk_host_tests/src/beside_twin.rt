@@ -1,35 +1,20 @@
 //! Random runs of three nodes beside a second, plain telling of the rules: messages are lost, repeated and displaced inside the window,
 //! sessions die and the host's own session ends. Each packet is handed as bytes, and what comes of it is compared.
+use crate::asks::{Asks, Case, begin, play, renewed, ticked, told};
 use crate::messages::{NODES, Node, death_of, packet_of, request_to};
 use crate::network::{Dice, Pair, given, session_of};
-use crate::twin::{Answer, Hearer, Source};
-use spk_host::{Host, HostConfig, HostFault, Out, Taken};
+use crate::twin::{Answer, Hearer, Sent, Source};
+use spk_host::{Out, Taken};
 use spk_payload::Raw;
-use spk_sequence::{Phase, Step, Width};
+use spk_sequence::{Phase, Step};
 use std::alloc::{AllocError, Global};
 use std::process::Abort;
-use std::test::Fail;
 
 /// How many packets of nodes are handed in a run.
 const PACKETS: usize = 10_000;
 
 /// How long a held message waits, and how long no second rebirth is asked for.
 const WAIT: u64 = 300;
-
-/// Where memory was refused, a call is made again.
-fn told(host: &mut Host, bytes: &[u8], now: u64) -> Option<Out> {
-    match host.packet(bytes, now) {
-        Err(HostFault::NoMemory) => host.packet(bytes, now).ok(),
-        answer => answer.ok(),
-    }
-}
-
-fn ticked(host: &mut Host, now: u64) -> Option<Out> {
-    match host.tick(now) {
-        Err(HostFault::NoMemory) => host.tick(now).ok(),
-        answer => answer.ok(),
-    }
-}
 
 /// The message that was consumed is that of a position.
 fn is_of(taken: &Taken, node: Node, position: u64) -> bool {
@@ -56,27 +41,27 @@ fn are_of(taken: &[Taken], node: Node, consumed: &[u64], count: usize) -> bool {
 }
 
 /// A packet is a request to a node.
-fn is_request(alloc: Global, packet: &[u8], node: Node, now: u64) -> Result<bool, AllocError> {
-    let request = match request_to(alloc, node, now) {
-        Ok(request) => request,
-        Err(_) => request_to(alloc, node, now)?,
+fn is_request(rt: &(impl Abort + AllocGlobal), packet: &[u8], node: Node, now: u64) -> bool {
+    let request = match request_to(rt.alloc(), node, now) {
+        Ok(made) => made,
+        Err(_) => request_to(rt.alloc(), node, now).expect(rt, "memory is there again")
     };
-    Ok(packet == request.as_slice())
+    packet == request.as_slice()
 }
 
 /// Packets are so many requests to a node.
 fn are_requests(
-    alloc: Global,
+    rt: &(impl Abort + AllocGlobal),
     packets: &[Vec<u8>],
     node: Node,
     now: u64,
     count: usize,
-) -> Result<bool, AllocError> {
+) -> bool {
     let mut are = packets.len() == count;
     for packet in packets {
-        are = are && is_request(alloc, packet.as_slice(), node, now)?;
+        are = are && is_request(rt, packet.as_slice(), node, now);
     }
-    Ok(are)
+    are
 }
 
 /// The acknowledgement of an NDEATH, and nothing else.
@@ -95,30 +80,24 @@ fn count_of(step: Step) -> usize {
     }
 }
 
-/// Of a message of a node: its step, what was consumed, the requests and the phase are what the twin says.
+/// Of a message of a node: its step, what was consumed and the requests are what the twin says.
 fn is_alike(
-    alloc: Global,
-    host: &Host,
+    rt: &(impl Abort + AllocGlobal),
     out: &Out,
     node: Node,
-    twin: &Hearer,
+    consumed: &[u64],
     answer: Answer,
     now: u64,
-) -> Result<bool, AllocError> {
-    let count = count_of(answer.step);
-    let is_request = are_requests(alloc, out.packets.as_slice(), node, now, answer.requests)?;
-    Ok(
-        out.steps.as_slice() == [answer.step].as_slice()
-            && are_of(
-                out.consumed.as_slice(),
-                node,
-                twin.consumed.as_slice(),
-                count,
-            )
-            && is_request
-            && out.rebirths.len() == answer.requests
-            && host.phase(node.0, node.1) == twin.phase(),
-    )
+) -> bool {
+    out.steps.as_slice() == [answer.step].as_slice()
+        && are_of(
+            out.consumed.as_slice(),
+            node,
+            consumed,
+            count_of(answer.step),
+        )
+        && are_requests(rt, out.packets.as_slice(), node, now, answer.requests)
+        && out.rebirths.len() == answer.requests
 }
 
 /// How often each sort of answer came: what became of a message, a gap at a moment, a request, an NDEATH that ended a session.
@@ -137,39 +116,15 @@ fn sort_of(step: Step) -> usize {
     }
 }
 
-/// A run: the host, and of each node what it published and what the twin keeps of it.
+/// A run: of each node what it published, and what the twin keeps of it.
 #[derive(Drop)]
 struct Run {
     dice: Dice,
     width: u64,
-    host: Host,
     nodes: Vec<Pair>,
     /// The nodes' places, in the order in which they were first heard.
     heard: Vec<usize>,
     counts: [usize; SORTS],
-}
-
-fn text(alloc: Global, words: &str) -> Result<String, AllocError> {
-    match String::from_str(alloc, words) {
-        Ok(text) => Ok(text),
-        Err(_) => String::from_str(alloc, words),
-    }
-}
-
-/// A host within a session.
-fn host(alloc: Global, width: Width) -> Result<Host, Fail> {
-    let config = HostConfig {
-        name: text(alloc, "H")?,
-        group: text(alloc, "G")?,
-        wait: WAIT,
-        keep: 0,
-        width,
-    };
-    let mut host = Host::new(alloc, config)?;
-    if host.connected(0).is_err() {
-        host.connected(0)?;
-    }
-    Ok(host)
 }
 
 fn nodes(alloc: Global, width: u64) -> Result<Vec<Pair>, AllocError> {
@@ -183,20 +138,86 @@ fn nodes(alloc: Global, width: u64) -> Result<Vec<Pair>, AllocError> {
     Ok(nodes)
 }
 
+/// The packet of a position. Where memory was refused it is made again.
+fn packet(
+    rt: &(impl Abort + AllocGlobal),
+    node: Node,
+    source: &Source,
+    position: u64,
+    sent: Sent,
+) -> Vec<u8> {
+    match packet_of(rt.alloc(), node, source, position, sent) {
+        Ok(made) => made,
+        Err(_) => packet_of(rt.alloc(), node, source, position, sent).expect(
+            rt,
+            "memory is there again",
+        )
+    }
+}
+
+/// The NDEATH of a session. Where memory was refused it is made again.
+fn death(rt: &(impl Abort + AllocGlobal), node: Node, session: u64) -> Vec<u8> {
+    match death_of(rt.alloc(), node, session) {
+        Ok(made) => made,
+        Err(_) => death_of(rt.alloc(), node, session).expect(rt, "memory is there again")
+    }
+}
+
+/// A message that a network gives: its packet, and what the twin says of it.
+#[derive(Drop)]
+struct Given {
+    packet: Vec<u8>,
+    answer: Answer,
+}
+
+/// What the network gives next of a node. None where it gives nothing.
+fn next(
+    rt: &(impl Abort + AllocGlobal),
+    dice: &mut Dice,
+    node: Node,
+    pair: &mut Pair,
+    width: u64,
+    now: u64,
+) -> Option<Given> {
+    let (position, sent) = given(dice, pair, width)?;
+    let packet = packet(rt, node, &pair.source, position, sent);
+    let answer = pair
+        .twin
+        .hand(rt.alloc(), &pair.source, position, sent, now);
+    Some(Given { packet, answer })
+}
+
+/// A message is handed: whether what is answered is what the twin says.
+fn is_told_alike(
+    rt: &(impl Abort + AllocGlobal),
+    host: &mut impl Asks,
+    node: Node,
+    twin: &Hearer,
+    given: &Given,
+    now: u64,
+) -> bool {
+    match told(host, given.packet.as_slice(), now) {
+        Ok(out) => {
+            is_alike(rt, &out, node, twin.consumed.as_slice(), given.answer, now)
+                && host.phase_of(node.0, node.1) == twin.phase()
+        }
+        Err(_) => false,
+    }
+}
+
 impl Run {
-    fn new(alloc: Global, seed: u64, places: u8) -> Result<Run, Fail> {
+    fn new(rt: &(impl Abort + AllocGlobal), seed: u64, places: u8) -> Run {
         let width = u64::from(places);
-        Ok(Run {
+        Run {
             dice: Dice { seed },
             width,
-            host: host(alloc, Width::new(places).ok_or("width")?)?,
-            nodes: match nodes(alloc, width) {
-                Ok(nodes) => nodes,
-                Err(_) => nodes(alloc, width)?,
+            nodes: match nodes(rt.alloc(), width) {
+                Ok(made) => made,
+                Err(_) => nodes(rt.alloc(), width).expect(rt, "memory is there again")
             },
-            heard: Vec::new(alloc),
+            heard: Vec::new(rt.alloc()),
             counts: [0; SORTS],
-        })
+        }
     }
 
     fn count(&mut self, sort: usize, more: usize) {
@@ -208,49 +229,41 @@ impl Run {
     /// A message of a node is handed. None where the network doesn't give it.
     fn message(
         &mut self,
-        alloc: Global,
+        rt: &(impl Abort + AllocGlobal),
+        host: &mut impl Asks,
         place: usize,
         now: u64,
-    ) -> Result<Option<bool>, AllocError> {
-        let (Some(node), Some(pair)) = (NODES.get(place).copied(), self.nodes.get_mut(place)) else {
-            return Ok(None);
-        };
-        let Some((position, sent)) = given(&mut self.dice, pair, self.width) else {
-            return Ok(None);
-        };
-        let packet = match packet_of(alloc, node, &pair.source, position, sent) {
-            Ok(packet) => packet,
-            Err(_) => packet_of(alloc, node, &pair.source, position, sent)?,
-        };
-        let answer = pair.twin.hand(alloc, &pair.source, position, sent, now);
-        let Some(out) = told(&mut self.host, packet.as_slice(), now) else {
-            return Ok(Some(false));
-        };
-        let alike = is_alike(alloc, &self.host, &out, node, &pair.twin, answer, now)?;
+    ) -> Option<bool> {
+        let node = NODES.get(place).copied()?;
+        let pair = self.nodes.get_mut(place)?;
+        let given = next(rt, &mut self.dice, node, pair, self.width, now)?;
+        let alike = is_told_alike(rt, host, node, &pair.twin, &given, now);
         self.hear(place);
-        self.count(sort_of(answer.step), 1);
-        self.count(8, answer.requests);
-        Ok(Some(alike))
+        self.count(sort_of(given.answer.step), 1);
+        self.count(8, given.answer.requests);
+        Some(alike)
     }
 
     /// The NDEATH of a session of a node is handed.
-    fn death(&mut self, alloc: Global, place: usize, now: u64) -> Result<Option<bool>, AllocError> {
-        let (Some(node), Some(pair)) = (NODES.get(place).copied(), self.nodes.get_mut(place)) else {
-            return Ok(None);
-        };
+    fn death(
+        &mut self,
+        rt: &(impl Abort + AllocGlobal),
+        host: &mut impl Asks,
+        place: usize,
+        now: u64,
+    ) -> Option<bool> {
+        let node = NODES.get(place).copied()?;
+        let pair = self.nodes.get_mut(place)?;
         let session = session_of(&mut self.dice, &pair.source, &pair.twin);
-        let packet = match death_of(alloc, node, session) {
-            Ok(packet) => packet,
-            Err(_) => death_of(alloc, node, session)?,
-        };
+        let packet = death(rt, node, session);
         pair.twin.tell(&pair.source, session);
         let phase = pair.twin.phase();
-        let Some(out) = told(&mut self.host, packet.as_slice(), now) else {
-            return Ok(Some(false));
-        };
         self.count(9, usize::from(phase == Phase::Dead));
-        let is_acknowledged = are_acknowledgements(out.packets.as_slice());
-        Ok(Some(is_acknowledged && self.host.phase(node.0, node.1) == phase))
+        let is_acknowledged = match told(host, packet.as_slice(), now) {
+            Ok(out) => are_acknowledgements(out.packets.as_slice()),
+            Err(_) => false,
+        };
+        Some(is_acknowledged && host.phase_of(node.0, node.1) == phase)
     }
 
     fn hear(&mut self, place: usize) {
@@ -260,7 +273,7 @@ impl Run {
     }
 
     /// What a moment asks, by the twin: how many gaps there are, and the nodes asked.
-    fn due(&mut self, mut asked: Vec<Node>, now: u64) -> Result<(usize, Vec<Node>), AllocError> {
+    fn due(&mut self, rt: &impl Abort, mut asked: Vec<Node>, now: u64) -> (usize, Vec<Node>) {
         let mut gaps = 0usize;
         for place in self.heard.iter() {
             let (Some(node), Some(pair)) = (NODES.get(*place).copied(), self.nodes.get_mut(*place))
@@ -272,63 +285,80 @@ impl Run {
             };
             gaps = gaps.saturating_add(1);
             if requests > 0 {
-                asked.push(node)?;
+                assert!(rt; asked.push(node).is_ok());
             }
         }
-        Ok((gaps, asked))
+        (gaps, asked)
     }
 
     /// A moment comes.
-    fn tick(&mut self, alloc: Global, now: u64) -> Result<Option<bool>, AllocError> {
-        let room = Vec::with_capacity(alloc, NODES.len());
-        let asked = match room {
-            Ok(room) => room,
-            Err(_) => Vec::with_capacity(alloc, NODES.len())?,
+    fn tick(&mut self, rt: &(impl Abort + AllocGlobal), host: &mut impl Asks, now: u64) -> bool {
+        let room = match Vec::with_capacity(rt.alloc(), NODES.len()) {
+            Ok(made) => made,
+            Err(_) => Vec::with_capacity(rt.alloc(), NODES.len()).expect(
+                rt,
+                "memory is there again",
+            )
         };
-        let (gaps, asked) = self.due(asked, now)?;
-        let Some(out) = ticked(&mut self.host, now) else {
-            return Ok(Some(false));
-        };
-        let mut alike = out.steps.len() == gaps && out.packets.len() == asked.len();
-        for (packet, node) in out.packets.iter().zip(asked.iter()) {
-            alike = alike && is_request(alloc, packet.as_slice(), *node, now)?;
-        }
+        let (gaps, asked) = self.due(rt, room, now);
         self.count(10, gaps);
-        Ok(Some(alike))
+        is_ticked_alike(rt, host, gaps, asked.as_slice(), now)
     }
 
     /// The session of the host ends, and the next begins.
-    fn renew(&mut self, now: u64) -> Result<Option<bool>, AllocError> {
-        if self.host.renew(now).is_err() {
-            self.host.renew(now)?;
-        }
+    fn renew(&mut self, rt: &impl Abort, host: &mut impl Asks, now: u64) {
+        assert!(rt; renewed(host, now).is_ok());
         for pair in self.nodes.iter_mut() {
             pair.twin.renew();
         }
-        Ok(None)
     }
 
     /// One thing is heard. None where no packet of a node came.
-    fn turn(&mut self, alloc: Global, now: u64) -> Result<Option<bool>, AllocError> {
+    fn turn(
+        &mut self,
+        rt: &(impl Abort + AllocGlobal),
+        host: &mut impl Asks,
+        now: u64,
+    ) -> Option<bool> {
         let kind = self.dice.roll(1000);
         let place = self.dice.roll(3) as usize;
         match kind {
-            0..=1 => self.renew(now),
-            2..=49 => self.tick(alloc, now),
-            50..=79 => self.death(alloc, place, now),
-            _ => self.message(alloc, place, now),
+            0..=1 => {
+                self.renew(rt, host, now);
+                None
+            }
+            2..=49 => Some(self.tick(rt, host, now)),
+            50..=79 => self.death(rt, host, place, now),
+            _ => self.message(rt, host, place, now),
         }
     }
 }
 
-/// So many packets: how many were told alike, and how often each sort of answer came.
+/// A moment comes: whether so many gaps and these requests are answered, in order.
+fn is_ticked_alike(
+    rt: &(impl Abort + AllocGlobal),
+    host: &mut impl Asks,
+    gaps: usize,
+    asked: &[Node],
+    now: u64,
+) -> bool {
+    let Ok(out) = ticked(host, now) else {
+        return false;
+    };
+    let mut alike = out.steps.len() == gaps && out.packets.len() == asked.len();
+    for (packet, node) in out.packets.iter().zip(asked) {
+        alike = alike && is_request(rt, packet.as_slice(), *node, now);
+    }
+    alike
+}
+
+/// How many of so many packets were told alike. It ends at the first that wasn't.
 fn played(
-    alloc: Global,
-    seed: u64,
-    places: u8,
+    rt: &(impl Abort + AllocGlobal),
+    host: &mut impl Asks,
+    run: &mut Run,
     packets: usize,
-) -> Result<(usize, [usize; SORTS]), Fail> {
-    let mut run = Run::new(alloc, seed, places)?;
+) -> usize {
     let mut now = 1_000u64;
     let mut alike = 0usize;
     for _turn in 0..packets.saturating_mul(3) {
@@ -337,37 +367,50 @@ fn played(
         }
         now = now.saturating_add(run.dice.roll(40));
         let moment = now.saturating_sub(run.dice.roll(60));
-        match run.turn(alloc, moment)? {
+        match run.turn(rt, host, moment) {
             Some(true) => alike = alike.saturating_add(1),
             Some(false) => break,
             None => {}
         }
     }
-    Ok((alike, run.counts))
+    alike
 }
 
-/// A run at a width: all packets were told alike, and every sort of answer came. With one place nothing is ever held.
-fn assert_run(rt: &(impl Abort + AllocGlobal), seed: u64, places: u8) -> Result<(), Fail> {
-    let (alike, counts) = played(rt.alloc(), seed, places, PACKETS)?;
-    assert_eq!(rt; alike, PACKETS, "{counts:?}");
-    for (sort, count) in counts.iter().enumerate() {
-        let is_none = places == 1 && (sort == 1 || sort == 2 || sort == 10);
-        assert!(rt; is_none || *count >= 5, "{sort} of {counts:?}");
+/// A run, by its seed and its width.
+#[derive(Clone, Copy)]
+struct Seeded {
+    seed: u64,
+    places: u8,
+}
+
+impl Case for Seeded {
+    /// All packets are told alike, and every sort of answer comes. With one place nothing is ever held.
+    fn play(&self, rt: &(impl Abort + AllocGlobal), host: &mut impl Asks) {
+        begin(rt, host, 0);
+        let mut run = Run::new(rt, self.seed, self.places);
+        assert_eq!(rt; played(rt, host, &mut run, PACKETS), PACKETS);
+        for (sort, count) in run.counts.iter().enumerate() {
+            let is_none = self.places == 1 && (sort == 1 || sort == 2 || sort == 10);
+            assert!(rt; is_none || *count >= 5, "{sort}: {count}");
+        }
     }
-    Ok(())
+}
+
+fn runs(rt: &(impl Abort + AllocGlobal), seed: u64, places: u8) {
+    play(rt, WAIT, places, &Seeded { seed, places });
 }
 
 #[test]
-fn packets_of_three_nodes_are_as_they_are_told_a_second_time(rt: HostRuntime) -> Result<(), Fail> {
-    assert_run(&rt, 1, 64)
+fn packets_of_three_nodes_are_as_they_are_told_a_second_time(rt: HostRuntime) {
+    runs(&rt, 1, 64);
 }
 
 #[test]
-fn at_width_1_too(rt: HostRuntime) -> Result<(), Fail> {
-    assert_run(&rt, 2, 1)
+fn at_width_1_too(rt: HostRuntime) {
+    runs(&rt, 2, 1);
 }
 
 #[test]
-fn at_width_96_too(rt: HostRuntime) -> Result<(), Fail> {
-    assert_run(&rt, 3, 96)
+fn at_width_96_too(rt: HostRuntime) {
+    runs(&rt, 3, 96);
 }

@@ -1,48 +1,9 @@
 //! Sessions, their bytes by hand from MQTT 3.1.1 (chapter 3) and Sparkplug's schema. Out of memory is a right answer wherever memory
 //! is asked for: nothing has changed then, and the call is made again.
-use spk_host::{Host, HostConfig, HostFault, Out};
-use spk_sequence::{Phase, Step, Width};
-use std::alloc::Global;
-use std::test::Fail;
-
-fn text(alloc: Global, words: &str) -> Result<String, Fail> {
-    match String::from_str(alloc, words) {
-        Ok(text) => Ok(text),
-        Err(_) => Ok(String::from_str(alloc, words)?),
-    }
-}
-
-/// A host within a session that began at 5.
-fn host(alloc: Global, group: &str, wait: u64) -> Result<Host, Fail> {
-    let width = Width::new(64).ok_or("width")?;
-    let config = HostConfig {
-        name: text(alloc, "H")?,
-        group: text(alloc, group)?,
-        wait,
-        keep: 0,
-        width,
-    };
-    let mut host = Host::new(alloc, config)?;
-    match host.connected(5) {
-        Err(HostFault::NoMemory) => host.connected(5)?,
-        answer => answer?,
-    };
-    Ok(host)
-}
-
-fn told(host: &mut Host, bytes: &[u8], now: u64) -> Result<Out, HostFault> {
-    match host.packet(bytes, now) {
-        Err(HostFault::NoMemory) => host.packet(bytes, now),
-        answer => answer,
-    }
-}
-
-fn ticked(host: &mut Host, now: u64) -> Result<Out, HostFault> {
-    match host.tick(now) {
-        Err(HostFault::NoMemory) => host.tick(now),
-        answer => answer,
-    }
-}
+use crate::asks::{Asks, Case, begin, play, renewed, stopped, ticked, told};
+use spk_host::HostFault;
+use spk_sequence::{Phase, Step};
+use std::process::Abort;
 
 /// Data of node N under the number 4, at QoS 0.
 const DATA: &[u8] = b"0\x17\x00\x11spBv1.0/G/NDATA/N\x08\x07\x18\x04";
@@ -80,23 +41,23 @@ const SAID: [Said; 5] = [
     ),
 ];
 
-#[test]
-fn a_session_answers_what_it_hears(rt: HostRuntime) -> Result<(), Fail> {
-    let mut host = host(rt.alloc(), "G", 2000)?;
+fn answers_what_it_hears(rt: &impl Abort, host: &mut impl Asks) {
     for (bytes, now, count, first) in SAID {
-        let out = told(&mut host, bytes, now)?;
+        let out = told(host, bytes, now).expect(rt, "an answer");
         assert_eq!(rt; out.packets.len(), count);
         if let Some(packet) = out.packets.get(0) {
             assert_eq!(rt; packet.as_slice(), first);
         }
     }
-    assert_eq!(rt; ticked(&mut host, 10)?.packets.len(), 0);
-    let farewell = match host.stop(11) {
-        Err(HostFault::NoMemory) => host.stop(11)?,
-        answer => answer?,
-    };
+    let out = ticked(host, 10).expect(rt, "an answer");
+    assert_eq!(rt; out.packets.len(), 0);
+    let farewell = stopped(host, 11).expect(rt, "an answer");
     assert_eq!(rt; farewell.packets.len(), 2);
-    Ok(())
+}
+
+#[test]
+fn a_session_answers_what_it_hears(rt: HostRuntime) {
+    play(&rt, 2000, 64, &Session::Said);
 }
 
 /// A node's packet, and what becomes of it.
@@ -136,20 +97,20 @@ const TWO_NODES: [Row; 6] = [
     ),
 ];
 
-#[test]
-fn nodes_of_two_groups_have_their_own_orders(rt: HostRuntime) -> Result<(), Fail> {
-    let mut host = host(rt.alloc(), "G", 50)?;
+fn keeps_two_orders(rt: &impl Abort, host: &mut impl Asks) {
     for (bytes, step, consumed) in TWO_NODES {
-        let out = told(&mut host, bytes, 20)?;
+        let out = told(host, bytes, 20).expect(rt, "an answer");
         assert_eq!(rt; out.steps.as_slice(), [step].as_slice());
         assert_eq!(rt; out.consumed.len(), consumed);
     }
-    assert_eq!(rt;
-        ticked(&mut host, 70)?.steps.as_slice(),
-        [Step::Gap].as_slice()
-    );
-    assert_eq!(rt; host.phase("F", "N"), Phase::Gap);
-    Ok(())
+    let out = ticked(host, 70).expect(rt, "an answer");
+    assert_eq!(rt; out.steps.as_slice(), [Step::Gap].as_slice());
+    assert_eq!(rt; host.phase_of("F", "N"), Phase::Gap);
+}
+
+#[test]
+fn nodes_of_two_groups_have_their_own_orders(rt: HostRuntime) {
+    play(&rt, 50, 64, &Session::TwoNodes);
 }
 
 /// Bytes that are refused.
@@ -182,18 +143,36 @@ const REFUSED: [(&[u8], HostFault, u32); 6] = [
     ),
 ];
 
-#[test]
-fn refused_packets(rt: HostRuntime) -> Result<(), Fail> {
-    let mut host = host(rt.alloc(), "G", 50)?;
+fn refuses(rt: &impl Abort, host: &mut impl Asks) {
     for (bytes, fault, number) in REFUSED {
-        assert_eq!(rt; told(&mut host, bytes, 1).err(), Some(fault));
+        assert_eq!(rt; told(host, bytes, 1).err(), Some(fault));
         assert_eq!(rt; fault.number(), number);
     }
-    let renewed = match host.renew(2) {
-        Ok(out) => out,
-        Err(_) => host.renew(2)?,
-    };
-    assert_eq!(rt; renewed.packets.len(), 1);
-    host.ended();
-    Ok(())
+    let out = renewed(host, 2).expect(rt, "an answer");
+    assert_eq!(rt; out.packets.len(), 1);
+    host.tell_ended();
+}
+
+#[test]
+fn refused_packets(rt: HostRuntime) {
+    play(&rt, 50, 64, &Session::Refused);
+}
+
+/// What a host is told within a session that began at 5.
+#[derive(Clone, Copy)]
+enum Session {
+    Said,
+    TwoNodes,
+    Refused,
+}
+
+impl Case for Session {
+    fn play(&self, rt: &(impl Abort + AllocGlobal), host: &mut impl Asks) {
+        begin(rt, host, 5);
+        match self {
+            Session::Said => answers_what_it_hears(rt, host),
+            Session::TwoNodes => keeps_two_orders(rt, host),
+            Session::Refused => refuses(rt, host),
+        }
+    }
 }

@@ -3,7 +3,7 @@ use spk_payload::{Metric, Payload, Raw};
 use spk_reading::{Numbered, Subject};
 use spk_sequence::{Kind, Match, Phase, Step, Width};
 use std::alloc::{AllocError, Global};
-use std::test::Fail;
+use std::process::Abort;
 
 /// An Int32 under an alias; of a birth with its name.
 fn metric(alloc: Global, is_birth: bool, alias: u64, value: u32) -> Result<Metric, AllocError> {
@@ -53,22 +53,71 @@ fn message(
     })
 }
 
+/// What the tests ask of a node. They are written over any that answers it, since a function over a type parameter is proved
+/// without the parts of a node.
+trait Follows {
+    fn hand_in(&mut self, message: Numbered, now: u64) -> Result<Handed, AllocError>;
+
+    fn die(&mut self, session: u8) -> Match;
+
+    fn end(&mut self);
+
+    fn stands(&self) -> Phase;
+}
+
+impl Follows for HostNode {
+    fn hand_in(&mut self, message: Numbered, now: u64) -> Result<Handed, AllocError> {
+        self.hand(message, now)
+    }
+
+    fn die(&mut self, session: u8) -> Match {
+        self.death(session)
+    }
+
+    fn end(&mut self) {
+        self.over();
+    }
+
+    fn stands(&self) -> Phase {
+        self.phase()
+    }
+}
+
 /// A node without messages.
-fn fresh(alloc: Global, width: Width) -> Result<HostNode, AllocError> {
-    match HostNode::new(alloc, 2000, width) {
-        Ok(node) => Ok(node),
-        Err(_) => HostNode::new(alloc, 2000, width),
+fn fresh(rt: &(impl Abort + AllocGlobal)) -> HostNode {
+    let width = Width::new(64).expect(rt, "a width");
+    match HostNode::new(rt.alloc(), 2000, width) {
+        Ok(made) => made,
+        Err(_) => HostNode::new(rt.alloc(), 2000, width).expect(rt, "memory is there again")
     }
 }
 
 /// A number, an NBIRTH's timestamp, an alias and a value.
 type Told = (u8, Option<u64>, u64, u32);
 
-/// A message is made and handed in.
-fn hand(alloc: Global, node: &mut HostNode, told: Told, now: u64) -> Result<Handed, AllocError> {
+/// A message is made and handed in: its step, how many are consumed, how many rebirths are asked for.
+fn hand_one(
+    alloc: Global,
+    node: &mut impl Follows,
+    told: Told,
+    now: u64,
+) -> Result<(Step, usize, usize), AllocError> {
     let (number, birth, alias, value) = told;
-    let message = message(alloc, number, birth, alias, value)?;
-    node.hand(message, now)
+    let handed = node.hand_in(message(alloc, number, birth, alias, value)?, now)?;
+    Ok((handed.step, handed.consumed.len(), handed.requests))
+}
+
+/// The same. Where memory was refused it is handed in again.
+fn hand(
+    rt: &(impl Abort + AllocGlobal),
+    node: &mut impl Follows,
+    told: Told,
+    now: u64,
+) -> (Step, usize, usize) {
+    match hand_one(rt.alloc(), node, told, now) {
+        Ok(handed) => handed,
+        Err(_) => hand_one(rt.alloc(), node, told, now).expect(rt, "memory is there again"),
+    }
 }
 
 /// A number, an NBIRTH's timestamp, an alias, a moment; the step, how many are consumed, how many rebirths are asked for.
@@ -89,34 +138,45 @@ const ROWS: [Row; 8] = [
     (68, None, 1, 2014, Step::Gap, 0, 1),
 ];
 
-#[test]
-fn a_node_is_followed_from_its_birth_on(rt: HostRuntime) -> Result<(), Fail> {
-    let width = Width::new(64).ok_or("width")?;
-    let mut node = fresh(rt.alloc(), width)?;
+fn is_followed(rt: &(impl Abort + AllocGlobal), node: &mut impl Follows) {
     for (number, birth, alias, now, step, consumed, requests) in ROWS {
-        let value = u32::from(number);
-        let handed = match hand(rt.alloc(), &mut node, (number, birth, alias, value), now) {
-            Ok(handed) => handed,
-            Err(_) => hand(rt.alloc(), &mut node, (number, birth, alias, value), now)?,
-        };
-        assert_eq!(rt; handed.step, step, "{now}");
-        assert_eq!(rt; handed.consumed.len(), consumed, "{now}");
-        assert_eq!(rt; handed.requests, requests, "{now}");
+        let told = (number, birth, alias, u32::from(number));
+        assert_eq!(rt;
+            hand(rt, node, told, now),
+            (step, consumed, requests),
+            "{now}"
+        );
     }
-    assert_eq!(rt; node.phase(), Phase::Gap);
-    Ok(())
+    assert_eq!(rt; node.stands(), Phase::Gap);
 }
 
 #[test]
-fn a_matching_death_and_the_end_of_a_session(rt: HostRuntime) -> Result<(), Fail> {
-    let width = Width::new(64).ok_or("width")?;
-    let mut node = fresh(rt.alloc(), width)?;
-    if hand(rt.alloc(), &mut node, (9, Some(101), 1, 5), 0).is_err() {
-        let _handed = hand(rt.alloc(), &mut node, (9, Some(101), 1, 5), 0)?;
+fn a_node_is_followed_from_its_birth_on(rt: HostRuntime) {
+    plays(&rt, false);
+}
+
+fn dies(rt: &(impl Abort + AllocGlobal), node: &mut impl Follows) {
+    let _handed = hand(rt, node, (9, Some(101), 1, 5), 0);
+    assert_eq!(rt; node.die(3), Match::Ignored);
+    assert_eq!(rt; node.die(4), Match::Matched);
+    node.end();
+    assert_eq!(rt; node.stands(), Phase::Unknown);
+}
+
+#[test]
+fn a_matching_death_and_the_end_of_a_session(rt: HostRuntime) {
+    plays(&rt, true);
+}
+
+fn play(rt: &(impl Abort + AllocGlobal), node: &mut impl Follows, is_death: bool) {
+    if is_death {
+        dies(rt, node);
+    } else {
+        is_followed(rt, node);
     }
-    assert_eq!(rt; node.death(3), Match::Ignored);
-    assert_eq!(rt; node.death(4), Match::Matched);
-    node.over();
-    assert_eq!(rt; node.phase(), Phase::Unknown);
-    Ok(())
+}
+
+/// A node is followed, or dies.
+fn plays(rt: &(impl Abort + AllocGlobal), is_death: bool) {
+    play(rt, &mut fresh(rt), is_death);
 }

@@ -1,12 +1,12 @@
 //! Each refusal of a packet, at each kind of message that can meet it. Topics, payloads and their numbers are by hand from MQTT 3.1.1
 //! (chapter 3) and Sparkplug 3.0.0 (chapters 4 and 6), each message at QoS 0 and at QoS 1, retained. None is acknowledged, and each
 //! leaves the host as it was.
+use crate::asks::{Asks, Case, begin, play, stopped, told};
 use crate::bytes::publish;
-use spk_host::{Host, HostConfig, HostFault, Out};
-use spk_sequence::{Phase, Step, Width};
+use spk_host::HostFault;
+use spk_sequence::{Phase, Step};
 use std::alloc::{AllocError, Global};
 use std::process::Abort;
-use std::test::Fail;
 
 /// Messages that carry a sequence number.
 const NUMBERED: [&str; 5] = [
@@ -182,39 +182,6 @@ const ACCEPTED: [(&str, &[u8], Option<Step>); 9] = [
     ("spBv1.0/G/NDATA/M", b"\x18\x05", Some(Step::NotLive)),
 ];
 
-fn text(alloc: Global, words: &str) -> Result<String, AllocError> {
-    match String::from_str(alloc, words) {
-        Ok(text) => Ok(text),
-        Err(_) => String::from_str(alloc, words),
-    }
-}
-
-/// A host that was never within a session.
-fn host(alloc: Global) -> Result<Host, Fail> {
-    let config = HostConfig {
-        name: text(alloc, "H")?,
-        group: text(alloc, "G")?,
-        wait: 2000,
-        keep: 0,
-        width: Width::new(64).ok_or("width")?,
-    };
-    Ok(Host::new(alloc, config)?)
-}
-
-fn begin(host: &mut Host) -> Result<(), HostFault> {
-    if let Err(HostFault::NoMemory) = host.connected(5) {
-        host.connected(5)?;
-    }
-    Ok(())
-}
-
-fn told(host: &mut Host, bytes: &[u8]) -> Result<Out, HostFault> {
-    match host.packet(bytes, 9) {
-        Err(HostFault::NoMemory) => host.packet(bytes, 9),
-        answer => answer,
-    }
-}
-
 /// A PUBLISH, its payload in two parts.
 fn packet(
     alloc: Global,
@@ -229,221 +196,263 @@ fn packet(
     publish(alloc, topic, id, payload.as_slice())
 }
 
+/// The same. Where memory was refused it is made again.
 fn made(
-    alloc: Global,
+    rt: &(impl Abort + AllocGlobal),
     topic: &str,
     id: Option<u16>,
     front: &[u8],
     rest: &[u8],
-) -> Result<Vec<u8>, AllocError> {
-    match packet(alloc, topic, id, front, rest) {
-        Ok(packet) => Ok(packet),
-        Err(_) => packet(alloc, topic, id, front, rest),
+) -> Vec<u8> {
+    match packet(rt.alloc(), topic, id, front, rest) {
+        Ok(made) => made,
+        Err(_) => packet(rt.alloc(), topic, id, front, rest).expect(rt, "memory is there again")
     }
 }
 
-/// A host within a session, after an NBIRTH of the node N under the number 0, with the timestamp 100 and the bdSeq 0.
-fn live(alloc: Global) -> Result<Host, Fail> {
-    let mut host = host(alloc)?;
-    begin(&mut host)?;
-    let birth = made(alloc, "spBv1.0/G/NBIRTH/N", None, BORN, b"\x18\x00")?;
-    let _out = told(&mut host, birth.as_slice())?;
-    Ok(host)
+/// A session begins, with an NBIRTH of the node N under the number 0, with the timestamp 100 and the bdSeq 0.
+fn live(rt: &(impl Abort + AllocGlobal), host: &mut impl Asks) {
+    begin(rt, host, 5);
+    let birth = made(rt, "spBv1.0/G/NBIRTH/N", None, BORN, b"\x18\x00");
+    assert!(rt; told(host, birth.as_slice(), 9).is_ok());
 }
 
 /// A message is refused, at QoS 0 and at QoS 1.
 fn assert_refused(
     rt: &(impl Abort + AllocGlobal),
-    host: &mut Host,
+    host: &mut impl Asks,
     topic: &str,
     front: &[u8],
     rest: &[u8],
     fault: HostFault,
-) -> Result<(), Fail> {
+) {
     for id in [None, Some(7)] {
-        let packet = made(rt.alloc(), topic, id, front, rest)?;
-        let refused = told(host, packet.as_slice()).err();
+        let packet = made(rt, topic, id, front, rest);
+        let refused = told(host, packet.as_slice(), 9).err();
         assert_eq!(rt; refused, Some(fault), "{topic} with {rest:?}");
     }
-    Ok(())
 }
 
 /// The node N alone was heard, is followed, and its message under the number 1 comes next.
-fn assert_as_before(rt: &(impl Abort + AllocGlobal), host: &mut Host) -> Result<(), Fail> {
-    assert_eq!(rt; host.nodes().len(), 1);
-    assert_eq!(rt; host.phase("G", "N"), Phase::Live);
-    let data = made(rt.alloc(), "spBv1.0/G/NDATA/N", Some(7), b"", b"\x18\x01")?;
-    let out = told(host, data.as_slice())?;
+fn assert_as_before(rt: &(impl Abort + AllocGlobal), host: &mut impl Asks) {
+    assert_eq!(rt; host.count(), 1);
+    assert_eq!(rt; host.phase_of("G", "N"), Phase::Live);
+    let data = made(rt, "spBv1.0/G/NDATA/N", Some(7), b"", b"\x18\x01");
+    let out = told(host, data.as_slice(), 9).expect(rt, "an answer");
     assert_eq!(rt; out.steps.as_slice(), [Step::Consumed(1)].as_slice());
     assert_eq!(rt; out.packets.len(), 1);
-    Ok(())
 }
 
-/// Each of these messages is refused so, with each of these ends of its payload.
-fn assert_all_refused(
-    rt: &(impl Abort + AllocGlobal),
-    topics: &[&str],
-    front: &[u8],
-    rests: &[&[u8]],
+/// Messages, the beginning and the ends of their payloads, and what each of them is refused for with each of these ends.
+#[derive(Clone, Copy)]
+struct Refused {
+    topics: &'static [&'static str],
+    front: &'static [u8],
+    rests: &'static [&'static [u8]],
     fault: HostFault,
-) -> Result<(), Fail> {
-    let mut host = live(rt.alloc())?;
-    for topic in topics {
-        for rest in rests {
-            assert_refused(rt, &mut host, topic, front, rest, fault)?;
+}
+
+/// What a host is told.
+#[derive(Clone, Copy)]
+enum Told {
+    Refused(Refused),
+    NoPackets,
+    Unread,
+    First,
+    Accepted,
+    Outside,
+}
+
+fn refuses(rt: &(impl Abort + AllocGlobal), host: &mut impl Asks, case: &Refused) {
+    live(rt, host);
+    for topic in case.topics {
+        for rest in case.rests {
+            assert_refused(rt, host, topic, case.front, rest, case.fault);
         }
     }
-    assert_as_before(rt, &mut host)
+    assert_as_before(rt, host);
+}
+
+impl Case for Told {
+    fn play(&self, rt: &(impl Abort + AllocGlobal), host: &mut impl Asks) {
+        match self {
+            Told::Refused(case) => refuses(rt, host, case),
+            Told::NoPackets => refuses_no_packets(rt, host),
+            Told::Unread => reads_no_payload(rt, host),
+            Told::First => refuses_for_the_first_fault(rt, host),
+            Told::Accepted => reads_the_last_number(rt, host),
+            Told::Outside => reads_nothing_outside(rt, host),
+        }
+    }
+}
+
+/// A host that was never within a session is told it.
+fn plays(rt: &(impl Abort + AllocGlobal), told: Told) {
+    play(rt, 2000, 64, &told);
 }
 
 #[test]
-fn a_topic_is_judged_before_its_payload(rt: HostRuntime) -> Result<(), Fail> {
-    let payloads: [&[u8]; 2] = [b"\xff", WHOLE];
-    assert_all_refused(
+fn a_topic_is_judged_before_its_payload(rt: HostRuntime) {
+    plays(
         &rt,
-        TOPICS.as_slice(),
-        b"",
-        payloads.as_slice(),
-        HostFault::NotSparkplug,
-    )
+        Told::Refused(Refused {
+            topics: &TOPICS,
+            front: b"",
+            rests: &[b"\xff", WHOLE],
+            fault: HostFault::NotSparkplug,
+        }),
+    );
+}
+
+fn refuses_no_packets(rt: &(impl Abort + AllocGlobal), host: &mut impl Asks) {
+    live(rt, host);
+    for bytes in NO_PACKETS {
+        let refused = told(host, bytes, 9).err();
+        assert_eq!(rt; refused, Some(HostFault::BadPayload), "{bytes:?}");
+    }
+    assert_as_before(rt, host);
 }
 
 #[test]
-fn bytes_that_are_no_packet(rt: HostRuntime) -> Result<(), Fail> {
-    let mut host = live(rt.alloc())?;
-    for bytes in NO_PACKETS {
-        assert_eq!(rt;
-            told(&mut host, bytes).err(),
-            Some(HostFault::BadPayload),
-            "{bytes:?}"
+fn bytes_that_are_no_packet(rt: HostRuntime) {
+    plays(&rt, Told::NoPackets);
+}
+
+#[test]
+fn a_payload_is_read_before_its_numbers_are_judged(rt: HostRuntime) {
+    for front in [WHOLE, b""] {
+        plays(
+            &rt,
+            Told::Refused(Refused {
+                topics: &READ,
+                front,
+                rests: &NO_FIELDS,
+                fault: HostFault::BadPayload,
+            }),
         );
     }
-    assert_as_before(&rt, &mut host)
 }
 
-#[test]
-fn a_payload_is_read_before_its_numbers_are_judged(rt: HostRuntime) -> Result<(), Fail> {
-    for front in [WHOLE, b""] {
-        assert_all_refused(
-            &rt,
-            READ.as_slice(),
-            front,
-            NO_FIELDS.as_slice(),
-            HostFault::BadPayload,
-        )?;
-    }
-    Ok(())
-}
-
-#[test]
-fn payloads_that_are_not_read_are_not_refused(rt: HostRuntime) -> Result<(), Fail> {
-    let mut host = live(rt.alloc())?;
+fn reads_no_payload(rt: &(impl Abort + AllocGlobal), host: &mut impl Asks) {
+    live(rt, host);
     for topic in UNREAD {
         for rest in NO_FIELDS {
-            let packet = made(rt.alloc(), topic, Some(7), b"", rest)?;
-            let out = told(&mut host, packet.as_slice())?;
+            let packet = made(rt, topic, Some(7), b"", rest);
+            let out = told(host, packet.as_slice(), 9).expect(rt, "an answer");
             assert_eq!(rt; out.steps.len(), 0, "{topic}");
             assert_eq!(rt; out.packets.len(), 1, "{topic}");
         }
     }
-    assert_as_before(&rt, &mut host)
+    assert_as_before(rt, host);
 }
 
 #[test]
-fn messages_without_a_sequence_number(rt: HostRuntime) -> Result<(), Fail> {
-    assert_all_refused(
+fn payloads_that_are_not_read_are_not_refused(rt: HostRuntime) {
+    plays(&rt, Told::Unread);
+}
+
+#[test]
+fn messages_without_a_sequence_number(rt: HostRuntime) {
+    plays(
         &rt,
-        NUMBERED.as_slice(),
-        BORN,
-        NO_NUMBERS.as_slice(),
-        HostFault::NoSeq,
-    )
+        Told::Refused(Refused {
+            topics: &NUMBERED,
+            front: BORN,
+            rests: &NO_NUMBERS,
+            fault: HostFault::NoSeq,
+        }),
+    );
 }
 
 #[test]
-fn births_without_a_timestamp(rt: HostRuntime) -> Result<(), Fail> {
-    assert_all_refused(
+fn births_without_a_timestamp(rt: HostRuntime) {
+    plays(
         &rt,
-        STAMPED.as_slice(),
-        b"",
-        NO_STAMPS.as_slice(),
-        HostFault::NoStamp,
-    )
+        Told::Refused(Refused {
+            topics: &STAMPED,
+            front: b"",
+            rests: &NO_STAMPS,
+            fault: HostFault::NoStamp,
+        }),
+    );
 }
 
 #[test]
-fn births_and_deaths_without_a_session(rt: HostRuntime) -> Result<(), Fail> {
-    assert_all_refused(
+fn births_and_deaths_without_a_session(rt: HostRuntime) {
+    plays(
         &rt,
-        OF_A_SESSION.as_slice(),
-        NUMBER,
-        NO_SESSIONS.as_slice(),
-        HostFault::NoBdSeq,
-    )
+        Told::Refused(Refused {
+            topics: &OF_A_SESSION,
+            front: NUMBER,
+            rests: &NO_SESSIONS,
+            fault: HostFault::NoBdSeq,
+        }),
+    );
 }
 
-#[test]
-fn the_first_fault_of_a_birth(rt: HostRuntime) -> Result<(), Fail> {
-    let mut host = live(rt.alloc())?;
+fn refuses_for_the_first_fault(rt: &(impl Abort + AllocGlobal), host: &mut impl Asks) {
+    live(rt, host);
     for (payload, fault) in FIRST {
-        assert_refused(&rt, &mut host, "spBv1.0/G/NBIRTH/N", b"", payload, fault)?;
+        assert_refused(rt, host, "spBv1.0/G/NBIRTH/N", b"", payload, fault);
     }
-    assert_as_before(&rt, &mut host)
+    assert_as_before(rt, host);
 }
 
 #[test]
-fn the_greatest_numbers_and_the_last_ones_are_read(rt: HostRuntime) -> Result<(), Fail> {
-    let mut host = live(rt.alloc())?;
+fn the_first_fault_of_a_birth(rt: HostRuntime) {
+    plays(&rt, Told::First);
+}
+
+fn reads_the_last_number(rt: &(impl Abort + AllocGlobal), host: &mut impl Asks) {
+    live(rt, host);
     for (topic, payload, step) in ACCEPTED {
-        let packet = made(rt.alloc(), topic, None, b"", payload)?;
-        let out = told(&mut host, packet.as_slice())?;
+        let packet = made(rt, topic, None, b"", payload);
+        let out = told(host, packet.as_slice(), 9).expect(rt, "an answer");
         assert_eq!(rt;
             out.steps.first().copied(),
             step,
             "{topic} with {payload:?}"
         );
     }
-    assert_eq!(rt; host.phase("G", "M"), Phase::Dead);
-    Ok(())
-}
-
-/// Outside a session all is refused, whatever the bytes are.
-fn assert_outside(rt: &(impl Abort + AllocGlobal), host: &mut Host) -> Result<(), Fail> {
-    for bytes in NO_PACKETS {
-        assert_eq!(rt;
-            told(host, bytes).err(),
-            Some(HostFault::WrongPhase),
-            "{bytes:?}"
-        );
-    }
-    for topic in READ.iter().chain(UNREAD.iter()) {
-        let packet = made(rt.alloc(), topic, None, b"", WHOLE)?;
-        assert_eq!(rt;
-            told(host, packet.as_slice()).err(),
-            Some(HostFault::WrongPhase)
-        );
-    }
-    assert_eq!(rt; host.tick(9).err(), Some(HostFault::WrongPhase));
-    assert_eq!(rt; host.stop(9).err(), Some(HostFault::WrongPhase));
-    Ok(())
+    assert_eq!(rt; host.phase_of("G", "M"), Phase::Dead);
 }
 
 #[test]
-fn outside_a_session_nothing_is_read(rt: HostRuntime) -> Result<(), Fail> {
-    let mut host = host(rt.alloc())?;
-    assert_outside(&rt, &mut host)?;
-    begin(&mut host)?;
-    assert_eq!(rt; host.connected(6).err(), Some(HostFault::WrongPhase));
-    host.ended();
-    assert_outside(&rt, &mut host)?;
-    begin(&mut host)?;
-    if let Err(HostFault::NoMemory) = host.stop(7) {
-        let _out = host.stop(7)?;
+fn the_greatest_numbers_and_the_last_ones_are_read(rt: HostRuntime) {
+    plays(&rt, Told::Accepted);
+}
+
+/// Outside a session all is refused, whatever the bytes are.
+fn assert_outside(rt: &(impl Abort + AllocGlobal), host: &mut impl Asks) {
+    let wrong = Some(HostFault::WrongPhase);
+    for bytes in NO_PACKETS {
+        assert_eq!(rt; told(host, bytes, 9).err(), wrong, "{bytes:?}");
     }
-    assert_outside(&rt, &mut host)?;
-    begin(&mut host)?;
-    let _out = told(&mut host, b"\x20\x02\x00\x05")?;
-    assert_outside(&rt, &mut host)
+    for topic in READ.iter().chain(UNREAD.iter()) {
+        let packet = made(rt, topic, None, b"", WHOLE);
+        assert_eq!(rt; told(host, packet.as_slice(), 9).err(), wrong);
+    }
+    assert_eq!(rt; host.tell_tick(9).err(), wrong);
+    assert_eq!(rt; host.tell_stop(9).err(), wrong);
+}
+
+fn reads_nothing_outside(rt: &(impl Abort + AllocGlobal), host: &mut impl Asks) {
+    assert_outside(rt, host);
+    begin(rt, host, 5);
+    assert_eq!(rt; host.tell_connected(6).err(), Some(HostFault::WrongPhase));
+    host.tell_ended();
+    assert_outside(rt, host);
+    begin(rt, host, 5);
+    assert!(rt; stopped(host, 7).is_ok());
+    assert_outside(rt, host);
+    begin(rt, host, 5);
+    assert!(rt; told(host, b"\x20\x02\x00\x05", 9).is_ok());
+    assert_outside(rt, host);
+}
+
+#[test]
+fn outside_a_session_nothing_is_read(rt: HostRuntime) {
+    plays(&rt, Told::Outside);
 }
 
 #[test]

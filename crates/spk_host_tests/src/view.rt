@@ -67,18 +67,86 @@ fn ready(alloc: Global, heard: &Heard) -> Result<Option<Ready>, AllocError> {
     Ok(Some(ready))
 }
 
-/// Whether a rebirth is asked for, or None where a message came back.
-fn consume(watch: &mut Watch, ready: Ready, now: u64) -> Option<bool> {
-    watch.consume(WAIT, ready, now).ok()
+/// What the tests ask of a watch. They are written over any that answers it, since a function over a type parameter is proved
+/// without the parts of a watch.
+trait Watches {
+    fn make_room(&mut self, room: usize) -> Result<(), AllocError>;
+
+    /// Whether a rebirth is asked for, or None where a message came back.
+    fn take(&mut self, ready: Ready, now: u64) -> Option<bool>;
+
+    fn miss(&mut self, now: u64) -> bool;
+
+    fn wonder(&mut self, now: u64) -> bool;
+
+    fn end(&mut self);
+
+    /// The number that the node's metric of a name shows, if there is one.
+    fn own(&self, name: &str) -> Option<u64>;
+
+    /// The number that a device's metric of a name shows, if there is one.
+    fn of_device(&self, device: &str, name: &str) -> Option<u64>;
+
+    /// Whether a device is online, and whether its values are stale, if it is shown.
+    fn device_stands(&self, device: &str) -> Option<(bool, bool)>;
+
+    /// Whether the node is online, and whether its own values are stale, if it is shown.
+    fn node_stands(&self) -> Option<(bool, bool)>;
+}
+
+impl Watches for Watch {
+    fn make_room(&mut self, room: usize) -> Result<(), AllocError> {
+        self.reserve(room)
+    }
+
+    fn take(&mut self, ready: Ready, now: u64) -> Option<bool> {
+        self.consume(WAIT, ready, now).ok()
+    }
+
+    fn miss(&mut self, now: u64) -> bool {
+        self.gap(WAIT, now)
+    }
+
+    fn wonder(&mut self, now: u64) -> bool {
+        self.not_live(WAIT, now)
+    }
+
+    fn end(&mut self) {
+        self.over();
+    }
+
+    fn own(&self, name: &str) -> Option<u64> {
+        let view = self.view()?;
+        let metric = view.metric(name)?;
+        Some(number(metric.shown()))
+    }
+
+    fn of_device(&self, device: &str, name: &str) -> Option<u64> {
+        let view = self.view()?;
+        let device = view.device(device)?;
+        let metric = device.metric(name)?;
+        Some(number(metric.shown()))
+    }
+
+    fn device_stands(&self, device: &str) -> Option<(bool, bool)> {
+        let view = self.view()?;
+        let device = view.device(device)?;
+        Some((device.is_online(), device.is_stale()))
+    }
+
+    fn node_stands(&self) -> Option<(bool, bool)> {
+        let view = self.view()?;
+        Some((view.is_online(), view.is_stale()))
+    }
 }
 
 /// What is answered where no message is heard.
-fn turn(watch: &mut Watch, heard: &Heard, now: u64) -> Option<bool> {
+fn turn(watch: &mut impl Watches, heard: &Heard, now: u64) -> Option<bool> {
     match heard {
-        Heard::Gap => Some(watch.gap(WAIT, now)),
-        Heard::NotLive => Some(watch.not_live(WAIT, now)),
+        Heard::Gap => Some(watch.miss(now)),
+        Heard::NotLive => Some(watch.wonder(now)),
         _ => {
-            watch.over();
+            watch.end();
             Some(false)
         }
     }
@@ -87,14 +155,14 @@ fn turn(watch: &mut Watch, heard: &Heard, now: u64) -> Option<bool> {
 /// Something is heard at a moment, with room for so many devices more.
 fn hear(
     alloc: Global,
-    watch: &mut Watch,
+    watch: &mut impl Watches,
     heard: &Heard,
     now: u64,
     room: usize,
 ) -> Result<Option<bool>, AllocError> {
-    watch.reserve(room)?;
+    watch.make_room(room)?;
     match ready(alloc, heard)? {
-        Some(ready) => Ok(consume(watch, ready, now)),
+        Some(ready) => Ok(watch.take(ready, now)),
         None => Ok(turn(watch, heard, now)),
     }
 }
@@ -107,34 +175,6 @@ fn number(shown: &Shown) -> u64 {
     }
 }
 
-/// The number that the node's metric of a name shows, if there is one.
-fn own(watch: &Watch, name: &str) -> Option<u64> {
-    let view = watch.view()?;
-    let metric = view.metric(name)?;
-    Some(number(metric.shown()))
-}
-
-/// The number that a device's metric of a name shows, if there is one.
-fn of_device(watch: &Watch, device: &str, name: &str) -> Option<u64> {
-    let view = watch.view()?;
-    let device = view.device(device)?;
-    let metric = device.metric(name)?;
-    Some(number(metric.shown()))
-}
-
-/// Whether a device is online, and whether its values are stale, if it is shown.
-fn stands(watch: &Watch, device: &str) -> Option<(bool, bool)> {
-    let view = watch.view()?;
-    let device = view.device(device)?;
-    Some((device.is_online(), device.is_stale()))
-}
-
-/// Whether the node is online, and whether its own values are stale, if it is shown.
-fn node_stands(watch: &Watch) -> Option<(bool, bool)> {
-    let view = watch.view()?;
-    Some((view.is_online(), view.is_stale()))
-}
-
 /// What is looked at: a metric of the node's own, one of a device, a device, or the node.
 enum Seen {
     Own(&'static str, Option<u64>),
@@ -144,12 +184,12 @@ enum Seen {
 }
 
 /// It is seen so.
-fn is_seen(watch: &Watch, seen: &Seen) -> bool {
+fn is_seen(watch: &impl Watches, seen: &Seen) -> bool {
     match seen {
-        Seen::Own(name, number) => own(watch, name) == *number,
-        Seen::Of(device, name, number) => of_device(watch, device, name) == *number,
-        Seen::Device(device, standing) => stands(watch, device) == *standing,
-        Seen::Node(standing) => node_stands(watch) == *standing,
+        Seen::Own(name, number) => watch.own(name) == *number,
+        Seen::Of(device, name, number) => watch.of_device(device, name) == *number,
+        Seen::Device(device, standing) => watch.device_stands(device) == *standing,
+        Seen::Node(standing) => watch.node_stands() == *standing,
     }
 }
 
@@ -157,22 +197,48 @@ fn is_seen(watch: &Watch, seen: &Seen) -> bool {
 type Line = (u64, usize, Heard, Option<bool>, &'static [Seen]);
 
 /// A watch hears one line after the other.
-fn play(rt: &(impl Abort + AllocGlobal), lines: &[Line]) -> Result<(), AllocError> {
-    let mut watch = Watch::new(rt.alloc());
+fn play(
+    rt: &(impl Abort + AllocGlobal),
+    watch: &mut impl Watches,
+    lines: &[Line],
+) -> Result<(), AllocError> {
     for (now, room, heard, asks, seen) in lines {
-        let answer = hear(rt.alloc(), &mut watch, heard, *now, *room)?;
+        let answer = hear(rt.alloc(), watch, heard, *now, *room)?;
         assert_eq!(rt; answer, *asks, "at {now}");
         for (place, seen) in seen.iter().enumerate() {
-            assert!(rt; is_seen(&watch, seen), "{place} at {now}");
+            assert!(rt; is_seen(watch, seen), "{place} at {now}");
         }
     }
     Ok(())
 }
 
+/// What a watch hears.
+#[derive(Clone, Copy)]
+enum Case {
+    Lines(&'static [Line]),
+    Many,
+}
+
+fn hear_case(
+    rt: &(impl Abort + AllocGlobal),
+    watch: &mut impl Watches,
+    case: Case,
+) -> Result<(), AllocError> {
+    match case {
+        Case::Lines(lines) => play(rt, watch, lines),
+        Case::Many => hear_many(rt, watch),
+    }
+}
+
+/// A new watch hears it.
+fn plays(rt: &(impl Abort + AllocGlobal), case: Case) -> Result<(), AllocError> {
+    hear_case(rt, &mut Watch::new(rt.alloc()), case)
+}
+
 /// The same, and again from the beginning where memory was refused.
-fn assert_lines(rt: &(impl Abort + AllocGlobal), lines: &[Line]) {
-    if play(rt, lines).is_err() {
-        assert!(rt; play(rt, lines).is_ok());
+fn assert_plays(rt: &(impl Abort + AllocGlobal), case: Case) {
+    if plays(rt, case).is_err() {
+        assert!(rt; plays(rt, case).is_ok());
     }
 }
 
@@ -180,7 +246,7 @@ const NOT: Option<bool> = Some(false);
 
 const ASKS: Option<bool> = Some(true);
 
-const MOVING: [Line; 7] = [
+static MOVING: [Line; 7] = [
     (
         0,
         0,
@@ -233,10 +299,10 @@ const MOVING: [Line; 7] = [
 
 #[test]
 fn an_alias_leads_to_the_last_metric_that_has_it(rt: HostRuntime) {
-    assert_lines(&rt, &MOVING);
+    assert_plays(&rt, Case::Lines(&MOVING));
 }
 
-const DEVICES: [Line; 9] = [
+static DEVICES: [Line; 9] = [
     (
         0,
         0,
@@ -305,10 +371,10 @@ const DEVICES: [Line; 9] = [
 
 #[test]
 fn two_devices_have_the_same_aliases(rt: HostRuntime) {
-    assert_lines(&rt, &DEVICES);
+    assert_plays(&rt, Case::Lines(&DEVICES));
 }
 
-const LOSSES: [Line; 7] = [
+static LOSSES: [Line; 7] = [
     (0, 0, Heard::NotLive, ASKS, &[Seen::Node(None)]),
     (
         1,
@@ -351,10 +417,10 @@ const LOSSES: [Line; 7] = [
 
 #[test]
 fn a_gap_makes_stale_and_an_end_offline(rt: HostRuntime) {
-    assert_lines(&rt, &LOSSES);
+    assert_plays(&rt, Case::Lines(&LOSSES));
 }
 
-const ROOMS: [Line; 4] = [
+static ROOMS: [Line; 4] = [
     (0, 0, Heard::NodeBirth(&[]), NOT, &[]),
     (
         1,
@@ -375,7 +441,7 @@ const ROOMS: [Line; 4] = [
 
 #[test]
 fn the_birth_of_a_device_comes_back_where_there_is_no_room(rt: HostRuntime) {
-    assert_lines(&rt, &ROOMS);
+    assert_plays(&rt, Case::Lines(&ROOMS));
 }
 
 /// So many metrics, named by their numbers, each with its number as alias and so much more as value.
@@ -389,23 +455,32 @@ fn many(alloc: Global, count: u32, more: u32) -> Result<Vec<Metric>, AllocError>
     Ok(metrics)
 }
 
+/// Metrics, and what is shown of them then.
+const OF_MANY: [(&str, Option<u64>); 4] = [
+    ("0", Some(2)),
+    ("5000", Some(5002)),
+    ("9999", Some(10_001)),
+    ("10000", None),
+];
+
 /// A birth of 10,000 metrics, and data for each of them.
-fn wide(alloc: Global) -> Result<Watch, AllocError> {
-    let mut watch = Watch::new(alloc);
-    let ready = Ready::node_birth(alloc, &many(alloc, 10_000, 1)?)?;
-    let _asks = consume(&mut watch, ready, 0);
-    let ready = Ready::node_data(alloc, &many(alloc, 10_000, 2)?)?;
-    let _asks = consume(&mut watch, ready, 1);
-    Ok(watch)
+fn hear_many(rt: &(impl Abort + AllocGlobal), watch: &mut impl Watches) -> Result<(), AllocError> {
+    for (now, more) in [(0, 1), (1, 2)] {
+        let metrics = many(rt.alloc(), 10_000, more)?;
+        let ready = if now == 0 {
+            Ready::node_birth(rt.alloc(), &metrics)?
+        } else {
+            Ready::node_data(rt.alloc(), &metrics)?
+        };
+        let _asks = watch.take(ready, now);
+    }
+    for (name, number) in OF_MANY {
+        assert_eq!(rt; watch.own(name), number, "{name}");
+    }
+    Ok(())
 }
 
 #[test]
 fn data_for_each_of_10000_metrics(rt: HostRuntime) {
-    let watch = match wide(rt.alloc()) {
-        Ok(watch) => watch,
-        Err(_) => wide(rt.alloc()).expect(&rt, "memory is there again"),
-    };
-    let shown = (own(&watch, "0"), own(&watch, "5000"), own(&watch, "9999"));
-    assert_eq!(rt; shown, (Some(2), Some(5002), Some(10_001)));
-    assert_eq!(rt; own(&watch, "10000"), None);
+    assert_plays(&rt, Case::Many);
 }

@@ -1,12 +1,10 @@
 //! Wide payloads with fields that Sparkplug's schema doesn't name, of each wire type, in the payload and in its metrics: a host reads past
 //! them. The bytes are by hand from MQTT 3.1.1 (chapter 3), the schema, and protobuf's encoding.
+use crate::asks::{Asks, Case, begin, number, play, told};
 use crate::bytes::{publish, put_field, put_part};
-use spk_host::{Host, HostConfig, HostFault, Out};
-use spk_host_rules::Shown;
-use spk_payload::Value;
-use spk_sequence::{Step, Width};
+use spk_sequence::Step;
 use std::alloc::{AllocError, Global};
-use std::test::Fail;
+use std::process::Abort;
 
 /// How many metrics the birth has, beside its bdSeq.
 const COUNT: u64 = 400;
@@ -66,71 +64,44 @@ fn wide(alloc: Global, is_birth: bool, number: u64, more: u64) -> Result<Vec<u8>
     publish(alloc, topic, None, payload.as_slice())
 }
 
-fn text(alloc: Global, words: &str) -> Result<String, AllocError> {
-    match String::from_str(alloc, words) {
-        Ok(text) => Ok(text),
-        Err(_) => String::from_str(alloc, words),
-    }
-}
-
-/// A host within a session.
-fn begun(alloc: Global) -> Result<Host, Fail> {
-    let config = HostConfig {
-        name: text(alloc, "H")?,
-        group: text(alloc, "G")?,
-        wait: 2000,
-        keep: 0,
-        width: Width::new(64).ok_or("width")?,
-    };
-    let mut host = Host::new(alloc, config)?;
-    if let Err(HostFault::NoMemory) = host.connected(5) {
-        host.connected(5)?;
-    }
-    Ok(host)
-}
-
-/// A host is told an NBIRTH or NDATA.
-fn told(
-    alloc: Global,
-    host: &mut Host,
+/// Whether an NBIRTH or NDATA is told, it alone is consumed, and no rebirth is asked for.
+fn is_consumed(
+    rt: &(impl Abort + AllocGlobal),
+    host: &mut impl Asks,
     is_birth: bool,
     number: u64,
     more: u64,
-) -> Result<Out, Fail> {
-    let packet = match wide(alloc, is_birth, number, more) {
-        Ok(packet) => packet,
-        Err(_) => wide(alloc, is_birth, number, more)?,
+) -> bool {
+    let packet = match wide(rt.alloc(), is_birth, number, more) {
+        Ok(made) => made,
+        Err(_) => wide(rt.alloc(), is_birth, number, more).expect(rt, "memory is there again")
     };
-    match host.packet(packet.as_slice(), 9) {
-        Err(HostFault::NoMemory) => Ok(host.packet(packet.as_slice(), 9)?),
-        answer => Ok(answer?),
-    }
+    let out = told(host, packet.as_slice(), 9).expect(rt, "an answer");
+    out.steps.as_slice() == [Step::Consumed(1)].as_slice()
+        && out.consumed.len() == 1
+        && out.rebirths.len() == 0
 }
 
-/// What is shown of a metric of the node, as a number.
-fn shown(host: &Host, name: &str) -> Option<u64> {
-    let view = host.view("G", "N")?;
-    match view.metric(name)?.shown() {
-        Shown::Typed(Value::Unsigned(number)) => Some(*number),
-        _ => None,
+/// The metrics that are looked at, and their aliases.
+const LOOKED_AT: [(&str, u64); 3] = [("m0", 0), ("m200", 200), ("m399", 399)];
+
+#[derive(Clone, Copy)]
+struct OtherFields;
+
+impl Case for OtherFields {
+    fn play(&self, rt: &(impl Abort + AllocGlobal), host: &mut impl Asks) {
+        begin(rt, host, 5);
+        for (is_birth, count, more) in [(true, 0, 1), (false, 1, 7)] {
+            assert!(rt; is_consumed(rt, host, is_birth, count, more));
+            for (name, alias) in LOOKED_AT {
+                assert_eq!(rt; number(host.shown(name)), Some(alias.saturating_add(more)));
+            }
+        }
+        assert!(rt; host.shown("m400").is_none());
     }
 }
 
 #[test]
-fn fields_that_the_schema_does_not_name_are_read_past(rt: HostRuntime) -> Result<(), Fail> {
-    let mut host = begun(rt.alloc())?;
-    for (is_birth, number, more) in [(true, 0, 1), (false, 1, 7)] {
-        let out = told(rt.alloc(), &mut host, is_birth, number, more)?;
-        assert_eq!(rt; out.steps.as_slice(), [Step::Consumed(1)].as_slice());
-        assert_eq!(rt; out.consumed.len(), 1);
-        assert_eq!(rt; out.rebirths.len(), 0);
-        let values = (
-            shown(&host, "m0"),
-            shown(&host, "m200"),
-            shown(&host, "m399"),
-        );
-        assert_eq!(rt; values, (Some(more), Some(200 + more), Some(399 + more)));
-    }
-    assert_eq!(rt; shown(&host, "m400"), None);
-    Ok(())
+fn fields_that_the_schema_does_not_name_are_read_past(rt: HostRuntime) {
+    play(&rt, 2000, 64, &OtherFields);
 }
