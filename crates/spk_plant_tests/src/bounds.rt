@@ -1,8 +1,7 @@
 //! The limits of a plan: its file is read exactly within them, and no other plan is run.
 use crate::gates::Silent;
-use crate::plans::{WIDE, alike, counts, plan_of, ran, room, text_of};
-use spk_plan::{Plan, PlantFault, Sort, Step};
-use spk_plant::run_plant;
+use crate::plans::{WIDE, alike, plan_of, ran_free, room, run, text_of};
+use spk_plan::{Plan, PlanNode, PlantFault, Sort, Step};
 use std::io::Write;
 use std::process::Abort;
 use std::sync::Wait;
@@ -24,12 +23,9 @@ where
     R: AllocGlobal + Threads + Wait + Abort + Sync,
 {
     let script = str::from_utf8(script).expect(rt, "text");
-    let text = text_of(rt, front, &[("A", script)]);
-    let report = match ran(rt, &text, &Silent) {
-        Some(report) => report,
-        None => ran(rt, &text, &Silent).expect(rt, "memory is there again"),
-    };
-    assert_eq!(rt; counts(&report, 0).0, 0, "of {front}");
+    let outcome = ran_free(rt, &text_of(rt, front, &[("A", script)]));
+    let [(births, _published, _consumed), ..] = outcome.counts;
+    assert_eq!(rt; births, 0, "of {front}");
 }
 
 #[test]
@@ -50,7 +46,7 @@ fn plans_at_their_limits_are_run(rt: HostRuntime) {
 }
 
 /// What is changed in a plan of one node to make it one that can't run.
-#[derive(Clone, Copy, Debug)]
+#[derive(Clone, Copy)]
 enum Change {
     NoNode,
     SeventeenNodes,
@@ -105,69 +101,90 @@ fn step_of(change: Change) -> Step {
 }
 
 /// A step more of each node.
-fn add_step(rt: &impl Abort, plan: &mut Plan, change: Change) {
-    for node in plan.nodes.iter_mut() {
+fn add_step(rt: &impl Abort, nodes: &mut [PlanNode], change: Change) {
+    for node in nodes.iter_mut() {
         if node.script.push(step_of(change)).is_err() {
             assert!(rt; node.script.push(step_of(change)).is_ok());
         }
     }
 }
 
-/// A node more.
-fn add_node(rt: &(impl Abort + AllocGlobal), plan: &mut Plan) {
+/// A node of another plan.
+fn other_node(rt: &(impl Abort + AllocGlobal)) -> PlanNode {
     let mut other = plan_of(rt, &text_of(rt, WIDE, &[("Z", "")]));
-    if plan.nodes.reserve(1).is_err() {
-        assert!(rt; plan.nodes.reserve(1).is_ok());
+    other.nodes.pop().expect(rt, "a node")
+}
+
+/// One more. Where memory was refused the room is asked for again.
+fn push<T: Drop>(rt: &impl Abort, items: &mut Vec<T>, item: T) {
+    if items.reserve(1).is_err() {
+        assert!(rt; items.reserve(1).is_ok());
     }
-    if let Some(node) = other.nodes.pop() {
-        assert!(rt; plan.nodes.push(node).is_ok());
-    }
+    assert!(rt; items.push(item).is_ok());
 }
 
 /// Each node has this name.
-fn rename(rt: &(impl Abort + AllocGlobal), plan: &mut Plan, name: &str) {
-    for node in plan.nodes.iter_mut() {
+fn rename(rt: &(impl Abort + AllocGlobal), nodes: &mut [PlanNode], name: &str) {
+    for node in nodes.iter_mut() {
         node.node = words(rt, name);
+    }
+}
+
+/// Each node keeps so many changes.
+fn keep(nodes: &mut [PlanNode], capacity: usize) {
+    for node in nodes.iter_mut() {
+        node.capacity = capacity;
+    }
+}
+
+/// The text of the plan that is changed.
+fn text_before(rt: &(impl Abort + AllocGlobal), change: Change) -> Vec<u8> {
+    match change {
+        Change::SeventeenNodes => alike(rt, WIDE, 16, ""),
+        Change::Namesake => alike(rt, WIDE, 2, ""),
+        Change::OneChangeMore => text_of(rt, WIDE, &[("A", r#"["ramp",1,100000]"#)]),
+        _ => {
+            let script = opens(rt, 200);
+            let script = str::from_utf8(&script).expect(rt, "text");
+            text_of(rt, WIDE, &[("A", script)])
+        }
     }
 }
 
 /// A plan with this change.
 fn changed(rt: &(impl Abort + AllocGlobal), change: Change) -> Plan {
-    let script = opens(rt, 200);
-    let script = str::from_utf8(&script).expect(rt, "text");
-    let mut plan = match change {
-        Change::SeventeenNodes => plan_of(rt, &alike(rt, WIDE, 16, "")),
-        Change::Namesake => plan_of(rt, &alike(rt, WIDE, 2, "")),
-        Change::OneChangeMore => plan_of(rt, &text_of(rt, WIDE, &[("A", r#"["ramp",1,100000]"#)])),
-        _ => plan_of(rt, &text_of(rt, WIDE, &[("A", script)])),
-    };
+    let mut plan = plan_of(rt, &text_before(rt, change));
     match change {
         Change::NoNode => plan.nodes.clear(),
-        Change::SeventeenNodes => add_node(rt, &mut plan),
-        Change::Namesake => rename(rt, &mut plan, "A"),
-        Change::OneOpenMore | Change::OneChangeMore => add_step(rt, &mut plan, change),
+        Change::SeventeenNodes => push(rt, &mut plan.nodes, other_node(rt)),
+        Change::Namesake => rename(rt, &mut plan.nodes, "A"),
+        Change::OneOpenMore | Change::OneChangeMore => add_step(rt, &mut plan.nodes, change),
         Change::Ring(capacity) => plan.ring = capacity,
         Change::Ingress(capacity) => plan.ingress = capacity,
-        Change::Capacity(capacity) => {
-            for node in plan.nodes.iter_mut() {
-                node.capacity = capacity;
-            }
-        }
-        Change::NodeName(name) => rename(rt, &mut plan, name),
+        Change::Capacity(capacity) => keep(&mut plan.nodes, capacity),
+        Change::NodeName(name) => rename(rt, &mut plan.nodes, name),
         Change::HostName(name) => plan.host = words(rt, name),
         Change::GroupName(name) => plan.group = words(rt, name),
     }
     plan
 }
 
+/// What a plan with this change is refused for.
+fn refused<R>(rt: &R, change: Change) -> Option<PlantFault>
+where
+    R: AllocGlobal + Threads + Wait + Abort + Sync,
+{
+    run(rt, changed(rt, change), &Silent).err()
+}
+
 #[test]
 fn no_other_plan_is_run(rt: HostRuntime) {
-    for change in CHANGES {
-        let mut answer = run_plant(&rt, rt.alloc(), changed(&rt, change), &Silent).err();
-        if answer == Some(PlantFault::NoMemory) {
-            answer = run_plant(&rt, rt.alloc(), changed(&rt, change), &Silent).err();
-        }
-        assert_eq!(rt; answer, Some(PlantFault::BadPlan), "of {change:?}");
+    for (place, change) in CHANGES.iter().enumerate() {
+        let answer = match refused(&rt, *change) {
+            Some(PlantFault::NoMemory) => refused(&rt, *change),
+            answer => answer,
+        };
+        assert_eq!(rt; answer, Some(PlantFault::BadPlan), "of {place}");
     }
     assert_eq!(rt; PlantFault::BadPlan.number(), 92);
 }

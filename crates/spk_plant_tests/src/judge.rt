@@ -1,11 +1,13 @@
 //! What must hold of every report, judged on its lists alone.
 use crate::plans::NAMES;
+use spk_broker_body::Refusal;
 use spk_edge::Published;
 use spk_host::Taken;
+use spk_host_body::Given;
 use spk_ingress::{Frame, Message};
 use spk_packets::Packet;
 use spk_payload::{Payload, decode};
-use spk_plant::Report;
+use spk_plant::{NodeReport, Report};
 use spk_reading::{Content, Heard, Subject};
 use std::alloc::Global;
 
@@ -36,24 +38,41 @@ fn next_at(published: &[Published], from: usize, taken: &Taken) -> Option<usize>
     }
 }
 
-/// Whether what the host consumed of a node is, birth by birth in increasing order, a front of what the node published under that birth.
-fn are_fronts(report: &Report, name: &str, published: &[Published]) -> bool {
-    let mut from = 0usize;
-    for given in &report.given {
-        for taken in &given.consumed {
-            if taken.node.as_str() == name {
-                let place = match taken.subject {
-                    Subject::NodeBirth => birth_from(published, from, taken),
-                    _ => next_at(published, from, taken),
-                };
-                let Some(place) = place else {
-                    return false;
-                };
-                from = place.saturating_add(1);
-            }
+/// One past the place of what was consumed, from a place on.
+fn behind(published: &[Published], from: usize, taken: &Taken) -> Option<usize> {
+    let place = match taken.subject {
+        Subject::NodeBirth => birth_from(published, from, taken)?,
+        _ => next_at(published, from, taken)?,
+    };
+    Some(place.saturating_add(1))
+}
+
+/// The same of all of a node that one item had consumed.
+fn behind_all(
+    consumed: &[Taken],
+    name: &str,
+    published: &[Published],
+    from: usize,
+) -> Option<usize> {
+    let mut place = from;
+    for taken in consumed {
+        if taken.node.as_str() == name {
+            place = behind(published, place, taken)?;
         }
     }
-    true
+    Some(place)
+}
+
+/// Whether what the host consumed of a node is, birth by birth in increasing order, a front of what the node published under that birth.
+fn are_fronts(given: &[Given], name: &str, published: &[Published]) -> bool {
+    let mut from = Some(0usize);
+    for item in given {
+        from = match from {
+            Some(from) => behind_all(&item.consumed, name, published, from),
+            None => None,
+        };
+    }
+    from.is_some()
 }
 
 /// A numbered message that was taken.
@@ -72,40 +91,75 @@ enum Brought {
     Numbered(Sent),
 }
 
-/// What a frame brings: a numbered message has QoS 0, and comes from a node.
-fn read_frame(alloc: Global, nodes: usize, message: &Message) -> Option<Brought> {
-    let Frame::Packet(whole) = &message.frame else {
-        return Some(Brought::Nothing);
-    };
-    match whole.read(alloc).ok()? {
-        Packet::Subscribe { .. } if message.sender == nodes => Some(Brought::Subscribe),
+fn numbered(alloc: Global, sender: usize, topic: String, payload: &[u8]) -> Option<Brought> {
+    let payload = decode(alloc, payload).ok()?;
+    Some(Brought::Numbered(Sent {
+        sender,
+        topic,
+        payload,
+    }))
+}
+
+/// What a packet brings: a numbered message has QoS 0, and comes from a node.
+fn read_packet(alloc: Global, nodes: usize, sender: usize, packet: Packet) -> Option<Brought> {
+    match packet {
+        Packet::Subscribe { .. } if sender == nodes => Some(Brought::Subscribe),
         Packet::Publish {
             qos: 0,
             topic,
             payload,
             ..
-        } if message.sender < nodes => Some(Brought::Numbered(Sent {
-            sender: message.sender,
-            topic,
-            payload: decode(alloc, payload.as_slice()).ok()?,
-        })),
+        } if sender < nodes => numbered(alloc, sender, topic, payload.as_slice()),
         _ => Some(Brought::Nothing),
     }
 }
 
-/// The numbered messages that were taken, in order, and how many of them before the host's SUBSCRIBE. None where memory was refused.
-fn sent_of(alloc: Global, report: &Report) -> Option<(Vec<Sent>, usize)> {
-    let nodes = report.nodes.len();
-    let mut sent = Vec::new(alloc);
-    let mut before = usize::MAX;
-    for message in &report.taken {
-        match read_frame(alloc, nodes, message)? {
-            Brought::Nothing => {}
-            Brought::Subscribe => before = before.min(sent.len()),
-            Brought::Numbered(one) => sent.push(one).ok()?,
+/// What a frame brings.
+fn read_frame(alloc: Global, nodes: usize, message: &Message) -> Option<Brought> {
+    let Frame::Packet(whole) = &message.frame else {
+        return Some(Brought::Nothing);
+    };
+    read_packet(alloc, nodes, message.sender, whole.read(alloc).ok()?)
+}
+
+/// The numbered messages that were taken, in order.
+#[derive(Drop)]
+struct Traffic {
+    sent: Vec<Sent>,
+    /// How many of them were taken before the host's SUBSCRIBE.
+    before: usize,
+}
+
+/// One thing more was taken. None where memory was refused.
+fn keep(traffic: &mut Traffic, brought: Brought) -> Option<()> {
+    match brought {
+        Brought::Nothing => Some(()),
+        Brought::Subscribe => {
+            traffic.before = traffic.before.min(traffic.sent.len());
+            Some(())
         }
+        Brought::Numbered(one) => traffic.sent.push(one).ok(),
     }
-    Some((sent, before))
+}
+
+/// The numbered messages that were taken. None where memory was refused.
+fn traffic_of(alloc: Global, nodes: usize, taken: &[Message]) -> Option<Traffic> {
+    let mut traffic = Traffic {
+        sent: Vec::new(alloc),
+        before: usize::MAX,
+    };
+    for message in taken {
+        keep(&mut traffic, read_frame(alloc, nodes, message)?)?;
+    }
+    Some(traffic)
+}
+
+/// A message is the one that was sent.
+fn is_sent(topic: &String, payload: &Payload, sent: Option<&Sent>) -> bool {
+    match sent {
+        Some(sent) => *topic == sent.topic && *payload == sent.payload,
+        None => false,
+    }
 }
 
 /// Whether the messages taken of a node are those that it published, in order, each once.
@@ -116,7 +170,7 @@ fn are_taken(sent: &[Sent], sender: usize, published: &[Published]) -> bool {
             let Some(message) = published.get(place) else {
                 return false;
             };
-            if message.topic != one.topic || message.payload != one.payload {
+            if !is_sent(&message.topic, &message.payload, Some(one)) {
                 return false;
             }
             place = place.saturating_add(1);
@@ -125,21 +179,25 @@ fn are_taken(sent: &[Sent], sender: usize, published: &[Published]) -> bool {
     place == published.len()
 }
 
-/// Whether the messages given to the host are these, in order.
-fn are_given(report: &Report, sent: &[Sent]) -> bool {
-    let mut place = 0usize;
-    for given in &report.given {
-        if let Some(
+/// The message that an item gave the host.
+fn message_of(given: &Given) -> Option<&Taken> {
+    match &given.heard {
+        Some(
             Heard::Published {
                 content: Content::Message(heard),
                 ..
             },
-        ) = &given.heard
-        {
-            let Some(one) = sent.get(place) else {
-                return false;
-            };
-            if heard.topic != one.topic || heard.payload != one.payload {
+        ) => Some(heard),
+        _ => None,
+    }
+}
+
+/// Whether the messages given to the host are these, in order.
+fn are_given(given: &[Given], sent: &[Sent]) -> bool {
+    let mut place = 0usize;
+    for item in given {
+        if let Some(heard) = message_of(item) {
+            if !is_sent(&heard.topic, &heard.payload, sent.get(place)) {
                 return false;
             }
             place = place.saturating_add(1);
@@ -149,10 +207,9 @@ fn are_given(report: &Report, sent: &[Sent]) -> bool {
 }
 
 /// How many of the refused offers were the host's.
-fn refused_to_host(report: &Report) -> usize {
-    let host = report.nodes.len();
+fn refused_to(host: usize, refusals: &[Refusal]) -> usize {
     let mut count = 0usize;
-    for refusal in &report.refusals {
+    for refusal in refusals {
         if refusal.client == host {
             count = count.saturating_add(1);
         }
@@ -160,29 +217,64 @@ fn refused_to_host(report: &Report) -> usize {
     count
 }
 
-/// What is wrong with a report; None where nothing is, or memory was refused.
-pub(crate) fn complaint(alloc: Global, report: &Report) -> Complaint {
-    if report.refused != refused_to_host(report) {
-        return Some("another number of refusals");
+/// What is wrong with what was consumed and taken of a node.
+fn complaint_of(
+    given: &[Given],
+    sent: &[Sent],
+    place: usize,
+    published: &[Published],
+) -> Complaint {
+    let name = NAMES.get(place).copied().unwrap_or("");
+    if !are_fronts(given, name, published) {
+        Some("what was consumed is no front of what was published, birth by birth")
+    } else if !are_taken(sent, place, published) {
+        Some("what was taken isn't what was published")
+    } else {
+        None
     }
-    if report.accepted.len() != report.given.len() {
-        return Some("an item that was given and not accepted, or accepted and not given");
-    }
-    let (sent, before) = sent_of(alloc, report)?;
-    for (place, node) in report.nodes.iter().enumerate() {
-        let name = NAMES.get(place).copied().unwrap_or("");
-        if !are_fronts(report, name, &node.published) {
-            return Some("what was consumed is no front of what was published, birth by birth");
-        }
-        if !are_taken(&sent, place, &node.published) {
-            return Some("what was taken isn't what was published");
-        }
-    }
-    if report.refused == 0 && !report.is_cut {
-        let due = sent.get(before..).unwrap_or(&[]);
-        if !are_given(report, due) {
-            return Some("nothing was refused, and what was due wasn't given");
+}
+
+/// The same of all nodes.
+fn complaint_of_all(given: &[Given], sent: &[Sent], nodes: &[NodeReport]) -> Complaint {
+    for (place, node) in nodes.iter().enumerate() {
+        let complaint = complaint_of(given, sent, place, &node.published);
+        if complaint.is_some() {
+            return complaint;
         }
     }
     None
+}
+
+/// What is wrong with the counts of a report.
+fn complaint_of_counts(report: &Report) -> Complaint {
+    if report.refused != refused_to(report.nodes.len(), &report.refusals) {
+        Some("another number of refusals")
+    } else if report.accepted.len() != report.given.len() {
+        Some("an item that was given and not accepted, or accepted and not given")
+    } else {
+        None
+    }
+}
+
+/// What is wrong with the lists of a report.
+fn complaint_of_lists(report: &Report, traffic: &Traffic) -> Complaint {
+    let complaint = complaint_of_all(&report.given, &traffic.sent, &report.nodes);
+    if complaint.is_some() {
+        return complaint;
+    }
+    let due = traffic.sent.get(traffic.before..).unwrap_or(&[]);
+    if report.refused == 0 && !report.is_cut && !are_given(&report.given, due) {
+        return Some("nothing was refused, and what was due wasn't given");
+    }
+    None
+}
+
+/// What is wrong with a report; None where nothing is, or memory was refused.
+pub(crate) fn complaint(alloc: Global, report: &Report) -> Complaint {
+    let complaint = complaint_of_counts(report);
+    if complaint.is_some() {
+        return complaint;
+    }
+    let traffic = traffic_of(alloc, report.nodes.len(), &report.taken)?;
+    complaint_of_lists(report, &traffic)
 }

@@ -1,7 +1,12 @@
 //! Plans as texts, and their runs. Where memory was refused all is made again.
+use crate::gates::Silent;
+use crate::judge::complaint;
+use spk_edge::Published;
 use spk_files::{FileFault, read_plan};
+use spk_host::Taken;
 use spk_plan::{Gate, Plan, PlantFault};
 use spk_plant::{Report, run_plant};
+use std::alloc::Global;
 use std::io::Write;
 use std::process::Abort;
 use std::sync::Wait;
@@ -65,46 +70,121 @@ pub(crate) fn alike(
     text_of(rt, front, &all[..nodes.min(17)])
 }
 
+fn read(rt: &impl AllocGlobal, text: &str) -> Result<Plan, FileFault> {
+    read_plan(rt.alloc(), text)
+}
+
 /// The plan that a text says.
 pub(crate) fn plan_of(rt: &(impl Abort + AllocGlobal), text: &[u8]) -> Plan {
     let text = str::from_utf8(text).expect(rt, "text");
-    match read_plan(rt.alloc(), text) {
-        Err(FileFault::NoMemory) => read_plan(rt.alloc(), text).expect(rt, "memory is there again"),
+    match read(rt, text) {
+        Err(FileFault::NoMemory) => read(rt, text).expect(rt, "memory is there again"),
         answer => answer.expect(rt, "a plan"),
     }
 }
 
-/// The report of a plan; None where memory was refused.
-pub(crate) fn ran<R, G: Gate + Sync>(rt: &R, text: &[u8], gate: &G) -> Option<Report>
+/// What is looked at in a report. The tests hold it in place of the report, since it has few parts.
+#[derive(Clone, Copy)]
+pub(crate) struct Outcome {
+    pub(crate) nodes: usize,
+    /// Of each node how many births it published, how many messages, and how many of these the host consumed.
+    pub(crate) counts: [(usize, usize, usize); 17],
+    pub(crate) refused: usize,
+    pub(crate) is_cut: bool,
+    pub(crate) complaint: Option<&'static str>,
+}
+
+/// How many of the messages are births.
+fn births_in(published: &[Published]) -> usize {
+    let mut births = 0usize;
+    for message in published {
+        if message.opens {
+            births = births.saturating_add(1);
+        }
+    }
+    births
+}
+
+/// How many of the messages are a node's.
+fn taken_in(consumed: &[Taken], name: &str) -> usize {
+    let mut count = 0usize;
+    for message in consumed {
+        if message.node.as_str() == name {
+            count = count.saturating_add(1);
+        }
+    }
+    count
+}
+
+/// How many of a node's messages the host consumed.
+fn consumed_of(report: &Report, name: &str) -> usize {
+    let mut count = 0usize;
+    for given in &report.given {
+        count = count.saturating_add(taken_in(&given.consumed, name));
+    }
+    count
+}
+
+/// How many births a node of a plan published, how many messages, and how many of these the host consumed.
+fn counts(report: &Report, place: usize, name: &str) -> (usize, usize, usize) {
+    match report.nodes.get(place) {
+        Some(node) => (
+            births_in(&node.published),
+            node.published.len(),
+            consumed_of(report, name),
+        ),
+        None => (0, 0, 0),
+    }
+}
+
+fn all_counts(report: &Report) -> [(usize, usize, usize); 17] {
+    let mut all = [(0, 0, 0); 17];
+    for (place, (count, name)) in all.iter_mut().zip(NAMES.iter()).enumerate() {
+        *count = counts(report, place, name);
+    }
+    all
+}
+
+fn summed(alloc: Global, report: &Report) -> Outcome {
+    Outcome {
+        nodes: report.nodes.len(),
+        counts: all_counts(report),
+        refused: report.refused,
+        is_cut: report.is_cut,
+        complaint: complaint(alloc, report),
+    }
+}
+
+/// What a plan comes to under a gate.
+pub(crate) fn run<R, G: Gate + Sync>(rt: &R, plan: Plan, gate: &G) -> Result<Outcome, PlantFault>
+where
+    R: AllocGlobal + Threads + Wait + Sync,
+{
+    match run_plant(rt, rt.alloc(), plan, gate) {
+        Ok(report) => Ok(summed(rt.alloc(), &report)),
+        Err(fault) => Err(fault),
+    }
+}
+
+/// What the plan of a text comes to; None where memory was refused.
+pub(crate) fn ran<R, G: Gate + Sync>(rt: &R, text: &[u8], gate: &G) -> Option<Outcome>
 where
     R: AllocGlobal + Threads + Wait + Abort + Sync,
 {
-    match run_plant(rt, rt.alloc(), plan_of(rt, text), gate) {
-        Ok(report) => Some(report),
+    match run(rt, plan_of(rt, text), gate) {
+        Ok(outcome) => Some(outcome),
         Err(PlantFault::NoMemory) => None,
         Err(fault) => panic!(rt; "{fault}"),
     }
 }
 
-/// How many births a node of a plan published, how many messages, and how many of these the host consumed.
-pub(crate) fn counts(report: &Report, place: usize) -> (usize, usize, usize) {
-    let Some(node) = report.nodes.get(place) else {
-        return (0, 0, 0);
-    };
-    let name = NAMES.get(place).copied().unwrap_or("");
-    let births = node
-        .published
-        .iter()
-        .filter(|message| message.opens)
-        .count();
-    let mut consumed = 0usize;
-    for given in &report.given {
-        let here = given
-            .consumed
-            .iter()
-            .filter(|message| message.node.as_str() == name)
-            .count();
-        consumed = consumed.saturating_add(here);
+/// The same under no gate. Where memory was refused it is run again.
+pub(crate) fn ran_free<R>(rt: &R, text: &[u8]) -> Outcome
+where
+    R: AllocGlobal + Threads + Wait + Abort + Sync,
+{
+    match ran(rt, text, &Silent) {
+        Some(outcome) => outcome,
+        None => ran(rt, text, &Silent).expect(rt, "memory is there again"),
     }
-    (births, node.published.len(), consumed)
 }

@@ -1,8 +1,6 @@
 //! Plants whose rings are too small, under gates that give way at random: what must hold of every report holds.
 use crate::gates::Chance;
-use crate::judge::complaint;
-use crate::plans::{counts, ran, text_of};
-use spk_plant::Report;
+use crate::plans::{Outcome, ran, text_of};
 use std::env;
 use std::env::Env;
 use std::process::Abort;
@@ -26,14 +24,14 @@ const SCRIPTS: [(&str, &str); 2] = [
     ),
 ];
 
-/// The report of a plan under a gate of this seed.
-fn report_of<R>(rt: &R, front: &str, seed: u64) -> Report
+/// What a plan comes to under a gate of this seed.
+fn outcome_of<R>(rt: &R, front: &str, seed: u64) -> Outcome
 where
     R: AllocGlobal + Threads + Wait + Abort + Sync,
 {
     let text = text_of(rt, front, &SCRIPTS);
     match ran(rt, &text, &Chance::from(seed)) {
-        Some(report) => report,
+        Some(outcome) => outcome,
         None => ran(rt, &text, &Chance::from(seed)).expect(rt, "memory is there again"),
     }
 }
@@ -51,9 +49,9 @@ fn what_must_hold_holds_of_every_report(rt: HostRuntime) {
     for run in 0..runs(&rt) {
         for (number, front) in FRONTS.iter().enumerate() {
             let seed = run.wrapping_mul(4).wrapping_add(number as u64);
-            let report = report_of(&rt, front, seed);
-            assert_eq!(rt; complaint(rt.alloc(), &report), None, "of {front}, {seed}");
-            let (births, published, _consumed) = counts(&report, 0);
+            let outcome = outcome_of(&rt, front, seed);
+            assert_eq!(rt; outcome.complaint, None, "of {front}, {seed}");
+            let [(births, published, _consumed), ..] = outcome.counts;
             assert!(rt; births <= published, "of {front}, {seed}");
         }
     }
