@@ -208,7 +208,8 @@ pub(crate) fn is_guest(guests: &[Guest], conn: Conn) -> bool
 
 /// How many sends were dropped on an open connection without an accepted CONNECT.
 fn guest_drops(guests: &[Guest], conn: Conn) -> u16
-    ensures { result ≡ option_map_or (λ g. g.drops) (find (is_guest conn) (guests_now guests.now)) 0 }
+    ensures { result ≡ option_map_or (λ g. g.drops)
+        (find (is_guest conn) (guests_now guests.now)) 0 }
 {
     match guest_place(guests, conn) {
         Some(place) => guests[place].drops,

@@ -50,7 +50,9 @@ fn place_from(seats: &[Seat], from: usize, key: u64) -> Option<usize>
 /// The places of the sessions that were found; none where one of them isn't there any more, or memory was refused.
 pub(crate) fn places(alloc: Global, seats: &[Seat], found: &[(u64, u8)]) -> Option<Vec<usize>>
     ensures places { IfSome result (λ ps. ArePlaces ps.items seats.now) }
-    ensures others { IfSome result (λ ps. (low top : ℕ) → Rises low top (flat_map seat_now seats.now) → AreAllFound found.now ps.items seats.now) }
+    ensures others { IfSome result
+        (λ ps. (low top : ℕ) → Rises low top (flat_map seat_now seats.now)
+        → AreAllFound found.now ps.items seats.now) }
 {
     let mut places = Vec::new(alloc);
     let mut from = 0;
@@ -74,10 +76,11 @@ pub(crate) fn call(
     requires places { ArePlaces places.now seats.old }
     requires others { AreCalled (post_view post.now).topic places.now seats.old }
     ensures was { map seat_was seats.new ≡ map seat_was seats.old }
-    ensures left { OnOk result (flat_map seat_now seats.new ≡
-        left_of_round (serve (post_view post.now)) (flat_map seat_now seats.old)) }
-    ensures drafted { OnOk result (draft_view draft.new ≡
-        with_round (serve (post_view post.now)) (flat_map seat_now seats.old) (draft_view draft.old)) }
+    ensures left { OnOk result (flat_map seat_now seats.new
+        ≡ left_of_round (serve (post_view post.now)) (flat_map seat_now seats.old)) }
+    ensures drafted { OnOk result (draft_view draft.new
+        ≡ with_round (serve (post_view post.now)) (flat_map seat_now seats.old)
+        (draft_view draft.old)) }
     ensures visited { OnOk result (AreVisited places.now seats.old seats.new) }
 {
     let mut letter = Letter::new(post);

@@ -16,10 +16,10 @@ impl Broker {
     /// A connection ended without the broker: its will is routed (section 3.1.2.5). Refused with NoSuchConn (30)
     /// exactly where the connection isn't open. Where it fails nothing has changed.
     pub fn closed(&mut self, conn: Conn, now: u64) -> Result<Out, BrokerFault>
-        ensures sends { IfOk result (λ out. map sent_view out.sends.items ≡
-            map outgoing (step self.old (Closed conn now)).sends) }
-        ensures closes { IfOk result (λ out. out.closes.items ≡
-            (step self.old (Closed conn now)).closes) }
+        ensures sends { IfOk result (λ out. map sent_view out.sends.items
+            ≡ map outgoing (step self.old (Closed conn now)).sends) }
+        ensures closes { IfOk result (λ out. out.closes.items
+            ≡ (step self.old (Closed conn now)).closes) }
         ensures done { OnOk result (self.new ≡ (step self.old (Closed conn now)).broker) }
         ensures accepted { OnOk result (knows self.old conn ≡ true) }
         ensures fault { IfErr result (IsUnknown (knows self.old conn)) }
@@ -38,10 +38,10 @@ impl Broker {
     /// 3.1.2.2), and the connection is closed (section 4.8). Refused with NoSuchConn (30) exactly where the connection
     /// isn't open. Where it fails nothing has changed.
     pub fn fault(&mut self, conn: Conn, fault: PacketFault, now: u64) -> Result<Out, BrokerFault>
-        ensures sends { IfOk result (λ out. map sent_view out.sends.items ≡
-            map outgoing (step self.old (Fault conn fault now)).sends) }
-        ensures closes { IfOk result (λ out. out.closes.items ≡
-            (step self.old (Fault conn fault now)).closes) }
+        ensures sends { IfOk result (λ out. map sent_view out.sends.items
+            ≡ map outgoing (step self.old (Fault conn fault now)).sends) }
+        ensures closes { IfOk result (λ out. out.closes.items
+            ≡ (step self.old (Fault conn fault now)).closes) }
         ensures done { OnOk result (self.new ≡ (step self.old (Fault conn fault now)).broker) }
         ensures accepted { OnOk result (knows self.old conn ≡ true) }
         ensures fault { IfErr result (IsUnknown (knows self.old conn)) }
@@ -59,8 +59,8 @@ impl Broker {
     /// Time has passed: connections that were silent for more than one and a half times their keep alive are closed
     /// (section 3.1.2.10), all of them before the first of their wills is routed. Where it fails nothing has changed.
     pub fn tick(&mut self, now: u64) -> Result<Out, BrokerFault>
-        ensures sends { IfOk result (λ out. map sent_view out.sends.items ≡
-            map outgoing (step self.old (Tick now)).sends) }
+        ensures sends { IfOk result (λ out. map sent_view out.sends.items
+            ≡ map outgoing (step self.old (Tick now)).sends) }
         ensures closes { IfOk result (λ out. out.closes.items ≡ (step self.old (Tick now)).closes) }
         ensures done { OnOk result (self.new ≡ (step self.old (Tick now)).broker) }
         ensures fault { IfErr result (λ e. e ≡ BrokerFault.NoMemory) }
@@ -75,10 +75,10 @@ impl Broker {
     /// connection; any other send closes it (own rule). Refused with NoSuchConn (30) exactly where the connection isn't
     /// open. Where it fails nothing has changed.
     pub fn refused(&mut self, conn: Conn, sort: Sort, now: u64) -> Result<Out, BrokerFault>
-        ensures sends { IfOk result (λ out. map sent_view out.sends.items ≡
-            map outgoing (step self.old (Refused conn sort now)).sends) }
-        ensures closes { IfOk result (λ out. out.closes.items ≡
-            (step self.old (Refused conn sort now)).closes) }
+        ensures sends { IfOk result (λ out. map sent_view out.sends.items
+            ≡ map outgoing (step self.old (Refused conn sort now)).sends) }
+        ensures closes { IfOk result (λ out. out.closes.items
+            ≡ (step self.old (Refused conn sort now)).closes) }
         ensures done { OnOk result (self.new ≡ (step self.old (Refused conn sort now)).broker) }
         ensures accepted { OnOk result (knows self.old conn ≡ true) }
         ensures fault { IfErr result (IsUnknown (knows self.old conn)) }

@@ -48,7 +48,8 @@ fn has_bad_topic(will: &Option<Will>) -> bool
 
 /// How a CONNECT is judged: the client id, the will's topic, the number of kept sessions (own rules but for the first).
 fn judge(seats: &[Seat], client: &str, clean: bool, will: &Option<Will>) -> Judged
-    ensures { result ≡ judged (welcome_in client.now (seats_now seats.now)) client.now clean (option_map will_view will.now) }
+    ensures { result ≡ judged (welcome_in client.now (seats_now seats.now)) client.now clean
+        (option_map will_view will.now) }
 {
     if client.is_empty() && !clean {
         return Judged::Refused(2);
@@ -64,8 +65,10 @@ fn judge(seats: &[Seat], client: &str, clean: bool, will: &Option<Will>) -> Judg
 
 /// The message of a will.
 fn post_of(will: &Option<Will>) -> Result<Option<Post>, AllocError>
-    requires { IfSome (option_map will_view will.now) (λ w. is_sendable w.topic w.message w.qos ≡ true) }
-    ensures { IfOk result (λ p. option_map post_view p ≡ option_map will_post (option_map will_view will.now)) }
+    requires { IfSome (option_map will_view will.now)
+        (λ w. is_sendable w.topic w.message w.qos ≡ true) }
+    ensures { IfOk result
+        (λ p. option_map post_view p ≡ option_map will_post (option_map will_view will.now)) }
 {
     match will {
         Some(will) => Ok(Some(Post::of(&will.topic, &will.message, will.qos, will.retain)?)),
@@ -76,8 +79,9 @@ fn post_of(will: &Option<Will>) -> Result<Option<Post>, AllocError>
 impl Desk {
     /// The line of an open connection without CONNECT.
     fn line(&self, conn: Conn, alive: u16, will: Option<Post>) -> Option<Line>
-        ensures value { option_map line_now result ≡
-            option_map (λ g. line_of g alive (option_map post_view will)) (find (is_guest conn) (guests_now self.now.guests.items)) }
+        ensures value { option_map line_now result
+            ≡ option_map (λ g. line_of g alive (option_map post_view will))
+            (find (is_guest conn) (guests_now self.now.guests.items)) }
         ensures whole { IfSome result (λ l. line_was l ≡ line_now l) }
     {
         match guest_place(&self.guests, conn) {
@@ -109,7 +113,8 @@ impl Desk {
     ) -> Result<Option<Entry>, AllocError>
         requires lawful { IsLawful (desk_was self.old) }
         ensures done { IfOk result (λ e. (t : Turn) → Stands self.old draft.old t
-            → Comes self.new draft.new e (act (Accept conn client.now kept alive (option_map post_view will)) t)) }
+            → Comes self.new draft.new e
+            (act (Accept conn client.now kept alive (option_map post_view will)) t)) }
         ensures whole { IfOk result (λ e. IfSome e IsWhole) }
         ensures room { IfOk result (λ e. IfSome e (λ x. HasRoom x self.new.seats)) }
         ensures same { desk_was self.new ≡ desk_was self.old }
@@ -122,7 +127,9 @@ impl Desk {
 
     /// The older connection's will and what follows it are routed.
     fn take_over(&mut self, draft: &mut Draft, older: Option<Conn>) -> Result<(), AllocError>
-        ensures done { OnOk result ((t : Turn) → Stands self.old draft.old t → Stands self.new draft.new (acts (take_over older) t)) }
+        ensures done { OnOk result
+            ((t : Turn) → Stands self.old draft.old t
+            → Stands self.new draft.new (acts (take_over older) t)) }
         ensures same { desk_was self.new ≡ desk_was self.old }
     {
         if let Some(older) = older {
@@ -154,8 +161,10 @@ impl Desk {
         will: Option<Post>,
     ) -> Result<Option<Entry>, AllocError>
         requires lawful { IsLawful (desk_was self.old) }
-        ensures done { IfOk result (λ e. (t : Turn) → Stands self.old draft.old t → Comes self.new draft.new e
-            (acts (join (older_in client.now t.broker.seats) conn client.now clean alive (option_map post_view will)) t)) }
+        ensures done { IfOk result
+            (λ e. (t : Turn) → Stands self.old draft.old t → Comes self.new draft.new e
+            (acts (join (older_in client.now t.broker.seats) conn client.now clean alive
+            (option_map post_view will)) t)) }
         ensures whole { IfOk result (λ e. IfSome e IsWhole) }
         ensures room { IfOk result (λ e. IfSome e (λ x. HasRoom x self.new.seats)) }
         ensures same { desk_was self.new ≡ desk_was self.old }
@@ -178,11 +187,14 @@ impl Desk {
         alive: u16,
         will: &Option<Will>,
     ) -> Result<Option<Entry>, AllocError>
-        requires will { IfSome (option_map will_view will.now) (λ w. is_sendable w.topic w.message w.qos ≡ true) }
+        requires will { IfSome (option_map will_view will.now)
+            (λ w. is_sendable w.topic w.message w.qos ≡ true) }
         requires lawful { IsLawful (desk_was self.old) }
-        ensures done { IfOk result (λ e. (seen : Seen) (t : Turn) → seen.older ≡ older_in client.now t.broker.seats
+        ensures done { IfOk result
+            (λ e. (seen : Seen) (t : Turn) → seen.older ≡ older_in client.now t.broker.seats
             → seen.welcome ≡ welcome_in client.now t.broker.seats → Stands self.old draft.old t
-            → Comes self.new draft.new e (acts (connect seen conn client.now clean alive (option_map will_view will.now)) t)) }
+            → Comes self.new draft.new e
+            (acts (connect seen conn client.now clean alive (option_map will_view will.now)) t)) }
         ensures whole { IfOk result (λ e. IfSome e IsWhole) }
         ensures room { IfOk result (λ e. IfSome e (λ x. HasRoom x self.new.seats)) }
         ensures same { desk_was self.new ≡ desk_was self.old }

@@ -65,11 +65,15 @@ pub(crate) fn granted(
     requires { place < length seats.now }
     ensures codes { IfOk result (λ g. length g.codes.items ≡ length entries.now) }
     ensures granted { IfOk result (λ g. list_all is_grant g.codes.items ≡ true) }
-    ensures view { IfOk result (λ g. (d : Both) → IfSome (get_or seats.now place d).now (λ s. granting_view g ≡ record {
-      grants = fold (with_entry (other_grants s (seats_now seats.now))) s.grants (map request_view entries.now);
-      codes = codes_of (other_grants s (seats_now seats.now)) s.grants (map request_view entries.now);
-      given = granted_of (other_grants s (seats_now seats.now)) s.grants (map request_view entries.now);
-    })) }
+    ensures view { IfOk result
+        (λ g. (d : Both) → IfSome (get_or seats.now place d).now (λ s. granting_view g ≡ record {
+          grants = fold (with_entry (other_grants s (seats_now seats.now))) s.grants
+              (map request_view entries.now);
+          codes = codes_of (other_grants s (seats_now seats.now)) s.grants
+              (map request_view entries.now);
+          given = granted_of (other_grants s (seats_now seats.now)) s.grants
+              (map request_view entries.now);
+        })) }
 {
     let others = count_others(seats, place);
     let mut granting = Granting {

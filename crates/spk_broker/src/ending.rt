@@ -111,7 +111,8 @@ impl Desk {
         requires ready { IfOk drafted (λ e. IsReady e self.old) }
         ensures done { IfOk drafted (λ e. OnOk result ((t : Turn) → Stands self.old draft t
             → desk_was self.new ≡ ended e t.broker)) }
-        ensures sends { IfOk result (λ out. map sent_view out.sends.items ≡ (draft_view draft).sends) }
+        ensures sends { IfOk result
+            (λ out. map sent_view out.sends.items ≡ (draft_view draft).sends) }
         ensures closes { IfOk result (λ out. out.closes.items ≡ (draft_view draft).closes) }
         ensures variant { is_ok result ≡ is_ok drafted }
         ensures fault { IfErr result (λ e. e ≡ BrokerFault.NoMemory) }

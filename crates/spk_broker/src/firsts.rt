@@ -33,7 +33,8 @@ impl Desk {
         requires lawful { IsLawful (desk_was self.old) }
         ensures done { IfOk result (λ e. (seen : Seen) (t : Turn)
             → seen.older ≡ older_in (client_in (view packet.now)) t.broker.seats
-            → seen.welcome ≡ welcome_in (client_in (view packet.now)) t.broker.seats → Stands self.old draft.old t
+            → seen.welcome ≡ welcome_in (client_in (view packet.now)) t.broker.seats
+            → Stands self.old draft.old t
             → Leads self.new draft.new e (acts (first_packet seen conn (view packet.now)) t)) }
         ensures ready { IfOk result (λ e. IsReady e self.new) }
         ensures same { desk_was self.new ≡ desk_was self.old }
@@ -117,7 +118,8 @@ impl Desk {
         ensures done { IfOk result (λ e. (seen : Seen) (t : Turn)
             → seen.joined ≡ is_some (seat_at conn t.broker.seats)
             → seen.older ≡ older_in (client_in (view packet.now)) t.broker.seats
-            → seen.welcome ≡ welcome_in (client_in (view packet.now)) t.broker.seats → Stands self.old draft.old t
+            → seen.welcome ≡ welcome_in (client_in (view packet.now)) t.broker.seats
+            → Stands self.old draft.old t
             → Leads self.new draft.new e (acts (packet_acts seen conn (view packet.now)) t)) }
         ensures ready { IfOk result (λ e. IsReady e self.new) }
         ensures same { desk_was self.new ≡ desk_was self.old }

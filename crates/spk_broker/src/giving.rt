@@ -52,9 +52,12 @@ impl Desk {
         requires writable { IsWritable (SubAck id granting.codes.items) }
         requires place { place_in conn self.old.seats.items ≡ Some place }
         requires keeps { (draft_view draft.old).keeps ≡ [] }
-        ensures done { OnOk result ((t : Turn) (seat : plain.Seat) (entries : List (List ℕ × ℕ)) → Stands self.old draft.old t
+        ensures done { OnOk result
+            ((t : Turn) (seat : plain.Seat) (entries : List (List ℕ × ℕ))
+            → Stands self.old draft.old t
             → seat_at conn t.broker.seats ≡ Some seat
-            → granting_view granting ≡ grown_by (other_grants seat t.broker.seats) seat.grants entries
+            → granting_view granting
+            ≡ grown_by (other_grants seat t.broker.seats) seat.grants entries
             → Stands self.new draft.new (act (Give conn id entries) t)) }
         ensures only { OnOk result (OnlyAt (place ∷ []) self.old → OnlyAt (place ∷ []) self.new) }
         ensures same { desk_was self.new ≡ desk_was self.old }
@@ -106,7 +109,8 @@ impl Desk {
         requires only { OnlyAt (place ∷ []) self.old }
         requires keeps { (draft_view draft.old).keeps ≡ [] }
         ensures done { IfOk result (λ e. (t : Turn) → Stands self.old draft.old t
-            → Leads self.new draft.new e (acts (subscribe conn id (map request_view entries.now)) t)) }
+            → Leads self.new draft.new e
+            (acts (subscribe conn id (map request_view entries.now)) t)) }
         ensures ready { IfOk result (λ e. IsReady e self.new) }
         ensures same { desk_was self.new ≡ desk_was self.old }
     {

@@ -84,7 +84,9 @@ fn replace(grants: &mut [Grant], name: &str, qos: u8)
 
 /// A filter that is granted keeps its place, a new one goes last.
 fn put(grants: &mut Vec<Grant>, name: &String, qos: u8) -> Result<(), AllocError>
-    ensures { OnOk result (map grant_view grants.new.items ≡ put (string_bytes name.now) qos (map grant_view grants.old.items)) }
+    ensures { OnOk result
+        (map grant_view grants.new.items
+        ≡ put (string_bytes name.now) qos (map grant_view grants.old.items)) }
 {
     if has(grants, name.as_str()) {
         replace(grants, name.as_str(), qos);
@@ -107,7 +109,9 @@ fn may_grant(grants: &[Grant], others: usize, name: &str) -> bool
 impl Granting {
     /// One more entry.
     fn request(&mut self, others: usize, entry: &Request) -> Result<(), AllocError>
-        ensures { OnOk result (granting_view self.new ≡ with_request others (granting_view self.old) (request_view entry.now)) }
+        ensures { OnOk result
+            (granting_view self.new
+            ≡ with_request others (granting_view self.old) (request_view entry.now)) }
     {
         if !may_grant(&self.grants, others, entry.filter.as_str()) {
             self.codes.push(128)?;
@@ -129,8 +133,8 @@ impl Granting {
         others: usize,
         entries: &[Request],
     ) -> Result<(), AllocError>
-        ensures { OnOk result (granting_view self.new ≡
-            fold (with_request others) (granting_view self.old) (map request_view entries.now)) }
+        ensures { OnOk result (granting_view self.new
+            ≡ fold (with_request others) (granting_view self.old) (map request_view entries.now)) }
     {
         for entry in entries {
             self.request(others, entry)?;
@@ -141,7 +145,8 @@ impl Granting {
 
 /// The grants of other filters stay.
 fn drop_grant(grants: &mut Vec<Grant>, name: &str)
-    ensures { grants.new.items ≡ filter (λ g. not (bytes_eq (string_bytes g.filter) name.now)) grants.old.items }
+    ensures { grants.new.items
+        ≡ filter (λ g. not (bytes_eq (string_bytes g.filter) name.now)) grants.old.items }
 {
     grants.retain(|grant| !grant.is_of(name));
 }
@@ -154,8 +159,9 @@ fn take_one(grants: &mut Vec<Grant>, name: &str)
 
 /// The grants of these filters are taken back.
 pub(crate) fn take_all(grants: &mut Vec<Grant>, names: &[String])
-    ensures { map grant_view grants.new.items ≡
-        fold taken_from (map grant_view grants.old.items) (map (λ name. string_bytes name) names.now) }
+    ensures { map grant_view grants.new.items
+        ≡ fold taken_from (map grant_view grants.old.items)
+        (map (λ name. string_bytes name) names.now) }
 {
     for name in names {
         take_one(grants, name.as_str());
@@ -176,7 +182,8 @@ impl Seat {
     /// Other grants.
     pub(crate) fn set_grants(&mut self, grants: Vec<Grant>)
         ensures was { self.new.was ≡ self.old.was }
-        ensures now { self.new.now ≡ option_map (regranted (map grant_view grants.items)) self.old.now }
+        ensures now { self.new.now
+            ≡ option_map (regranted (map grant_view grants.items)) self.old.now }
     {
         self.regrant = Some(grants);
     }

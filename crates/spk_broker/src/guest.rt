@@ -77,7 +77,8 @@ impl Guest {
 /// A packet of this connection came.
 pub(crate) fn hear(guests: &mut [Guest], conn: Conn, clock: u64)
     ensures was { map guest_was guests.new ≡ map guest_was guests.old }
-    ensures now { flat_map guest_now guests.new ≡ map (guest_heard conn clock) (flat_map guest_now guests.old) }
+    ensures now { flat_map guest_now guests.new
+        ≡ map (guest_heard conn clock) (flat_map guest_now guests.old) }
 {
     for guest in guests.iter_mut() {
         guest.hear(conn, clock);
@@ -87,7 +88,8 @@ pub(crate) fn hear(guests: &mut [Guest], conn: Conn, clock: u64)
 /// A send to this connection was dropped.
 pub(crate) fn count_drop(guests: &mut [Guest], conn: Conn)
     ensures was { map guest_was guests.new ≡ map guest_was guests.old }
-    ensures now { flat_map guest_now guests.new ≡ map (guest_dropped conn) (flat_map guest_now guests.old) }
+    ensures now { flat_map guest_now guests.new
+        ≡ map (guest_dropped conn) (flat_map guest_now guests.old) }
 {
     for guest in guests.iter_mut() {
         guest.count_drop(conn);
@@ -97,7 +99,8 @@ pub(crate) fn count_drop(guests: &mut [Guest], conn: Conn)
 /// This connection leaves, if it has no accepted CONNECT.
 pub(crate) fn leave(guests: &mut [Guest], conn: Conn)
     ensures was { map guest_was guests.new ≡ map guest_was guests.old }
-    ensures now { flat_map guest_now guests.new ≡ other_guests conn (flat_map guest_now guests.old) }
+    ensures now { flat_map guest_now guests.new
+        ≡ other_guests conn (flat_map guest_now guests.old) }
 {
     for guest in guests.iter_mut() {
         guest.leave(conn);

@@ -48,7 +48,8 @@ pub(crate) fn reach(tree: &Option<Tree>, topic: &str) -> Option<Vec<(u64, u8)>>
 
 /// One more grant of a session in the index. False where memory was refused.
 fn file_one(tree: &mut Tree, key: u64, grant: &Grant) -> bool
-    ensures filed { result ≡ true → is_some (finite.get tree.new (string_bytes grant.now.filter, key)) ≡ true }
+    ensures filed { result ≡ true
+        → is_some (finite.get tree.new (string_bytes grant.now.filter, key)) ≡ true }
     ensures more { Grown tree.old tree.new }
 {
     granted();
@@ -114,11 +115,13 @@ impl Seat {
         letter: &mut Letter<'_>,
         found: &Option<Vec<(u64, u8)>>,
     ) -> Result<(), AllocError>
-        requires { (s : plain.Seat) → self.old.now ≡ Some s → is_passed found.now s.key ≡ true → best letter.old.topic s.grants ≡ None }
+        requires { (s : plain.Seat) → self.old.now ≡ Some s → is_passed found.now s.key ≡ true
+            → best letter.old.topic s.grants ≡ None }
         ensures was { self.new.was ≡ self.old.was }
-        ensures left { OnOk result (option_list self.new.now ≡ left_by (serve letter.old) self.old.now) }
-        ensures drafted { OnOk result (draft_view draft.new ≡
-            served_by (serve letter.old) self.old.now (draft_view draft.old)) }
+        ensures left { OnOk result
+            (option_list self.new.now ≡ left_by (serve letter.old) self.old.now) }
+        ensures drafted { OnOk result (draft_view draft.new
+            ≡ served_by (serve letter.old) self.old.now (draft_view draft.old)) }
         ensures letter { letter.new ≡ letter.old }
     {
         if self.is_passed(found) {

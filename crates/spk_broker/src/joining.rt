@@ -57,7 +57,8 @@ fn drop_guest(guests: &mut Vec<Guest>, conn: Conn)
 /// A connection isn't without CONNECT any more.
 fn take_guest(guests: &mut Vec<Guest>, conn: Conn)
     ensures now { guests_now guests.new.items ≡ other_guests conn (guests_now guests.old.items) }
-    ensures was { map guest_was guests.new.items ≡ other_guests conn (map guest_was guests.old.items) }
+    ensures was { map guest_was guests.new.items
+        ≡ other_guests conn (map guest_was guests.old.items) }
 {
     drop_guest(guests, conn);
 }
@@ -146,7 +147,9 @@ fn ack_in(seats: &mut [Seat], conn: Conn, near: usize, id: u16)
 
 /// A copy is sent again, with DUP where it was handed out before (sections 3.3.1.1 and 4.4).
 fn resend(draft: &mut Draft, conn: Conn, copy: &Copy) -> Result<(), AllocError>
-    ensures { OnOk result (draft_view draft.new ≡ with_sends (again conn (copy_view copy.now) ∷ []) (draft_view draft.old)) }
+    ensures { OnOk result
+        (draft_view draft.new
+        ≡ with_sends (again conn (copy_view copy.now) ∷ []) (draft_view draft.old)) }
 {
     let publish = copy
         .post
@@ -156,7 +159,9 @@ fn resend(draft: &mut Draft, conn: Conn, copy: &Copy) -> Result<(), AllocError>
 
 /// All copies are sent again, in the order in which they were made.
 fn resend_all(draft: &mut Draft, conn: Conn, copies: &[Copy]) -> Result<(), AllocError>
-    ensures { OnOk result (draft_view draft.new ≡ with_sends (resent conn (map copy_view copies.now)) (draft_view draft.old)) }
+    ensures { OnOk result
+        (draft_view draft.new
+        ≡ with_sends (resent conn (map copy_view copies.now)) (draft_view draft.old)) }
 {
     for copy in copies {
         resend(draft, conn, copy)?;
@@ -167,7 +172,10 @@ fn resend_all(draft: &mut Draft, conn: Conn, copies: &[Copy]) -> Result<(), Allo
 impl Seat {
     /// What it keeps is sent again.
     fn resend(&self, draft: &mut Draft, conn: Conn) -> Result<(), AllocError>
-        ensures { OnOk result (IfSome self.now.now (λ s. draft_view draft.new ≡ with_sends (resent conn s.copies) (draft_view draft.old))) }
+        ensures { OnOk result
+            (IfSome self.now.now
+            (λ s. draft_view draft.new
+            ≡ with_sends (resent conn s.copies) (draft_view draft.old))) }
     {
         resend_all(draft, conn, &self.copies)
     }
@@ -182,8 +190,9 @@ impl Seat {
 
 /// The kept session of a client without a connection ends.
 fn end_away(seats: &mut [Seat], client: &str)
-    ensures now { (low top : ℕ) → Rises low top (seats_now seats.old) →
-        seats_now seats.new ≡ forgot (find (is_away client.now) (seats_now seats.old)) (seats_now seats.old) }
+    ensures now { (low top : ℕ) → Rises low top (seats_now seats.old)
+        → seats_now seats.new
+        ≡ forgot (find (is_away client.now) (seats_now seats.old)) (seats_now seats.old) }
     ensures was { map seat_was seats.new ≡ map seat_was seats.old }
 {
     match away_place(seats, client) {
@@ -227,7 +236,8 @@ impl Desk {
 
     /// A kept session of this client ends.
     pub(crate) fn forget(&mut self, client: &str)
-        ensures done { (draft : Draft) (t : Turn) → Stands self.old draft t → Stands self.new draft (act (Forget client.now) t) }
+        ensures done { (draft : Draft) (t : Turn) → Stands self.old draft t
+            → Stands self.new draft (act (Forget client.now) t) }
         ensures same { desk_was self.new ≡ desk_was self.old }
     {
         end_away(&mut self.seats, client);
@@ -243,12 +253,14 @@ impl Desk {
     ) -> Result<Entry, AllocError>
         requires line { line_was line ≡ line_now line }
         requires number { self.old.made < self.old.given }
-        ensures entry { IfOk result (λ e. entered e (desk_now self.old) ≡
-            (take_up None client.now kept (line_now line) (begun (desk_now self.old))).broker) }
+        ensures entry { IfOk result (λ e. entered e (desk_now self.old)
+            ≡ (take_up None client.now kept (line_now line) (begun (desk_now self.old))).broker) }
         ensures whole { IfOk result IsWhole }
         ensures room { IfOk result (λ e. HasRoom e self.new.seats) }
-        ensures sends { OnOk result (draft_view draft.new ≡
-            with_sends (take_up None client.now kept (line_now line) (begun (desk_now self.old))).sends (draft_view draft.old)) }
+        ensures sends { OnOk result (draft_view draft.new
+            ≡ with_sends
+            (take_up None client.now kept (line_now line) (begun (desk_now self.old))).sends
+            (draft_view draft.old)) }
         ensures now { desk_now self.new ≡ desk_now self.old }
         ensures retained { self.new.retained ≡ self.old.retained }
         ensures same { desk_was self.new ≡ desk_was self.old }
@@ -278,12 +290,15 @@ impl Desk {
     ) -> Result<Entry, AllocError>
         requires line { line_was line ≡ line_now line }
         requires place { position (passes (is_away client.now)) self.now.seats.items ≡ Some place }
-        ensures entry { IfOk result (λ e. entered e (desk_now self.now) ≡
-            (take_up (find (is_away client.now) (desk_now self.now).seats) client.now true (line_now line) (begun (desk_now self.now))).broker) }
+        ensures entry { IfOk result (λ e. entered e (desk_now self.now)
+            ≡ (take_up (find (is_away client.now) (desk_now self.now).seats) client.now true
+            (line_now line) (begun (desk_now self.now))).broker) }
         ensures whole { IfOk result IsWhole }
         ensures room { IfOk result (λ e. HasRoom e self.now.seats) }
-        ensures sends { OnOk result (draft_view draft.new ≡
-            with_sends (take_up (find (is_away client.now) (desk_now self.now).seats) client.now true (line_now line) (begun (desk_now self.now))).sends
+        ensures sends { OnOk result (draft_view draft.new
+            ≡ with_sends
+            (take_up (find (is_away client.now) (desk_now self.now).seats) client.now true
+            (line_now line) (begun (desk_now self.now))).sends
             (draft_view draft.old)) }
     {
         let conn = line.conn;
@@ -311,11 +326,14 @@ impl Desk {
     ) -> Result<Entry, AllocError>
         requires line { line_was line ≡ line_now line }
         requires number { self.old.made < self.old.given }
-        ensures entry { IfOk result (λ e. entered e (desk_now self.old) ≡ (taken client.now kept (line_now line) (desk_now self.old)).broker) }
+        ensures entry { IfOk result
+            (λ e. entered e (desk_now self.old)
+            ≡ (taken client.now kept (line_now line) (desk_now self.old)).broker) }
         ensures whole { IfOk result IsWhole }
         ensures room { IfOk result (λ e. HasRoom e self.new.seats) }
-        ensures sends { OnOk result (draft_view draft.new ≡
-            with_sends (taken client.now kept (line_now line) (desk_now self.old)).sends (draft_view draft.old)) }
+        ensures sends { OnOk result (draft_view draft.new
+            ≡ with_sends (taken client.now kept (line_now line) (desk_now self.old)).sends
+            (draft_view draft.old)) }
         ensures now { desk_now self.new ≡ desk_now self.old }
         ensures retained { self.new.retained ≡ self.old.retained }
         ensures same { desk_was self.new ≡ desk_was self.old }

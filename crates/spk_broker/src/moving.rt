@@ -18,7 +18,8 @@ use std::alloc::AllocError;
 impl Desk {
     /// The clock is at least here.
     pub(crate) fn at(&mut self, now: u64)
-        ensures done { (x : Draft) (t : Turn) → Stands self.old x t → Stands self.new x (act (At now) t) }
+        ensures done { (x : Draft) (t : Turn) → Stands self.old x t
+            → Stands self.new x (act (At now) t) }
         ensures same { desk_was self.new ≡ desk_was self.old }
         ensures seats { self.new.seats ≡ self.old.seats }
         ensures guests { self.new.guests ≡ self.old.guests }
@@ -29,7 +30,8 @@ impl Desk {
     /// A packet of the connection that sits at this place came.
     fn hear_at(&mut self, conn: Conn, place: usize)
         requires { place_in conn self.old.seats.items ≡ Some place }
-        ensures done { (x : Draft) (t : Turn) → Stands self.old x t → Stands self.new x (act (Hear conn) t) }
+        ensures done { (x : Draft) (t : Turn) → Stands self.old x t
+            → Stands self.new x (act (Hear conn) t) }
         ensures same { desk_was self.new ≡ desk_was self.old }
         ensures place { place_in conn self.new.seats.items ≡ Some place }
         ensures alone { OnlyAt (place ∷ []) self.old → OnlyAt (place ∷ []) self.new }
@@ -41,7 +43,8 @@ impl Desk {
     /// A packet of this connection came, which sits at this place, if it does.
     pub(crate) fn hear(&mut self, conn: Conn, place: Option<usize>)
         requires { place_in conn self.old.seats.items ≡ place }
-        ensures done { (x : Draft) (t : Turn) → Stands self.old x t → Stands self.new x (act (Hear conn) t) }
+        ensures done { (x : Draft) (t : Turn) → Stands self.old x t
+            → Stands self.new x (act (Hear conn) t) }
         ensures same { desk_was self.new ≡ desk_was self.old }
         ensures place { place_in conn self.new.seats.items ≡ place }
         ensures alone { IsAlone place self.old → IsAlone place self.new }
@@ -58,7 +61,8 @@ impl Desk {
     /// A send to the connection that sits at this place was dropped.
     fn drop_at(&mut self, conn: Conn, place: usize)
         requires { place_in conn self.old.seats.items ≡ Some place }
-        ensures done { (x : Draft) (t : Turn) → Stands self.old x t → Stands self.new x (act (Drop conn) t) }
+        ensures done { (x : Draft) (t : Turn) → Stands self.old x t
+            → Stands self.new x (act (Drop conn) t) }
         ensures same { desk_was self.new ≡ desk_was self.old }
         ensures place { place_in conn self.new.seats.items ≡ Some place }
         ensures alone { OnlyAt (place ∷ []) self.old → OnlyAt (place ∷ []) self.new }
@@ -69,7 +73,8 @@ impl Desk {
     /// A send to this connection was dropped, which sits at this place, if it does.
     pub(crate) fn count_drop(&mut self, conn: Conn, place: Option<usize>)
         requires { place_in conn self.old.seats.items ≡ place }
-        ensures done { (x : Draft) (t : Turn) → Stands self.old x t → Stands self.new x (act (Drop conn) t) }
+        ensures done { (x : Draft) (t : Turn) → Stands self.old x t
+            → Stands self.new x (act (Drop conn) t) }
         ensures same { desk_was self.new ≡ desk_was self.old }
         ensures place { place_in conn self.new.seats.items ≡ place }
         ensures alone { IsAlone place self.old → IsAlone place self.new }

@@ -16,8 +16,8 @@ impl Seat {
         ensures was { self.new.was ≡ self.old.was }
         ensures left { OnOk result (
             option_list self.new.now ≡ left_by (hand (post_view post.now)) self.old.now) }
-        ensures drafted { OnOk result (draft_view draft.new ≡
-            served_by (hand (post_view post.now)) self.old.now (draft_view draft.old)) }
+        ensures drafted { OnOk result (draft_view draft.new
+            ≡ served_by (hand (post_view post.now)) self.old.now (draft_view draft.old)) }
     {
         if post.qos == 0 {
             return self.hand_plain(draft, post, post.retain);

@@ -16,12 +16,12 @@ impl Broker {
     /// A packet of a connection came (chapter 3). One that can't be written closes the connection as its bytes would.
     /// Refused with NoSuchConn (30) exactly where the connection isn't open. Where it fails nothing has changed.
     pub fn packet(&mut self, conn: Conn, packet: &Packet, now: u64) -> Result<Out, BrokerFault>
-        ensures sends { IfOk result (λ out. map sent_view out.sends.items ≡
-            map outgoing (step self.old (PacketEvent conn (view packet.now) now)).sends) }
-        ensures closes { IfOk result (λ out. out.closes.items ≡
-            (step self.old (PacketEvent conn (view packet.now) now)).closes) }
-        ensures done { OnOk result (self.new ≡
-            (step self.old (PacketEvent conn (view packet.now) now)).broker) }
+        ensures sends { IfOk result (λ out. map sent_view out.sends.items
+            ≡ map outgoing (step self.old (PacketEvent conn (view packet.now) now)).sends) }
+        ensures closes { IfOk result (λ out. out.closes.items
+            ≡ (step self.old (PacketEvent conn (view packet.now) now)).closes) }
+        ensures done { OnOk result (self.new
+            ≡ (step self.old (PacketEvent conn (view packet.now) now)).broker) }
         ensures accepted { OnOk result (knows self.old conn ≡ true) }
         ensures fault { IfErr result (IsUnknown (knows self.old conn)) }
         ensures err { OnErr result (self.new ≡ self.old) }

@@ -30,8 +30,13 @@ impl Post {
         retain: bool,
     ) -> Result<Post, AllocError>
         requires { is_sendable (string_bytes topic.now) payload.now.items qos ≡ true }
-        ensures { IfOk result (λ p. post_view p ≡
-            record { topic = string_bytes topic.now; payload = payload.now.items; qos = qos; retain = retain }) }
+        ensures { IfOk result (λ p. post_view p
+            ≡ record {
+              topic = string_bytes topic.now;
+              payload = payload.now.items;
+              qos = qos;
+              retain = retain;
+            }) }
     {
         Ok(Post {
             topic: topic.clone()?,
@@ -44,7 +49,8 @@ impl Post {
     /// The same message, with this QoS, which is no greater, and RETAIN.
     pub(crate) fn copied(&self, qos: u8, retain: bool) -> Result<Post, AllocError>
         requires { qos ≤ self.now.qos }
-        ensures { IfOk result (λ p. post_view p ≡ record (post_view self.now) { qos = qos; retain = retain }) }
+        ensures { IfOk result
+            (λ p. post_view p ≡ record (post_view self.now) { qos = qos; retain = retain }) }
     {
         Post::of(&self.topic, &self.payload, qos, retain)
     }
@@ -57,7 +63,8 @@ impl Post {
         retain: bool,
         id: Option<u16>,
     ) -> PublishRef<'_>
-        ensures { publish_view result ≡ Publish dup qos retain (post_view self.now).topic id (post_view self.now).payload }
+        ensures { publish_view result
+            ≡ Publish dup qos retain (post_view self.now).topic id (post_view self.now).payload }
     {
         PublishRef {
             dup,

@@ -23,7 +23,8 @@ use std::alloc::AllocError;
 /// A retained message as it is offered at a QoS.
 fn post_at(topic: &String, stored: &Stored, qos: u8) -> Result<Post, AllocError>
     requires { is_sendable (string_bytes topic.now) stored.now.payload.items qos ≡ true }
-    ensures { IfOk result (λ p. post_view p ≡ retained_at qos (string_bytes topic.now) (stored_view stored.now)) }
+    ensures { IfOk result
+        (λ p. post_view p ≡ retained_at qos (string_bytes topic.now) (stored_view stored.now)) }
 {
     Post::of(topic, &stored.payload, qos, true)
 }
@@ -31,8 +32,9 @@ fn post_at(topic: &String, stored: &Stored, qos: u8) -> Result<Post, AllocError>
 /// A retained message for a grant, where its topic matches: with RETAIN, and the lesser QoS.
 fn offered_one(topic: &String, stored: &Stored, grant: &Grant) -> Result<Option<Post>, AllocError>
     requires { is_sendable (string_bytes topic.now) stored.now.payload.items stored.now.qos ≡ true }
-    ensures { IfOk result (λ p. option_list (option_map post_view p) ≡
-        offers_to ((string_bytes topic.now, stored_view stored.now) ∷ []) (grant_view grant.now)) }
+    ensures { IfOk result (λ p. option_list (option_map post_view p)
+        ≡ offers_to ((string_bytes topic.now, stored_view stored.now) ∷ [])
+        (grant_view grant.now)) }
 {
     if !matches_text(grant.filter.as_str(), topic.as_str()) {
         return Ok(None);
@@ -47,8 +49,9 @@ fn offered(
     grant: &Grant,
 ) -> Result<Option<Post>, AllocError>
     requires { are_sendable (map retained_view retained.now.entries) ≡ true }
-    ensures { IfOk result (λ p. option_list (option_map post_view p) ≡
-        offers_at (slice_get (map retained_view retained.now.entries) place) (grant_view grant.now)) }
+    ensures { IfOk result (λ p. option_list (option_map post_view p)
+        ≡ offers_at (slice_get (map retained_view retained.now.entries) place)
+        (grant_view grant.now)) }
 {
     match retained.get_index(place) {
         Some((topic, stored)) => Ok(offered_one(topic, stored, grant)?),
@@ -66,8 +69,12 @@ impl Desk {
         from: usize,
     ) -> Result<(), AllocError>
         requires { place < vec_len self.old.seats }
-        ensures done { OnOk result ((key : ℕ) (t : Turn) → Offering self.old draft.old place key t → Offering self.new draft.new place key
-            (fold (offer key) t (offers_at (slice_get (map retained_view self.old.retained.entries) from) (grant_view grant.now)))) }
+        ensures done { OnOk result
+            ((key : ℕ) (t : Turn) → Offering self.old draft.old place key t
+            → Offering self.new draft.new place key
+            (fold (offer key) t
+            (offers_at (slice_get (map retained_view self.old.retained.entries) from)
+            (grant_view grant.now)))) }
         ensures only { OnOk result (OnlyAt (place ∷ []) self.old → OnlyAt (place ∷ []) self.new) }
         ensures retained { self.new.retained ≡ self.old.retained }
         ensures len { vec_len self.new.seats ≡ vec_len self.old.seats }
@@ -90,8 +97,11 @@ impl Desk {
         grant: &Grant,
     ) -> Result<(), AllocError>
         requires { place < vec_len self.old.seats }
-        ensures done { OnOk result ((key : ℕ) (t : Turn) → Offering self.old draft.old place key t → Offering self.new draft.new place key
-            (fold (offer key) t (offers_to (map retained_view self.old.retained.entries) (grant_view grant.now)))) }
+        ensures done { OnOk result
+            ((key : ℕ) (t : Turn) → Offering self.old draft.old place key t
+            → Offering self.new draft.new place key
+            (fold (offer key) t
+            (offers_to (map retained_view self.old.retained.entries) (grant_view grant.now)))) }
         ensures only { OnOk result (OnlyAt (place ∷ []) self.old → OnlyAt (place ∷ []) self.new) }
         ensures retained { self.new.retained ≡ self.old.retained }
         ensures len { vec_len self.new.seats ≡ vec_len self.old.seats }
@@ -111,8 +121,12 @@ impl Desk {
         given: &[Grant],
     ) -> Result<(), AllocError>
         requires { place < vec_len self.old.seats }
-        ensures done { OnOk result ((key : ℕ) (t : Turn) → Offering self.old draft.old place key t → Offering self.new draft.new place key
-            (fold (offer key) t (flat_map (offers_to (map retained_view self.old.retained.entries)) (map grant_view given.now)))) }
+        ensures done { OnOk result
+            ((key : ℕ) (t : Turn) → Offering self.old draft.old place key t
+            → Offering self.new draft.new place key
+            (fold (offer key) t
+            (flat_map (offers_to (map retained_view self.old.retained.entries))
+            (map grant_view given.now)))) }
         ensures only { OnOk result (OnlyAt (place ∷ []) self.old → OnlyAt (place ∷ []) self.new) }
         ensures same { desk_was self.new ≡ desk_was self.old }
     {

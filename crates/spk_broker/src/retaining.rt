@@ -19,7 +19,8 @@ const MOST_TOPICS: usize = 10_000;
 
 /// No message is retained on this topic.
 fn clear(retained: &mut IndexMap<String, Stored>, topic: &str)
-    ensures table { map retained_view retained.new.entries ≡ remove topic.now (map retained_view retained.old.entries) }
+    ensures table { map retained_view retained.new.entries
+        ≡ remove topic.now (map retained_view retained.old.entries) }
     ensures room { spare retained.old ≤ spare retained.new }
 {
     retained.retain(|name, _| name.as_str() != topic);
@@ -28,8 +29,8 @@ fn clear(retained: &mut IndexMap<String, Stored>, topic: &str)
 /// A message replaces the one on its topic, or stands behind the others.
 fn replace(retained: &mut IndexMap<String, Stored>, topic: String, stored: Stored)
     requires { 0 < spare retained.old }
-    ensures table { map retained_view retained.new.entries ≡
-        put (string_bytes topic) (stored_view stored) (map retained_view retained.old.entries) }
+    ensures table { map retained_view retained.new.entries
+        ≡ put (string_bytes topic) (stored_view stored) (map retained_view retained.old.entries) }
     ensures room { spare retained.old ≤ spare retained.new + 1 }
 {
     let _ = retained.len();
@@ -46,8 +47,8 @@ fn has_room(retained: &IndexMap<String, Stored>, topic: &str) -> bool
 /// What is retained after a message with RETAIN: an empty one is none, and there are at most 10,000 topics (own rule).
 pub(crate) fn retain(retained: &mut IndexMap<String, Stored>, post: Post)
     requires { 0 < spare retained.old }
-    ensures table { map retained_view retained.new.entries ≡
-        retained_with (map retained_view retained.old.entries) (post_view post) }
+    ensures table { map retained_view retained.new.entries
+        ≡ retained_with (map retained_view retained.old.entries) (post_view post) }
     ensures room { spare retained.old ≤ spare retained.new + 1 }
 {
     if !post.retain {
@@ -70,10 +71,10 @@ pub(crate) fn retain(retained: &mut IndexMap<String, Stored>, post: Post)
 /// What is retained after these messages, one after the other.
 pub(crate) fn retain_all(retained: &mut IndexMap<String, Stored>, keeps: VecDeque<Post>)
     requires { deque_len keeps ≤ spare retained.old }
-    ensures sendable { are_sendable (map retained_view retained.old.entries) ≡ true →
-        are_sendable (map retained_view retained.new.entries) ≡ true }
-    ensures table { map retained_view retained.new.entries ≡
-        fold retained_with (map retained_view retained.old.entries) (map post_view keeps.items) }
+    ensures sendable { are_sendable (map retained_view retained.old.entries) ≡ true
+        → are_sendable (map retained_view retained.new.entries) ≡ true }
+    ensures table { map retained_view retained.new.entries
+        ≡ fold retained_with (map retained_view retained.old.entries) (map post_view keeps.items) }
 {
     let mut left = keeps;
     while let Some(post) = left.pop_front() {

@@ -35,10 +35,11 @@ fn visit(
 ) -> Result<(), AllocError>
     requires { ArePassed found.now (post_view post.now).topic (flat_map seat_now seats.old) }
     ensures was { map seat_was seats.new ≡ map seat_was seats.old }
-    ensures left { OnOk result (flat_map seat_now seats.new ≡
-        left_of_round (serve (post_view post.now)) (flat_map seat_now seats.old)) }
-    ensures drafted { OnOk result (draft_view draft.new ≡
-        with_round (serve (post_view post.now)) (flat_map seat_now seats.old) (draft_view draft.old)) }
+    ensures left { OnOk result (flat_map seat_now seats.new
+        ≡ left_of_round (serve (post_view post.now)) (flat_map seat_now seats.old)) }
+    ensures drafted { OnOk result (draft_view draft.new
+        ≡ with_round (serve (post_view post.now)) (flat_map seat_now seats.old)
+        (draft_view draft.old)) }
 {
     let mut letter = Letter::new(post);
     for seat in seats.iter_mut() {
@@ -50,8 +51,10 @@ fn visit(
 /// Where those stand that the index found; none where it isn't known, or one of them isn't there any more.
 fn found_places(alloc: Global, seats: &[Seat], found: &Option<Vec<(u64, u8)>>) -> Option<Vec<usize>>
     ensures places { IfSome result (λ ps. ArePlaces ps.items seats.now) }
-    ensures others { IfSome result (λ ps. (low top : ℕ) (topic : List ℕ) → Rises low top (flat_map seat_now seats.now)
-        → ArePassed found.now topic (flat_map seat_now seats.now) → AreCalled topic ps.items seats.now) }
+    ensures others { IfSome result
+        (λ ps. (low top : ℕ) (topic : List ℕ) → Rises low top (flat_map seat_now seats.now)
+        → ArePassed found.now topic (flat_map seat_now seats.now)
+        → AreCalled topic ps.items seats.now) }
 {
     match found {
         Some(found) => places(alloc, seats, found),
@@ -69,10 +72,11 @@ fn round(
     requires index { IsIndex tree.now (flat_map seat_now seats.old) }
     requires order { AreInOrder tree.now (flat_map seat_now seats.old) }
     ensures was { map seat_was seats.new ≡ map seat_was seats.old }
-    ensures left { OnOk result (flat_map seat_now seats.new ≡
-        left_of_round (serve (post_view post.now)) (flat_map seat_now seats.old)) }
-    ensures drafted { OnOk result (draft_view draft.new ≡
-        with_round (serve (post_view post.now)) (flat_map seat_now seats.old) (draft_view draft.old)) }
+    ensures left { OnOk result (flat_map seat_now seats.new
+        ≡ left_of_round (serve (post_view post.now)) (flat_map seat_now seats.old)) }
+    ensures drafted { OnOk result (draft_view draft.new
+        ≡ with_round (serve (post_view post.now)) (flat_map seat_now seats.old)
+        (draft_view draft.old)) }
     ensures visited { IfOk result (λ o. IfSome o (λ ps. AreVisited ps.items seats.old seats.new)) }
 {
     let found = reach(tree, post.topic.as_str());
@@ -124,7 +128,8 @@ impl Desk {
         ensures fewer { OnOk result (how_many self.new draft.new ≤ how_many self.old draft.old) }
         ensures index { OnOk result (IsIndex tree.now (desk_now self.new).seats) }
         ensures order { OnOk result (AreInOrder tree.now (desk_now self.new).seats) }
-        ensures visited { IfOk result (λ o. IfSome o (λ ps. AreVisited ps.items self.old.seats.items self.new.seats.items)) }
+        ensures visited { IfOk result
+            (λ o. IfSome o (λ ps. AreVisited ps.items self.old.seats.items self.new.seats.items)) }
         ensures guests { self.new.guests ≡ self.old.guests }
     {
         let places = round(&mut self.seats, draft, &post, tree)?;
@@ -159,7 +164,8 @@ impl Desk {
         requires alone { IsAlone place self.old }
         ensures done { IfOk result (λ e. (t : Turn) → Stands self.old draft.old t
             → Leads self.new draft.new e (act Route t)) }
-        ensures alone { IfOk result (λ e. (draft_view draft.old).waiting ≡ [] → e ≡ alone_at place) }
+        ensures alone { IfOk result
+            (λ e. (draft_view draft.old).waiting ≡ [] → e ≡ alone_at place) }
         ensures ready { IfOk result (λ e. IsReady e self.new) }
         ensures same { desk_was self.new ≡ desk_was self.old }
     {

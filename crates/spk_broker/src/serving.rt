@@ -18,7 +18,9 @@ fn copied(post: &Post, id: u16, qos: u8, retain: bool, handed: bool) -> Result<C
     requires id { 1 ≤ id }
     requires one { qos ≡ 1 }
     requires full { post.now.qos ≡ 1 }
-    ensures { IfOk result (λ c. copy_view c ≡ record { id = id; post = sent_as (post_view post.now) qos retain; handed = handed }) }
+    ensures { IfOk result
+        (λ c. copy_view c
+        ≡ record { id = id; post = sent_as (post_view post.now) qos retain; handed = handed }) }
 {
     Ok(Copy {
         id,
@@ -32,8 +34,8 @@ impl Seat {
     fn burst(&mut self, draft: &mut Draft) -> Result<(), AllocError>
         ensures was { self.new.was ≡ self.old.was }
         ensures left { OnOk result (option_list self.new.now ≡ left_by bursts self.old.now) }
-        ensures drafted { OnOk result (draft_view draft.new ≡
-            served_by bursts self.old.now (draft_view draft.old)) }
+        ensures drafted { OnOk result (draft_view draft.new
+            ≡ served_by bursts self.old.now (draft_view draft.old)) }
     {
         if self.ended {
             return Ok(());
@@ -56,10 +58,11 @@ impl Seat {
         retain: bool,
     ) -> Result<(), AllocError>
         ensures was { self.new.was ≡ self.old.was }
-        ensures left { OnOk result (option_list self.new.now ≡
-            left_by (hand (sent_as (post_view post.now) 0 retain)) self.old.now) }
-        ensures drafted { OnOk result (draft_view draft.new ≡
-            served_by (hand (sent_as (post_view post.now) 0 retain)) self.old.now (draft_view draft.old)) }
+        ensures left { OnOk result (option_list self.new.now
+            ≡ left_by (hand (sent_as (post_view post.now) 0 retain)) self.old.now) }
+        ensures drafted { OnOk result (draft_view draft.new
+            ≡ served_by (hand (sent_as (post_view post.now) 0 retain)) self.old.now
+            (draft_view draft.old)) }
     {
         if self.ended {
             return Ok(());
@@ -73,10 +76,10 @@ impl Seat {
     /// A message of QoS 0 without RETAIN goes to its connection, where it has one: all who get it so share the bytes.
     fn hand_letter(&mut self, draft: &mut Draft, letter: &mut Letter<'_>) -> Result<(), AllocError>
         ensures was { self.new.was ≡ self.old.was }
-        ensures left { OnOk result (option_list self.new.now ≡
-            left_by (hand (sent_as letter.old 0 false)) self.old.now) }
-        ensures drafted { OnOk result (draft_view draft.new ≡
-            served_by (hand (sent_as letter.old 0 false)) self.old.now (draft_view draft.old)) }
+        ensures left { OnOk result (option_list self.new.now
+            ≡ left_by (hand (sent_as letter.old 0 false)) self.old.now) }
+        ensures drafted { OnOk result (draft_view draft.new
+            ≡ served_by (hand (sent_as letter.old 0 false)) self.old.now (draft_view draft.old)) }
         ensures letter { letter.new ≡ letter.old }
     {
         if self.ended {
@@ -101,10 +104,11 @@ impl Seat {
         requires one { qos ≡ 1 }
         requires full { post.now.qos ≡ 1 }
         ensures was { self.new.was ≡ self.old.was }
-        ensures left { OnOk result (option_list self.new.now ≡
-            left_by (hand_some (sent_as (post_view post.now) qos retain)) self.old.now) }
-        ensures drafted { OnOk result (draft_view draft.new ≡
-            served_by (hand_some (sent_as (post_view post.now) qos retain)) self.old.now (draft_view draft.old)) }
+        ensures left { OnOk result (option_list self.new.now
+            ≡ left_by (hand_some (sent_as (post_view post.now) qos retain)) self.old.now) }
+        ensures drafted { OnOk result (draft_view draft.new
+            ≡ served_by (hand_some (sent_as (post_view post.now) qos retain)) self.old.now
+            (draft_view draft.old)) }
     {
         if self.ended {
             return Ok(());
@@ -130,10 +134,10 @@ impl Seat {
         letter: &mut Letter<'_>,
     ) -> Result<(), AllocError>
         ensures was { self.new.was ≡ self.old.was }
-        ensures left { OnOk result (option_list self.new.now ≡
-            left_by (serve letter.old) self.old.now) }
-        ensures drafted { OnOk result (draft_view draft.new ≡
-            served_by (serve letter.old) self.old.now (draft_view draft.old)) }
+        ensures left { OnOk result (option_list self.new.now
+            ≡ left_by (serve letter.old) self.old.now) }
+        ensures drafted { OnOk result (draft_view draft.new
+            ≡ served_by (serve letter.old) self.old.now (draft_view draft.old)) }
         ensures letter { letter.new ≡ letter.old }
     {
         let post = letter.post();

@@ -72,8 +72,10 @@ impl Desk {
         draft: Draft,
     ) -> Result<Out, BrokerFault>
         requires { OnOk drafted (length (draft_view draft).keeps ≤ spare self.old.retained) }
-        ensures done { OnOk result ((t : Turn) → Stands self.old draft t → desk_was self.new ≡ t.broker) }
-        ensures sends { IfOk result (λ out. map sent_view out.sends.items ≡ (draft_view draft).sends) }
+        ensures done { OnOk result
+            ((t : Turn) → Stands self.old draft t → desk_was self.new ≡ t.broker) }
+        ensures sends { IfOk result
+            (λ out. map sent_view out.sends.items ≡ (draft_view draft).sends) }
         ensures closes { IfOk result (λ out. out.closes.items ≡ (draft_view draft).closes) }
         ensures variant { is_ok result ≡ is_ok drafted }
         ensures fault { IfErr result (λ e. e ≡ BrokerFault.NoMemory) }

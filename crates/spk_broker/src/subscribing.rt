@@ -54,8 +54,10 @@ fn take_in(
 ) -> Result<(), AllocError>
     requires { place_in conn seats.old ≡ Some place }
     ensures was { map seat_was seats.new ≡ map seat_was seats.old }
-    ensures now { OnOk result ((low top : ℕ) → Rises low top (seats_now seats.old) → seats_now seats.new ≡
-        changed_at (seat_at conn (seats_now seats.old)) (without_grants (map (λ name. string_bytes name) names.now)) (seats_now seats.old)) }
+    ensures now { OnOk result
+        ((low top : ℕ) → Rises low top (seats_now seats.old) → seats_now seats.new
+        ≡ changed_at (seat_at conn (seats_now seats.old))
+        (without_grants (map (λ name. string_bytes name) names.now)) (seats_now seats.old)) }
     ensures touched { AreTouched (place ∷ []) seats.old → AreTouched (place ∷ []) seats.new }
 {
     let mut grants = copied(alloc, seats[place].grants())?;
@@ -86,10 +88,12 @@ impl Desk {
         id: u16,
         names: &[String],
     ) -> Result<Ending, AllocError>
-        requires writable { IsWritable (Unsubscribe id (map (λ name. string_bytes name) names.now)) }
+        requires writable { IsWritable
+            (Unsubscribe id (map (λ name. string_bytes name) names.now)) }
         requires place { place_in conn self.old.seats.items ≡ Some place }
         requires only { OnlyAt (place ∷ []) self.old }
-        ensures done { IfOk result (λ e. (t : Turn) → Stands self.old draft.old t → Leads self.new draft.new e
+        ensures done { IfOk result
+            (λ e. (t : Turn) → Stands self.old draft.old t → Leads self.new draft.new e
             (acts (unsubscribe conn id (map (λ name. string_bytes name) names.now)) t)) }
         ensures ready { IfOk result (λ e. IsReady e self.new) }
         ensures same { desk_was self.new ≡ desk_was self.old }

@@ -59,7 +59,8 @@ impl Seat {
     /// Its will waits.
     fn queue_will(&self, draft: &mut Draft) -> Result<(), AllocError>
         ensures { OnOk result (draft_view draft.new ≡ record (draft_view draft.old) {
-          waiting = (draft_view draft.old).waiting ++ flat_map (will_at true) (option_list self.now.now);
+          waiting = (draft_view draft.old).waiting ++ flat_map (will_at true)
+              (option_list self.now.now);
         }) }
     {
         if self.ended {
@@ -79,7 +80,8 @@ impl Seat {
         ensures left { OnOk result (
             option_list self.new.now ≡ flat_map left_behind (option_list self.old.now)) }
         ensures drafted { OnOk result (draft_view draft.new ≡ record (draft_view draft.old) {
-          waiting = (draft_view draft.old).waiting ++ flat_map (will_at wills) (option_list self.old.now);
+          waiting = (draft_view draft.old).waiting ++ flat_map (will_at wills)
+              (option_list self.old.now);
         }) }
     {
         if wills {

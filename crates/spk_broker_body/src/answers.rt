@@ -20,7 +20,8 @@ pub(crate) fn packet_on(
 ) -> Result<Option<Out>, PlantFault>
     ensures some { IfOk result (λ o. IfSome o (λ out. (c : ℕ) × (known broker.old conn ≡ Some c)
         × Answers broker.old broker.new (event.Packet c (view packet.now) now) out)) }
-    ensures none { IfOk result (λ o. IfNone o ((broker.new ≡ broker.old) × (known broker.old conn ≡ None))) }
+    ensures none { IfOk result
+        (λ o. IfNone o ((broker.new ≡ broker.old) × (known broker.old conn ≡ None))) }
     ensures fault { IfErr result (λ e. e ≡ PlantFault.NoMemory) }
 {
     let Some(conn) = conn else {
@@ -42,7 +43,8 @@ pub(crate) fn fault_on(
 ) -> Result<Option<Out>, PlantFault>
     ensures some { IfOk result (λ o. IfSome o (λ out. (c : ℕ) × (known broker.old conn ≡ Some c)
         × Answers broker.old broker.new (event.Fault c fault now) out)) }
-    ensures none { IfOk result (λ o. IfNone o ((broker.new ≡ broker.old) × (known broker.old conn ≡ None))) }
+    ensures none { IfOk result
+        (λ o. IfNone o ((broker.new ≡ broker.old) × (known broker.old conn ≡ None))) }
     ensures fault { IfErr result (λ e. e ≡ PlantFault.NoMemory) }
 {
     let Some(conn) = conn else {
@@ -63,7 +65,8 @@ pub(crate) fn closed_on(
 ) -> Result<Option<Out>, PlantFault>
     ensures some { IfOk result (λ o. IfSome o (λ out. (c : ℕ) × (known broker.old conn ≡ Some c)
         × Answers broker.old broker.new (event.Closed c now) out)) }
-    ensures none { IfOk result (λ o. IfNone o ((broker.new ≡ broker.old) × (known broker.old conn ≡ None))) }
+    ensures none { IfOk result
+        (λ o. IfNone o ((broker.new ≡ broker.old) × (known broker.old conn ≡ None))) }
     ensures fault { IfErr result (λ e. e ≡ PlantFault.NoMemory) }
 {
     let Some(conn) = conn else {
@@ -83,9 +86,11 @@ pub(crate) fn refused_on(
     sort: Sort,
     now: u64,
 ) -> Result<Option<Out>, PlantFault>
-    ensures some { IfOk result (λ o. IfSome o (λ out. (c : ℕ) × (known broker.old (Some conn) ≡ Some c)
+    ensures some { IfOk result
+        (λ o. IfSome o (λ out. (c : ℕ) × (known broker.old (Some conn) ≡ Some c)
         × Answers broker.old broker.new (event.Refused c sort now) out)) }
-    ensures none { IfOk result (λ o. IfNone o ((broker.new ≡ broker.old) × (known broker.old (Some conn) ≡ None))) }
+    ensures none { IfOk result
+        (λ o. IfNone o ((broker.new ≡ broker.old) × (known broker.old (Some conn) ≡ None))) }
     ensures fault { IfErr result (λ e. e ≡ PlantFault.NoMemory) }
 {
     match broker.refused(conn, sort, now) {

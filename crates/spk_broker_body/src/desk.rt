@@ -76,7 +76,8 @@ impl Desk {
     /// Whether the broker closed a client.
     pub(crate) fn is_closed(&self, client: usize) -> bool
         requires { client < length self.now.clients.items }
-        ensures { (limit : ℕ) (closed : ℕ → Bool) (r : Room) → FitsDesk limit closed self.now r → result ≡ closed client }
+        ensures { (limit : ℕ) (closed : ℕ → Bool) (r : Room) → FitsDesk limit closed self.now r
+            → result ≡ closed client }
     {
         self.clients[client].closed
     }
@@ -84,7 +85,8 @@ impl Desk {
     /// The connection that a client opened last.
     fn conn_of(&self, client: usize) -> Option<Conn>
         requires { client < length self.now.clients.items }
-        ensures { (limit : ℕ) (closed : ℕ → Bool) (r : Room) → FitsDesk limit closed self.now r → result ≡ r.last client }
+        ensures { (limit : ℕ) (closed : ℕ → Bool) (r : Room) → FitsDesk limit closed self.now r
+            → result ≡ r.last client }
     {
         self.clients[client].conn
     }
@@ -104,12 +106,15 @@ impl Desk {
     /// A client opens a connection. None where the broker may have no further one.
     fn open(&mut self, client: usize, now: u64) -> Result<Option<Conn>, PlantFault>
         requires { client < length self.old.clients.items }
-        ensures some { IfOk result (λ o. IfSome o (λ conn. (limit : ℕ) (r : Room) → FitsDesk limit r.closed self.old r
+        ensures some { IfOk result
+            (λ o. IfSome o (λ conn. (limit : ℕ) (r : Room) → FitsDesk limit r.closed self.old r
             → IsOpened limit now r client conn self.new)) }
-        ensures none { IfOk result (λ o. IfNone o ((limit : ℕ) (r : Room) → FitsDesk limit r.closed self.old r
+        ensures none { IfOk result
+            (λ o. IfNone o ((limit : ℕ) (r : Room) → FitsDesk limit r.closed self.old r
             → (is_full (after limit r.events) ≡ true) × FitsDesk limit r.closed self.new r)) }
         ensures sized { length self.new.clients.items ≡ length self.old.clients.items }
-        ensures known { IfOk result (λ o. IfSome o (λ conn. known self.new.broker (Some conn) ≡ Some conn)) }
+        ensures known { IfOk result
+            (λ o. IfSome o (λ conn. known self.new.broker (Some conn) ≡ Some conn)) }
         ensures openers { OnOk result (MayOpen client self.old self.new) }
         ensures fault { IfErr result (λ e. e ≡ PlantFault.NoMemory) }
     {
@@ -127,7 +132,8 @@ impl Desk {
     /// A packet of a client without a connection opens one, unless the broker closed that client.
     fn first_packet(&mut self, client: usize, packet: &Packet, now: u64) -> Result<Out, PlantFault>
         requires { client < length self.old.clients.items }
-        ensures done { IfOk result (λ out. (limit : ℕ) (r : Room) → FitsDesk limit r.closed self.old r → r.pending ≡ []
+        ensures done { IfOk result
+            (λ out. (limit : ℕ) (r : Room) → FitsDesk limit r.closed self.old r → r.pending ≡ []
             → Gives limit r (packet_on limit now r client (view packet.now) None) self.new out) }
         ensures sized { length self.new.clients.items ≡ length self.old.clients.items }
         ensures openers { OnOk result (MayOpen client self.old self.new) }
@@ -153,8 +159,11 @@ impl Desk {
         now: u64,
     ) -> Result<Out, PlantFault>
         requires { client < length self.old.clients.items }
-        ensures done { IfOk result (λ out. (limit : ℕ) (r : Room) → FitsDesk limit r.closed self.old r → r.pending ≡ []
-            → Gives limit r (packet_on limit now r client (view packet.now) (conn_at limit r client)) self.new out) }
+        ensures done { IfOk result
+            (λ out. (limit : ℕ) (r : Room) → FitsDesk limit r.closed self.old r → r.pending ≡ []
+            → Gives limit r
+            (packet_on limit now r client (view packet.now) (conn_at limit r client)) self.new
+            out) }
         ensures sized { length self.new.clients.items ≡ length self.old.clients.items }
         ensures openers { OnOk result (MayOpen client self.old self.new) }
         ensures fault { IfErr result (λ e. e ≡ PlantFault.NoMemory) }
@@ -174,8 +183,11 @@ impl Desk {
         now: u64,
     ) -> Result<Out, PlantFault>
         requires { client < length self.old.clients.items }
-        ensures done { IfOk result (λ out. (limit : ℕ) (r : Room) → FitsDesk limit r.closed self.old r → r.pending ≡ []
-            → Gives limit r (called_on limit r (λ conn. event.Fault conn fault now) (conn_at limit r client)) self.new out) }
+        ensures done { IfOk result
+            (λ out. (limit : ℕ) (r : Room) → FitsDesk limit r.closed self.old r → r.pending ≡ []
+            → Gives limit r
+            (called_on limit r (λ conn. event.Fault conn fault now) (conn_at limit r client))
+            self.new out) }
         ensures sized { length self.new.clients.items ≡ length self.old.clients.items }
         ensures openers { self.new.openers ≡ self.old.openers }
         ensures fault { IfErr result (λ e. e ≡ PlantFault.NoMemory) }
@@ -190,8 +202,11 @@ impl Desk {
     /// A client's connection ended. Without one nothing happens.
     pub(crate) fn cut(&mut self, client: usize, now: u64) -> Result<Out, PlantFault>
         requires { client < length self.old.clients.items }
-        ensures done { IfOk result (λ out. (limit : ℕ) (r : Room) → FitsDesk limit r.closed self.old r → r.pending ≡ []
-            → Gives limit r (called_on limit r (λ conn. event.Closed conn now) (conn_at limit r client)) self.new out) }
+        ensures done { IfOk result
+            (λ out. (limit : ℕ) (r : Room) → FitsDesk limit r.closed self.old r → r.pending ≡ []
+            → Gives limit r
+            (called_on limit r (λ conn. event.Closed conn now) (conn_at limit r client)) self.new
+            out) }
         ensures sized { length self.new.clients.items ≡ length self.old.clients.items }
         ensures openers { self.new.openers ≡ self.old.openers }
         ensures fault { IfErr result (λ e. e ≡ PlantFault.NoMemory) }
@@ -205,8 +220,11 @@ impl Desk {
 
     /// An offer was refused. Where its connection stands no more nothing happens.
     pub(crate) fn refused(&mut self, conn: Conn, sort: Sort, now: u64) -> Result<Out, PlantFault>
-        ensures done { IfOk result (λ out. (limit : ℕ) (r : Room) → FitsDesk limit r.closed self.old r → r.pending ≡ []
-            → Gives limit r (called_on limit r (λ c. event.Refused c sort now) (known (after limit r.events) (Some conn))) self.new out) }
+        ensures done { IfOk result
+            (λ out. (limit : ℕ) (r : Room) → FitsDesk limit r.closed self.old r → r.pending ≡ []
+            → Gives limit r
+            (called_on limit r (λ c. event.Refused c sort now)
+            (known (after limit r.events) (Some conn))) self.new out) }
         ensures sized { length self.new.clients.items ≡ length self.old.clients.items }
         ensures openers { self.new.openers ≡ self.old.openers }
         ensures fault { IfErr result (λ e. e ≡ PlantFault.NoMemory) }

@@ -23,8 +23,10 @@ fn refused_to(refusals: &[Refusal], client: usize) -> usize
 
 /// The tokens of the rings' dropping.
 fn tokens_of(alloc: Global, lines: Vec<Line>) -> Result<Vec<Option<Token>>, AllocError>
-    ensures tokens { IfOk result (λ ts. (firsts : List Outlet) (dropped : ℕ → Bool) (got : ℕ → List Item) (taken : List Message) →
-        FitLines firsts dropped got taken lines.items → AreTokens firsts got ts.items) }
+    ensures tokens { IfOk result
+        (λ ts. (firsts : List Outlet) (dropped : ℕ → Bool) (got : ℕ → List Item)
+        (taken : List Message)
+        → FitLines firsts dropped got taken lines.items → AreTokens firsts got ts.items) }
     ensures sized { IfOk result (λ ts. length ts.items ≡ length lines.items) }
 {
     let mut tokens = Vec::new(alloc);

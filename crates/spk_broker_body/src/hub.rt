@@ -50,7 +50,8 @@ pub(crate) struct Hub {
 
 /// A line for each ring.
 fn lines_of(alloc: Global, outlets: Vec<Outlet>) -> Result<Vec<Line>, AllocError>
-    ensures fits { IfOk result (λ ls. AreFresh outlets.items → FitLines outlets.items (λ k. false) (λ k. []) [] ls.items) }
+    ensures fits { IfOk result
+        (λ ls. AreFresh outlets.items → FitLines outlets.items (λ k. false) (λ k. []) [] ls.items) }
     ensures sized { IfOk result (λ ls. length ls.items ≡ length outlets.items) }
 {
     let mut lines = Vec::new(alloc);
@@ -63,8 +64,10 @@ fn lines_of(alloc: Global, outlets: Vec<Outlet>) -> Result<Vec<Line>, AllocError
 /// Offers a packet to a client's ring: whether it took it. None where the ring was dropped.
 fn offer_to(lines: &mut Vec<Line>, client: usize, bytes: Bytes) -> Option<bool>
     requires { client < length lines.old.items }
-    ensures gives { (firsts : List Outlet) (dropped : ℕ → Bool) (got : ℕ → List Item) (taken : List Message) →
-        FitLines firsts dropped got taken lines.old.items → LinesGive firsts dropped got taken client bytes lines.new.items result }
+    ensures gives { (firsts : List Outlet) (dropped : ℕ → Bool) (got : ℕ → List Item)
+        (taken : List Message)
+        → FitLines firsts dropped got taken lines.old.items
+        → LinesGive firsts dropped got taken client bytes lines.new.items result }
     ensures sized { length lines.new.items ≡ length lines.old.items }
 {
     lines[client].offer(bytes)
@@ -74,8 +77,10 @@ fn offer_to(lines: &mut Vec<Line>, client: usize, bytes: Bytes) -> Option<bool>
 fn note_cut(lines: &mut Vec<Line>, client: usize)
     requires below { client < length lines.old.items }
     requires few { (l : Line) → slice_get lines.old.items client ≡ Some l → l.cuts + 1 < 2 ^ 64 }
-    ensures fits { (firsts : List Outlet) (dropped : ℕ → Bool) (got : ℕ → List Item) (taken : List Message) → FitLines firsts dropped got taken lines.old.items
-        → FitLines firsts dropped got (taken ++ (record { sender = client; frame = Frame.Cut }) ∷ []) lines.new.items }
+    ensures fits { (firsts : List Outlet) (dropped : ℕ → Bool) (got : ℕ → List Item)
+        (taken : List Message) → FitLines firsts dropped got taken lines.old.items
+        → FitLines firsts dropped got
+        (taken ++ (record { sender = client; frame = Frame.Cut }) ∷ []) lines.new.items }
     ensures sized { length lines.new.items ≡ length lines.old.items }
 {
     lines[client].cut();
@@ -84,8 +89,10 @@ fn note_cut(lines: &mut Vec<Line>, client: usize)
 /// A client's End was taken.
 fn note_end(lines: &mut Vec<Line>, client: usize)
     requires { client < length lines.old.items }
-    ensures fits { (firsts : List Outlet) (dropped : ℕ → Bool) (got : ℕ → List Item) (taken : List Message) → FitLines firsts dropped got taken lines.old.items
-        → FitLines firsts dropped got (taken ++ (record { sender = client; frame = Frame.End }) ∷ []) lines.new.items }
+    ensures fits { (firsts : List Outlet) (dropped : ℕ → Bool) (got : ℕ → List Item)
+        (taken : List Message) → FitLines firsts dropped got taken lines.old.items
+        → FitLines firsts dropped got
+        (taken ++ (record { sender = client; frame = Frame.End }) ∷ []) lines.new.items }
     ensures sized { length lines.new.items ≡ length lines.old.items }
 {
     lines[client].ended = true;
@@ -93,7 +100,8 @@ fn note_end(lines: &mut Vec<Line>, client: usize)
 
 /// Drops a client's ring.
 fn finish_at(lines: &mut Vec<Line>, client: usize)
-    ensures fits { (firsts : List Outlet) (dropped : ℕ → Bool) (got : ℕ → List Item) (taken : List Message) → FitLines firsts dropped got taken lines.old.items
+    ensures fits { (firsts : List Outlet) (dropped : ℕ → Bool) (got : ℕ → List Item)
+        (taken : List Message) → FitLines firsts dropped got taken lines.old.items
         → FitLines firsts (λ k. dropped k || is_client k (Some client)) got taken lines.new.items }
     ensures sized { length lines.new.items ≡ length lines.old.items }
 {
@@ -104,7 +112,8 @@ fn finish_at(lines: &mut Vec<Line>, client: usize)
 
 /// Drops all rings.
 fn finish_all(lines: &mut Vec<Line>)
-    ensures fits { (firsts : List Outlet) (dropped : ℕ → Bool) (got : ℕ → List Item) (taken : List Message) → FitLines firsts dropped got taken lines.old.items
+    ensures fits { (firsts : List Outlet) (dropped : ℕ → Bool) (got : ℕ → List Item)
+        (taken : List Message) → FitLines firsts dropped got taken lines.old.items
         → FitLines firsts (λ k. true) got taken lines.new.items }
     ensures sized { length lines.new.items ≡ length lines.old.items }
 {
@@ -116,7 +125,8 @@ fn finish_all(lines: &mut Vec<Line>)
 /// Whether each of the first so many clients has ended.
 pub(crate) fn have_ended(lines: &Vec<Line>, count: usize) -> bool
     requires { count < length lines.now.items + 1 }
-    ensures { (firsts : List Outlet) (dropped : ℕ → Bool) (got : ℕ → List Item) (taken : List Message) → FitLines firsts dropped got taken lines.now.items
+    ensures { (firsts : List Outlet) (dropped : ℕ → Bool) (got : ℕ → List Item)
+        (taken : List Message) → FitLines firsts dropped got taken lines.now.items
         → result ≡ have_ended count taken }
 {
     for i in 0..count {
@@ -130,7 +140,8 @@ pub(crate) fn have_ended(lines: &Vec<Line>, count: usize) -> bool
 impl Hub {
     /// Nothing was taken.
     pub(crate) fn new(alloc: Global, limit: u16, outlets: Vec<Outlet>) -> Result<Hub, AllocError>
-        ensures idle { IfOk result (λ h. AreFresh outlets.items → IsIdle (setting_of limit outlets.items) h []) }
+        ensures idle { IfOk result
+            (λ h. AreFresh outlets.items → IsIdle (setting_of limit outlets.items) h []) }
         ensures rings { IfOk result HasRings }
     {
         let count = outlets.len();
@@ -173,8 +184,11 @@ impl Hub {
     /// Offers a send to its client's ring, unless that was dropped.
     fn offer<G: Gate>(&mut self, gate: &G, send: Outgoing) -> Result<(), PlantFault>
         requires { HasRings self.old }
-        ensures offers { OnOk result ((s : Setting) (closed : ℕ → Bool) (log : List Entry) (sends : List Sent) (closes : List ℕ) →
-            Offers s closed self.old log (sent_view send ∷ sends) closes → (e : Entry) × Offers s closed self.new (e ∷ log) sends closes) }
+        ensures offers { OnOk result
+            ((s : Setting) (closed : ℕ → Bool) (log : List Entry) (sends : List Sent)
+            (closes : List ℕ)
+            → Offers s closed self.old log (sent_view send ∷ sends) closes → (e : Entry)
+            × Offers s closed self.new (e ∷ log) sends closes) }
         ensures taken { OnOk result (self.new.taken ≡ self.old.taken) }
         ensures rings { OnOk result (HasRings self.new) }
         ensures fault { IfErr result (λ e. e ≡ PlantFault.NoMemory) }
@@ -198,8 +212,10 @@ impl Hub {
     /// Offers the sends of a call, in order.
     fn offer_all<G: Gate>(&mut self, gate: &G, sends: Vec<Outgoing>) -> Result<(), PlantFault>
         requires { HasRings self.old }
-        ensures offers { OnOk result ((s : Setting) (closed : ℕ → Bool) (log : List Entry) (closes : List ℕ) →
-            Offers s closed self.old log (map sent_view sends.items) closes → (l : List Entry) × Offers s closed self.new l [] closes) }
+        ensures offers { OnOk result
+            ((s : Setting) (closed : ℕ → Bool) (log : List Entry) (closes : List ℕ)
+            → Offers s closed self.old log (map sent_view sends.items) closes → (l : List Entry)
+            × Offers s closed self.new l [] closes) }
         ensures taken { OnOk result (self.new.taken ≡ self.old.taken) }
         ensures rings { OnOk result (HasRings self.new) }
         ensures fault { IfErr result (λ e. e ≡ PlantFault.NoMemory) }
@@ -212,8 +228,10 @@ impl Hub {
 
     /// The broker closed a connection: its client opens none any more, and its ring is dropped.
     fn close(&mut self, conn: Conn)
-        ensures holds { (s : Setting) (closed : ℕ → Bool) (log : List Entry) → Holds s closed self.old log →
-            Holds s (λ k. closed k || is_client k (client_of (room_of s.limit s.edges log).openers conn)) self.new log }
+        ensures holds { (s : Setting) (closed : ℕ → Bool) (log : List Entry)
+            → Holds s closed self.old log
+            → Holds s (λ k. closed k || is_client k
+            (client_of (room_of s.limit s.edges log).openers conn)) self.new log }
         ensures taken { self.new.taken ≡ self.old.taken }
         ensures rings { HasRings self.old → HasRings self.new }
     {
@@ -226,8 +244,10 @@ impl Hub {
 
     /// The broker closed these connections.
     fn close_all(&mut self, conns: &[Conn])
-        ensures holds { (s : Setting) (closed : ℕ → Bool) (log : List Entry) → Holds s closed self.old log →
-            Holds s (λ k. closed k || holds_client (room_of s.limit s.edges log).openers k conns.now) self.new log }
+        ensures holds { (s : Setting) (closed : ℕ → Bool) (log : List Entry)
+            → Holds s closed self.old log
+            → Holds s (λ k. closed k || holds_client
+            (room_of s.limit s.edges log).openers k conns.now) self.new log }
         ensures taken { self.new.taken ≡ self.old.taken }
         ensures rings { HasRings self.old → HasRings self.new }
     {
@@ -239,8 +259,9 @@ impl Hub {
     /// Offers what a call answered, in order, and then drops the rings of those that it closes.
     fn hand_out<G: Gate>(&mut self, gate: &G, out: Out) -> Result<(), PlantFault>
         requires { HasRings self.old }
-        ensures rests { OnOk result ((s : Setting) (closed : ℕ → Bool) (log : List Entry) →
-            Offers s closed self.old log (map sent_view out.sends.items) out.closes.items → (l : List Entry) × Rests s self.new l) }
+        ensures rests { OnOk result ((s : Setting) (closed : ℕ → Bool) (log : List Entry)
+            → Offers s closed self.old log (map sent_view out.sends.items) out.closes.items
+            → (l : List Entry) × Rests s self.new l) }
         ensures taken { OnOk result (self.new.taken ≡ self.old.taken) }
         ensures rings { OnOk result (HasRings self.new) }
         ensures fault { IfErr result (λ e. e ≡ PlantFault.NoMemory) }
@@ -254,9 +275,14 @@ impl Hub {
     /// Tells the broker of the first refused offer of which it isn't told yet. None where there is none.
     fn tell(&mut self) -> Result<Option<Out>, PlantFault>
         requires { HasRings self.old }
-        ensures some { IfOk result (λ o. IfSome o (λ out. (s : Setting) (log : List Entry) → Rests s self.old log →
-            (e : Entry) × Offers s (room_of s.limit s.edges log).closed self.new (e ∷ log) (map sent_view out.sends.items) out.closes.items)) }
-        ensures none { IfOk result (λ o. IfNone o ((s : Setting) (log : List Entry) → Rests s self.old log → IsIdle s self.new log)) }
+        ensures some { IfOk result
+            (λ o. IfSome o (λ out. (s : Setting) (log : List Entry) → Rests s self.old log
+            → (e : Entry)
+            × Offers s (room_of s.limit s.edges log).closed self.new (e ∷ log)
+            (map sent_view out.sends.items) out.closes.items)) }
+        ensures none { IfOk result
+            (λ o. IfNone o
+            ((s : Setting) (log : List Entry) → Rests s self.old log → IsIdle s self.new log)) }
         ensures taken { OnOk result (self.new.taken ≡ self.old.taken) }
         ensures rings { OnOk result (HasRings self.new) }
         ensures fault { IfErr result (λ e. e ≡ PlantFault.NoMemory) }
@@ -272,7 +298,9 @@ impl Hub {
     /// Tells the broker of all refused offers, in order, and offers what it answers before the next.
     fn tell_all<R: Wait, G: Gate>(&mut self, rt: &R, gate: &G) -> Result<(), PlantFault>
         requires { HasRings self.old }
-        ensures idle { OnOk result ((s : Setting) (log : List Entry) → Rests s self.old log → (l : List Entry) × IsIdle s self.new l) }
+        ensures idle { OnOk result
+            ((s : Setting) (log : List Entry) → Rests s self.old log → (l : List Entry)
+            × IsIdle s self.new l) }
         ensures taken { OnOk result (self.new.taken ≡ self.old.taken) }
         ensures rings { OnOk result (HasRings self.new) }
         ensures fault { IfErr result (λ e. e ≡ PlantFault.NoMemory) }
@@ -288,7 +316,8 @@ impl Hub {
 
     /// Notes a frame, and answers how many were taken by now: the broker's moment.
     fn note(&mut self, sender: usize, frame: Frame) -> Result<u64, AllocError>
-        ensures { IfOk result (λ now. IsNoted (record { sender = sender; frame = frame }) now self.old self.new) }
+        ensures { IfOk result
+            (λ now. IsNoted (record { sender = sender; frame = frame }) now self.old self.new) }
     {
         self.taken.push(Message { sender, frame })?;
         Ok(self.taken.len() as u64)
@@ -299,7 +328,9 @@ impl Hub {
         requires clients { sender < length self.old.desk.clients.items }
         requires lines { sender < length self.old.lines.items }
         requires rings { HasRings self.old }
-        ensures taken { IfOk result (λ out. IsTaken (record { sender = sender; frame = Frame.Packet whole }) self.old self.new out) }
+        ensures taken { IfOk result
+            (λ out. IsTaken
+            (record { sender = sender; frame = Frame.Packet whole }) self.old self.new out) }
         ensures rings { OnOk result (HasRings self.new) }
         ensures fault { IfErr result (λ e. e ≡ PlantFault.NoMemory) }
     {
@@ -314,7 +345,9 @@ impl Hub {
     fn fault(&mut self, sender: usize, fault: PacketFault) -> Result<Out, PlantFault>
         requires clients { sender < length self.old.desk.clients.items }
         requires rings { HasRings self.old }
-        ensures taken { IfOk result (λ out. IsTaken (record { sender = sender; frame = Frame.Fault fault }) self.old self.new out) }
+        ensures taken { IfOk result
+            (λ out. IsTaken
+            (record { sender = sender; frame = Frame.Fault fault }) self.old self.new out) }
         ensures rings { OnOk result (HasRings self.new) }
         ensures fault { IfErr result (λ e. e ≡ PlantFault.NoMemory) }
     {
@@ -328,7 +361,8 @@ impl Hub {
         requires lines { sender < length self.old.lines.items }
         requires rings { HasRings self.old }
         requires cuts { CountsCuts sender self.old }
-        ensures taken { IfOk result (λ out. IsTaken (record { sender = sender; frame = Frame.Cut }) self.old self.new out) }
+        ensures taken { IfOk result
+            (λ out. IsTaken (record { sender = sender; frame = Frame.Cut }) self.old self.new out) }
         ensures rings { OnOk result (HasRings self.new) }
         ensures fault { IfErr result (λ e. e ≡ PlantFault.NoMemory) }
     {
@@ -342,7 +376,8 @@ impl Hub {
         requires lines { sender < length self.old.lines.items }
         requires edges { self.old.edges < length self.old.lines.items + 1 }
         requires rings { HasRings self.old }
-        ensures taken { IfOk result (λ out. IsTaken (record { sender = sender; frame = Frame.End }) self.old self.new out) }
+        ensures taken { IfOk result
+            (λ out. IsTaken (record { sender = sender; frame = Frame.End }) self.old self.new out) }
         ensures rings { OnOk result (HasRings self.new) }
         ensures fault { IfErr result (λ e. e ≡ PlantFault.NoMemory) }
     {
@@ -366,7 +401,8 @@ impl Hub {
         requires edges { self.old.edges < length self.old.lines.items + 1 }
         requires rings { HasRings self.old }
         requires cuts { CountsCuts sender self.old }
-        ensures taken { IfOk result (λ out. IsTaken (record { sender = sender; frame = frame }) self.old self.new out) }
+        ensures taken { IfOk result
+            (λ out. IsTaken (record { sender = sender; frame = frame }) self.old self.new out) }
         ensures rings { OnOk result (HasRings self.new) }
         ensures fault { IfErr result (λ e. e ≡ PlantFault.NoMemory) }
     {
@@ -391,8 +427,12 @@ impl Hub {
         requires edges { self.old.edges < length self.old.lines.items + 1 }
         requires rings { HasRings self.old }
         requires cuts { CountsCuts sender self.old }
-        ensures idle { OnOk result ((s : Setting) (log : List Entry) → IsIdle s self.old log → (l : List Entry) × IsIdle s self.new l) }
-        ensures taken { OnOk result (self.new.taken.items ≡ self.old.taken.items ++ (record { sender = sender; frame = frame }) ∷ []) }
+        ensures idle { OnOk result
+            ((s : Setting) (log : List Entry) → IsIdle s self.old log → (l : List Entry)
+            × IsIdle s self.new l) }
+        ensures taken { OnOk result
+            (self.new.taken.items
+            ≡ self.old.taken.items ++ (record { sender = sender; frame = frame }) ∷ []) }
         ensures rings { OnOk result (HasRings self.new) }
         ensures fault { IfErr result (λ e. e ≡ PlantFault.NoMemory) }
     {

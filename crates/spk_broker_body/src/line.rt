@@ -37,7 +37,8 @@ impl Line {
 
     /// Offers a packet: whether the ring took it. None where the ring was dropped.
     pub(crate) fn offer(&mut self, bytes: Bytes) -> Option<bool>
-        ensures { (first : Outlet) (dropped : Bool) (got : List Item) (cuts : ℕ) (ended : Bool) → FitsLine first dropped got cuts ended self.old
+        ensures { (first : Outlet) (dropped : Bool) (got : List Item) (cuts : ℕ) (ended : Bool)
+            → FitsLine first dropped got cuts ended self.old
             → OfferGives first dropped got cuts ended bytes self.new result }
     {
         let Some(outlet) = &mut self.outlet else {
@@ -55,7 +56,8 @@ impl Line {
 
     /// Drops the ring.
     pub(crate) fn finish(&mut self)
-        ensures { (first : Outlet) (dropped : Bool) (got : List Item) (cuts : ℕ) (ended : Bool) → FitsLine first dropped got cuts ended self.old
+        ensures { (first : Outlet) (dropped : Bool) (got : List Item) (cuts : ℕ) (ended : Bool)
+            → FitsLine first dropped got cuts ended self.old
             → FitsLine first true got cuts ended self.new }
     {
         let Some(outlet) = self.outlet.take() else {
@@ -67,7 +69,8 @@ impl Line {
     /// A Cut frame more.
     pub(crate) fn cut(&mut self)
         requires { self.old.cuts + 1 < 2 ^ 64 }
-        ensures { (first : Outlet) (dropped : Bool) (got : List Item) (cuts : ℕ) (ended : Bool) → FitsLine first dropped got cuts ended self.old
+        ensures { (first : Outlet) (dropped : Bool) (got : List Item) (cuts : ℕ) (ended : Bool)
+            → FitsLine first dropped got cuts ended self.old
             → FitsLine first dropped got (cuts + 1) ended self.new }
     {
         self.cuts += 1;
@@ -75,7 +78,8 @@ impl Line {
 
     /// The token of the ring's dropping, which is dropped by now.
     pub(crate) fn into_token(mut self) -> Option<Token>
-        ensures { (first : Outlet) (dropped : Bool) (got : List Item) (cuts : ℕ) (ended : Bool) → FitsLine first dropped got cuts ended self
+        ensures { (first : Outlet) (dropped : Bool) (got : List Item) (cuts : ℕ) (ended : Bool)
+            → FitsLine first dropped got cuts ended self
             → IsTokenOf first result got }
     {
         self.finish();

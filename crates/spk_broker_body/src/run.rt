@@ -33,16 +33,22 @@ fn take_all<R: Wait, G: Gate>(
     hub: &mut Hub,
 ) -> Result<(), PlantFault>
     requires pass { TakesFrom ingress.now pass.old }
-    requires known { (s : Setting) × (log : List Entry) × IsIdle s hub.old log × (s.count ≡ ingress.now.senders) }
+    requires known { (s : Setting) × (log : List Entry) × IsIdle s hub.old log
+        × (s.count ≡ ingress.now.senders) }
     requires taken { frames_taken pass.old ≡ hub.old.taken.items }
-    requires senders { AllByRecursion (λ (m : Message). m.sender < ingress.now.senders) hub.old.taken.items }
+    requires senders { AllByRecursion
+        (λ (m : Message). m.sender < ingress.now.senders) hub.old.taken.items }
     requires rings { HasRings hub.old }
     ensures pass { TakesFrom ingress.now pass.new }
     ensures taken { OnOk result (frames_taken pass.new ≡ hub.new.taken.items) }
-    ensures senders { OnOk result (AllByRecursion (λ (m : Message). m.sender < ingress.now.senders) hub.new.taken.items) }
-    ensures idle { OnOk result ((s : Setting) (log : List Entry) → IsIdle s hub.old log → s.count ≡ ingress.now.senders → HasAllEnded s hub.new) }
+    ensures senders { OnOk result
+        (AllByRecursion (λ (m : Message). m.sender < ingress.now.senders) hub.new.taken.items) }
+    ensures idle { OnOk result
+        ((s : Setting) (log : List Entry) → IsIdle s hub.old log → s.count ≡ ingress.now.senders
+        → HasAllEnded s hub.new) }
     // no frame more comes: all that were taken are done with
-    ensures closed { IfErr result (λ e. e ≡ PlantFault.Closed → frames_taken pass.new ≡ hub.new.taken.items) }
+    ensures closed { IfErr result
+        (λ e. e ≡ PlantFault.Closed → frames_taken pass.new ≡ hub.new.taken.items) }
     ensures fault { IfErr result (λ e. (e ≡ PlantFault.NoMemory) ⊎ (e ≡ PlantFault.Closed)) }
 {
     for _ in rt.forever() {

@@ -58,7 +58,8 @@ impl Registry {
             step.add_metric_refusal self.old owner name.now datatype (option_map typed_view value)
             ≡ None) }
         ensures fault { IfErr result (IsDue
-            (step.add_metric_refusal self.old owner name.now datatype (option_map typed_view value))) }
+            (step.add_metric_refusal self.old owner name.now datatype
+            (option_map typed_view value))) }
         ensures err { OnErr result (self.new ≡ self.old) }
     {
         self.judge_metric(owner, name, datatype, &value)?;

@@ -22,24 +22,25 @@ pub fn any_list()
     ensures book { (calls : List Call) → standing calls ≡ book_at (done calls) }
 
     // so the answer to the next call is that of the queries
-    ensures answer { (calls : List Call) (call : Call) →
-        answer_of (standing calls) call ≡ answer_of (book_at (done calls)) call }
+    ensures answer { (calls : List Call) (call : Call)
+        → answer_of (standing calls) call ≡ answer_of (book_at (done calls)) call }
 
     // a refused call leaves no trace
     ensures refused { (calls : List Call) (call : Call) (r : Refusal)
-        → refusal (standing calls) call ≡ Some r →
-        (standing (call ∷ calls) ≡ standing calls) × (done (call ∷ calls) ≡ done calls) }
+        → refusal (standing calls) call ≡ Some r
+        → (standing (call ∷ calls) ≡ standing calls) × (done (call ∷ calls) ≡ done calls) }
 
     // the birth of an owner lists the metrics added for it, in order of adding, with the values last set
-    ensures births { (calls : List Call) (owner : Owner) → births_of (standing calls) owner ≡
-        map (λ e. birth_of (e.0, gauge_by (done calls) e))
+    ensures births { (calls : List Call) (owner : Owner) → births_of (standing calls) owner
+        ≡ map (λ e. birth_of (e.0, gauge_by (done calls) e))
         (filter (λ e. is_owner owner e.1.owner) (enumerate_from 0 (metrics_added (done calls)))) }
 
     // a device's name leads to its number, and a metric's owner and name to its alias: no two have one
-    ensures numbers { (calls : List Call) (n : ℕ) (d : DeviceData) →
-        slice_get (standing calls).devices n ≡ Some d → number_of (standing calls) d.name ≡ Some n }
-    ensures aliases { (calls : List Call) (n : ℕ) (g : GaugeData) →
-        slice_get (standing calls).gauges n ≡ Some g
+    ensures numbers { (calls : List Call) (n : ℕ) (d : DeviceData)
+        → slice_get (standing calls).devices n ≡ Some d → number_of (standing calls) d.name
+        ≡ Some n }
+    ensures aliases { (calls : List Call) (n : ℕ) (g : GaugeData)
+        → slice_get (standing calls).gauges n ≡ Some g
         → alias_of (standing calls) g.owner g.name ≡ Some (n + 1) }
 
     // names are apart, owners are there, values are of their datatypes, and there are no more than there may be
@@ -53,20 +54,20 @@ pub fn from_any()
     // last set at its alias, or else the first
     ensures book { (first : Book) (calls : List Call)
         → standing_from first calls ≡ book_from first (done_from first calls) }
-    ensures answer { (first : Book) (calls : List Call) (call : Call) →
-        answer_of (standing_from first calls) call
+    ensures answer { (first : Book) (calls : List Call) (call : Call)
+        → answer_of (standing_from first calls) call
         ≡ answer_of (book_from first (done_from first calls)) call }
 
     // a refused call leaves no trace
     ensures refused { (first : Book) (calls : List Call) (call : Call) (r : Refusal)
-        → refusal (standing_from first calls) call ≡ Some r →
-        (standing_from first (call ∷ calls) ≡ standing_from first calls)
+        → refusal (standing_from first calls) call ≡ Some r
+        → (standing_from first (call ∷ calls) ≡ standing_from first calls)
         × (done_from first (call ∷ calls) ≡ done_from first calls) }
 
     // the birth of an owner lists its metrics in order of adding, with the values last set
     ensures births { (first : Book) (calls : List Call) (owner : Owner)
-        → births_of (standing_from first calls) owner ≡
-        map (λ e. birth_of (e.0, gauge_by (done_from first calls) e))
+        → births_of (standing_from first calls) owner
+        ≡ map (λ e. birth_of (e.0, gauge_by (done_from first calls) e))
         (filter (λ e. is_owner owner e.1.owner)
         (enumerate_from 0 (metrics_from first.gauges (done_from first calls)))) }
 
@@ -76,12 +77,12 @@ pub fn from_any()
     ensures numbers { (b : Book) (n : ℕ) (d : DeviceData) → IsLawful b
         → slice_get b.devices n ≡ Some d → number_of b d.name ≡ Some n }
     ensures aliases { (b : Book) (n : ℕ) (g : GaugeData) → IsLawful b
-        → slice_get b.gauges n ≡ Some g →
-        alias_of b g.owner g.name ≡ Some (n + 1) }
+        → slice_get b.gauges n ≡ Some g
+        → alias_of b g.owner g.name ≡ Some (n + 1) }
 
     // no birth of a lawful one has a metric whose name the node's own messages use: theirs stays the only one of its name
-    ensures unreserved { (b : Book) (owner : Owner) → IsLawful b →
-        All (λ m. option_map_or is_taken m.name false ≡ false) (births_of b owner) }
+    ensures unreserved { (b : Book) (owner : Owner) → IsLawful b
+        → All (λ m. option_map_or is_taken m.name false ≡ false) (births_of b owner) }
 {}
 
 /// The test of owners says that they are equal.

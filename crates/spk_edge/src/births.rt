@@ -49,8 +49,8 @@ impl EdgeNode {
     /// The metrics of an owner that is there, as its birth lists them.
     fn own_metrics(&self, stamp: u64, owner: Owner) -> Result<Vec<Metric>, AllocError>
         requires { has_owner self.now.standing.asked.book owner ≡ true }
-        ensures { IfOk result (λ ms. map metric_view ms.items ≡
-            births.own_metrics self.now.standing.asked.book stamp owner) }
+        ensures { IfOk result (λ ms. map metric_view ms.items
+            ≡ births.own_metrics self.now.standing.asked.book stamp owner) }
     {
         match self.registry.births(owner) {
             Ok(mut metrics) => {
@@ -64,8 +64,8 @@ impl EdgeNode {
 
     /// The metrics of an NBIRTH.
     fn node_metrics(&self, stamp: u64) -> Result<Vec<Metric>, AllocError>
-        ensures { IfOk result (λ ms. map metric_view ms.items ≡
-            (births.node_birth self.now.standing.asked.book self.now.standing.asked.will_bd
+        ensures { IfOk result (λ ms. map metric_view ms.items
+            ≡ (births.node_birth self.now.standing.asked.book self.now.standing.asked.will_bd
             stamp).metrics) }
     {
         let mut own = self.own_metrics(stamp, Owner::Node)?;
@@ -79,7 +79,8 @@ impl EdgeNode {
     /// NBIRTH.
     fn node_birth(&self, stamp: u64) -> Result<Published, AllocError>
         ensures { IfOk result (λ m. message_view m ≡ unnumbered self.now.config
-            (births.node_birth self.now.standing.asked.book self.now.standing.asked.will_bd stamp)) }
+            (births.node_birth self.now.standing.asked.book self.now.standing.asked.will_bd
+            stamp)) }
     {
         let topic = node_topic(self.alloc, &self.config, Verb::Birth)?;
         let metrics = self.node_metrics(stamp)?;
@@ -103,8 +104,8 @@ impl EdgeNode {
         stamp: u64,
     ) -> Result<Published, AllocError>
         requires { has_owner self.now.standing.asked.book (Owner.Device number) ≡ true }
-        ensures { IfOk result (λ m. message_view m ≡
-            device_message self.now.config self.now.standing.asked.book stamp
+        ensures { IfOk result (λ m. message_view m
+            ≡ device_message self.now.config self.now.standing.asked.book stamp
             (number, record { name = name.now; up = true })) }
     {
         let topic = device_topic(self.alloc, &self.config, Verb::Birth, name)?;
@@ -128,8 +129,8 @@ impl EdgeNode {
         number: usize,
         stamp: u64,
     ) -> Result<(), AllocError>
-        ensures { OnOk result (map message_view messages.new.items ≡
-            map message_view messages.old.items
+        ensures { OnOk result (map message_view messages.new.items
+            ≡ map message_view messages.old.items
             ++ birth_if_up self.now.config self.now.standing.asked.book stamp number
             (device_at self.now.standing.asked.book number)) }
     {
@@ -157,8 +158,8 @@ impl EdgeNode {
 
     /// The stamp of an NBIRTH; ClockEnd where there is none below 2^63.
     fn birth_stamp(&self, now: u64) -> Result<u64, EdgeFault>
-        ensures stamp { IfOk result (λ s. s ≡
-            births.birth_stamp self.now.standing.asked.stamp now) }
+        ensures stamp { IfOk result (λ s. s
+            ≡ births.birth_stamp self.now.standing.asked.stamp now) }
         ensures fault { IfErr result (λ e. (e ≡ EdgeFault.ClockEnd)
             × (2 ^ 63 ≤ births.birth_stamp self.now.standing.asked.stamp now)) }
     {
@@ -193,8 +194,8 @@ impl EdgeNode {
 
     /// The writes, and the births where a rebirth is asked for of a node that is Born.
     pub(crate) fn obeying(&self, now: u64, orders: Vec<Order>) -> Result<Given, EdgeFault>
-        ensures given { IfOk result (λ g. given_view g ≡
-            given_of self.now.config self.now.standing.asked.heard
+        ensures given { IfOk result (λ g. given_view g
+            ≡ given_of self.now.config self.now.standing.asked.heard
             (rule.obeying self.now.standing.asked now (map order_view orders.items))) }
         ensures fault { IfErr result (λ e. (e ≡ EdgeFault.NoMemory) ⊎ ((e ≡ EdgeFault.ClockEnd)
             × (rule.is_timely (rule.obeying self.now.standing.asked now
@@ -211,12 +212,12 @@ impl EdgeNode {
 
     /// SUBSCRIBE, and the births where there is no primary host.
     pub(crate) fn accepting(&self, now: u64) -> Result<Given, EdgeFault>
-        ensures given { IfOk result (λ g. given_view g ≡
-            given_of self.now.config self.now.standing.asked.heard
+        ensures given { IfOk result (λ g. given_view g
+            ≡ given_of self.now.config self.now.standing.asked.heard
             (rule.accepting self.now.config self.now.standing.asked now)) }
         ensures fault { IfErr result (λ e. (e ≡ EdgeFault.NoMemory) ⊎ ((e ≡ EdgeFault.ClockEnd)
-            × (rule.is_timely (rule.accepting self.now.config self.now.standing.asked now) ≡
-            false))) }
+            × (rule.is_timely (rule.accepting self.now.config self.now.standing.asked now)
+            ≡ false))) }
     {
         let mut given = self.joining()?;
         if self.config.primary.is_none() {

@@ -80,8 +80,8 @@ impl EdgeNode {
         historical: Option<bool>,
         value: &Option<Value>,
     ) -> Result<Metric, AllocError>
-        ensures { IfOk result (λ m. metric_view m ≡
-            births.data_metric self.now.standing.asked.book alias time historical
+        ensures { IfOk result (λ m. metric_view m
+            ≡ births.data_metric self.now.standing.asked.book alias time historical
             (option_map typed_view value.now)) }
     {
         let null = if value.is_none() { Some(true) } else { None };
@@ -103,8 +103,8 @@ impl EdgeNode {
 
     /// The topic of an owner's data.
     fn data_topic(&self, owner: Owner) -> Result<String, AllocError>
-        ensures { IfOk result (λ t. string_bytes t ≡
-            topic_of (spark_of self.now.config Verb.Data
+        ensures { IfOk result (λ t. string_bytes t
+            ≡ topic_of (spark_of self.now.config Verb.Data
             (births.device_of self.now.standing.asked.book owner))) }
     {
         match owner {
@@ -185,8 +185,8 @@ impl EdgeNode {
 
     /// One data message when Born, else the change is kept.
     fn telling(&self, now: u64, alias: Alias, value: &Option<Value>) -> Result<Given, AllocError>
-        ensures { IfOk result (λ g. given_view g ≡
-            given_of self.now.config self.now.standing.asked.heard
+        ensures { IfOk result (λ g. given_view g
+            ≡ given_of self.now.config self.now.standing.asked.heard
             (rule.telling self.now.standing.asked now alias (option_map typed_view value.now))) }
     {
         let mut given = self.nothing();
@@ -207,18 +207,18 @@ impl EdgeNode {
         alias: Alias,
         value: &Option<Value>,
     ) -> Result<Given, EdgeFault>
-        ensures given { IfOk result (λ g. given_view g ≡
-            given_of self.now.config self.now.standing.asked.heard
+        ensures given { IfOk result (λ g. given_view g
+            ≡ given_of self.now.config self.now.standing.asked.heard
             (rule.changing self.now.standing.asked now alias (option_map typed_view value.now))) }
         ensures accepted { OnOk result (
-            set_refusal self.now.standing.asked.book alias (option_map typed_view value.now) ≡
-            None) }
+            set_refusal self.now.standing.asked.book alias (option_map typed_view value.now)
+            ≡ None) }
         ensures fault { IfErr result (λ e. (e ≡ EdgeFault.NoMemory) ⊎ ((r : Refusal)
             × (e ≡ EdgeFault.Device r)
-            × (set_refusal self.now.standing.asked.book alias (option_map typed_view value.now) ≡
-            Some r))) }
-        ensures memory { IfErr result (λ e. e ≡ EdgeFault.NoMemory →
-            rule.is_same_value self.now.standing.asked.book alias
+            × (set_refusal self.now.standing.asked.book alias (option_map typed_view value.now)
+            ≡ Some r))) }
+        ensures memory { IfErr result (λ e. e ≡ EdgeFault.NoMemory
+            → rule.is_same_value self.now.standing.asked.book alias
             (option_map typed_view value.now) ≡ false) }
     {
         match self.registry.would_set(alias, value) {
@@ -265,8 +265,8 @@ impl EdgeNode {
 
     /// A device that comes up or goes down.
     pub(crate) fn turning(&self, now: u64, name: &str, up: bool) -> Result<Given, EdgeFault>
-        ensures given { IfOk result (λ g. given_view g ≡
-            given_of self.now.config self.now.standing.asked.heard
+        ensures given { IfOk result (λ g. given_view g
+            ≡ given_of self.now.config self.now.standing.asked.heard
             (rule.turning self.now.standing.asked now name.now up)) }
         ensures accepted { OnOk result (turn_refusal self.now.standing.asked.book name.now ≡ None) }
         ensures fault { IfErr result (λ e. (e ≡ EdgeFault.NoMemory) ⊎ ((r : Refusal)

@@ -73,8 +73,8 @@ fn target_in(config: &EdgeConfig, topic: Spark) -> Option<Target>
 
 /// To whom the command of a topic's text is, if it is a command to this node.
 fn target_of(alloc: Global, config: &EdgeConfig, topic: &str) -> Result<Option<Target>, AllocError>
-    ensures { IfOk result (λ target. option_map target_view target ≡
-        rule.target_of (config_view config.now) topic.now) }
+    ensures { IfOk result (λ target. option_map target_view target
+        ≡ rule.target_of (config_view config.now) topic.now) }
 {
     match Spark::read(alloc, topic) {
         Ok(topic) => Ok(target_in(config, topic)),
@@ -204,8 +204,8 @@ fn orders_in(
         (map metric_view metrics.items)
         ≡ Some (map order_view orders.items)) }
     ensures fault { IfErr result (λ e. (e ≡ EdgeFault.NoMemory) ⊎ ((e ≡ EdgeFault.BadCommand)
-        × (rule.orders_of registry.now (target_view target.now) (map metric_view metrics.items) ≡
-        None))) }
+        × (rule.orders_of registry.now (target_view target.now) (map metric_view metrics.items)
+        ≡ None))) }
 {
     let mut orders = Vec::with_capacity(alloc, metrics.len())?;
     for metric in metrics {
@@ -257,8 +257,8 @@ pub(crate) fn wants_rebirth(orders: &[Order]) -> bool
 
 /// The writes among the orders, in order.
 pub(crate) fn writes_in(alloc: Global, orders: Vec<Order>) -> Result<Vec<Write>, AllocError>
-    ensures { IfOk result (λ writes. map write_view writes.items ≡
-        rule.writes_in (map order_view orders.items)) }
+    ensures { IfOk result (λ writes. map write_view writes.items
+        ≡ rule.writes_in (map order_view orders.items)) }
 {
     let mut writes = Vec::with_capacity(alloc, orders.len())?;
     for order in orders {

@@ -30,8 +30,8 @@ impl EdgeNode {
 
     /// The first kept changes, as historical metrics.
     fn kept_metrics(&self, count: usize) -> Result<Vec<Metric>, AllocError>
-        ensures { IfOk result (λ ms. map metric_view ms.items ≡
-            map (births.kept_metric self.now.standing.asked.book)
+        ensures { IfOk result (λ ms. map metric_view ms.items
+            ≡ map (births.kept_metric self.now.standing.asked.book)
             (take count self.now.standing.asked.store.items)) }
     {
         let mut metrics = Vec::with_capacity(self.alloc, count)?;
@@ -55,8 +55,8 @@ impl EdgeNode {
 
     /// The first kept changes, which are an owner's, go out in one message; those of one that is down are dropped, as lost.
     fn draining_run(&self, now: u64, owner: Owner, count: usize) -> Result<Given, AllocError>
-        ensures { IfOk result (λ g. given_view g ≡
-            given_of self.now.config self.now.standing.asked.heard
+        ensures { IfOk result (λ g. given_view g
+            ≡ given_of self.now.config self.now.standing.asked.heard
             (drained self.now.standing.asked now owner count self.now.standing.asked.store.items)) }
     {
         let mut given = self.nothing();
@@ -73,11 +73,11 @@ impl EdgeNode {
 
     /// The front run of kept changes, which are of one owner; nothing where none are kept.
     pub(crate) fn draining(&self, now: u64) -> Result<Given, AllocError>
-        ensures given { IfOk result (λ g. given_view g ≡
-            given_of self.now.config self.now.standing.asked.heard
+        ensures given { IfOk result (λ g. given_view g
+            ≡ given_of self.now.config self.now.standing.asked.heard
             (rule.draining self.now.standing.asked now self.now.standing.asked.store.items)) }
-        ensures memory { OnErr result ((length self.now.standing.asked.store.items == 0) ≡
-            false) }
+        ensures memory { OnErr result ((length self.now.standing.asked.store.items == 0)
+            ≡ false) }
     {
         match self.store.get(0) {
             Some(first) => self.draining_run(now, first.owner, self.store.front_run(MOST)),

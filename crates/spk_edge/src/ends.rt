@@ -41,8 +41,8 @@ fn connect(alloc: Global, config: &EdgeConfig, bd: u8, time: u64) -> Result<Pack
 
 /// The NDEATH that ends a session in order.
 fn last_words(alloc: Global, config: &EdgeConfig, bd: u8, time: u64) -> Result<Packet, AllocError>
-    ensures { IfOk result (λ p. view p ∷ view Packet.Disconnect ∷ [] ≡
-        packets.farewell (config_view config.now) bd time) }
+    ensures { IfOk result (λ p. view p ∷ view Packet.Disconnect ∷ []
+        ≡ packets.farewell (config_view config.now) bd time) }
 {
     Ok(Packet::Publish {
         dup: false,
@@ -63,8 +63,8 @@ fn request(filter: String) -> Request
 
 /// The filters of its commands, and of its primary host.
 fn filters(alloc: Global, config: &EdgeConfig) -> Result<Vec<Request>, AllocError>
-    ensures { IfOk result (λ rs. packets.subscribe_of (config_view config.now) ≡
-        view (Packet.Subscribe 1 rs)) }
+    ensures { IfOk result (λ rs. packets.subscribe_of (config_view config.now)
+        ≡ view (Packet.Subscribe 1 rs)) }
 {
     let mut filters = Vec::with_capacity(alloc, 3)?;
     filters.push(request(node_topic(alloc, config, Verb::Command)?))?;
@@ -104,8 +104,8 @@ impl EdgeNode {
 
     /// CONNECT, and the phase Connecting.
     pub(crate) fn opening(&self, now: u64) -> Result<Given, AllocError>
-        ensures { IfOk result (λ g. given_view g ≡
-            given_of self.now.config self.now.standing.asked.heard
+        ensures { IfOk result (λ g. given_view g
+            ≡ given_of self.now.config self.now.standing.asked.heard
             (rule.opening self.now.config self.now.standing.asked now)) }
     {
         let mut given = self.nothing();
@@ -118,8 +118,8 @@ impl EdgeNode {
 
     /// SUBSCRIBE, and the phase Waiting.
     pub(crate) fn joining(&self) -> Result<Given, AllocError>
-        ensures { IfOk result (λ g. given_view g ≡
-            given_of self.now.config self.now.standing.asked.heard
+        ensures { IfOk result (λ g. given_view g
+            ≡ given_of self.now.config self.now.standing.asked.heard
             (rule.joining self.now.config self.now.standing.asked)) }
     {
         let mut given = self.nothing();
@@ -130,8 +130,8 @@ impl EdgeNode {
 
     /// NDEATH, DISCONNECT, and the connection is closed.
     pub(crate) fn leaving(&self) -> Result<Given, AllocError>
-        ensures { IfOk result (λ g. given_view g ≡
-            given_of self.now.config self.now.standing.asked.heard
+        ensures { IfOk result (λ g. given_view g
+            ≡ given_of self.now.config self.now.standing.asked.heard
             (rule.leaving self.now.config self.now.standing.asked)) }
     {
         let mut given = self.nothing();
@@ -145,8 +145,8 @@ impl EdgeNode {
 
     /// The connection is gone.
     pub(crate) fn cutting(&self) -> Given
-        ensures { given_view result ≡
-            given_of self.now.config self.now.standing.asked.heard (record
+        ensures { given_view result
+            ≡ given_of self.now.config self.now.standing.asked.heard (record
             (rule.nothing self.now.standing.asked) { phase = Phase.Idle }) }
     {
         let mut given = self.nothing();

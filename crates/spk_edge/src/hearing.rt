@@ -29,12 +29,12 @@ fn state_in(alloc: Global, payload: &[u8]) -> Result<State, EdgeFault>
 impl EdgeNode {
     /// The births of a Waiting node whose primary host is online; a Born one leaves when it is offline.
     fn hearing(&self, now: u64, heard: Heard) -> Result<Given, EdgeFault>
-        ensures given { IfOk result (λ g. given_view g ≡
-            given_of self.now.config self.now.standing.asked.heard
+        ensures given { IfOk result (λ g. given_view g
+            ≡ given_of self.now.config self.now.standing.asked.heard
             (rule.hearing self.now.config self.now.standing.asked now heard)) }
         ensures fault { IfErr result (λ e. (e ≡ EdgeFault.NoMemory) ⊎ ((e ≡ EdgeFault.ClockEnd)
-            × (rule.is_timely (rule.hearing self.now.config self.now.standing.asked now heard) ≡
-            false))) }
+            × (rule.is_timely (rule.hearing self.now.config self.now.standing.asked now heard)
+            ≡ false))) }
     {
         match heard {
             Heard::Online => {

@@ -106,8 +106,8 @@ impl EdgeNode {
         ensures unreserved { OnOk result (IsUnreserved (patch.setup_of (config_view config)
             config.capacity (record_view start) registry)) }
         ensures fault { IfErr result (λ e. (e ≡ EdgeFault.NoMemory)
-            ⊎ ((e ≡ EdgeFault.BadConfig) × (patch.is_good (config_view config) config.capacity ≡
-            false))) }
+            ⊎ ((e ≡ EdgeFault.BadConfig) × (patch.is_good (config_view config) config.capacity
+            ≡ false))) }
     {
         is_lawful(&registry);
         if !is_good(&config) {

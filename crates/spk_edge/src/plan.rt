@@ -82,8 +82,8 @@ fn packets(
     messages: &[Published],
 ) -> Result<Vec<Vec<u8>>, EdgeFault>
     requires { AllByRecursion (λ m. seal.AreKnown (message_view m).payload.metrics) messages.now }
-    ensures bytes { IfOk result (λ out. map seal.bytes_of out.items ≡
-        map spelling (map view plain.now ++ map (λ m. seal.wire_of
+    ensures bytes { IfOk result (λ out. map seal.bytes_of out.items
+        ≡ map spelling (map view plain.now ++ map (λ m. seal.wire_of
         (message_view m)) messages.now)) }
     ensures writable { OnOk result (list_all is_writable
         (map view plain.now ++ map (λ m. seal.wire_of (message_view m)) messages.now) ≡ true) }
@@ -186,8 +186,8 @@ impl EdgeNode {
     /// What an act sets.
     fn set_by(&self, act: &Act<'_>) -> Result<Setting, AllocError>
         ensures set { IfOk result (patch.IsSetBy self.now.standing.asked.book (act_view act.now)) }
-        ensures memory { OnErr result (patch.is_still self.now.standing.asked (act_view act.now) ≡
-            false) }
+        ensures memory { OnErr result (patch.is_still self.now.standing.asked (act_view act.now)
+            ≡ false) }
     {
         match act {
             Act::Change(alias, value) => self.value_set(*alias, value),
@@ -292,8 +292,8 @@ impl EdgeNode {
     fn given(&self, input: Input<'_>) -> Result<Given, EdgeFault>
         ensures given { IfOk result (patch.IsGivenBy self.now (input_view input.entry)) }
         ensures fault { IfErr result (patch.IsRefusedBy self.now (input_view input.entry)) }
-        ensures memory { IfErr result (λ e. e ≡ EdgeFault.NoMemory →
-            patch.is_still self.now.standing.asked (input_view input.entry).act ≡ false) }
+        ensures memory { IfErr result (λ e. e ≡ EdgeFault.NoMemory
+            → patch.is_still self.now.standing.asked (input_view input.entry).act ≡ false) }
     {
         match input.act {
             Act::Open => Ok(self.opening(input.now)?),

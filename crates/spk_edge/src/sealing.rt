@@ -32,8 +32,8 @@ pub(crate) fn written(alloc: Global, packet: &Packet) -> Result<Vec<u8>, EdgeFau
 
 /// The packets' bytes, in order.
 pub(crate) fn written_packets(alloc: Global, packets: &[Packet]) -> Result<Vec<Vec<u8>>, EdgeFault>
-    ensures bytes { IfOk result (λ out. map seal.bytes_of out.items ≡
-        map spelling (map view packets.now)) }
+    ensures bytes { IfOk result (λ out. map seal.bytes_of out.items
+        ≡ map spelling (map view packets.now)) }
     ensures writable { OnOk result (list_all is_writable (map view packets.now) ≡ true) }
     ensures fault { IfErr result (seal.IsUnwritten (map view packets.now)) }
 {
@@ -63,13 +63,13 @@ fn publish(alloc: Global, message: &Published) -> Result<Packet, AllocError>
 /// A message's bytes.
 fn written_message(alloc: Global, message: &Published) -> Result<Vec<u8>, EdgeFault>
     requires { seal.AreKnown (message_view message.now).payload.metrics }
-    ensures bytes { IfOk result (λ v. seal.bytes_of v ≡
-        spelling (seal.wire_of (message_view message.now))) }
+    ensures bytes { IfOk result (λ v. seal.bytes_of v
+        ≡ spelling (seal.wire_of (message_view message.now))) }
     ensures writable { OnOk result (is_writable (seal.wire_of (message_view message.now)) ≡ true) }
     ensures whole { OnOk result (seal.IsWhole (message_view message.now)) }
     ensures fault { IfErr result (λ e. (e ≡ EdgeFault.NoMemory)
-        ⊎ ((e ≡ EdgeFault.TooLarge) × (is_writable (seal.wire_of (message_view message.now)) ≡
-        false))) }
+        ⊎ ((e ≡ EdgeFault.TooLarge) × (is_writable (seal.wire_of (message_view message.now))
+        ≡ false))) }
 {
     spelling_spells();
     let packet = publish(alloc, message)?;
@@ -82,8 +82,8 @@ pub(crate) fn written_messages(
     messages: &[Published],
 ) -> Result<Vec<Vec<u8>>, EdgeFault>
     requires { AllByRecursion (λ m. seal.AreKnown (message_view m).payload.metrics) messages.now }
-    ensures bytes { IfOk result (λ out. map seal.bytes_of out.items ≡
-        map spelling (map (λ m. seal.wire_of (message_view m)) messages.now)) }
+    ensures bytes { IfOk result (λ out. map seal.bytes_of out.items
+        ≡ map spelling (map (λ m. seal.wire_of (message_view m)) messages.now)) }
     ensures writable { OnOk result (list_all is_writable (map (λ m. seal.wire_of
         (message_view m)) messages.now) ≡ true) }
     ensures whole { OnOk result (seal.AreWhole (map message_view messages.now)) }

@@ -15,8 +15,8 @@ use std::alloc::{AllocError, Global};
 
 /// The topic of the node (Sparkplug 3.0.0, chapter 4).
 pub fn node_topic(alloc: Global, config: &EdgeConfig, kind: Verb) -> Result<String, AllocError>
-    ensures { IfOk result (λ t. string_bytes t ≡
-        topic_of (of_node (string_bytes config.now.group) kind (string_bytes config.now.node))) }
+    ensures { IfOk result (λ t. string_bytes t
+        ≡ topic_of (of_node (string_bytes config.now.group) kind (string_bytes config.now.node))) }
 {
     let group = config.group.as_str();
     let node = config.node.as_str();
@@ -31,8 +31,8 @@ pub(crate) fn device_topic(
     kind: Verb,
     device: &str,
 ) -> Result<String, AllocError>
-    ensures { IfOk result (λ t. string_bytes t ≡
-        topic_of (of_device (string_bytes config.now.group) kind
+    ensures { IfOk result (λ t. string_bytes t
+        ≡ topic_of (of_device (string_bytes config.now.group) kind
         (string_bytes config.now.node) device.now)) }
 {
     let group = config.group.as_str();

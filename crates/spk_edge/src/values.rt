@@ -23,8 +23,8 @@ pub(crate) fn written_value(
     datatype: u32,
     value: &Value,
 ) -> Result<Option<Raw>, AllocError>
-    ensures { IfOk result (λ raw. option_map content_of raw ≡
-        written_of datatype (typed_view value.now)) }
+    ensures { IfOk result (λ raw. option_map content_of raw
+        ≡ written_of datatype (typed_view value.now)) }
 {
     match written(alloc, datatype, value) {
         Ok(raw) => Ok(Some(raw)),

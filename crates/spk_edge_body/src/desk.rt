@@ -183,7 +183,8 @@ impl Desk {
 
     /// Whether a node that was told this would wait for its births in vain.
     fn waits_in_vain(&self, act: &ToldAct, refused: bool) -> Result<bool, PlantFault>
-        ensures vain { IfOk result (λ b. b ≡ vain.vain_after (told_act act.now) refused self.now.in_vain) }
+        ensures vain { IfOk result
+            (λ b. b ≡ vain.vain_after (told_act act.now) refused self.now.in_vain) }
         ensures fault { IfErr result (λ e. e ≡ PlantFault.NoMemory) }
     {
         match act {
@@ -205,7 +206,8 @@ impl Desk {
         requires { PutsInto ingress.now self.old.sender.pass }
         ensures pass { PutsOn ingress.now self.old.sender.pass self.new.sender.pass }
         ensures taken { OnOk result ((o : Origin) (is : List inputs.Input) → Stands o is self.old
-            → IsPlan self.old.node (told_view told) plan → Stands o (told_view told ∷ is) self.new) }
+            → IsPlan self.old.node (told_view told) plan
+            → Stands o (told_view told ∷ is) self.new) }
         ensures inlet { self.new.inlet ≡ self.old.inlet }
         ensures fault { IfErr result (λ e. (e ≡ PlantFault.NoMemory) ⊎ (e ≡ PlantFault.Closed)) }
     {
@@ -231,7 +233,8 @@ impl Desk {
     ) -> Result<bool, PlantFault>
         requires { PutsInto ingress.now self.old.sender.pass }
         ensures pass { PutsOn ingress.now self.old.sender.pass self.new.sender.pass }
-        ensures told { IfOk result (λ refused. (o : Origin) (is : List inputs.Input) → Stands o is self.old
+        ensures told { IfOk result
+            (λ refused. (o : Origin) (is : List inputs.Input) → Stands o is self.old
             → Stands o (input_view input.entry ∷ is) self.new
             × (refused ≡ is_err (right_at o.setup (run_of o.setup is) (input_view input.entry)))) }
         ensures inlet { self.new.inlet ≡ self.old.inlet }
@@ -265,7 +268,8 @@ impl Desk {
         ensures pass { PutsOn ingress.now self.old.sender.pass self.new.sender.pass }
         ensures asked { IfOk result (λ refused. Goes (λ s before after.
             (after ≡ Asks (asked_at before (act_view act.entry)) ∷ before)
-            × (refused ≡ is_refused s before (asked_at before (act_view act.entry)))) self.old self.new) }
+            × (refused ≡ is_refused s before (asked_at before (act_view act.entry)))) self.old
+            self.new) }
         ensures inlet { self.new.inlet ≡ self.old.inlet }
         ensures fault { IfErr result (λ e. (e ≡ PlantFault.NoMemory) ⊎ (e ≡ PlantFault.Closed)) }
     {
@@ -309,7 +313,8 @@ impl Desk {
     ) -> Result<(), PlantFault>
         requires { PutsInto ingress.now self.old.sender.pass }
         ensures pass { PutsOn ingress.now self.old.sender.pass self.new.sender.pass }
-        ensures heard { OnOk result ((o : Origin) (log : List Move) → Stands o (inputs_of log) self.old
+        ensures heard { OnOk result
+            ((o : Origin) (log : List Move) → Stands o (inputs_of log) self.old
             → (move : Move) × Stands o (inputs_of (move ∷ log)) self.new × MayMove o.setup log move
             × IsOf item move) }
         ensures inlet { self.new.inlet ≡ self.old.inlet }
@@ -332,7 +337,8 @@ impl Desk {
     ) -> Result<bool, PlantFault>
         requires { PutsInto ingress.now self.old.sender.pass }
         ensures pass { PutsOn ingress.now self.old.sender.pass self.new.sender.pass }
-        ensures read { OnOk result (Goes (λ s before after. Asked [] before after) self.old self.new) }
+        ensures read { OnOk result
+            (Goes (λ s before after. Asked [] before after) self.old self.new) }
         ensures none { result ≡ Ok false → ahead self.new.inlet ≡ [] }
         ensures fault { IfErr result (λ e. (e ≡ PlantFault.NoMemory) ⊎ (e ≡ PlantFault.Closed)) }
     {
@@ -352,7 +358,8 @@ impl Desk {
     ) -> Result<(), PlantFault>
         requires { PutsInto ingress.now self.old.sender.pass }
         ensures pass { PutsOn ingress.now self.old.sender.pass self.new.sender.pass }
-        ensures read { OnOk result (Goes (λ s before after. Asked [] before after) self.old self.new) }
+        ensures read { OnOk result
+            (Goes (λ s before after. Asked [] before after) self.old self.new) }
         ensures emptied { OnOk result (ahead self.new.inlet ≡ []) }
         ensures fault { IfErr result (λ e. (e ≡ PlantFault.NoMemory) ⊎ (e ≡ PlantFault.Closed)) }
     {

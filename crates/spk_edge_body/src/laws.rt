@@ -13,10 +13,10 @@ use spk_edge::laws::{along, any_list, positions};
 
 /// For every node and every list of inputs, newest first.
 pub(crate) fn stepping()
-    ensures taken { (s : Setup) (is : List Input) (i : Input) (p : Plan) →
-        IsPlan (node_of s is) i p → IsTaken s is i p }
-    ensures passed { (s : Setup) (is : List Input) (i : Input) (fault : EdgeFault) →
-        IsRefusal (node_of s is) i fault → (fault ≡ NoMemory → ⊥) → IsPassed s is i }
+    ensures taken { (s : Setup) (is : List Input) (i : Input) (p : Plan)
+        → IsPlan (node_of s is) i p → IsTaken s is i p }
+    ensures passed { (s : Setup) (is : List Input) (i : Input) (fault : EdgeFault)
+        → IsRefusal (node_of s is) i fault → (fault ≡ NoMemory → ⊥) → IsPassed s is i }
 {
     along();
     positions();

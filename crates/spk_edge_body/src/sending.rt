@@ -53,9 +53,11 @@ impl Sender {
         frame: Frame,
     ) -> Result<(), PlantFault>
         requires { PutsInto ingress.now self.old.pass }
-        ensures pass { PutsInto ingress.now self.new.pass × (self.new.pass.sender ≡ self.old.pass.sender) }
+        ensures pass { PutsInto ingress.now self.new.pass
+            × (self.new.pass.sender ≡ self.old.pass.sender) }
         ensures on { is_end frame ≡ false → PutsOn ingress.now self.old.pass self.new.pass }
-        ensures ok { OnOk result (frames_put self.new.pass ≡ frames_put self.old.pass ++ frame ∷ []) }
+        ensures ok { OnOk result
+            (frames_put self.new.pass ≡ frames_put self.old.pass ++ frame ∷ []) }
         ensures cuts { (self.new.cuts ≡ self.old.cuts) × (self.new.place ≡ self.old.place) }
         ensures counted { OnOk result (self.new.count ≡ min (2 ^ 64 - 1) (self.old.count + 1)) }
         ensures fault { IfErr result (λ e. (e ≡ PlantFault.Closed)
@@ -78,7 +80,8 @@ impl Sender {
         ran: &Result<(), PlantFault>,
     ) -> Result<(), PlantFault>
         requires { PutsInto ingress.now self.old.pass }
-        ensures pass { PutsInto ingress.now self.new.pass × (self.new.pass.sender ≡ self.old.pass.sender) }
+        ensures pass { PutsInto ingress.now self.new.pass
+            × (self.new.pass.sender ≡ self.old.pass.sender) }
         ensures ok { OnOk result ((done.is_closed ran.now ≡ false)
             × (frames_put self.new.pass ≡ frames_put self.old.pass ++ Frame.End ∷ [])) }
         ensures fault { IfErr result (λ e. (e ≡ PlantFault.Closed)
@@ -145,7 +148,8 @@ impl Sender {
     ) -> Result<(), PlantFault>
         requires { PutsInto ingress.now self.old.pass }
         ensures pass { PutsOn ingress.now self.old.pass self.new.pass }
-        ensures ok { OnOk result (HasPut self.old self.new (map Frame.Packet (map bytes_of packets.items))) }
+        ensures ok { OnOk result
+            (HasPut self.old self.new (map Frame.Packet (map bytes_of packets.items))) }
         ensures fault { IfErr result (λ e. (e ≡ PlantFault.NoMemory) ⊎ (e ≡ PlantFault.Closed)) }
     {
         for bytes in packets {

@@ -76,7 +76,8 @@ impl Desk {
     ) -> Result<(), PlantFault>
         requires { PutsInto ingress.now self.old.sender.pass }
         ensures pass { PutsOn ingress.now self.old.sender.pass self.new.sender.pass }
-        ensures asked { OnOk result (Goes (λ s before after. Asked [] before after) self.old self.new) }
+        ensures asked { OnOk result
+            (Goes (λ s before after. Asked [] before after) self.old self.new) }
         ensures fault { IfErr result (λ e. (e ≡ PlantFault.NoMemory) ⊎ (e ≡ PlantFault.Closed)) }
     {
         for _ in rt.forever() {
@@ -122,7 +123,8 @@ impl Desk {
     ) -> Result<(), PlantFault>
         requires { PutsInto ingress.now self.old.sender.pass }
         ensures pass { PutsOn ingress.now self.old.sender.pass self.new.sender.pass }
-        ensures drained { OnOk result (Goes (λ s before after. Drained s before after) self.old self.new) }
+        ensures drained { OnOk result
+            (Goes (λ s before after. Drained s before after) self.old self.new) }
         ensures fault { IfErr result (λ e. (e ≡ PlantFault.NoMemory) ⊎ (e ≡ PlantFault.Closed)) }
     {
         for _ in rt.forever() {

@@ -23,21 +23,21 @@ ghost use Rattle.spk_edge_rules.specs.Step.{answer_at, record_at, standing_of};
 /// For every node and every list of inputs, newest first, whatever the node begins with.
 pub fn any_list()
     // stepping the data answers as the rules ask of the list: each message under the number of its position
-    ensures same_steps { (s : Setup) (is : List Input) (i : Input) →
-        answer_at s.config (standing_of s is) i ≡ right_at s (run_of s is) i }
+    ensures same_steps { (s : Setup) (is : List Input) (i : Input)
+        → answer_at s.config (standing_of s is) i ≡ right_at s (run_of s is) i }
 
     // and what the rules look at is what was set, kept, heard, opened and published so far
     ensures standing { (s : Setup) (is : List Input)
         → (standing_of s is).asked ≡ asked_of s (run_of s is) }
 
     // a node that runs after it goes on behind its last message, its last session and its last stamp
-    ensures goes_on { (s : Setup) (is : List Input) →
-        record_at s.config (standing_of s is) ≡ record_of s (run_of s is) }
+    ensures goes_on { (s : Setup) (is : List Input)
+        → record_at s.config (standing_of s is) ≡ record_of s (run_of s is) }
 
     // a refused input uses no number, publishes nothing, and leaves the data as they were
-    ensures refused { (s : Setup) (is : List Input) (i : Input) (fault : EdgeFault) →
-        right_at s (run_of s is) i ≡ Err fault →
-        (run_of s (i ∷ is) ≡ run_of s is) × (standing_of s (i ∷ is) ≡ standing_of s is) }
+    ensures refused { (s : Setup) (is : List Input) (i : Input) (fault : EdgeFault)
+        → right_at s (run_of s is) i ≡ Err fault
+        → (run_of s (i ∷ is) ≡ run_of s is) × (standing_of s (i ∷ is) ≡ standing_of s is) }
 
     // what was published is a node record: births one by one, sessions and stamps that never fall, and each NBIRTH newer
     // than all before it
@@ -45,94 +45,96 @@ pub fn any_list()
         → sequence.IsNodeRecord (outline (published (run_of s is))) }
 
     // a birth begins exactly where the message is an NBIRTH
-    ensures openings { (s : Setup) (is : List Input) (p : ℕ) (m : Message) →
-        slice_get (published (run_of s is)) p ≡ Some m →
-        sequence.opens (outline (published (run_of s is))) p ≡ opens m.draft }
+    ensures openings { (s : Setup) (is : List Input) (p : ℕ) (m : Message)
+        → slice_get (published (run_of s is)) p ≡ Some m
+        → sequence.opens (outline (published (run_of s is))) p ≡ opens m.draft }
 
     // each NBIRTH begins with the bdSeq of its session
     ensures sessions { (s : Setup) (is : List Input)
         → AllByRecursion (SaysSession s) (published (run_of s is)) }
 
     // a birth lists the metrics of its owner in order of adding, with the values last set
-    ensures births { (s : Setup) (is : List Input) (i : Input) (answer : Answer) →
-        right_at s (run_of s is) i ≡ Ok answer →
-        AllByRecursion (ListsWhatIs (book_of s (run_of s is)) (session_number s (opened (run_of s is) - 1)))
+    ensures births { (s : Setup) (is : List Input) (i : Input) (answer : Answer)
+        → right_at s (run_of s is) i ≡ Ok answer
+        → AllByRecursion
+        (ListsWhatIs (book_of s (run_of s is)) (session_number s (opened (run_of s is) - 1)))
         answer.given.drafts }
 
     // an NBIRTH is followed by a DBIRTH for each device that is up, in order of adding, and by nothing else
-    ensures whole_births { (s : Setup) (is : List Input) (i : Input) (answer : Answer) →
-        right_at s (run_of s is) i ≡ Ok answer →
-        AreWholeBirths (book_of s (run_of s is)) (session_number s (opened (run_of s is) - 1)) answer.given.drafts }
+    ensures whole_births { (s : Setup) (is : List Input) (i : Input) (answer : Answer)
+        → right_at s (run_of s is) i ≡ Ok answer
+        → AreWholeBirths (book_of s (run_of s is))
+        (session_number s (opened (run_of s is) - 1)) answer.given.drafts }
 
     // a numbered message is given only between an accepted open and the next stop, cut or closing
-    ensures joined { (s : Setup) (is : List Input) (i : Input) (answer : Answer) →
-        right_at s (run_of s is) i ≡ Ok answer → 0 < length answer.given.drafts →
-        link_of (run_of s (i ∷ is)) ≡ Joined }
+    ensures joined { (s : Setup) (is : List Input) (i : Input) (answer : Answer)
+        → right_at s (run_of s is) i ≡ Ok answer → 0 < length answer.given.drafts
+        → link_of (run_of s (i ∷ is)) ≡ Joined }
 
     // no more changes are dropped than are kept, and lost are those overwritten or dropped for a device that is down
     ensures kept { (s : Setup) (is : List Input)
         → kept.IsLawful s.capacity (calls_of (run_of s is)) }
-    ensures lost { (s : Setup) (is : List Input) →
-        (standing_of s is).asked.store.lost
+    ensures lost { (s : Setup) (is : List Input)
+        → (standing_of s is).asked.store.lost
         ≡ min (kept.lost_of s.capacity (calls_of (run_of s is))) (2 ^ 64 - 1) }
 {}
 
 /// Of each message that a node published, whatever the node begins with and for every list of inputs, newest first.
 pub fn published()
     // it is an NBIRTH, NDATA, DBIRTH, DDATA or DDEATH
-    ensures kinds { (s : Setup) (is : List Input) (p : ℕ) (m : Message) →
-        slice_get (published (run_of s is)) p ≡ Some m → is_numbered m.draft ≡ true }
+    ensures kinds { (s : Setup) (is : List Input) (p : ℕ) (m : Message)
+        → slice_get (published (run_of s is)) p ≡ Some m → is_numbered m.draft ≡ true }
 
     // its stamp is a moment
-    ensures stamps { (s : Setup) (is : List Input) (p : ℕ) (m : Message) →
-        slice_get (published (run_of s is)) p ≡ Some m → m.draft.stamp < 2 ^ 63 }
+    ensures stamps { (s : Setup) (is : List Input) (p : ℕ) (m : Message)
+        → slice_get (published (run_of s is)) p ≡ Some m → m.draft.stamp < 2 ^ 63 }
 
     // it stays where it stands, whatever comes later
-    ensures grows { (s : Setup) (later is : List Input) → (more : List Message) ×
-        (published (run_of s (later ++ is)) ≡ published (run_of s is) ++ more) }
+    ensures grows { (s : Setup) (later is : List Input) → (more : List Message)
+        × (published (run_of s (later ++ is)) ≡ published (run_of s is) ++ more) }
 
     // its number is a byte
-    ensures numbers { (s : Setup) (is : List Input) (p : ℕ) →
-        number_at s (published (run_of s is)) p < 256 }
+    ensures numbers { (s : Setup) (is : List Input) (p : ℕ)
+        → number_at s (published (run_of s is)) p < 256 }
 
     // it was sent under the number of its position, which the node's data counted on to
-    ensures sent { (s : Setup) (is : List Input) (i : Input) (answer : Answer) →
-        right_at s (run_of s is) i ≡ Ok answer →
-        numbers_from s.config (standing_of s is).seq answer.given.drafts ≡
-        numbers_at s (published (run_of s (i ∷ is))) (length (published (run_of s is)))
+    ensures sent { (s : Setup) (is : List Input) (i : Input) (answer : Answer)
+        → right_at s (run_of s is) i ≡ Ok answer
+        → numbers_from s.config (standing_of s is).seq answer.given.drafts
+        ≡ numbers_at s (published (run_of s (i ∷ is))) (length (published (run_of s is)))
         answer.given.drafts }
 
     // its topic has names, if those of the node and of its registry's devices can stand in one
-    ensures names { (s : Setup) (is : List Input) (p : ℕ) (m : Message) → HasNames s →
-        slice_get (published (run_of s is)) p ≡ Some m →
-        IsTrue (has_names (named_by s.config m.draft)) }
+    ensures names { (s : Setup) (is : List Input) (p : ℕ) (m : Message) → HasNames s
+        → slice_get (published (run_of s is)) p ≡ Some m
+        → IsTrue (has_names (named_by s.config m.draft)) }
 
     // an NBIRTH says the bdSeq of its session once, if no metric of the registry is named so
-    ensures one_session { (s : Setup) (is : List Input) (p : ℕ) (m : Message) → IsUnreserved s →
-        slice_get (published (run_of s is)) p ≡ Some m → SaysSessionOnce s m }
+    ensures one_session { (s : Setup) (is : List Input) (p : ℕ) (m : Message) → IsUnreserved s
+        → slice_get (published (run_of s is)) p ≡ Some m → SaysSessionOnce s m }
 
     // Data and DDEATH of a device stand only where it is born: behind its DBIRTH, which stands in the same session and behind
     // the same NBIRTH, and before its DDEATH. A device that is up, of a node whose births were given, is born.
-    ensures devices { (s : Setup) (is : List Input) (p : ℕ) (m : Message) (name : List ℕ) →
-        slice_get (published (run_of s is)) p ≡ Some m → m.draft.device ≡ Some name
-        → is_birth m.draft.verb ≡ false →
-        IsAlive name m.birth m.session (take p (published (run_of s is))) }
+    ensures devices { (s : Setup) (is : List Input) (p : ℕ) (m : Message) (name : List ℕ)
+        → slice_get (published (run_of s is)) p ≡ Some m → m.draft.device ≡ Some name
+        → is_birth m.draft.verb ≡ false
+        → IsAlive name m.birth m.session (take p (published (run_of s is))) }
     ensures up { (s : Setup) (is : List Input) (n : ℕ) (d : DeviceData)
-        → phase_of (run_of s is) ≡ Born →
-        slice_get (book_of s (run_of s is)).devices n ≡ Some d → d.up ≡ true →
-        IsAlive d.name (births_in (published (run_of s is)) - 1) (opened (run_of s is) - 1)
+        → phase_of (run_of s is) ≡ Born
+        → slice_get (book_of s (run_of s is)).devices n ≡ Some d → d.up ≡ true
+        → IsAlive d.name (births_in (published (run_of s is)) - 1) (opened (run_of s is) - 1)
         (published (run_of s is)) }
 
     // and one that isn't up is not, if no two devices of the registry have one name: so its DDEATH is given when it goes down
-    ensures down { (s : Setup) (is : List Input) (n : ℕ) (d : DeviceData) → AreNumbered s.book →
-        phase_of (run_of s is) ≡ Born → slice_get (book_of s (run_of s is)).devices n ≡ Some d
-        → d.up ≡ false →
-        IsAlive d.name (births_in (published (run_of s is)) - 1) (opened (run_of s is) - 1)
+    ensures down { (s : Setup) (is : List Input) (n : ℕ) (d : DeviceData) → AreNumbered s.book
+        → phase_of (run_of s is) ≡ Born → slice_get (book_of s (run_of s is)).devices n ≡ Some d
+        → d.up ≡ false
+        → IsAlive d.name (births_in (published (run_of s is)) - 1) (opened (run_of s is) - 1)
         (published (run_of s is)) → ⊥ }
 
     // what is done is done at a moment, and so was the last Open
-    ensures moments { (s : Setup) (is : List Input) (i : Input) (answer : Answer) →
-        right_at s (run_of s is) i ≡ Ok answer → i.now < 2 ^ 63 }
+    ensures moments { (s : Setup) (is : List Input) (i : Input) (answer : Answer)
+        → right_at s (run_of s is) i ≡ Ok answer → i.now < 2 ^ 63 }
     ensures opened_at { (s : Setup) (is : List Input) → opened_at (run_of s is) < 2 ^ 63 }
 {
     spk_sequence::laws::records();
@@ -142,47 +144,49 @@ pub fn published()
 pub fn messages()
     // bytes that spell the packet of a message spell that packet alone, whatever follows them
     ensures alone { (c : Config) (number : ℕ) (d : Draft) (bytes other x y : List ℕ)
-        (p : packets.Message) →
-        IsWhole bytes c number d → Spells other p → bytes ++ x ≡ other ++ y →
-        (bytes ≡ other) × (p ≡ wire c number d) }
+        (p : packets.Message)
+        → IsWhole bytes c number d → Spells other p → bytes ++ x ≡ other ++ y
+        → (bytes ≡ other) × (p ≡ wire c number d) }
 
     // its payload means these metrics, under that number and that stamp, and nothing else
     ensures means { (c : Config) (number : ℕ) (d : Draft) (bytes : List ℕ)
-        → IsWhole bytes c number d →
-        MeansPayload (spelling (payload_of number d)) (payload_of number d) }
+        → IsWhole bytes c number d
+        → MeansPayload (spelling (payload_of number d)) (payload_of number d) }
     ensures read { (c : Config) (number : ℕ) (d : Draft) (bytes : List ℕ) (p : packets.Message)
-        (q : PayloadData) →
-        IsWhole bytes c number d → Spells bytes p → MeansPayload (payload_in p) q →
-        (topic_in p ≡ topic_of (named_by c d)) × (q.seq ≡ Some number)
+        (q : PayloadData)
+        → IsWhole bytes c number d → Spells bytes p → MeansPayload (payload_in p) q
+        → (topic_in p ≡ topic_of (named_by c d)) × (q.seq ≡ Some number)
         × (q.timestamp ≡ Some d.stamp) × (q.metrics ≡ d.metrics) }
 
     // an Open gives the CONNECT of the next session
     ensures opens { (s : Setup) (is : List Input) (i : Input) (answer : Answer) → i.act ≡ Open
-        → i.ack ≡ None →
-        right_at s (run_of s is) i ≡ Ok answer →
-        answer.packets ≡ connect_of s.config (session_number s (opened (run_of s is))) i.now ∷ [] }
+        → i.ack ≡ None
+        → right_at s (run_of s is) i ≡ Ok answer
+        → answer.packets
+        ≡ connect_of s.config (session_number s (opened (run_of s is))) i.now ∷ [] }
 
     // whose will is an NDEATH of the node that means the bdSeq of that session, and nothing else
-    ensures will { (c : Config) (bd time : ℕ) (q : PayloadData) → bd < 256 → time < 2 ^ 63 →
-        MeansPayload (will_of c bd time).message (death_payload bd time) ×
-        (MeansPayload (will_of c bd time).message q → q ≡ death_payload bd time) }
+    ensures will { (c : Config) (bd time : ℕ) (q : PayloadData) → bd < 256 → time < 2 ^ 63
+        → MeansPayload (will_of c bd time).message (death_payload bd time)
+        × (MeansPayload (will_of c bd time).message q → q ≡ death_payload bd time) }
 
     // a Stop gives the NDEATH of the session that it ends, with that session's bdSeq, and DISCONNECT; and no DISCONNECT is
     // given in any other way
     ensures ends { (s : Setup) (is : List Input) (i : Input) (answer : Answer) → i.act ≡ Stop
-        → i.ack ≡ None →
-        right_at s (run_of s is) i ≡ Ok answer →
-        answer.packets ≡ farewell s.config (session_number s (opened (run_of s is) - 1))
+        → i.ack ≡ None
+        → right_at s (run_of s is) i ≡ Ok answer
+        → answer.packets ≡ farewell s.config (session_number s (opened (run_of s is) - 1))
         (opened_at (run_of s is)) }
-    ensures disconnects { (s : Setup) (is : List Input) (i : Input) (answer : Answer) →
-        right_at s (run_of s is) i ≡ Ok answer → list_any is_disconnect answer.packets ≡ true →
-        (front : List packets.Message) × (answer.packets ≡
-        front ++ farewell s.config (session_number s (opened (run_of s is) - 1)) (opened_at (run_of s is))) }
+    ensures disconnects { (s : Setup) (is : List Input) (i : Input) (answer : Answer)
+        → right_at s (run_of s is) i ≡ Ok answer → list_any is_disconnect answer.packets ≡ true
+        → (front : List packets.Message) × (answer.packets
+        ≡ front ++ farewell s.config (session_number s (opened (run_of s is) - 1))
+        (opened_at (run_of s is))) }
 
     // messages of different nodes have different topics
     ensures topics { (b c : Config) (d e : Draft) → IsTrue (has_names (named_by b d))
-        → IsTrue (has_names (named_by c e)) →
-        topic_of (named_by b d) ≡ topic_of (named_by c e)
+        → IsTrue (has_names (named_by c e))
+        → topic_of (named_by b d) ≡ topic_of (named_by c e)
         → (b.group ≡ c.group) × (b.node ≡ c.node) }
 {
     spk_payload::laws::canonical();

@@ -76,7 +76,8 @@ impl<W: Write> Counted<W> {
         ensures device { self.new.device ≡ self.old.device }
         ensures end { SameInlet inlet.old inlet.new }
         ensures some { IfSome result (λ x. popped inlet.new ≡ popped inlet.old ++ x ∷ []) }
-        ensures none { result ≡ None → (popped inlet.new ≡ popped inlet.old) × (ahead inlet.new ≡ []) }
+        ensures none { result ≡ None → (popped inlet.new ≡ popped inlet.old)
+            × (ahead inlet.new ≡ []) }
     {
         self.taken += 1;
         inlet.next()

@@ -49,7 +49,8 @@ fn node_of(alloc: Global, part: Part<'_>) -> Result<PlanNode, Misfit>
 
 /// Whether a node of that name is there.
 fn is_there(nodes: &[PlanNode], name: &str) -> bool
-    ensures { result ≡ list_any (λ (n : PlanNode). bytes_eq name.now (string_bytes n.node)) nodes.now }
+    ensures { result ≡ list_any
+        (λ (n : PlanNode). bytes_eq name.now (string_bytes n.node)) nodes.now }
 {
     nodes.iter().any(|node| name == node.node.as_str())
 }

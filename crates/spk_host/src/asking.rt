@@ -28,10 +28,10 @@ pub(crate) fn ask(
     rebirths: &mut Vec<Spark>,
     packets: &mut Vec<Vec<u8>>,
 ) -> Result<(), AllocError>
-    ensures topics { OnOk result (map named rebirths.new.items ≡
-        map named rebirths.old.items ++ topics_to group.now node.now 1) }
-    ensures packets { OnOk result (map (λ b. b.items) packets.new.items ≡
-        map (λ b. b.items) packets.old.items ++ spelled (requests_to group.now node.now now 1)) }
+    ensures topics { OnOk result (map named rebirths.new.items
+        ≡ map named rebirths.old.items ++ topics_to group.now node.now 1) }
+    ensures packets { OnOk result (map (λ b. b.items) packets.new.items
+        ≡ map (λ b. b.items) packets.old.items ++ spelled (requests_to group.now node.now now 1)) }
 {
     match rebirth(alloc, group, node, now) {
         Ok(bytes) => {
@@ -54,10 +54,10 @@ pub(crate) fn ask_all(
     rebirths: &mut Vec<Spark>,
     packets: &mut Vec<Vec<u8>>,
 ) -> Result<(), AllocError>
-    ensures topics { OnOk result (map named rebirths.new.items ≡
-        map named rebirths.old.items ++ topics_to group.now node.now count) }
-    ensures packets { OnOk result (map (λ b. b.items) packets.new.items ≡
-        map (λ b. b.items) packets.old.items
+    ensures topics { OnOk result (map named rebirths.new.items
+        ≡ map named rebirths.old.items ++ topics_to group.now node.now count) }
+    ensures packets { OnOk result (map (λ b. b.items) packets.new.items
+        ≡ map (λ b. b.items) packets.old.items
         ++ spelled (requests_to group.now node.now now count)) }
 {
     for _request in 0..count {

@@ -160,7 +160,8 @@ impl Host {
     fn answered(&mut self, code: u8) -> Result<Out, HostFault>
         requires open { is_some self.old.session.began ≡ true }
         ensures out { Gives out_view result
-            (Ok (step.sends (step.said_by (session.says self.old.session (session.Answered code))))) }
+            (Ok (step.sends
+            (step.said_by (session.says self.old.session (session.Answered code))))) }
         ensures data { OnOk result (self.new ≡ record {
           session = session.after self.old.session (session.Answered code);
           nodes = if code == 0 then self.old.nodes else map step.over_entry self.old.nodes;
@@ -194,17 +195,17 @@ impl Host {
     pub fn packet(&mut self, bytes: &[u8], now: u64) -> Result<Out, HostFault>
         ensures outside { self.old.session.began ≡ None → result ≡ Err HostFault.WrongPhase }
         ensures answer { (h : HeardData) → is_some self.old.session.began ≡ true
-            → Says bytes.now h →
-            Gives out_view result (Ok (step.packet_out self.old h now)) }
+            → Says bytes.now h
+            → Gives out_view result (Ok (step.packet_out self.old h now)) }
         ensures fault { (f : ReadFault) → is_some self.old.session.began ≡ true
-            → IsReadFault bytes.now f →
-            IfErr result (λ e. (e ≡ HostFault.NoMemory) ⊎ (e ≡ fault_of f)) }
+            → IsReadFault bytes.now f
+            → IfErr result (λ e. (e ≡ HostFault.NoMemory) ⊎ (e ≡ fault_of f)) }
         ensures only { IfErr result (λ e. (e ≡ HostFault.NoMemory) ⊎ ((e ≡ HostFault.WrongPhase)
             × (self.old.session.began ≡ None))
             ⊎ ((f : ReadFault) × IsReadFault bytes.now f × (e ≡ fault_of f))) }
         ensures said { OnOk result ((h : HeardData) × Says bytes.now h) }
-        ensures data { (h : HeardData) → Says bytes.now h →
-            OnOk result (self.new ≡ calls.host_with self.old (calls.Heard h now)) }
+        ensures data { (h : HeardData) → Says bytes.now h
+            → OnOk result (self.new ≡ calls.host_with self.old (calls.Heard h now)) }
         ensures unchanged { OnErr result (self.new ≡ self.old) }
     {
         if !self.session.is_open() {
@@ -293,8 +294,9 @@ impl Host {
 
     /// How the host stands to a node: one that was never heard is Unknown. Takes no memory.
     pub fn phase(&self, group: &str, node: &str) -> Phase
-        ensures { result ≡
-            (node_or (step.fresh self.now) self.now.nodes group.now node.now).order.standing.phase }
+        ensures { result
+            ≡ (node_or
+            (step.fresh self.now) self.now.nodes group.now node.now).order.standing.phase }
     {
         match self.node(group, node) {
             Some(entry) => entry.kept().phase(),
@@ -304,8 +306,8 @@ impl Host {
 
     /// What is shown of a node, from its first birth on. Takes no memory.
     pub fn view(&self, group: &str, node: &str) -> Option<&NodeView>
-        ensures { option_map (λ v. v.now.view) result ≡
-            (node_or (step.fresh self.now) self.now.nodes group.now node.now).watch.view }
+        ensures { option_map (λ v. v.now.view) result
+            ≡ (node_or (step.fresh self.now) self.now.nodes group.now node.now).watch.view }
     {
         self.node(group, node)?.kept().view()
     }

@@ -43,8 +43,8 @@ fn enter_at(
     place: usize,
 ) -> Result<(), AllocError>
     requires { number < length tables.old.items }
-    ensures entered { (names : List (List ℕ × ℕ)) → slice_get tables.old.items number ≡ Some names →
-        OnOk result (tables.new.items
+    ensures entered { (names : List (List ℕ × ℕ)) → slice_get tables.old.items number ≡ Some names
+        → OnOk result (tables.new.items
         ≡ set tables.old.items number (entered names (string_bytes name) place)) }
     ensures unchanged { OnErr result (tables.new.items ≡ tables.old.items) }
     ensures count { length tables.new.items ≡ length tables.old.items }
@@ -81,8 +81,8 @@ impl Index {
         place: usize,
     ) -> Result<(), AllocError>
         requires { place_in self.old group.now node.now ≡ None }
-        ensures entered { OnOk result ((g n : List ℕ) → place_in self.new g n ≡
-            (if is_same g n group.now node.now then Some place else place_in self.old g n)) }
+        ensures entered { OnOk result ((g n : List ℕ) → place_in self.new g n
+            ≡ (if is_same g n group.now node.now then Some place else place_in self.old g n)) }
         ensures unchanged { OnErr result (self.new ≡ self.old) }
     {
         let name = String::from_str(alloc, node)?;

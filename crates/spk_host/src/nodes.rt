@@ -61,8 +61,9 @@ fn hear_first(
       kept = one_node.hand (fresh_node wait width) (numbered_view message) now;
     }) ∷ []) }
     ensures entered { let m = numbered_view message in
-        OnOk result ((g n : List ℕ) → place_in index.new g n ≡
-        (if is_same g n m.group m.node then Some (length entries.old.items) else place_in index.old g n)) }
+        OnOk result ((g n : List ℕ) → place_in index.new g n
+        ≡ (if is_same g n m.group m.node then Some
+        (length entries.old.items) else place_in index.old g n)) }
     ensures unchanged { OnErr result (entries.new.items ≡ entries.old.items) }
     ensures not_entered { OnErr result (index.new ≡ index.old) }
 {
@@ -111,11 +112,13 @@ impl Nodes {
         now: u64,
     ) -> Result<Out, AllocError>
         ensures out { let m = numbered_view message in
-            IfOk result (λ o. out_view o ≡
-            step.message_out (spec.node_or (fresh_node wait width) self.old m.group m.node) ack m now) }
+            IfOk result (λ o. out_view o
+            ≡ step.message_out
+            (spec.node_or (fresh_node wait width) self.old m.group m.node) ack m now) }
         ensures nodes { let m = numbered_view message in
             OnOk result (self.new ≡ spec.put_node m.group m.node
-            (one_node.hand (spec.node_or (fresh_node wait width) self.old m.group m.node) m now) self.old) }
+            (one_node.hand (spec.node_or (fresh_node wait width) self.old m.group m.node) m now)
+            self.old) }
         ensures unchanged { OnErr result (self.new ≡ self.old) }
     {
         match self.place_of(message.group.as_str(), message.node.as_str()) {

@@ -21,7 +21,8 @@ fn answered(answer: Result<Out, HostFault>) -> Result<Option<Out>, PlantFault>
 
 /// A session is to begin.
 pub(crate) fn begin(host: &mut Host, now: u64) -> Result<Option<Out>, PlantFault>
-    ensures answers { IfOk result (λ out. step.Answers (calls.Connected now) host.old host.new out) }
+    ensures answers { IfOk result
+        (λ out. step.Answers (calls.Connected now) host.old host.new out) }
     ensures memory { IfErr result (λ e. e ≡ PlantFault.NoMemory) }
 {
     answered(host.connected(now))
@@ -29,8 +30,8 @@ pub(crate) fn begin(host: &mut Host, now: u64) -> Result<Option<Out>, PlantFault
 
 /// A packet came that says something.
 pub(crate) fn hear(host: &mut Host, bytes: &[u8], now: u64) -> Result<Option<Out>, PlantFault>
-    ensures answers { (h : HeardData) → Says bytes.now h →
-        IfOk result (λ out. step.Answers (calls.Heard h now) host.old host.new out) }
+    ensures answers { (h : HeardData) → Says bytes.now h
+        → IfOk result (λ out. step.Answers (calls.Heard h now) host.old host.new out) }
     ensures memory { IfErr result (λ e. e ≡ PlantFault.NoMemory) }
 {
     answered(host.packet(bytes, now))

@@ -73,13 +73,13 @@ fn take_in<R: Wait, G: Gate>(
 ) -> Result<(), PlantFault>
     requires { PutsInto ingress.now desk.old.line.pass }
     ensures pass { SamePass ingress.now desk.old.line.pass desk.new.line.pass }
-    ensures along { (config : Config) (put : List Frame) (items : List plain.Item) →
-        IsAlong config put items given.old.items desk.old.host (frames_put desk.old.line.pass) →
-        OnOk result (IsAlong config put (items ++ item.now ∷ []) given.new.items desk.new.host
+    ensures along { (config : Config) (put : List Frame) (items : List plain.Item)
+        → IsAlong config put items given.old.items desk.old.host (frames_put desk.old.line.pass)
+        → OnOk result (IsAlong config put (items ++ item.now ∷ []) given.new.items desk.new.host
         (frames_put desk.new.line.pass)) }
-    ensures cause { (config : Config) (put : List Frame) (items : List plain.Item) →
-        IsAlong config put items given.old.items desk.old.host (frames_put desk.old.line.pass) →
-        IfErr result (λ e. Fails config e) }
+    ensures cause { (config : Config) (put : List Frame) (items : List plain.Item)
+        → IsAlong config put items given.old.items desk.old.host (frames_put desk.old.line.pass)
+        → IfErr result (λ e. Fails config e) }
 {
     let Ok(()) = given.reserve(1) else {
         return Err(PlantFault::NoMemory);
@@ -113,7 +113,8 @@ fn run<R: Wait, G: Gate>(
     ensures pass { SamePass ingress.now desk.old.line.pass desk.new.line.pass }
     ensures inlet { SameInlet inlet.old inlet.new }
     ensures emptied { OnOk result (ahead inlet.new ≡ []) }
-    ensures ran { IfOk result (λ v. HasRun desk.old.host.session.config (frames_put desk.old.line.pass)
+    ensures ran { IfOk result
+        (λ v. HasRun desk.old.host.session.config (frames_put desk.old.line.pass)
         inlet.old inlet.new v.items desk.new.host (frames_put desk.new.line.pass)) }
     ensures cause { IfErr result (λ e. Fails desk.old.host.session.config e) }
 {

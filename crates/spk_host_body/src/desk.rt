@@ -40,8 +40,8 @@ fn hand_out<R: Wait, G: Gate>(
     requires { PutsInto ingress.now line.old.pass }
     ensures pass { SamePass ingress.now line.old.pass line.new.pass }
     ensures consumed { IfOk result (λ v. map numbered_view v.items ≡ (handed out).consumed) }
-    ensures ok { OnOk result (frames_put line.new.pass ≡
-        frames_put line.old.pass ++ map Frame.Packet (handed out).packets) }
+    ensures ok { OnOk result (frames_put line.new.pass
+        ≡ frames_put line.old.pass ++ map Frame.Packet (handed out).packets) }
     ensures cause { IfErr result (λ e. IsCause (handed out).packets e) }
 {
     let Some(out) = out else {
@@ -72,7 +72,8 @@ impl Desk {
         requires { PutsInto ingress.now self.old.line.pass }
         ensures pass { SamePass ingress.now self.old.line.pass self.new.line.pass }
         ensures took { IfOk result (λ v. Took (calls.Connected now) self.old.host self.new.host
-            (frames_put self.old.line.pass) (frames_put self.new.line.pass) (map numbered_view v.items)) }
+            (frames_put self.old.line.pass) (frames_put self.new.line.pass)
+            (map numbered_view v.items)) }
         ensures cause { IfErr result (λ e. FailsAt self.old.host e) }
     {
         let out = match asking::begin(&mut self.host, now) {
@@ -101,10 +102,12 @@ impl Desk {
     ) -> Result<Vec<Taken>, PlantFault>
         requires { PutsInto ingress.now self.old.line.pass }
         ensures pass { SamePass ingress.now self.old.line.pass self.new.line.pass }
-        ensures took { (h : HeardData) → Says bytes.now h →
-            IfOk result (λ v. Took (calls.Heard h now) self.old.host self.new.host
-            (frames_put self.old.line.pass) (frames_put self.new.line.pass) (map numbered_view v.items)) }
-        ensures cause { (h : HeardData) → Says bytes.now h → IfErr result (λ e. FailsAt self.old.host e) }
+        ensures took { (h : HeardData) → Says bytes.now h
+            → IfOk result (λ v. Took (calls.Heard h now) self.old.host self.new.host
+            (frames_put self.old.line.pass) (frames_put self.new.line.pass)
+            (map numbered_view v.items)) }
+        ensures cause { (h : HeardData) → Says bytes.now h
+            → IfErr result (λ e. FailsAt self.old.host e) }
     {
         let out = match asking::hear(&mut self.host, bytes, now) {
             Ok(out) => out,
@@ -132,7 +135,8 @@ impl Desk {
         requires { PutsInto ingress.now self.old.line.pass }
         ensures pass { SamePass ingress.now self.old.line.pass self.new.line.pass }
         ensures took { IfOk result (λ v. Took (calls.Ticked now) self.old.host self.new.host
-            (frames_put self.old.line.pass) (frames_put self.new.line.pass) (map numbered_view v.items)) }
+            (frames_put self.old.line.pass) (frames_put self.new.line.pass)
+            (map numbered_view v.items)) }
         ensures cause { IfErr result (λ e. FailsAt self.old.host e) }
     {
         let out = match asking::tick(&mut self.host, now) {

@@ -62,9 +62,11 @@ impl Line {
         frame: Frame,
     ) -> Result<(), PlantFault>
         requires { PutsInto ingress.now self.old.pass }
-        ensures pass { PutsInto ingress.now self.new.pass × (self.new.pass.sender ≡ self.old.pass.sender) }
+        ensures pass { PutsInto ingress.now self.new.pass
+            × (self.new.pass.sender ≡ self.old.pass.sender) }
         ensures same { is_end frame ≡ false → SamePass ingress.now self.old.pass self.new.pass }
-        ensures ok { OnOk result (frames_put self.new.pass ≡ frames_put self.old.pass ++ frame ∷ []) }
+        ensures ok { OnOk result
+            (frames_put self.new.pass ≡ frames_put self.old.pass ++ frame ∷ []) }
         ensures counted { OnOk result (self.new.puts ≡ min (2 ^ 64 - 1) (self.old.puts + 1)) }
         ensures place { self.new.sender ≡ self.old.sender }
         ensures fault { IfErr result (λ e. (e ≡ PlantFault.Closed)
@@ -87,7 +89,8 @@ impl Line {
         ran: &Result<Vec<Given>, PlantFault>,
     ) -> Result<(), PlantFault>
         requires { PutsInto ingress.now self.old.pass }
-        ensures pass { PutsInto ingress.now self.new.pass × (self.new.pass.sender ≡ self.old.pass.sender) }
+        ensures pass { PutsInto ingress.now self.new.pass
+            × (self.new.pass.sender ≡ self.old.pass.sender) }
         ensures ok { OnOk result ((is_closed ran.now ≡ false)
             × (frames_put self.new.pass ≡ frames_put self.old.pass ++ Frame.End ∷ [])) }
         ensures fault { IfErr result (λ e. (e ≡ PlantFault.Closed)
@@ -132,8 +135,8 @@ impl Line {
     ) -> Result<(), PlantFault>
         requires { PutsInto ingress.now self.old.pass }
         ensures pass { SamePass ingress.now self.old.pass self.new.pass }
-        ensures ok { OnOk result (frames_put self.new.pass ≡
-            frames_put self.old.pass ++ map Frame.Packet (map (λ b. b.items) packets.items)) }
+        ensures ok { OnOk result (frames_put self.new.pass
+            ≡ frames_put self.old.pass ++ map Frame.Packet (map (λ b. b.items) packets.items)) }
         ensures fault { IfErr result (λ e. IsCause (map (λ b. b.items) packets.items) e) }
     {
         for bytes in packets {

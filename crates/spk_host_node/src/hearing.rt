@@ -37,8 +37,8 @@ fn show(watch: &mut Watch, wait: u64, ready: Ready, now: u64) -> bool
     requires { 0 < watch.old.room }
     ensures asks { (m : Message) → prepared m ≡ ready
         → result ≡ rules.asks wait watch.old.watch (Consumed m now) }
-    ensures watch { (m : Message) → prepared m ≡ ready →
-        watch.new.watch ≡ rules.step wait watch.old.watch (Consumed m now) }
+    ensures watch { (m : Message) → prepared m ≡ ready
+        → watch.new.watch ≡ rules.step wait watch.old.watch (Consumed m now) }
     ensures room { watch.old.room ≤ watch.new.room + 1 }
 {
     match watch.consume(wait, ready, now) {
@@ -87,10 +87,10 @@ pub(crate) fn hear(
     requires capacity { length handed.consumed.items ≤ vec_capacity consumed }
     ensures step { result.step ≡ handed.step }
     ensures consumed { map numbered_view result.consumed.items ≡ handed.consumed.items }
-    ensures requests { result.requests ≡
-        spec.requests wait watch.old.watch (spec.heard_by handed.step handed.consumed.items now) }
-    ensures watch { watch.new.watch ≡
-        spec.watched wait watch.old.watch (spec.heard_by handed.step handed.consumed.items now) }
+    ensures requests { result.requests
+        ≡ spec.requests wait watch.old.watch (spec.heard_by handed.step handed.consumed.items now) }
+    ensures watch { watch.new.watch
+        ≡ spec.watched wait watch.old.watch (spec.heard_by handed.step handed.consumed.items now) }
 {
     let step = handed.step;
     let requests = match step {

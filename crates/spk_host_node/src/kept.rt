@@ -32,7 +32,8 @@ impl Model for Kept {
 
     ghost view = { λ k. numbered_view k.parts.value.message };
 
-    ghost invariant = { λ k. k.parts.value.ready ≡ prepared (message_of (numbered_view k.parts.value.message)) };
+    ghost invariant = { λ k. k.parts.value.ready
+        ≡ prepared (message_of (numbered_view k.parts.value.message)) };
 }
 
 /// What a message will show.

@@ -24,27 +24,27 @@ pub fn shows()
     ensures any_list { (wait : ℕ) (events : List Event) → IsShown events (after wait events).view }
 
     // the devices stand in the order of their first births
-    ensures order { (wait : ℕ) (events : List Event) →
-        map (λ (d : Device). d.name) (devices_of (after wait events).view)
+    ensures order { (wait : ℕ) (events : List Event)
+        → map (λ (d : Device). d.name) (devices_of (after wait events).view)
         ≡ device_names (consumed_of events) }
 
     // a birth shows its values, whatever devices were named before
-    ensures birth { (events : List Event) (now : ℕ) (metrics : List MetricData) →
-        (devices : List Device)
+    ensures birth { (events : List Event) (now : ℕ) (metrics : List MetricData)
+        → (devices : List Device)
         → Shows (Consumed (NodeBirth metrics) now ∷ events) (node_born metrics devices) }
 
     // and each event keeps it
-    ensures keeps { (events : List Event) (e : Event) (view : Option View) →
-        IsShown events view → IsShown (e ∷ events) (view_after view e) }
+    ensures keeps { (events : List Event) (e : Event) (view : Option View)
+        → IsShown events view → IsShown (e ∷ events) (view_after view e) }
 {}
 
 /// When a rebirth is asked for, along any list of what was heard of a node, newest first.
 pub fn asked()
     // exactly at a cause where none had been asked for less than `wait` before, or where a birth was taken between
-    ensures exactly { (wait : ℕ) (before : List Event) (e : Event) →
-        (asked_at wait before e ≡ true) ↔ IsAsked wait before e }
+    ensures exactly { (wait : ℕ) (before : List Event) (e : Event)
+        → (asked_at wait before e ≡ true) ↔ IsAsked wait before e }
 
     // what the view doesn't know is what the births of this part didn't give
-    ensures unknown { (events : List Event) (view : Option View) (m : Message) →
-        IsShown events view → is_unknown view m ≡ is_foreign (last_part (consumed_of events)) m }
+    ensures unknown { (events : List Event) (view : Option View) (m : Message)
+        → IsShown events view → is_unknown view m ≡ is_foreign (last_part (consumed_of events)) m }
 {}

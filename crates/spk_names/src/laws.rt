@@ -6,7 +6,7 @@ ghost use Rattle.spk_names.specs.Names.{number_in, entered};
 
 /// A name that was entered has its number where it was new, and every other name has what it had.
 pub fn found_again()
-    ensures { (names : List (List ℕ × ℕ)) (name other : List ℕ) (number : ℕ) →
-        number_in (entered names name number) other ≡
-        option_or (number_in names other) (if bytes_eq other name then Some number else None) }
+    ensures { (names : List (List ℕ × ℕ)) (name other : List ℕ) (number : ℕ)
+        → number_in (entered names name number) other
+        ≡ option_or (number_in names other) (if bytes_eq other name then Some number else None) }
 {}

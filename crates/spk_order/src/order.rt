@@ -151,8 +151,8 @@ fn room_for(sequence: &Sequence, held: u8) -> usize
     requires counted { held ≡ held_count sequence.now.held }
     requires whole { IsWhole sequence.now }
     ensures some { 0 < result }
-    ensures enough { (number now n : ℕ) (kind : Kind) → number < 256 →
-        (hand sequence.now number kind now).0 ≡ Step.Consumed n → n ≤ result }
+    ensures enough { (number now n : ℕ) (kind : Kind) → number < 256
+        → (hand sequence.now number kind now).0 ≡ Step.Consumed n → n ≤ result }
 {
     numbers();
     if held == 0 { 1 } else { 96 }

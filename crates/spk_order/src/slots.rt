@@ -34,14 +34,14 @@ fn take_one<T: Drop>(slots: &mut Vec<Option<T>>, number: u8) -> T
 /// them behind what is there.
 fn take_run<T: Drop>(slots: &mut Vec<Option<T>>, number: u8, count: u8, consumed: &mut Vec<T>)
     requires sized { length slots.old.items ≡ 256 }
-    requires full { (i : ℕ) → 0 < i → i < count →
-        is_some (kept_at slots.old.items ((number + i) % 256)) ≡ true }
+    requires full { (i : ℕ) → 0 < i → i < count
+        → is_some (kept_at slots.old.items ((number + i) % 256)) ≡ true }
     requires room { vec_len consumed.old + count ≤ vec_capacity consumed.old + 1 }
     ensures taken { map Some consumed.new.items ≡ map Some consumed.old.items ++
         map (λ i. kept_at slots.old.items ((number + i) % 256)) (range_with_len 1 (count - 1)) }
     ensures sized { length slots.new.items ≡ 256 }
-    ensures others { (x : ℕ) → x < 256 → (0 < ahead x number → count ≤ ahead x number) →
-        kept_at slots.new.items x ≡ kept_at slots.old.items x }
+    ensures others { (x : ℕ) → x < 256 → (0 < ahead x number → count ≤ ahead x number)
+        → kept_at slots.new.items x ≡ kept_at slots.old.items x }
 {
     for distance in 1..count {
         consumed.push_reserved(take_one(slots, number.wrapping_add(distance)));
@@ -64,8 +64,8 @@ pub(crate) fn place<T: Drop>(
     requires room { (n : ℕ) → step ≡ Step.Consumed n → n ≤ vec_capacity consumed }
     ensures consumed { map Some result.items ≡ consumed_with slots.old.items number payload step }
     ensures sized { length slots.new.items ≡ 256 }
-    ensures others { (x : ℕ) → x < 256 → IsBeyond x number step →
-        kept_at slots.new.items x ≡ kept_at (placed slots.old.items number payload step) x }
+    ensures others { (x : ℕ) → x < 256 → IsBeyond x number step
+        → kept_at slots.new.items x ≡ kept_at (placed slots.old.items number payload step) x }
 {
     if let Step::Consumed(count) = step {
         consumed.push_reserved(payload);

@@ -32,7 +32,8 @@ impl Model for Feed {
 
     ghost view = { λ f. drop f.start f.buffer.items };
 
-    ghost invariant = { λ f. (2 * f.start ≤ vec_len f.buffer) × (vec_len f.buffer ≤ f.start + most_waiting) };
+    ghost invariant = { λ f. (2 * f.start ≤ vec_len f.buffer)
+        × (vec_len f.buffer ≤ f.start + most_waiting) };
 }
 
 /// What waits.

@@ -95,8 +95,8 @@ impl Metric {
 }
 
 fn copied_metrics(alloc: Global, metrics: &[Metric]) -> Result<Vec<Metric>, AllocError>
-    ensures same { IfOk result (λ copies. map metric_view copies.items ≡
-        map metric_view metrics.now) }
+    ensures same { IfOk result (λ copies. map metric_view copies.items
+        ≡ map metric_view metrics.now) }
     ensures memory { OnErr result (0 < length metrics.now) }
 {
     let mut copies = Vec::with_capacity(alloc, metrics.len())?;

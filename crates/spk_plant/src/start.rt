@@ -174,7 +174,8 @@ fn host_of(
     width: Width,
 ) -> Result<Host, PlantFault>
     ensures host { IfOk result (λ h. h ≡ new_host (host_config group.now name.now wait width)) }
-    ensures good { OnOk result (host_names.is_good (host_config group.now name.now wait width) ≡ true) }
+    ensures good { OnOk result
+        (host_names.is_good (host_config group.now name.now wait width) ≡ true) }
     ensures fault { IfErr result (λ e. (e ≡ PlantFault.NoMemory) ⊎ ((e ≡ PlantFault.BadPlan)
         × (host_names.is_good (host_config group.now name.now wait width) ≡ true → ⊥))) }
 {

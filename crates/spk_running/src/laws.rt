@@ -26,45 +26,55 @@ ghost use Rattle.spk_running.specs.Standing.{IsSubscribed, has_connection_at, ha
 /// edge nodes are the plan's, with the inputs that the report has of each.
 pub fn plant()
     // the log meets what the laws on logs of a plant ask
-    ensures is_plant { (p : Plan) (r : Report) → CanRun p → IsMade p → (ran : RunsAs p r) →
-        IsPlant p.width (length p.nodes.items) (setup_at p) (inputs_at r) (host_in p) (told_in r.given.items) ran.log }
+    ensures is_plant { (p : Plan) (r : Report) → CanRun p → IsMade p → (ran : RunsAs p r)
+        → IsPlant p.width (length p.nodes.items) (setup_at p) (inputs_at r) (host_in p)
+        (told_in r.given.items) ran.log }
 
     // what the report says that a node published is what the rules publish for its inputs, each with the number of its position
-    ensures published { (p : Plan) (r : Report) (k : ℕ) (x : NodeReport) → RunsAs p r → slice_get r.nodes.items k ≡ Some x →
-        map message_view x.published.items ≡ messages_from (setup_at p k) (published_at p r k) 0 }
+    ensures published { (p : Plan) (r : Report) (k : ℕ) (x : NodeReport) → RunsAs p r
+        → slice_get r.nodes.items k ≡ Some x
+        → map message_view x.published.items ≡ messages_from (setup_at p k) (published_at p r k) 0 }
 
     // a node opens at most 200 connections, as many as its script may ask for
-    ensures opened { (p : Plan) (r : Report) (k : ℕ) → CanRun p → RunsAs p r → k < length p.nodes.items →
-        opened (run_of (setup_at p k) (inputs_at r k)) ≤ 200 }
+    ensures opened { (p : Plan) (r : Report) (k : ℕ) → CanRun p → RunsAs p r
+        → k < length p.nodes.items
+        → opened (run_of (setup_at p k) (inputs_at r k)) ≤ 200 }
 {}
 
 /// What holds between the lists of a report, for every width of 1 to 96 and whatever the threads did: no window is asked for.
 pub fn running()
     // as many numbered messages of a node were taken as it published
-    ensures counted { (p : Plan) (r : Report) (k : ℕ) → CanRun p → IsMade p → (ran : RunsAs p r) → k < length p.nodes.items →
-        count_numbered (is_topic_at p k) k ran.log ≡ length (published_at p r k) }
+    ensures counted { (p : Plan) (r : Report) (k : ℕ) → CanRun p → IsMade p → (ran : RunsAs p r)
+        → k < length p.nodes.items
+        → count_numbered (is_topic_at p k) k ran.log ≡ length (published_at p r k) }
 
     // what the host's ring got of a node are positions of what the node published, in order, each once, and from the first to the last
     // fewer are missing than refusals close the host's connection
-    ensures few { (p : Plan) (r : Report) (k : ℕ) → CanRun p → IsMade p → (ran : RunsAs p r) → k < length p.nodes.items →
-        IsFew (256 - 2 * p.width) (length (published_at p r k)) (shown_at p ran.log k) }
+    ensures few { (p : Plan) (r : Report) (k : ℕ) → CanRun p → IsMade p → (ran : RunsAs p r)
+        → k < length p.nodes.items
+        → IsFew (256 - 2 * p.width) (length (published_at p r k)) (shown_at p ran.log k) }
 
     // where no send to the host was refused, these are all that were due to it
-    ensures complete { (p : Plan) (r : Report) (k : ℕ) → CanRun p → IsMade p → (ran : RunsAs p r) → k < length p.nodes.items →
-        r.refused ≡ 0 → due_at p ran.log k ≡ shown_at p ran.log k }
+    ensures complete { (p : Plan) (r : Report) (k : ℕ) → CanRun p → IsMade p → (ran : RunsAs p r)
+        → k < length p.nodes.items
+        → r.refused ≡ 0 → due_at p ran.log k ≡ shown_at p ran.log k }
 
     // What the host was told of a node was read at the positions shown, one by one, and at every moment of it the order is kept: what was
     // consumed by then is birth by birth a prefix, it stands only for a cause, after a gap nothing is consumed but a newer birth, nothing
     // of a dead session, and each birth is taken but for the two causes.
-    ensures heard { (p : Plan) (r : Report) (k : ℕ) → CanRun p → IsMade p → (ran : RunsAs p r) → k < length p.nodes.items →
-        KeepsOrder (setup_at p k) (published_at p r k) p.wait p.width (shown_at p ran.log k)
-        (node_calls (asked (told_in r.given.items)) (setup_at p k).config.group (setup_at p k).config.node) }
+    ensures heard { (p : Plan) (r : Report) (k : ℕ) → CanRun p → IsMade p → (ran : RunsAs p r)
+        → k < length p.nodes.items
+        → KeepsOrder (setup_at p k) (published_at p r k) p.wait p.width (shown_at p ran.log k)
+        (node_calls (asked (told_in r.given.items)) (setup_at p k).config.group
+        (setup_at p k).config.node) }
 
     // And what it consumed of the node is, birth by birth in increasing order, the first messages that the node published under that
     // birth, each once, as they were published.
-    ensures consumed { (p : Plan) (r : Report) (k : ℕ) → CanRun p → IsMade p → RunsAs p r → k < length p.nodes.items →
-        HandsOutFronts (setup_at p k) (published_at p r k)
-        (flat_map (consumed_for (setup_at p k).config.group (setup_at p k).config.node) r.given.items) }
+    ensures consumed { (p : Plan) (r : Report) (k : ℕ) → CanRun p → IsMade p → RunsAs p r
+        → k < length p.nodes.items
+        → HandsOutFronts (setup_at p k) (published_at p r k)
+        (flat_map
+        (consumed_for (setup_at p k).config.group (setup_at p k).config.node) r.given.items) }
 {
     plant();
     spk_relay::laws::relayed();
@@ -77,28 +87,38 @@ pub fn running()
 /// did. `before` are the entries of the log up to a moment, and `later` those from it on.
 pub fn uncut()
     // the host's ring stands at every moment, until the end of each edge node was taken
-    ensures standing { (p : Plan) (r : Report) → (ran : RunsAs p r) → r.is_cut ≡ false → (later before : List Entry) →
-        ran.log ≡ later ++ before → have_nodes_ended p before ≡ false → rings_at p before ≡ true }
+    ensures standing { (p : Plan) (r : Report) → (ran : RunsAs p r) → r.is_cut ≡ false
+        → (later before : List Entry)
+        → ran.log ≡ later ++ before → have_nodes_ended p before ≡ false → rings_at p before ≡ true }
 
     // once the host is subscribed to a node's numbered messages, it stays so
-    ensures subscribed { (p : Plan) (r : Report) (k : ℕ) → CanRun p → IsMade p → (ran : RunsAs p r) → k < length p.nodes.items →
-        r.is_cut ≡ false → (later middle before : List Entry) → ran.log ≡ later ++ (middle ++ before) →
-        IsSubscribed p k before → IsSubscribed p k (middle ++ before) }
+    ensures subscribed { (p : Plan) (r : Report) (k : ℕ) → CanRun p → IsMade p → (ran : RunsAs p r)
+        → k < length p.nodes.items
+        → r.is_cut ≡ false → (later middle before : List Entry) → ran.log
+        ≡ later ++ (middle ++ before)
+        → IsSubscribed p k before → IsSubscribed p k (middle ++ before) }
 
     // and it is, where its ring got one of them, the node's connection stands and not all edge nodes have ended
-    ensures begun { (p : Plan) (r : Report) (k : ℕ) → CanRun p → IsMade p → (ran : RunsAs p r) → k < length p.nodes.items →
-        r.is_cut ≡ false → (later before : List Entry) → ran.log ≡ later ++ before → have_nodes_ended p before ≡ false →
-        has_connection_at p before k ≡ true → (shown_at p before k ≡ [] → ⊥) → IsSubscribed p k before }
+    ensures begun { (p : Plan) (r : Report) (k : ℕ) → CanRun p → IsMade p → (ran : RunsAs p r)
+        → k < length p.nodes.items
+        → r.is_cut ≡ false → (later before : List Entry) → ran.log ≡ later ++ before
+        → have_nodes_ended p before ≡ false
+        → has_connection_at p before k ≡ true → (shown_at p before k ≡ [] → ⊥)
+        → IsSubscribed p k before }
 
     // so all of them that are taken from then on, while the node's connection stands, are due to the host
-    ensures due { (p : Plan) (r : Report) (k : ℕ) → CanRun p → IsMade p → (ran : RunsAs p r) → k < length p.nodes.items →
-        r.is_cut ≡ false → (later before : List Entry) → ran.log ≡ later ++ before → IsSubscribed p k before →
-        due_at p ran.log k ≡ since_at p k later before ++ due_at p before k }
+    ensures due { (p : Plan) (r : Report) (k : ℕ) → CanRun p → IsMade p → (ran : RunsAs p r)
+        → k < length p.nodes.items
+        → r.is_cut ≡ false → (later before : List Entry) → ran.log ≡ later ++ before
+        → IsSubscribed p k before
+        → due_at p ran.log k ≡ since_at p k later before ++ due_at p before k }
 
     // and where no send to the host was refused, its ring got each of them
-    ensures shown { (p : Plan) (r : Report) (k : ℕ) → CanRun p → IsMade p → (ran : RunsAs p r) → k < length p.nodes.items →
-        r.is_cut ≡ false → r.refused ≡ 0 → (later before : List Entry) → ran.log ≡ later ++ before → IsSubscribed p k before →
-        shown_at p ran.log k ≡ since_at p k later before ++ due_at p before k }
+    ensures shown { (p : Plan) (r : Report) (k : ℕ) → CanRun p → IsMade p → (ran : RunsAs p r)
+        → k < length p.nodes.items
+        → r.is_cut ≡ false → r.refused ≡ 0 → (later before : List Entry) → ran.log ≡ later ++ before
+        → IsSubscribed p k before
+        → shown_at p ran.log k ≡ since_at p k later before ++ due_at p before k }
 {
     spk_broker_rules::laws::any_list();
     spk_broker_rules::laws::routing();
@@ -117,12 +137,14 @@ pub fn uncut()
 /// and by `taken`, without the log.
 pub fn placed()
     // those lists give the positions that the host's ring got
-    ensures shown { (p : Plan) (r : Report) (k : ℕ) → CanRun p → IsMade p → (ran : RunsAs p r) → k < length p.nodes.items →
-        ArePlacedAt p r k (shown_at p ran.log k) }
+    ensures shown { (p : Plan) (r : Report) (k : ℕ) → CanRun p → IsMade p → (ran : RunsAs p r)
+        → k < length p.nodes.items
+        → ArePlacedAt p r k (shown_at p ran.log k) }
 
     // and no others
-    ensures only { (p : Plan) (r : Report) (k : ℕ) (one other : List ℕ) → ArePlacedAt p r k one → ArePlacedAt p r k other →
-        one ≡ other }
+    ensures only { (p : Plan) (r : Report) (k : ℕ) (one other : List ℕ) → ArePlacedAt p r k one
+        → ArePlacedAt p r k other
+        → one ≡ other }
 {
     spk_packets::laws::prefix_free();
     spk_packets::laws::spelling_spells();
@@ -134,11 +156,14 @@ pub fn placed()
 /// The deaths that the host was told of a node, however what it was told is read at positions.
 pub fn deaths()
     // each is read as the death of the one session with its bdSeq: the node opened no other session that has it
-    ensures { (p : Plan) (r : Report) (k : ℕ) → CanRun p → RunsAs p r → k < length p.nodes.items → (positions : List ℕ) →
-        (h : IsHeard (setup_at p k) (published_at p r k) p.wait p.width positions
-        (node_calls (asked (told_in r.given.items)) (setup_at p k).config.group (setup_at p k).config.node)) →
-        AreDeathsOf (setup_at p k) (opened (run_of (setup_at p k) (inputs_at r k))) h.inputs
-        (node_calls (asked (told_in r.given.items)) (setup_at p k).config.group (setup_at p k).config.node) }
+    ensures { (p : Plan) (r : Report) (k : ℕ) → CanRun p → RunsAs p r → k < length p.nodes.items
+        → (positions : List ℕ)
+        → (h : IsHeard (setup_at p k) (published_at p r k) p.wait p.width positions
+        (node_calls (asked (told_in r.given.items)) (setup_at p k).config.group
+        (setup_at p k).config.node))
+        → AreDeathsOf (setup_at p k) (opened (run_of (setup_at p k) (inputs_at r k))) h.inputs
+        (node_calls (asked (told_in r.given.items)) (setup_at p k).config.group
+        (setup_at p k).config.node) }
 {
     plant();
 }

@@ -23,35 +23,37 @@ use crate::phase::Phase;
 pub fn positions()
     // each event on numbers is the event on positions, if deaths and the birth handed are of near sessions
     ensures same_steps { (s : Setting) (inputs : List Input) (input : Input)
-        → IsLawful s (input ∷ inputs) →
-        AllNearDeaths s (input ∷ inputs) →
-        IsNearBirth s (record_of s inputs) input → SameStep s inputs input }
+        → IsLawful s (input ∷ inputs)
+        → AllNearDeaths s (input ∷ inputs)
+        → IsNearBirth s (record_of s inputs) input → SameStep s inputs input }
 
     // the phase is Live exactly while the host follows, and then `next` is that of the positions
     ensures live { (s : Setting) (inputs : List Input) → IsLawful s inputs
         → IsLiveByPositions s inputs }
 
     // birth by birth in increasing order, what was consumed is a prefix of that birth's messages
-    ensures fronts { (s : Setting) (inputs : List Input) → IsLawful s inputs →
-        BirthPrefixes s.published (consumed_of (record_of s inputs)) }
+    ensures fronts { (s : Setting) (inputs : List Input) → IsLawful s inputs
+        → BirthPrefixes s.published (consumed_of (record_of s inputs)) }
 
     // while the host does not follow, as after a gap, nothing is consumed but a newer birth
     ensures after_gap { (s : Setting) (inputs : List Input) (input : Input)
-        → IsLawful s (input ∷ inputs) →
-        AfterGap s (record_of s inputs) (done_at s (record_of s inputs) (standing_of s inputs) input) }
+        → IsLawful s (input ∷ inputs)
+        → AfterGap s (record_of s inputs)
+        (done_at s (record_of s inputs) (standing_of s inputs) input) }
 
     // nothing is consumed of a session whose matching death came, inside the window or not
     ensures after_death { (s : Setting) (inputs : List Input) (input : Input)
-        → IsNodeRecord s.published →
-        0 < s.width → s.width ≤ 96 → AllPublished s (input ∷ inputs) →
-        AfterDeath s (record_of s inputs) (done_at s (record_of s inputs) (standing_of s inputs) input) }
+        → IsNodeRecord s.published
+        → 0 < s.width → s.width ≤ 96 → AllPublished s (input ∷ inputs)
+        → AfterDeath s (record_of s inputs)
+        (done_at s (record_of s inputs) (standing_of s inputs) input) }
 
     // a birth of a near session is taken but for the two causes, if deaths are of near sessions
     ensures births { (s : Setting) (inputs : List Input) (p now : ℕ)
-        → IsLawful s (MessageComes p now ∷ inputs) →
-        AllNearDeaths s (MessageComes p now ∷ inputs) →
-        IsNearBirth s (record_of s inputs) (MessageComes p now) →
-        TakesBirth s (record_of s inputs) p
+        → IsLawful s (MessageComes p now ∷ inputs)
+        → AllNearDeaths s (MessageComes p now ∷ inputs)
+        → IsNearBirth s (record_of s inputs) (MessageComes p now)
+        → TakesBirth s (record_of s inputs) p
         (done_at s (record_of s inputs) (standing_of s inputs) (MessageComes p now)) }
 
     // wherever consumption stands, it stands for a cause
@@ -60,27 +62,27 @@ pub fn positions()
 
     // the birth taken after an event
     ensures taken { (s : Setting) (inputs : List Input) (input : Input)
-        → IsLawful s (input ∷ inputs) →
-        taken s (record_of s (input ∷ inputs)) ≡
-        taken_by s (record_of s inputs) input
+        → IsLawful s (input ∷ inputs)
+        → taken s (record_of s (input ∷ inputs))
+        ≡ taken_by s (record_of s inputs) input
         (done_at s (record_of s inputs) (standing_of s inputs) input).consumed }
 
     // the birth taken was published, and is an NBIRTH
-    ensures taken_opens { (s : Setting) (inputs : List Input) (b : ℕ) → IsLawful s inputs →
-        taken s (record_of s inputs) ≡ Some b → IsOpening s.published b }
+    ensures taken_opens { (s : Setting) (inputs : List Input) (b : ℕ) → IsLawful s inputs
+        → taken s (record_of s inputs) ≡ Some b → IsOpening s.published b }
 
     // the consumed list ends with the messages of the birth taken, up to the last one consumed
     ensures last_part { (s : Setting) (inputs : List Input) → IsLawful s inputs
         → EndsWithTaken s (record_of s inputs) }
 
     // what was done, and every query on it, is the same when more is published afterwards
-    ensures grows { (s : Setting) (more : NodeRecord) (inputs : List Input) → IsLawful s inputs →
-        IsSameWithMore s more inputs }
+    ensures grows { (s : Setting) (more : NodeRecord) (inputs : List Input) → IsLawful s inputs
+        → IsSameWithMore s more inputs }
 
     // so a lawful list stays lawful, if what is published then is a node record
     ensures still_lawful { (s : Setting) (more : NodeRecord) (inputs : List Input)
-        → IsLawful s inputs →
-        IsNodeRecord (s.published ++ more) → IsLawful (with_more s more) inputs }
+        → IsLawful s inputs
+        → IsNodeRecord (s.published ++ more) → IsLawful (with_more s more) inputs }
 {}
 
 /// On records alone: what was published, and the positions that were handed.
@@ -91,18 +93,18 @@ pub fn records()
     ensures start_below { (published : NodeRecord) (p : ℕ) → start_of published p ≤ p }
 
     // what was handed was published
-    ensures handed { (s : Setting) (inputs : List Input) (p : ℕ) → AllMayCome s inputs →
-        contains p (handed_of (record_of s inputs)) ≡ true → p < length s.published }
+    ensures handed { (s : Setting) (inputs : List Input) (p : ℕ) → AllMayCome s inputs
+        → contains p (handed_of (record_of s inputs)) ≡ true → p < length s.published }
 
     // a message, whether it is an NBIRTH, the start of its birth and its number stay when more is published
-    ensures same_message { (published more : NodeRecord) (p : ℕ) → p < length published →
-        message_at (published ++ more) p ≡ message_at published p }
-    ensures same_opens { (published more : NodeRecord) (p : ℕ) → p < length published →
-        opens (published ++ more) p ≡ opens published p }
-    ensures same_start { (published more : NodeRecord) (p : ℕ) → p < length published →
-        start_of (published ++ more) p ≡ start_of published p }
-    ensures same_number { (s : Setting) (more : NodeRecord) (p : ℕ) → p < length s.published →
-        written_number (with_more s more) p ≡ written_number s p }
+    ensures same_message { (published more : NodeRecord) (p : ℕ) → p < length published
+        → message_at (published ++ more) p ≡ message_at published p }
+    ensures same_opens { (published more : NodeRecord) (p : ℕ) → p < length published
+        → opens (published ++ more) p ≡ opens published p }
+    ensures same_start { (published more : NodeRecord) (p : ℕ) → p < length published
+        → start_of (published ++ more) p ≡ start_of published p }
+    ensures same_number { (s : Setting) (more : NodeRecord) (p : ℕ) → p < length s.published
+        → written_number (with_more s more) p ≡ written_number s p }
 
     // a written number is a byte
     ensures byte { (s : Setting) (p : ℕ) → written_number s p < 256 }
@@ -111,8 +113,8 @@ pub fn records()
 /// What each call does to what is held, by numbers alone, from any data that is whole.
 pub fn numbers()
     // a step eats what was held, adds the one handed, or leaves of what was held what it leaves
-    ensures hand { (s : Standing) (number now : ℕ) (kind : Kind) → number < 256 → IsWhole s →
-        KeepsNumbers s (hand s number kind now).1 number (hand s number kind now).0 }
+    ensures hand { (s : Standing) (number now : ℕ) (kind : Kind) → number < 256 → IsWhole s
+        → KeepsNumbers s (hand s number kind now).1 number (hand s number kind now).0 }
 
     // the data stays whole at a moment and at a death
     ensures tick_whole { (s : Standing) (now : ℕ) → IsWhole s → IsWhole (tick s now) }
@@ -129,13 +131,13 @@ pub fn numbers()
 /// birth that is taken on, until a matching death, another birth that is taken, or a `reset`.
 pub fn in_line()
     ensures live { (calls : List Call) (s : Standing) → IsWhole s → s.phase ≡ Phase.Live
-        → is_any_held s.held ≡ false →
-        IsInLine s.next s.stamp s.bd calls → replies_of s calls ≡ replies_in_line calls }
+        → is_any_held s.held ≡ false
+        → IsInLine s.next s.stamp s.bd calls → replies_of s calls ≡ replies_in_line calls }
 
     ensures birth { (calls : List Call) (s : Standing) (number stamp bd now n : ℕ) → number < 256
-        → IsWhole s →
-        (hand s number (Kind.Birth stamp bd) now).0 ≡ Step.Consumed n →
-        is_any_held (hand s number (Kind.Birth stamp bd) now).1.held ≡ false →
-        IsInLine ((number + n) % 256) stamp bd calls →
-        replies_of (hand s number (Kind.Birth stamp bd) now).1 calls ≡ replies_in_line calls }
+        → IsWhole s
+        → (hand s number (Kind.Birth stamp bd) now).0 ≡ Step.Consumed n
+        → is_any_held (hand s number (Kind.Birth stamp bd) now).1.held ≡ false
+        → IsInLine ((number + n) % 256) stamp bd calls
+        → replies_of (hand s number (Kind.Birth stamp bd) now).1 calls ≡ replies_in_line calls }
 {}

@@ -27,8 +27,8 @@ fn mark(taken: &mut [bool], used: &[u16], last: u16)
     requires clear { taken.old ≡ replicate (length taken.old) false }
     requires ids { All IsId used.now }
     requires short { length taken.old < 65535 }
-    ensures marked { (k : ℕ) → k < length taken.old →
-        get_or taken.new k false ≡ is_in used.now (id_after last k) }
+    ensures marked { (k : ℕ) → k < length taken.old
+        → get_or taken.new k false ≡ is_in used.now (id_after last k) }
     ensures few { count_by (λ b. b) taken.new ≤ length used.now }
 {
     for id in used {

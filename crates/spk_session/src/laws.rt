@@ -10,38 +10,38 @@ ghost use Rattle.spk_session.specs.Calls.{Call, after_calls, replies_of, events_
 /// For every limit and every list of calls of a session, from `new` on.
 pub fn any_list()
     // each call answers what the list of all events before it asks
-    ensures replies { (limit : ℕ) (calls : List Call) → limit < 2 ^ 16 →
-        replies_of (fresh_standing limit) calls ≡ right_replies limit [] calls }
+    ensures replies { (limit : ℕ) (calls : List Call) → limit < 2 ^ 16
+        → replies_of (fresh_standing limit) calls ≡ right_replies limit [] calls }
 
     // in use are the ids given and neither acknowledged nor taken back since, in the order of giving
-    ensures used { (limit : ℕ) (calls : List Call) →
-        (after_calls (fresh_standing limit) calls).used ≡ in_use (events_of [] calls) }
+    ensures used { (limit : ℕ) (calls : List Call)
+        → (after_calls (fresh_standing limit) calls).used ≡ in_use (events_of [] calls) }
 
     // they are distinct, from 1 to 65,535, and at most 1,024
     ensures ids { (calls : List Call) → AreIds (in_use (events_of [] calls)) }
 
     // the next id is the first one behind the last one given that isn't in use
-    ensures next { (used : List ℕ) (last : ℕ) → AreIds used →
-        IsNextFree used last (next_id used last) }
+    ensures next { (used : List ℕ) (last : ℕ) → AreIds used
+        → IsNextFree used last (next_id used last) }
 
     // the id given last
-    ensures last { (limit : ℕ) (calls : List Call) →
-        (after_calls (fresh_standing limit) calls).last ≡ last_given (events_of [] calls) }
+    ensures last { (limit : ℕ) (calls : List Call)
+        → (after_calls (fresh_standing limit) calls).last ≡ last_given (events_of [] calls) }
 {}
 
 /// From any data on, a rewind to the number of ids in use and the id given last undoes each `sent` since, as long as
 /// no id that was in use before is acknowledged, and no rewind in between goes further back. Drops stay.
 pub fn rewound()
-    ensures { (s : Standing) (calls : List Call) → LeavesIds s.used calls →
-        after_rewind (after_calls s calls) (length s.used) s.last ≡
-        record s { drops = (after_calls s calls).drops } }
+    ensures { (s : Standing) (calls : List Call) → LeavesIds s.used calls
+        → after_rewind (after_calls s calls) (length s.used) s.last
+        ≡ record s { drops = (after_calls s calls).drops } }
 {}
 
 /// `Identifiers` and `Budget` alone do what a session that holds both does.
 pub fn parts()
     // a session of two parts goes on as its parts do
-    ensures both { (i : Ids) (d : Drops) (calls : List Call) →
-        after_calls (joined i d) calls
+    ensures both { (i : Ids) (d : Drops) (calls : List Call)
+        → after_calls (joined i d) calls
         ≡ joined (ids_after_calls i calls) (drops_after_calls d calls) }
 
     // in use are the ids given and neither acknowledged nor taken back since, in the order of giving
@@ -51,11 +51,11 @@ pub fn parts()
         → (ids_after_calls fresh_ids calls).last ≡ last_given (events_of [] calls) }
 
     // a rewind to the number in use and the id given last undoes each `sent` since, under the same premise as above
-    ensures rewound { (i : Ids) (calls : List Call) → LeavesIds i.used calls →
-        ids_after_rewind (ids_after_calls i calls) (length i.used) i.last ≡ i }
+    ensures rewound { (i : Ids) (calls : List Call) → LeavesIds i.used calls
+        → ids_after_rewind (ids_after_calls i calls) (length i.used) i.last ≡ i }
 
     // drops count since the budget was made or reopened, up to 65,535
-    ensures drops { (limit : ℕ) (calls : List Call) →
-        (drops_after_calls (fresh_drops limit) calls).drops
+    ensures drops { (limit : ℕ) (calls : List Call)
+        → (drops_after_calls (fresh_drops limit) calls).drops
         ≡ min (drops_of (events_of [] calls)) 65535 }
 {}

@@ -24,10 +24,10 @@ pub fn any_list()
         → a ≡ b }
 
     // ignored is exactly what is earlier than one that came before
-    ensures ignored { (states : List State) (s : State) →
-        (heard_as (after_all None states) s ≡ Heard.Ignored) ↔ IsEarlier s states }
+    ensures ignored { (states : List State) (s : State)
+        → (heard_as (after_all None states) s ≡ Heard.Ignored) ↔ IsEarlier s states }
 
     // all else is heard as it says
-    ensures heard { (states : List State) (s : State) → (IsEarlier s states → ⊥) →
-        heard_as (after_all None states) s ≡ host_is s }
+    ensures heard { (states : List State) (s : State) → (IsEarlier s states → ⊥)
+        → heard_as (after_all None states) s ≡ host_is s }
 {}

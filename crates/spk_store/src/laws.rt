@@ -10,25 +10,26 @@ ghost use Rattle.spk_store.specs.Kept.{pushed, place_of, kept_of, count_of, lost
 /// drops more changes than are kept.
 pub fn any_list<X>()
     // the kept changes are those pushed from a place on
-    ensures kept { (capacity : ℕ) (calls : List (Call X)) → IsLawful capacity calls →
-        (store_of capacity calls).items ≡ kept_of capacity calls }
+    ensures kept { (capacity : ℕ) (calls : List (Call X)) → IsLawful capacity calls
+        → (store_of capacity calls).items ≡ kept_of capacity calls }
 
     // the place is one of the list's, or its end
-    ensures place { (capacity : ℕ) (calls : List (Call X)) → IsLawful capacity calls →
-        place_of capacity calls ≤ length (pushed calls) }
+    ensures place { (capacity : ℕ) (calls : List (Call X)) → IsLawful capacity calls
+        → place_of capacity calls ≤ length (pushed calls) }
 
     // no more are kept than there may be
-    ensures few { (capacity : ℕ) (calls : List (Call X)) → IsLawful capacity calls →
-        count_of capacity calls ≤ capacity }
+    ensures few { (capacity : ℕ) (calls : List (Call X)) → IsLawful capacity calls
+        → count_of capacity calls ≤ capacity }
 
     // a push onto a full store hands back the change at the place
-    ensures overwritten { (capacity : ℕ) (calls : List (Call X)) (x : X) → IsLawful capacity calls →
-        overwritten (store_of capacity calls) x ≡ (if nat_le capacity (count_of capacity calls) then
+    ensures overwritten { (capacity : ℕ) (calls : List (Call X)) (x : X) → IsLawful capacity calls
+        → overwritten (store_of capacity calls) x
+        ≡ (if nat_le capacity (count_of capacity calls) then
         slice_get (pushed (Push x ∷ calls)) (place_of capacity calls) else None) }
 
     // what is lost is counted, up to the greatest u64
-    ensures lost { (capacity : ℕ) (calls : List (Call X)) → IsLawful capacity calls →
-        (store_of capacity calls).lost ≡ min (lost_of capacity calls) (2 ^ 64 - 1) }
+    ensures lost { (capacity : ℕ) (calls : List (Call X)) → IsLawful capacity calls
+        → (store_of capacity calls).lost ≡ min (lost_of capacity calls) (2 ^ 64 - 1) }
 
     // two changes have one owner exactly where their owners are equal
     ensures owners { (a b : Owner) → (is_owner a b ≡ true) ↔ (a ≡ b) }

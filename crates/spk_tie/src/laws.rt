@@ -16,10 +16,10 @@ ghost use Rattle.spk_tie.specs.Tie.{GivesWill, IsDeathOf, ReadsDeath, ReadsMessa
 /// The names of the node and its registry can stand in topics, and no metric of the registry is named as the node's own:
 /// `EdgeNode::new` and every registry see to it.
 pub fn messages()
-    ensures { (s : Setup) (later is : List Input) (p : ℕ) (m : Message) (bytes : List ℕ) →
-        HasNames s → IsUnreserved s → slice_get (published (run_of s is)) p ≡ Some m →
-        IsWhole bytes s.config (number_at s (published (run_of s is)) p) m.draft →
-        ReadsMessage s (published (run_of s (later ++ is))) p m bytes }
+    ensures { (s : Setup) (later is : List Input) (p : ℕ) (m : Message) (bytes : List ℕ)
+        → HasNames s → IsUnreserved s → slice_get (published (run_of s is)) p ≡ Some m
+        → IsWhole bytes s.config (number_at s (published (run_of s is)) p) m.draft
+        → ReadsMessage s (published (run_of s (later ++ is))) p m bytes }
 {
     spk_edge_rules::laws::any_list();
     spk_edge_rules::laws::published();
@@ -34,21 +34,21 @@ pub fn messages()
 pub fn deaths()
     // the NDEATH of a session that was opened at a moment
     ensures read { (s : Setup) (session time qos : ℕ) (dup retain : Bool) (id : Option ℕ)
-        (bytes : List ℕ) → HasNames s → time < 2 ^ 63 →
-        IsDeathOf s session time dup qos retain id bytes →
-        ReadsDeath s session (ack_of qos id) bytes }
+        (bytes : List ℕ) → HasNames s → time < 2 ^ 63
+        → IsDeathOf s session time dup qos retain id bytes
+        → ReadsDeath s session (ack_of qos id) bytes }
 
     // an Open gives a CONNECT with the will of the session that it opens
-    ensures wills { (s : Setup) (is : List Input) (i : Input) (answer : Answer) → HasNames s →
-        i.act ≡ Open → i.ack ≡ None → right_at s (run_of s is) i ≡ Ok answer →
-        GivesWill s (opened (run_of s is)) answer.packets }
+    ensures wills { (s : Setup) (is : List Input) (i : Input) (answer : Answer) → HasNames s
+        → i.act ≡ Open → i.ack ≡ None → right_at s (run_of s is) i ≡ Ok answer
+        → GivesWill s (opened (run_of s is)) answer.packets }
 
     // a node that ends its session in order sends the NDEATH of the session opened last
     ensures farewells { (s : Setup) (is : List Input) (first : packets.Message)
-        (rest : List packets.Message) (bytes : List ℕ) → HasNames s →
-        farewell s.config (asked_of s (run_of s is)).will_bd (asked_of s (run_of s is)).will_time ≡
-        first ∷ rest → Spells bytes first →
-        ReadsDeath s (opened (run_of s is) - 1) (Some 2) bytes }
+        (rest : List packets.Message) (bytes : List ℕ) → HasNames s
+        → farewell s.config (asked_of s (run_of s is)).will_bd (asked_of s (run_of s is)).will_time
+        ≡ first ∷ rest → Spells bytes first
+        → ReadsDeath s (opened (run_of s is) - 1) (Some 2) bytes }
 {
     spk_edge_rules::laws::published();
     spk_edge_rules::laws::messages();

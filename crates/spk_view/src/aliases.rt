@@ -40,8 +40,9 @@ impl Aliases {
 
     /// Enters the place of an alias, if there is one.
     pub(crate) fn enter(&mut self, alias: Option<u64>, place: usize) -> Result<(), AllocError>
-        ensures { OnOk result ((q : ℕ) →
-            place_in self.new q ≡ (if is_alias alias q then Some place else place_in self.old q)) }
+        ensures { OnOk result ((q : ℕ)
+            → place_in self.new q
+            ≡ (if is_alias alias q then Some place else place_in self.old q)) }
     {
         if let Some(alias) = alias {
             self.table.insert(alias, place)?;

@@ -79,8 +79,8 @@ impl DeviceView {
 
     /// Its metric that a metric of data means: that of its alias or, without one, of its name (6.4.5).
     pub fn meant_by(&self, metric: &Metric) -> Option<&MetricView>
-        ensures { option_copied result ≡
-            find (λ r. is_name (meaning self.now.rows (metric_view metric.now)) r.name)
+        ensures { option_copied result
+            ≡ find (λ r. is_name (meaning self.now.rows (metric_view metric.now)) r.name)
             self.now.rows }
     {
         self.table.meant_by(metric)
@@ -149,7 +149,8 @@ impl DeviceView {
     /// Data of it are shown, if it was born.
     pub(crate) fn show_all(&mut self, metrics: Vec<Metric>)
         ensures { self.new ≡ record self.old {
-          rows = if self.old.born then show_all (map metric_view metrics.items) self.old.rows else self.old.rows;
+          rows = if self.old.born then show_all
+              (map metric_view metrics.items) self.old.rows else self.old.rows;
         } }
     {
         if self.born {

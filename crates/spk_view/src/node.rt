@@ -74,8 +74,8 @@ impl NodeView {
 
     /// The node's own metric that a metric of data means: that of its alias or, without one, of its name (6.4.5).
     pub fn meant_by(&self, metric: &Metric) -> Option<&MetricView>
-        ensures { option_copied result ≡
-            find (λ r. is_name (meaning self.now.view.rows (metric_view metric.now)) r.name)
+        ensures { option_copied result
+            ≡ find (λ r. is_name (meaning self.now.view.rows (metric_view metric.now)) r.name)
             self.now.view.rows }
     {
         self.table.meant_by(metric)

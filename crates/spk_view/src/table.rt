@@ -75,8 +75,8 @@ fn place(
     requires named { IsNamed rows.old.items names.old }
     ensures rows { OnOk result (rows.new.items ≡ placed row rows.old.items) }
     ensures named { OnOk result (IsNamed rows.new.items names.new) }
-    ensures others { IfOk result (λ place. (k : ℕ) (r : Row) → slice_get rows.new.items k ≡ Some r →
-        ((k ≡ place) × (r ≡ row)) ⊎ (slice_get rows.old.items k ≡ Some r)) }
+    ensures others { IfOk result (λ place. (k : ℕ) (r : Row) → slice_get rows.new.items k ≡ Some r
+        → ((k ≡ place) × (r ≡ row)) ⊎ (slice_get rows.old.items k ≡ Some r)) }
 {
     match names.find(key.as_str()) {
         Some(place) => {
@@ -164,8 +164,8 @@ impl Table {
 
     /// The metric that a metric of data means.
     pub(crate) fn meant_by(&self, metric: &Metric) -> Option<&MetricView>
-        ensures { option_copied result ≡
-            find (λ r. is_name (meaning self.now (metric_view metric.now)) r.name) self.now }
+        ensures { option_copied result
+            ≡ find (λ r. is_name (meaning self.now (metric_view metric.now)) r.name) self.now }
     {
         let place = self.place_of(metric.alias, &metric.name)?;
         self.rows.get(place)

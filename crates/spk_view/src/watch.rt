@@ -81,10 +81,10 @@ impl Watch {
     /// It takes no memory. The message comes back, and nothing has changed, exactly where it is the birth of a device
     /// that isn't in the view and there is no room for one more.
     pub fn consume(&mut self, wait: u64, ready: Ready, now: u64) -> Result<bool, Ready>
-        ensures asks { (m : Message) → prepared m ≡ ready →
-            IfOk result (λ asks. asks ≡ rules.asks wait self.old.watch (Consumed m now)) }
-        ensures watch { (m : Message) → prepared m ≡ ready →
-            OnOk result (self.new.watch ≡ rules.step wait self.old.watch (Consumed m now)) }
+        ensures asks { (m : Message) → prepared m ≡ ready
+            → IfOk result (λ asks. asks ≡ rules.asks wait self.old.watch (Consumed m now)) }
+        ensures watch { (m : Message) → prepared m ≡ ready
+            → OnOk result (self.new.watch ≡ rules.step wait self.old.watch (Consumed m now)) }
         ensures room { OnOk result
             (self.new.room + (if takes_room self.old.watch.view ready then 1 else 0)
             ≡ self.old.room) }

@@ -38,7 +38,8 @@ fn tell(
     session: u64,
     now: u64,
 ) -> Result<Match, WorldFault>
-    ensures done { IfOk result (IsTold host.old (track_view track.now) node.now session now host.new) }
+    ensures done { IfOk result
+        (IsTold host.old (track_view track.now) node.now session now host.new) }
     ensures passed { OnOk result (test.death_test node.now (track_view track.now) session ≡ None) }
     ensures refused { IfErr result (IsUntold host.old (track_view track.now) node.now session) }
     ensures unchanged { OnErr result (host.new ≡ host.old) }
@@ -65,10 +66,14 @@ impl Member {
         now: u64,
     ) -> Result<Match, WorldFault>
         requires { number < length self.old.tracks }
-        ensures done { IfOk result (IsTold self.old.host (test.track_at self.old number) node.now session now self.new.host) }
+        ensures done { IfOk result
+            (IsTold self.old.host
+            (test.track_at self.old number) node.now session now self.new.host) }
         ensures tracks { self.new.tracks ≡ self.old.tracks }
-        ensures passed { OnOk result (test.death_test node.now (test.track_at self.old number) session ≡ None) }
-        ensures refused { IfErr result (IsUntold self.old.host (test.track_at self.old number) node.now session) }
+        ensures passed { OnOk result
+            (test.death_test node.now (test.track_at self.old number) session ≡ None) }
+        ensures refused { IfErr result
+            (IsUntold self.old.host (test.track_at self.old number) node.now session) }
         ensures unchanged { OnErr result (self.new ≡ self.old) }
     {
         tell(

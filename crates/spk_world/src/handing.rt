@@ -22,7 +22,8 @@ use std::alloc::Global;
 
 /// Whether the numbers of a node restart, and the NBIRTH of a message's birth wasn't handed before it.
 fn overtakes(node: &Node, track: &Track, position: u64) -> bool
-    ensures { result ≡ test.overtakes_at node.now.node.config.numbering node.now (track_view track.now) position }
+    ensures { result ≡ test.overtakes_at node.now.node.config.numbering node.now
+        (track_view track.now) position }
 {
     match node.config().numbering {
         Numbering::RunsOn => false,
@@ -39,7 +40,9 @@ fn judge(
     position: u64,
     message: &Published,
 ) -> Result<(), WorldFault>
-    ensures { IsJudged result (test.message_test host.now node.now (track_view track.now) position (published_view message.now)) }
+    ensures { IsJudged result
+        (test.message_test host.now node.now (track_view track.now) position
+        (published_view message.now)) }
 {
     let width = host.config().width.get();
     if track.is_outside(width, follows(host, node), position) {
@@ -80,8 +83,11 @@ fn hand(
     position: u64,
     now: u64,
 ) -> Result<Step, WorldFault>
-    ensures done { IfOk result (IsHanded host.old (track_view track.old) node.now position now host.new (track_view track.new)) }
-    ensures passed { OnOk result (message_refusal_at host.old (track_view track.old) node.now position ≡ None) }
+    ensures done { IfOk result
+        (IsHanded host.old (track_view track.old) node.now position now host.new
+        (track_view track.new)) }
+    ensures passed { OnOk result
+        (message_refusal_at host.old (track_view track.old) node.now position ≡ None) }
     ensures refused { IfErr result (IsUnhanded host.old (track_view track.old) node.now position) }
     ensures host { OnErr result (host.new ≡ host.old) }
     ensures track { OnErr result (track_view track.new ≡ track_view track.old) }
@@ -117,8 +123,10 @@ impl Member {
         requires { number < length self.old.tracks }
         ensures done { IfOk result (IsHandedTo self.old number node.now position now self.new) }
         ensures passed { OnOk result
-            (message_refusal_at self.old.host (test.track_at self.old number) node.now position ≡ None) }
-        ensures refused { IfErr result (IsUnhanded self.old.host (test.track_at self.old number) node.now position) }
+            (message_refusal_at self.old.host (test.track_at self.old number) node.now position
+            ≡ None) }
+        ensures refused { IfErr result
+            (IsUnhanded self.old.host (test.track_at self.old number) node.now position) }
         ensures unchanged { OnErr result (self.new ≡ self.old) }
     {
         hand(

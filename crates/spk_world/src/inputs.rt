@@ -16,8 +16,10 @@ use spk_topics::Verb;
 impl World {
     /// An act comes to a node, and nothing is to be acknowledged.
     pub(crate) fn act(&mut self, node: usize, now: u64, act: Act<'_>) -> Result<Done, WorldFault>
-        ensures done { IfOk result (IsDone self.old (file.at_node node now (act_view act.entry)) self.new) }
-        ensures refused { IfErr result (IsRefused self.old (file.at_node node now (act_view act.entry))) }
+        ensures done { IfOk result
+            (IsDone self.old (file.at_node node now (act_view act.entry)) self.new) }
+        ensures refused { IfErr result
+            (IsRefused self.old (file.at_node node now (act_view act.entry))) }
         ensures unchanged { OnErr result (self.new ≡ self.old) }
     {
         if node >= self.nodes.len() {
@@ -35,7 +37,8 @@ impl World {
     pub(crate) fn ask_rebirth(&mut self, node: usize, now: u64) -> Result<Done, WorldFault>
         ensures done { IfOk result (IsDone self.old
             (file.deed_of (configs_at self.old) (file.Rebirth node now)) self.new) }
-        ensures refused { IfErr result (IsRefused self.old (file.deed_of (configs_at self.old) (file.Rebirth node now))) }
+        ensures refused { IfErr result
+            (IsRefused self.old (file.deed_of (configs_at self.old) (file.Rebirth node now))) }
         ensures unchanged { OnErr result (self.new ≡ self.old) }
     {
         if node >= self.nodes.len() {
@@ -54,8 +57,10 @@ impl World {
         online: bool,
         timestamp: u64,
     ) -> Result<Done, WorldFault>
-        ensures done { IfOk result (IsDone self.old (file.at_node node now (file.state_of online timestamp)) self.new) }
-        ensures refused { IfErr result (IsRefused self.old (file.at_node node now (file.state_of online timestamp))) }
+        ensures done { IfOk result
+            (IsDone self.old (file.at_node node now (file.state_of online timestamp)) self.new) }
+        ensures refused { IfErr result
+            (IsRefused self.old (file.at_node node now (file.state_of online timestamp))) }
         ensures unchanged { OnErr result (self.new ≡ self.old) }
     {
         let state = State { online, timestamp };

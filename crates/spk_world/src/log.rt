@@ -67,11 +67,14 @@ impl Log {
     /// A message, for which there is room.
     fn add_one(&mut self, session: u64, message: spk_edge::Published)
         requires room { HasRoom self.old 1 }
-        ensures published { map published_view self.new.published.items ≡ map published_view self.old.published.items
+        ensures published { map published_view self.new.published.items
+            ≡ map published_view self.old.published.items
             ++ posts_from session self.old.births (message_view message ∷ []) }
         ensures starts { self.new.starts.items ≡ self.old.starts.items
-            ++ starts_from (length self.old.published.items) (or_zero (last_or None self.old.starts.items)) (message_view message ∷ []) }
-        ensures births { self.new.births ≡ self.old.births + count_by (λ m. m.opens) (message_view message ∷ []) }
+            ++ starts_from (length self.old.published.items)
+            (or_zero (last_or None self.old.starts.items)) (message_view message ∷ []) }
+        ensures births { self.new.births
+            ≡ self.old.births + count_by (λ m. m.opens) (message_view message ∷ []) }
         ensures opened { self.new.opened ≡ self.old.opened }
         ensures room { HasRoom self.new 0 }
         ensures published_room { vec_capacity self.new.published ≡ vec_capacity self.old.published }
@@ -100,11 +103,14 @@ impl Log {
     /// Messages of a session, in order, for which there is room.
     pub(crate) fn add(&mut self, session: u64, messages: Vec<spk_edge::Published>)
         requires { HasRoom self.old (length messages.items) }
-        ensures published { map published_view self.new.published.items ≡ map published_view self.old.published.items
+        ensures published { map published_view self.new.published.items
+            ≡ map published_view self.old.published.items
             ++ posts_from session self.old.births (map message_view messages.items) }
         ensures starts { self.new.starts.items ≡ self.old.starts.items
-            ++ starts_from (length self.old.published.items) (or_zero (last_or None self.old.starts.items)) (map message_view messages.items) }
-        ensures births { self.new.births ≡ self.old.births + count_by (λ m. m.opens) (map message_view messages.items) }
+            ++ starts_from (length self.old.published.items)
+            (or_zero (last_or None self.old.starts.items)) (map message_view messages.items) }
+        ensures births { self.new.births
+            ≡ self.old.births + count_by (λ m. m.opens) (map message_view messages.items) }
         ensures opened { self.new.opened ≡ self.old.opened }
     {
         for message in messages {

@@ -30,9 +30,11 @@ const FIRST: Record = Record {
 impl Node {
     /// A node that was told nothing.
     fn new(alloc: Global, config: EdgeConfig, registry: Registry) -> Result<Node, WorldFault>
-        ensures made { IfOk result (λ n. n ≡ fresh_part (config_view config) config.capacity registry) }
+        ensures made { IfOk result
+            (λ n. n ≡ fresh_part (config_view config) config.capacity registry) }
         ensures good { OnOk result (patch.is_good (config_view config) config.capacity ≡ true) }
-        ensures fault { IfErr result (λ e. (e ≡ WorldFault.NoMemory) ⊎ ((e ≡ WorldFault.Edge EdgeFault.BadConfig)
+        ensures fault { IfErr result
+            (λ e. (e ≡ WorldFault.NoMemory) ⊎ ((e ≡ WorldFault.Edge EdgeFault.BadConfig)
             × (patch.is_good (config_view config) config.capacity ≡ false))) }
     {
         let edge = EdgeNode::new(alloc, config, FIRST, registry)?;
@@ -45,7 +47,8 @@ impl Node {
 
 /// Whether there is a node of that group and name.
 fn is_there(nodes: &[Node], config: &EdgeConfig) -> bool
-    ensures { result ≡ list_any (λ n. are_namesakes n.node.config (config_view config.now)) nodes.now }
+    ensures { result ≡ list_any
+        (λ n. are_namesakes n.node.config (config_view config.now)) nodes.now }
 {
     nodes.iter().any(|node| {
         let other = node.config();
@@ -66,7 +69,8 @@ fn nodes_of(alloc: Global, setups: Vec<(EdgeConfig, Registry)>) -> Result<Vec<No
     ensures good { OnOk result (list_all is_good_setup setups.items ≡ true) }
     ensures apart { OnOk result (are_apart (map fresh_node setups.items) ≡ true) }
     ensures lawful { OnOk result (AllByRecursion HasLawful setups.items) }
-    ensures fault { IfErr result (λ e. (e ≡ WorldFault.NoMemory) ⊎ ((e ≡ WorldFault.Edge EdgeFault.BadConfig)
+    ensures fault { IfErr result
+        (λ e. (e ≡ WorldFault.NoMemory) ⊎ ((e ≡ WorldFault.Edge EdgeFault.BadConfig)
         × AreBadNodes setups.items)) }
 {
     let mut nodes = Vec::with_capacity(alloc, setups.len())?;
@@ -97,7 +101,8 @@ fn hosts_of(
 ) -> Result<Vec<Member>, WorldFault>
     ensures made { IfOk result (λ ms. ms.items ≡ map (fresh_member nodes) configs.items) }
     ensures good { OnOk result (list_all is_good_host configs.items ≡ true) }
-    ensures fault { IfErr result (λ e. (e ≡ WorldFault.NoMemory) ⊎ ((e ≡ WorldFault.Host HostFault.NotSparkplug)
+    ensures fault { IfErr result
+        (λ e. (e ≡ WorldFault.NoMemory) ⊎ ((e ≡ WorldFault.Host HostFault.NotSparkplug)
         × (list_all is_good_host configs.items ≡ false))) }
 {
     let mut hosts = Vec::with_capacity(alloc, configs.len())?;
@@ -120,14 +125,16 @@ impl World {
     ) -> Result<World, WorldFault>
         ensures begins { IfOk result (IsRun (world_of nodes.items hosts.items) []) }
         ensures nodes { IfOk result (λ w. w.nodes ≡ map fresh_node nodes.items) }
-        ensures hosts { IfOk result (λ w. w.hosts ≡ map (fresh_member (length nodes.items)) hosts.items) }
+        ensures hosts { IfOk result
+            (λ w. w.hosts ≡ map (fresh_member (length nodes.items)) hosts.items) }
         ensures good_nodes { OnOk result (list_all is_good_setup nodes.items ≡ true) }
         ensures apart { OnOk result (are_apart (map fresh_node nodes.items) ≡ true) }
         ensures lawful { OnOk result (AllByRecursion HasLawful nodes.items) }
         ensures good_hosts { OnOk result (list_all is_good_host hosts.items ≡ true) }
         ensures fault { IfErr result (λ e. (e ≡ WorldFault.NoMemory)
             ⊎ (((e ≡ WorldFault.Edge EdgeFault.BadConfig) × AreBadNodes nodes.items)
-            ⊎ ((e ≡ WorldFault.Host HostFault.NotSparkplug) × (list_all is_good_host hosts.items ≡ false)))) }
+            ⊎ ((e ≡ WorldFault.Host HostFault.NotSparkplug)
+            × (list_all is_good_host hosts.items ≡ false)))) }
     {
         begins();
         are_wide(&hosts);

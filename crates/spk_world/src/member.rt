@@ -55,7 +55,8 @@ impl Member {
     pub(crate) fn new(alloc: Global, config: HostConfig, nodes: usize) -> Result<Member, WorldFault>
         ensures made { IfOk result (λ m. m ≡ fresh_host nodes (config_view config)) }
         ensures good { OnOk result (is_good (config_view config) ≡ true) }
-        ensures fault { IfErr result (λ e. (e ≡ WorldFault.NoMemory) ⊎ ((e ≡ WorldFault.Host HostFault.NotSparkplug)
+        ensures fault { IfErr result
+            (λ e. (e ≡ WorldFault.NoMemory) ⊎ ((e ≡ WorldFault.Host HostFault.NotSparkplug)
             × (is_good (config_view config) ≡ false))) }
     {
         let mut tracks = Vec::with_capacity(alloc, nodes)?;

@@ -58,7 +58,8 @@ impl Node {
 
     /// The message of a position.
     pub(crate) fn message_at(&self, position: u64) -> Option<&Published>
-        ensures is { option_map (λ m. published_view m.now) result ≡ slice_get self.now.published position }
+        ensures is { option_map (λ m. published_view m.now) result
+            ≡ slice_get self.now.published position }
         ensures few { OnSome result (position < 2 ^ 63) }
     {
         self.log.published.get(position as usize)
@@ -87,9 +88,11 @@ impl Node {
 
     /// An input. Answers how many messages it published.
     pub(crate) fn take(&mut self, input: Input<'_>) -> Result<usize, WorldFault>
-        ensures done { IfOk result (λ added. IsTaken self.old (input_view input.entry) self.new added) }
+        ensures done { IfOk result
+            (λ added. IsTaken self.old (input_view input.entry) self.new added) }
         ensures refused { IfErr result (λ e. (e ≡ WorldFault.NoMemory) ⊎ IsRefusal
-            (edge_refusal (answer_at self.old.node.config self.old.node.standing (input_view input.entry))) e) }
+            (edge_refusal
+            (answer_at self.old.node.config self.old.node.standing (input_view input.entry))) e) }
         ensures unchanged { OnErr result (self.new ≡ self.old) }
     {
         let plan = self.edge.plan(input)?;

@@ -20,8 +20,10 @@ use std::alloc::Global;
 
 /// A PUBLISH at QoS 0.
 fn publish(alloc: Global, topic: &str, payload: &[u8]) -> Result<Vec<u8>, WorldFault>
-    ensures bytes { IfOk result (λ v. v.items ≡ spelling (Publish false 0 false topic.now None payload.now)) }
-    ensures fault { IfErr result (λ e. (e ≡ WorldFault.NoMemory) ⊎ ((e ≡ WorldFault.Edge EdgeFault.TooLarge)
+    ensures bytes { IfOk result
+        (λ v. v.items ≡ spelling (Publish false 0 false topic.now None payload.now)) }
+    ensures fault { IfErr result
+        (λ e. (e ≡ WorldFault.NoMemory) ⊎ ((e ≡ WorldFault.Edge EdgeFault.TooLarge)
         × (is_writable (Publish false 0 false topic.now None payload.now) ≡ false))) }
 {
     let packet = PublishRef {
@@ -44,8 +46,10 @@ impl Published {
 
     /// Its packet, as the node sent it. TooLarge where it has none.
     pub(crate) fn packet(&self, alloc: Global) -> Result<Vec<u8>, WorldFault>
-        ensures bytes { IfOk result (λ v. v.items ≡ spelling (packet_of (published_view self.now))) }
-        ensures fault { IfErr result (λ e. (e ≡ WorldFault.NoMemory) ⊎ ((e ≡ WorldFault.Edge EdgeFault.TooLarge)
+        ensures bytes { IfOk result
+            (λ v. v.items ≡ spelling (packet_of (published_view self.now))) }
+        ensures fault { IfErr result
+            (λ e. (e ≡ WorldFault.NoMemory) ⊎ ((e ≡ WorldFault.Edge EdgeFault.TooLarge)
             × (HoldsOther (published_view self.now).payload.metrics
             ⊎ (is_writable (packet_of (published_view self.now)) ≡ false)))) }
     {
@@ -64,8 +68,10 @@ pub(crate) fn death_packet(
     session: u64,
     time: u64,
 ) -> Result<Vec<u8>, WorldFault>
-    ensures bytes { IfOk result (λ v. v.items ≡ spelling (death_of (config_view config.now) session time)) }
-    ensures fault { IfErr result (λ e. (e ≡ WorldFault.NoMemory) ⊎ ((e ≡ WorldFault.Edge EdgeFault.TooLarge)
+    ensures bytes { IfOk result
+        (λ v. v.items ≡ spelling (death_of (config_view config.now) session time)) }
+    ensures fault { IfErr result
+        (λ e. (e ≡ WorldFault.NoMemory) ⊎ ((e ≡ WorldFault.Edge EdgeFault.TooLarge)
         × (is_writable (death_of (config_view config.now) session time) ≡ false))) }
 {
     let topic = node_topic(alloc, config, Verb::Death)?;
@@ -75,7 +81,8 @@ pub(crate) fn death_packet(
 
 /// The bytes of a packet come to a host.
 pub(crate) fn come(host: &mut Host, bytes: &[u8], now: u64) -> Result<Out, WorldFault>
-    ensures heard { IfOk result (λ o. (h : HeardData) × IsHeard host.old bytes.now now h o host.new) }
+    ensures heard { IfOk result
+        (λ o. (h : HeardData) × IsHeard host.old bytes.now now h o host.new) }
     ensures fault { IfErr result (λ e. (e ≡ WorldFault.NoMemory) ⊎ IsUnheard host.old bytes.now e) }
     ensures unchanged { OnErr result (host.new ≡ host.old) }
 {

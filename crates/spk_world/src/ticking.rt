@@ -14,9 +14,11 @@ use spk_host::HostFault;
 impl Member {
     /// A moment. Answers how many nodes had a gap.
     pub(crate) fn tick(&mut self, nodes: &[Node], now: u64) -> Result<usize, WorldFault>
-        ensures gaps { IfOk result (λ gaps. gaps ≡
-            step.followed self.old.host nodes.now - step.followed (step.ticked self.old.host now) nodes.now) }
-        ensures data { OnOk result (self.new ≡ record self.old { host = step.ticked self.old.host now }) }
+        ensures gaps { IfOk result (λ gaps. gaps
+            ≡ step.followed self.old.host nodes.now - step.followed
+            (step.ticked self.old.host now) nodes.now) }
+        ensures data { OnOk result
+            (self.new ≡ record self.old { host = step.ticked self.old.host now }) }
         ensures refused { IfErr result (λ e. (e ≡ WorldFault.NoMemory)
             ⊎ ((e ≡ WorldFault.Host HostFault.WrongPhase) × (self.old.host.session.began ≡ None))) }
         ensures unchanged { OnErr result (self.new ≡ self.old) }

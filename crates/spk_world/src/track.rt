@@ -71,10 +71,12 @@ impl Track {
 
     /// Messages that were consumed, from a position on, for which there is room.
     fn consume(&mut self, position: u64, taken: Vec<Taken>)
-        requires room { vec_len self.old.consumed + length taken.items ≤ vec_capacity self.old.consumed }
+        requires room { vec_len self.old.consumed + length taken.items
+            ≤ vec_capacity self.old.consumed }
         requires fits { position + length taken.items < 18446744073709551616 }
         ensures { track_view self.new ≡ record (track_view self.old) {
-          consumed = (track_view self.old).consumed ++ placed position (map numbered_view taken.items);
+          consumed = (track_view self.old).consumed ++ placed position
+              (map numbered_view taken.items);
         } }
     {
         let mut position = position;
@@ -93,7 +95,9 @@ impl Track {
         requires room { HasPlaces self.old }
         requires few { length taken.items ≤ 256 }
         requires fits { position + 256 < 18446744073709551616 }
-        ensures { track_view self.new ≡ handed_track (track_view self.old) position opens session (map numbered_view taken.items) }
+        ensures { track_view self.new
+            ≡ handed_track (track_view self.old) position opens session
+            (map numbered_view taken.items) }
     {
         self.reach = self.reach.max(position + 1);
         if opens {

@@ -47,8 +47,10 @@ impl Model for World {
 impl World {
     /// Does what an event says.
     fn done(&mut self, event: &Event) -> Result<Done, WorldFault>
-        ensures done { IfOk result (IsDone self.old (deed_at self.old (event_view event.now)) self.new) }
-        ensures refused { IfErr result (IsRefused self.old (deed_at self.old (event_view event.now))) }
+        ensures done { IfOk result
+            (IsDone self.old (deed_at self.old (event_view event.now)) self.new) }
+        ensures refused { IfErr result
+            (IsRefused self.old (deed_at self.old (event_view event.now))) }
         ensures unchanged { OnErr result (self.new ≡ self.old) }
     {
         match event {
@@ -98,20 +100,24 @@ impl World {
     /// Refused in this order: NoSuch (80), NotPublished (81), OutsideWindow (82), TooFar (83), OvertakesBirth (86); and with Edge (84) where
     /// the node refuses. NoMemory (1) may stand in place of any of them, and of an answer.
     pub fn step(&mut self, event: &Event) -> Result<Done, WorldFault>
-        ensures step { IfOk result (λ a. IsStep self.old (deed_at self.old (event_view event.now)) self.new (done_view a)) }
-        ensures passed { OnOk result (refusal_at self.old (deed_at self.old (event_view event.now)) ≡ None) }
-        ensures refused { IfErr result (IsRefused self.old (deed_at self.old (event_view event.now))) }
+        ensures step { IfOk result
+            (λ a. IsStep self.old (deed_at self.old (event_view event.now)) self.new
+            (done_view a)) }
+        ensures passed { OnOk result
+            (refusal_at self.old (deed_at self.old (event_view event.now)) ≡ None) }
+        ensures refused { IfErr result
+            (IsRefused self.old (deed_at self.old (event_view event.now))) }
         ensures unchanged { OnErr result (self.new ≡ self.old) }
         // in a world in which a list of things was done it is the next thing of the list, answers what is asked of the list, and is
         // refused exactly where the list refuses it
-        ensures runs { (w : rules.World) (done : List Deed) → IsRun w done self.old →
-            OnOk result (IsRun w (deed_of w (event_view event.now) ∷ done) self.new) }
-        ensures answers { (w : rules.World) (done : List Deed) → IsRun w done self.old →
-            IfOk result (λ a. done_view a ≡ answer_of w done (deed_of w (event_view event.now))) }
-        ensures allowed { (w : rules.World) (done : List Deed) → IsRun w done self.old →
-            OnOk result (refusal_of w done (deed_of w (event_view event.now)) ≡ None) }
-        ensures ruled { (w : rules.World) (done : List Deed) → IsRun w done self.old →
-            IfErr result (IsRefusedBy w done (event_view event.now)) }
+        ensures runs { (w : rules.World) (done : List Deed) → IsRun w done self.old
+            → OnOk result (IsRun w (deed_of w (event_view event.now) ∷ done) self.new) }
+        ensures answers { (w : rules.World) (done : List Deed) → IsRun w done self.old
+            → IfOk result (λ a. done_view a ≡ answer_of w done (deed_of w (event_view event.now))) }
+        ensures allowed { (w : rules.World) (done : List Deed) → IsRun w done self.old
+            → OnOk result (refusal_of w done (deed_of w (event_view event.now)) ≡ None) }
+        ensures ruled { (w : rules.World) (done : List Deed) → IsRun w done self.old
+            → IfErr result (IsRefusedBy w done (event_view event.now)) }
     {
         laws::any_list();
         laws::refusals();
@@ -124,10 +130,10 @@ impl World {
         ensures all { OnOk result (AreSteps self.old (map event_view events.now) self.new) }
         ensures stopped { IfErr result (IsStopped self.old (map event_view events.now) self.new) }
         // the list of what was done goes on with these events, or with those before the one that the list refuses
-        ensures runs { (w : rules.World) (done : List Deed) → IsRun w done self.old →
-            OnOk result (IsRun w (with_events w (map event_view events.now) done) self.new) }
-        ensures ruled { (w : rules.World) (done : List Deed) → IsRun w done self.old →
-            IfErr result (IsStoppedBy w done (map event_view events.now) self.new) }
+        ensures runs { (w : rules.World) (done : List Deed) → IsRun w done self.old
+            → OnOk result (IsRun w (with_events w (map event_view events.now) done) self.new) }
+        ensures ruled { (w : rules.World) (done : List Deed) → IsRun w done self.old
+            → IfErr result (IsStoppedBy w done (map event_view events.now) self.new) }
     {
         laws::any_list();
         laws::refusals();

@@ -14,16 +14,16 @@ ghost use Rattle.spk_world_run.specs.Tests.{refusal_at};
 
 /// A world as it begins is one in which nothing was done.
 pub fn begins()
-    ensures { (w : World) (configs : List Config) (d : WorldData) → IsWorld w →
-        IsFresh w configs d → IsRun w [] d }
+    ensures { (w : World) (configs : List Config) (d : WorldData) → IsWorld w
+        → IsFresh w configs d → IsRun w [] d }
 {
     spk_edge::laws::along();
 }
 
 /// A thing is refused by the data exactly where, and as, it is by the list of what was done.
 pub fn refusals()
-    ensures { (w : World) (done : List Deed) (d : WorldData) (e : Deed) → IsRun w done d →
-        refusal_at d e ≡ refusal_of w done e }
+    ensures { (w : World) (done : List Deed) (d : WorldData) (e : Deed) → IsRun w done d
+        → refusal_at d e ≡ refusal_of w done e }
 {
     spk_sequence::laws::positions();
     spk_sequence::laws::records();
@@ -36,11 +36,11 @@ pub fn refusals()
 /// An input that comes to a node, in a world in which a list of things was done, newest first.
 pub fn inputs()
     ensures runs { (w : World) (done : List Deed) (d after : WorldData) (n : ℕ) (input : Input)
-        (answer : Answer) → IsRun w done d → refusal_of w done (AtNode n input) ≡ None →
-        IsInput d n input after answer → IsRun w (AtNode n input ∷ done) after }
+        (answer : Answer) → IsRun w done d → refusal_of w done (AtNode n input) ≡ None
+        → IsInput d n input after answer → IsRun w (AtNode n input ∷ done) after }
     ensures answers { (w : World) (done : List Deed) (d after : WorldData) (n : ℕ)
-        (input : Input) (answer : Answer) → IsRun w done d → IsInput d n input after answer →
-        answer ≡ answer_of w done (AtNode n input) }
+        (input : Input) (answer : Answer) → IsRun w done d → IsInput d n input after answer
+        → answer ≡ answer_of w done (AtNode n input) }
 {
     spk_sequence::laws::positions();
     spk_sequence::laws::records();
@@ -55,11 +55,11 @@ pub fn inputs()
 /// A message that is handed to a host.
 pub fn hands()
     ensures runs { (w : World) (done : List Deed) (d after : WorldData) (h n p now : ℕ)
-        (answer : Answer) → IsRun w done d → refusal_of w done (Hand h n p now) ≡ None →
-        IsHand d h n p now after answer → IsRun w (Hand h n p now ∷ done) after }
+        (answer : Answer) → IsRun w done d → refusal_of w done (Hand h n p now) ≡ None
+        → IsHand d h n p now after answer → IsRun w (Hand h n p now ∷ done) after }
     ensures answers { (w : World) (done : List Deed) (d after : WorldData) (h n p now : ℕ)
-        (answer : Answer) → IsRun w done d → IsHand d h n p now after answer →
-        answer ≡ answer_of w done (Hand h n p now) }
+        (answer : Answer) → IsRun w done d → IsHand d h n p now after answer
+        → answer ≡ answer_of w done (Hand h n p now) }
 {
     spk_sequence::laws::positions();
     spk_sequence::laws::records();
@@ -73,11 +73,11 @@ pub fn hands()
 /// The NDEATH of a session that is handed to a host.
 pub fn deaths()
     ensures runs { (w : World) (done : List Deed) (d after : WorldData) (h n s now : ℕ)
-        (answer : Answer) → IsRun w done d → refusal_of w done (Death h n s now) ≡ None →
-        IsDeath d h n s now after answer → IsRun w (Death h n s now ∷ done) after }
+        (answer : Answer) → IsRun w done d → refusal_of w done (Death h n s now) ≡ None
+        → IsDeath d h n s now after answer → IsRun w (Death h n s now ∷ done) after }
     ensures answers { (w : World) (done : List Deed) (d after : WorldData) (h n s now : ℕ)
-        (answer : Answer) → IsRun w done d → refusal_of w done (Death h n s now) ≡ None →
-        IsDeath d h n s now after answer → answer ≡ answer_of w done (Death h n s now) }
+        (answer : Answer) → IsRun w done d → refusal_of w done (Death h n s now) ≡ None
+        → IsDeath d h n s now after answer → answer ≡ answer_of w done (Death h n s now) }
 {
     spk_packets::laws::spelling_spells();
     spk_tie::laws::deaths();
@@ -87,11 +87,11 @@ pub fn deaths()
 /// A moment that comes to a host.
 pub fn ticks()
     ensures runs { (w : World) (done : List Deed) (d after : WorldData) (h now : ℕ)
-        (answer : Answer) → IsRun w done d → refusal_of w done (Tick h now) ≡ None →
-        IsTick d h now after answer → IsRun w (Tick h now ∷ done) after }
+        (answer : Answer) → IsRun w done d → refusal_of w done (Tick h now) ≡ None
+        → IsTick d h now after answer → IsRun w (Tick h now ∷ done) after }
     ensures answers { (w : World) (done : List Deed) (d after : WorldData) (h now : ℕ)
-        (answer : Answer) → IsRun w done d → refusal_of w done (Tick h now) ≡ None →
-        IsTick d h now after answer → answer ≡ answer_of w done (Tick h now) }
+        (answer : Answer) → IsRun w done d → refusal_of w done (Tick h now) ≡ None
+        → IsTick d h now after answer → answer ≡ answer_of w done (Tick h now) }
 {
     spk_sequence::laws::positions();
     spk_host::laws::any_list();
@@ -103,25 +103,25 @@ pub fn ticks()
 /// The end of a host's session, and the beginning of its next.
 pub fn renewals()
     ensures runs { (w : World) (done : List Deed) (d after : WorldData) (h now : ℕ)
-        (answer : Answer) → IsRun w done d → refusal_of w done (Renew h now) ≡ None →
-        IsRenewal d h now after answer → IsRun w (Renew h now ∷ done) after }
+        (answer : Answer) → IsRun w done d → refusal_of w done (Renew h now) ≡ None
+        → IsRenewal d h now after answer → IsRun w (Renew h now ∷ done) after }
     ensures answers { (w : World) (done : List Deed) (d after : WorldData) (h now : ℕ)
-        (answer : Answer) → IsRenewal d h now after answer →
-        answer ≡ answer_of w done (Renew h now) }
+        (answer : Answer) → IsRenewal d h now after answer
+        → answer ≡ answer_of w done (Renew h now) }
 {}
 
 /// What a world hands to a host is refused for want of memory alone: the host is within a session,
 /// the packet can be written, and nobody refuses its bytes.
 pub fn sent()
     ensures messages { (w : World) (done : List Deed) (d : WorldData) (h n p : ℕ)
-        (host : HostPart) (part : NodePart) (message : PublishedData) → IsRun w done d →
-        slice_get d.hosts h ≡ Some host → slice_get d.nodes n ≡ Some part →
-        slice_get part.published p ≡ Some message →
-        IsSendable host.host (packet_of message) × IsKnown message }
+        (host : HostPart) (part : NodePart) (message : PublishedData) → IsRun w done d
+        → slice_get d.hosts h ≡ Some host → slice_get d.nodes n ≡ Some part
+        → slice_get part.published p ≡ Some message
+        → IsSendable host.host (packet_of message) × IsKnown message }
     ensures deaths { (w : World) (done : List Deed) (d : WorldData) (h n session time : ℕ)
-        (host : HostPart) (part : NodePart) → IsRun w done d → slice_get d.hosts h ≡ Some host →
-        slice_get d.nodes n ≡ Some part → slice_get part.opened session ≡ Some time →
-        IsSendable host.host (death_of part.node.config session time) }
+        (host : HostPart) (part : NodePart) → IsRun w done d → slice_get d.hosts h ≡ Some host
+        → slice_get d.nodes n ≡ Some part → slice_get part.opened session ≡ Some time
+        → IsSendable host.host (death_of part.node.config session time) }
 {
     spk_packets::laws::spelling_spells();
     spk_tie::laws::messages();
@@ -133,11 +133,11 @@ pub fn sent()
 /// and answers what is asked of the list.
 pub fn any_list()
     ensures runs { (w : World) (done : List Deed) (d after : WorldData) (e : Deed)
-        (answer : Answer) → IsRun w done d → refusal_at d e ≡ None → IsStep d e after answer →
-        IsRun w (e ∷ done) after }
+        (answer : Answer) → IsRun w done d → refusal_at d e ≡ None → IsStep d e after answer
+        → IsRun w (e ∷ done) after }
     ensures answers { (w : World) (done : List Deed) (d after : WorldData) (e : Deed)
-        (answer : Answer) → IsRun w done d → refusal_at d e ≡ None → IsStep d e after answer →
-        answer ≡ answer_of w done e }
+        (answer : Answer) → IsRun w done d → refusal_at d e ≡ None → IsStep d e after answer
+        → answer ≡ answer_of w done e }
 {
     refusals();
     inputs();
