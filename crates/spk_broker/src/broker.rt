@@ -14,6 +14,7 @@ use crate::out::Conn;
 use indexmap::IndexMap;
 use spk_topics::Tree;
 use std::alloc::Global;
+use std::fmt;
 use std::marker::Model;
 
 /// The most connections at once (own rule).
@@ -29,6 +30,12 @@ pub struct Broker {
     pub(crate) slow: u8,
     /// Where connections sat.
     pub(crate) hints: Hints,
+}
+
+impl fmt::Debug for Broker {
+    fn fmt<W: fmt::Write>(&self, f: &mut fmt::Formatter<W>) -> fmt::Result {
+        f.write_str("Broker { .. }")
+    }
 }
 
 impl Model for Broker {

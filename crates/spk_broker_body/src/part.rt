@@ -4,6 +4,7 @@ use spk_ingress::{Message, TakePass};
 use spk_rings::{Outlet, Token};
 use spk_sequence::Width;
 use spk_session::Sort;
+use std::fmt;
 
 /// What the broker's thread is given.
 #[derive(Drop)]
@@ -14,6 +15,12 @@ pub struct BrokerStart {
     pub pass: TakePass,
     /// The ring of each sender: of the edge nodes in order, then of the host.
     pub outlets: Vec<Outlet>,
+}
+
+impl fmt::Debug for BrokerStart {
+    fn fmt<W: fmt::Write>(&self, f: &mut fmt::Formatter<W>) -> fmt::Result {
+        f.write_str("BrokerStart { .. }")
+    }
 }
 
 /// An offer that a client's ring refused.
@@ -43,4 +50,10 @@ pub struct BrokerEnd {
     pub tokens: Vec<Option<Token>>,
     /// Whether the broker closed the host.
     pub is_cut: bool,
+}
+
+impl fmt::Debug for BrokerEnd {
+    fn fmt<W: fmt::Write>(&self, f: &mut fmt::Formatter<W>) -> fmt::Result {
+        f.write_str("BrokerEnd { .. }")
+    }
 }

@@ -90,7 +90,7 @@ impl Write for Silence {
 }
 
 /// What a run comes to.
-#[derive(Drop)]
+#[derive(Debug, Drop)]
 pub enum Outcome {
     /// It is over, with this status.
     Over(u8),

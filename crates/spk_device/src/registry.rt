@@ -10,6 +10,7 @@ use crate::gauge::Gauge;
 use crate::owner::Owner;
 use spk_names::Names;
 use std::alloc::Global;
+use std::fmt;
 use std::marker::Model;
 
 /// The number of a metric over the whole edge node, from 1 in order of adding (Sparkplug 3.0.0, chapter 6).
@@ -27,6 +28,12 @@ pub struct Registry {
     pub(crate) gauges: Vec<Gauge>,
     /// The places of the node's own metrics, by name.
     pub(crate) own: Names,
+}
+
+impl fmt::Debug for Registry {
+    fn fmt<W: fmt::Write>(&self, f: &mut fmt::Formatter<W>) -> fmt::Result {
+        f.write_str("Registry { .. }")
+    }
 }
 
 impl Model for Registry {

@@ -15,6 +15,7 @@ use spk_edge_rules::{EdgeFault, Phase};
 use spk_state::Primary;
 use spk_store::Store;
 use std::alloc::Global;
+use std::fmt;
 use std::marker::Model;
 
 /// What a node counts.
@@ -41,6 +42,12 @@ pub struct EdgeNode {
     pub(crate) registry: Registry,
     pub(crate) store: Store,
     pub(crate) tally: Tally,
+}
+
+impl fmt::Debug for EdgeNode {
+    fn fmt<W: fmt::Write>(&self, f: &mut fmt::Formatter<W>) -> fmt::Result {
+        f.write_str("EdgeNode { .. }")
+    }
 }
 
 impl Model for EdgeNode {

@@ -26,6 +26,7 @@ use spk_payload::Value;
 use spk_state::Primary;
 use spk_store::Store;
 use std::alloc::{AllocError, Global};
+use std::fmt;
 
 /// The first moment that isn't one.
 const END: u64 = 1 << 63;
@@ -46,6 +47,12 @@ pub struct Plan {
     pub(crate) tally: Tally,
     pub(crate) setting: Setting,
     pub(crate) kept: Keeping,
+}
+
+impl fmt::Debug for Plan {
+    fn fmt<W: fmt::Write>(&self, f: &mut fmt::Formatter<W>) -> fmt::Result {
+        f.write_str("Plan { .. }")
+    }
 }
 
 impl Plan {

@@ -12,6 +12,7 @@ use spk_ingress::{Ingress, PutPass};
 use spk_plan::{Gate, PlantFault, Step};
 use spk_rings::Inlet;
 use std::alloc::Global;
+use std::fmt;
 use std::sync::Wait;
 use std::thread::Parker;
 
@@ -30,6 +31,12 @@ pub struct EdgeStart {
     pub inlet: Inlet,
 }
 
+impl fmt::Debug for EdgeStart {
+    fn fmt<W: fmt::Write>(&self, f: &mut fmt::Formatter<W>) -> fmt::Result {
+        f.write_str("EdgeStart { .. }")
+    }
+}
+
 /// What it has done at its end.
 #[derive(Drop)]
 pub struct EdgeEnd {
@@ -42,11 +49,23 @@ pub struct EdgeEnd {
     pub inlet: Inlet,
 }
 
+impl fmt::Debug for EdgeEnd {
+    fn fmt<W: fmt::Write>(&self, f: &mut fmt::Formatter<W>) -> fmt::Result {
+        f.write_str("EdgeEnd { .. }")
+    }
+}
+
 /// Why it couldn't go on.
 #[derive(Drop)]
 pub struct EdgeFailure {
     pub fault: PlantFault,
     pub pass: PutPass,
+}
+
+impl fmt::Debug for EdgeFailure {
+    fn fmt<W: fmt::Write>(&self, f: &mut fmt::Formatter<W>) -> fmt::Result {
+        f.write_str("EdgeFailure { .. }")
+    }
 }
 
 /// Runs an edge node's script: it reads its ring before each step and does the step, each at the moment 1,000,000 and the number of its

@@ -6,8 +6,8 @@ ghost use Rattle.spk_rings.specs.Ring.{SameInlet, ahead, popped};
 ghost use Rattle.spk_engines.specs.Counted.{taken};
 
 use spk_rings::{Inlet, Item};
-use std::io;
 use std::io::{Read, Write};
+use std::{fmt, io};
 
 /// A reader or writer, and how many turns the last engine took over it. A turn is one call of the reader's `read`, of the
 /// writer's `write`, or of `Inlet::next`.
@@ -15,6 +15,12 @@ use std::io::{Read, Write};
 pub struct Counted<S> {
     pub device: S,
     taken: u64,
+}
+
+impl<S> fmt::Debug for Counted<S> {
+    fn fmt<W: fmt::Write>(&self, f: &mut fmt::Formatter<W>) -> fmt::Result {
+        f.write_str("Counted { .. }")
+    }
 }
 
 impl<S> Counted<S> {

@@ -10,6 +10,7 @@ use spk_reading::Numbered;
 use spk_sequence::Width;
 use spk_view::NodeView;
 use std::alloc::{AllocError, Global};
+use std::fmt;
 use std::marker::Model;
 
 /// A node that a host heard, with what it keeps of it.
@@ -18,6 +19,12 @@ pub struct Entry {
     group: String,
     node: String,
     kept: HostNode,
+}
+
+impl fmt::Debug for Entry {
+    fn fmt<W: fmt::Write>(&self, f: &mut fmt::Formatter<W>) -> fmt::Result {
+        f.write_str("Entry { .. }")
+    }
 }
 
 impl Model for Entry {

@@ -25,6 +25,7 @@ use spk_reading::{Content, Heard, ReadFault, read};
 use spk_sequence::Phase;
 use spk_view::NodeView;
 use std::alloc::{AllocError, Global};
+use std::fmt;
 use std::marker::Model;
 
 /// A host application (Sparkplug 3.0.0, chapter 5): its session with the server, and what it keeps of each edge node that it heard.
@@ -34,6 +35,12 @@ pub struct Host {
     alloc: Global,
     session: HostSession,
     nodes: Nodes,
+}
+
+impl fmt::Debug for Host {
+    fn fmt<W: fmt::Write>(&self, f: &mut fmt::Formatter<W>) -> fmt::Result {
+        f.write_str("Host { .. }")
+    }
 }
 
 impl Model for Host {

@@ -4,6 +4,7 @@ use spk_ingress::PutPass;
 use spk_plan::PlantFault;
 use spk_reading::Heard;
 use spk_rings::Inlet;
+use std::fmt;
 
 /// What the host's thread begins with.
 #[derive(Drop)]
@@ -16,6 +17,12 @@ pub struct HostStart {
     pub pass: PutPass,
     /// Where the host's packets come from.
     pub inlet: Inlet,
+}
+
+impl fmt::Debug for HostStart {
+    fn fmt<W: fmt::Write>(&self, f: &mut fmt::Formatter<W>) -> fmt::Result {
+        f.write_str("HostStart { .. }")
+    }
 }
 
 /// One item of the host's ring. The first is at moment 1, the next at moment 2, and so on.
@@ -40,6 +47,12 @@ pub struct HostEnd {
     pub inlet: Inlet,
 }
 
+impl fmt::Debug for HostEnd {
+    fn fmt<W: fmt::Write>(&self, f: &mut fmt::Formatter<W>) -> fmt::Result {
+        f.write_str("HostEnd { .. }")
+    }
+}
+
 /// What a host's thread that failed hands on.
 #[derive(Drop)]
 pub struct HostFailed {
@@ -47,4 +60,10 @@ pub struct HostFailed {
     pub fault: PlantFault,
     /// What was put until then, and then End, unless it failed with Closed.
     pub pass: PutPass,
+}
+
+impl fmt::Debug for HostFailed {
+    fn fmt<W: fmt::Write>(&self, f: &mut fmt::Formatter<W>) -> fmt::Result {
+        f.write_str("HostFailed { .. }")
+    }
 }

@@ -13,6 +13,7 @@ use spk_reading::Numbered;
 use spk_sequence::{Match, Phase, Step, Width};
 use spk_view::{NodeView, Watch};
 use std::alloc::{AllocError, Global};
+use std::fmt;
 use std::marker::Model;
 
 /// What came of a moment: whether there was a gap, and whether a rebirth is asked for.
@@ -29,6 +30,12 @@ pub struct HostNode {
     alloc: Global,
     order: Order<Kept>,
     watch: Watch,
+}
+
+impl fmt::Debug for HostNode {
+    fn fmt<W: fmt::Write>(&self, f: &mut fmt::Formatter<W>) -> fmt::Result {
+        f.write_str("HostNode { .. }")
+    }
 }
 
 impl Model for HostNode {

@@ -15,6 +15,7 @@ use crate::packets::{connect, state_packet, subscribe, written};
 use spk_packets::Packet;
 use spk_state::State;
 use std::alloc::{AllocError, Global};
+use std::fmt;
 use std::marker::Model;
 
 /// A host application and its session with the server (Sparkplug 3.0.0, chapter 5 on host applications). Contracts see what it
@@ -24,6 +25,12 @@ pub struct HostSession {
     alloc: Global,
     config: HostConfig,
     began: Option<u64>,
+}
+
+impl fmt::Debug for HostSession {
+    fn fmt<W: fmt::Write>(&self, f: &mut fmt::Formatter<W>) -> fmt::Result {
+        f.write_str("HostSession { .. }")
+    }
 }
 
 impl Model for HostSession {

@@ -8,6 +8,7 @@ use crate::frame::Frame;
 use crate::rule::{Known, Lanes, Message, NewSender, Puts, Settles, Takes, View};
 use crossbeam_channel::{Pass, RuledReceiver, RuledSender, bounded_with};
 use std::alloc::{AllocError, Global};
+use std::fmt;
 use std::sync::Wait;
 
 /// Where the senders put, which they share.
@@ -15,6 +16,12 @@ use std::sync::Wait;
 pub struct Ingress {
     pub(crate) end: RuledSender<Message, View, Lanes>,
     pub(crate) senders: usize,
+}
+
+impl fmt::Debug for Ingress {
+    fn fmt<W: fmt::Write>(&self, f: &mut fmt::Formatter<W>) -> fmt::Result {
+        f.write_str("Ingress { .. }")
+    }
 }
 
 /// The leave of one sender to put. Contracts see the frames put through it (`frames_put`).
@@ -25,6 +32,12 @@ pub struct PutPass {
     pub(crate) seat: Pass<Message, View>,
 }
 
+impl fmt::Debug for PutPass {
+    fn fmt<W: fmt::Write>(&self, f: &mut fmt::Formatter<W>) -> fmt::Result {
+        f.write_str("PutPass { .. }")
+    }
+}
+
 /// The leave to take. Contracts see the frames taken (`frames_taken`). The only receiving end is in it: where it is
 /// dropped, each put that waits answers Closed.
 #[derive(Drop)]
@@ -32,6 +45,12 @@ pub struct TakePass {
     pub(crate) end: RuledReceiver<Message, View, Lanes>,
     pub(crate) counts: Vec<u64>,
     pub(crate) seat: Pass<Message, View>,
+}
+
+impl fmt::Debug for TakePass {
+    fn fmt<W: fmt::Write>(&self, f: &mut fmt::Formatter<W>) -> fmt::Result {
+        f.write_str("TakePass { .. }")
+    }
 }
 
 /// A frame, its sender, and how many of that sender's frames were taken before it.

@@ -5,6 +5,7 @@ ghost use Rattle.spk_names.specs.Names.{number_in, entered};
 
 use indexmap::IndexMap;
 use std::alloc::{AllocError, Global};
+use std::fmt;
 use std::marker::Model;
 
 /// Names with numbers, no two of one name. Contracts see them as the list of pairs of a name's bytes and its number, in the
@@ -12,6 +13,12 @@ use std::marker::Model;
 #[derive(Drop)]
 pub struct Names {
     table: IndexMap<String, usize>,
+}
+
+impl fmt::Debug for Names {
+    fn fmt<W: fmt::Write>(&self, f: &mut fmt::Formatter<W>) -> fmt::Result {
+        f.write_str("Names { .. }")
+    }
 }
 
 impl Model for Names {

@@ -12,6 +12,7 @@ use crate::slots::{empty_slots, place, settle};
 use spk_sequence::laws::numbers;
 use spk_sequence::{Gap, Kind, Match, Sequence, Step, Width};
 use std::alloc::{AllocError, Global};
+use std::fmt;
 use std::marker::Model;
 
 /// What became of a message that was handed in, and the payloads consumed, in the order of their numbers.
@@ -34,6 +35,12 @@ pub struct Order<T: Drop> {
     alloc: Global,
     sequence: Sequence,
     slots: Vec<Option<T>>,
+}
+
+impl<T: Drop> fmt::Debug for Order<T> {
+    fn fmt<W: fmt::Write>(&self, f: &mut fmt::Formatter<W>) -> fmt::Result {
+        f.write_str("Order { .. }")
+    }
 }
 
 impl<T: Drop> Model for Order<T> {

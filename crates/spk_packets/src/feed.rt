@@ -12,6 +12,7 @@ use crate::fault::PacketFault;
 use crate::packet::Packet;
 use crate::read::decode;
 use std::alloc::Global;
+use std::fmt;
 use std::marker::Model;
 
 /// The most bytes that may wait (own rule).
@@ -25,6 +26,12 @@ pub struct Feed {
     alloc: Global,
     buffer: Vec<u8>,
     start: usize,
+}
+
+impl fmt::Debug for Feed {
+    fn fmt<W: fmt::Write>(&self, f: &mut fmt::Formatter<W>) -> fmt::Result {
+        f.write_str("Feed { .. }")
+    }
 }
 
 impl Model for Feed {

@@ -76,7 +76,7 @@ impl Metric {
         }
     }
 
-    fn put_number(&mut self, field: u64, number: u64)
+    fn set_number(&mut self, field: u64, number: u64)
         ensures { metric_view self.new ≡ spec.metric_number (metric_view self.old) field number }
     {
         match field {
@@ -93,7 +93,7 @@ impl Metric {
         }
     }
 
-    fn put_bytes(&mut self, alloc: Global, field: u64, bytes: &[u8]) -> Result<(), PayloadFault>
+    fn set_bytes(&mut self, alloc: Global, field: u64, bytes: &[u8]) -> Result<(), PayloadFault>
         ensures { Turns metric_view result self.new
             (spec.metric_bytes (metric_view self.old) field bytes.now) }
     {
@@ -107,13 +107,13 @@ impl Metric {
         Ok(())
     }
 
-    fn put(&mut self, alloc: Global, field: Field<'_>) -> Result<(), PayloadFault>
+    fn set(&mut self, alloc: Global, field: Field<'_>) -> Result<(), PayloadFault>
         ensures { Turns metric_view result self.new
             (spec.metric_entry (metric_view self.old) (entry_of field.entry)) }
     {
         match field.wire {
-            Wire::Varint(number) => self.put_number(field.number, number),
-            Wire::Bytes(bytes) => self.put_bytes(alloc, field.number, bytes)?,
+            Wire::Varint(number) => self.set_number(field.number, number),
+            Wire::Bytes(bytes) => self.set_bytes(alloc, field.number, bytes)?,
             Wire::Eight(_) => {
                 if field.number == 13 {
                     self.value = Some(Raw::Other);
@@ -135,7 +135,7 @@ pub(crate) fn metric_at(alloc: Global, bytes: &[u8]) -> Result<Metric, PayloadFa
 {
     let mut metric = Metric::empty();
     for field in Fields::new(bytes) {
-        metric.put(alloc, field?)?;
+        metric.set(alloc, field?)?;
     }
     Ok(metric)
 }

@@ -4,7 +4,7 @@ use spk_device::Registry;
 use spk_sequence::Width;
 
 /// An edge node of a plan.
-#[derive(Drop)]
+#[derive(Debug, Drop)]
 pub struct PlanNode {
     /// Its name, as a level of a topic.
     pub node: String,
@@ -17,7 +17,7 @@ pub struct PlanNode {
 }
 
 /// A plant: edge nodes, a broker and a host, each on a thread of its own.
-#[derive(Drop)]
+#[derive(Debug, Drop)]
 pub struct Plan {
     /// The group of its nodes.
     pub group: String,

@@ -6,7 +6,7 @@ use spk_host_body::Given;
 use spk_ingress::Message;
 
 /// What an edge node did.
-#[derive(Drop)]
+#[derive(Debug, Drop)]
 pub struct NodeReport {
     /// What it was told, oldest first; refused inputs too.
     pub inputs: Vec<Told>,
@@ -15,7 +15,7 @@ pub struct NodeReport {
 }
 
 /// What a plant did, from its start to its end.
-#[derive(Drop)]
+#[derive(Debug, Drop)]
 pub struct Report {
     /// The frames that the broker took with their senders, oldest first. Sender i is edge node i, the last one is the host.
     pub taken: Vec<Message>,

@@ -6,11 +6,18 @@ use crate::item::Item;
 use crate::outlet::Outlet;
 use crate::token::Token;
 use rtrb::Consumer;
+use std::fmt;
 
 /// The end of a ring that takes items. Contracts see the list of all that it took.
 #[derive(Drop)]
 pub struct Inlet {
     pub(crate) end: Consumer<Item>,
+}
+
+impl fmt::Debug for Inlet {
+    fn fmt<W: fmt::Write>(&self, f: &mut fmt::Formatter<W>) -> fmt::Result {
+        f.write_str("Inlet { .. }")
+    }
 }
 
 impl Inlet {

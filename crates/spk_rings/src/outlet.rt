@@ -8,11 +8,18 @@ use crate::item::Item;
 use crate::token::Token;
 use rtrb::{Producer, PushError, RingBuffer};
 use std::alloc::Global;
+use std::fmt;
 
 /// The end of a ring that offers items. Contracts see the list of all that it took.
 #[derive(Drop)]
 pub struct Outlet {
     pub(crate) end: Producer<Item>,
+}
+
+impl fmt::Debug for Outlet {
+    fn fmt<W: fmt::Write>(&self, f: &mut fmt::Formatter<W>) -> fmt::Result {
+        f.write_str("Outlet { .. }")
+    }
 }
 
 /// A ring with room for so many items, 1 to 65,536, and its two ends.

@@ -9,6 +9,7 @@ use crate::fault::StoreFault;
 use circular_buffer::HeapCircularBuffer;
 use spk_device::Owner;
 use std::alloc::Global;
+use std::fmt;
 use std::marker::Model;
 
 /// The last changes, in order: at most `capacity` of them. Contracts see them as a list, the oldest first,
@@ -17,6 +18,12 @@ use std::marker::Model;
 pub struct Store {
     changes: HeapCircularBuffer<Change>,
     lost: u64,
+}
+
+impl fmt::Debug for Store {
+    fn fmt<W: fmt::Write>(&self, f: &mut fmt::Formatter<W>) -> fmt::Result {
+        f.write_str("Store { .. }")
+    }
 }
 
 impl Model for Store {

@@ -22,6 +22,7 @@ use crate::node::Node;
 use spk_edge::Act;
 use spk_world_run::laws;
 use std::alloc::Global;
+use std::fmt;
 use std::marker::Model;
 
 /// Edge nodes, host applications, what each node published, and what each host consumed. Contracts see a `WorldData`.
@@ -30,6 +31,12 @@ pub struct World {
     pub(crate) alloc: Global,
     pub(crate) nodes: Vec<Node>,
     pub(crate) hosts: Vec<Member>,
+}
+
+impl fmt::Debug for World {
+    fn fmt<W: fmt::Write>(&self, f: &mut fmt::Formatter<W>) -> fmt::Result {
+        f.write_str("World { .. }")
+    }
 }
 
 impl Model for World {

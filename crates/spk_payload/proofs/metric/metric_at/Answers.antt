@@ -28,13 +28,13 @@ pub loop-field-preserved : goal.loop-field-preserved
 loop-field-preserved c = record {
   can = tt;
   finite = tt;
-  gives = turns_ok metric_entry (metric_view c.loop-field.metric) (metric_view c.put.new.self) (items_left c.loop-field.field-iterator) (items_left c.next.new.self) c.in-Some.field c.in_ok-field.field-0 (metric_at c.args.bytes.now) c.in-Some.ensures.steps c.in_ok-field.was c.in_ok-put.ensures c.loop-field.invariant.gives;
+  gives = turns_ok metric_entry (metric_view c.loop-field.metric) (metric_view c.set.new.self) (items_left c.loop-field.field-iterator) (items_left c.next.new.self) c.in-Some.field c.in_ok-field.field-0 (metric_at c.args.bytes.now) c.in-Some.ensures.steps c.in_ok-field.was c.in_ok-set.ensures c.loop-field.invariant.gives;
 }
 
-pub returns-in_err-put : goal.returns-in_err-put
-returns-in_err-put c =
-    let p = err_from_is_err_and c.from_residual-in_err-put.result c.from_residual-in_err-put.ensures.1 in
-    rw (p.1, p.2) (turns_fail metric_entry c.in_err-put.field-0.0 (metric_view c.loop-field.metric) (items_left c.loop-field.field-iterator) (items_left c.next.new.self) c.in-Some.field c.in_ok-field.field-0 (metric_at c.args.bytes.now) c.in-Some.ensures.steps c.in_ok-field.was c.in_err-put.ensures c.loop-field.invariant.gives)
+pub returns-in_err-set : goal.returns-in_err-set
+returns-in_err-set c =
+    let p = err_from_is_err_and c.from_residual-in_err-set.result c.from_residual-in_err-set.ensures.1 in
+    rw (p.1, p.2) (turns_fail metric_entry c.in_err-set.field-0.0 (metric_view c.loop-field.metric) (items_left c.loop-field.field-iterator) (items_left c.next.new.self) c.in-Some.field c.in_ok-field.field-0 (metric_at c.args.bytes.now) c.in-Some.ensures.steps c.in_ok-field.was c.in_err-set.ensures c.loop-field.invariant.gives)
 
 pub returns : goal.returns
 returns c = turns_end metric_entry (metric_view c.loop-field.metric) (items_left c.loop-field.field-iterator) (metric_at c.args.bytes.now) c.in-None.ensures.steps.0 c.loop-field.invariant.gives
