@@ -11,6 +11,7 @@ pub mod Moves
 pub mod Nodes
 pub mod Off
 pub mod Offers
+pub mod Origins
 pub mod Owns
 pub mod Parse
 pub mod Places

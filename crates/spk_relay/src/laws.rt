@@ -10,6 +10,7 @@ ghost use Rattle.spk_broker_body.specs.Done.{refused_to};
 ghost use Rattle.spk_broker_body.specs.Log.{IsLog, got_of, refusals_of, room_of, taken_of};
 ghost use Rattle.spk_relay.specs.Due.{due};
 ghost use Rattle.spk_relay.specs.Given.{AreOthers, IsHeard};
+ghost use Rattle.spk_relay.specs.Origins.{AllSaidBefore};
 ghost use Rattle.spk_relay.specs.Relayed.{IsRelayed};
 ghost use Rattle.spk_reading.specs.Data.{HeardData};
 ghost use Rattle.spk_edge_rules.specs.Config.{Setup};
@@ -105,6 +106,15 @@ pub fn few()
     spk_broker_rules::laws::knowing();
     spk_broker_rules::laws::joining();
     spk_broker_rules::laws::drops();
+}
+
+/// Along every log of a plant's broker, whatever its clients say.
+pub fn origins()
+    // What a ring got is the spelling of a packet; and where that is a PUBLISH, a PUBLISH that was taken by then, or the will of a
+    // CONNECT, had its topic and its payload.
+    ensures { (limit edges : ℕ) (log : List Entry) → IsLog limit edges log → AllSaidBefore log }
+{
+    spk_broker_rules::laws::origins();
 }
 
 /// Along every log of a plant whose edge nodes and host say what their rules give: nothing is asked of windows, orders or losses.
