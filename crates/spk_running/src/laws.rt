@@ -14,6 +14,7 @@ ghost use Rattle.spk_plant.specs.Report.{RunsAs};
 ghost use Rattle.spk_plant.specs.declared.report.NodeReport.{NodeReport};
 ghost use Rattle.spk_plant.specs.declared.report.Report.{Report};
 ghost use Rattle.spk_relay.specs.Given.{IsHeard};
+ghost use Rattle.spk_relay.specs.Origins.{AllSaidBefore};
 ghost use Rattle.spk_relay.specs.Shown.{IsFew, count_numbered};
 ghost use Rattle.spk_relay.specs.Speech.{IsPlant};
 ghost use Rattle.spk_running.specs.Deaths.{AreDeathsOf};
@@ -157,5 +158,16 @@ pub fn deaths()
         (node_calls (asked (told_in r.given.items)) (setup_at p k).config.group
         (setup_at p k).config.node) }
 {
+    plant();
+}
+
+/// Where what the clients' rings got comes from, for every plan and every report of it.
+pub fn origins()
+    // What a ring got is the spelling of a packet; and where that is a PUBLISH, a PUBLISH that was taken by then, or the will of a
+    // CONNECT, had its topic and its payload.
+    ensures { (p : Plan) (r : Report) → CanRun p → IsMade p → (ran : RunsAs p r)
+        → AllSaidBefore ran.log }
+{
+    spk_relay::laws::origins();
     plant();
 }
