@@ -3,6 +3,7 @@ pub mod Base
 pub mod Carries
 pub mod Deaths
 pub mod Due
+pub mod Dying
 pub mod Facts
 pub mod Few
 pub mod Heard
@@ -19,6 +20,7 @@ pub mod Plant
 pub mod Rows
 pub mod Running
 pub mod Silence
+pub mod Speakers
 pub mod State
 pub mod Tells
 pub mod Topics

@@ -1,8 +1,7 @@
 -- What a plant's broker relays was said in a frame that was taken.
-use Rattle.std.proofs.Common.{◌≡◌, ◌⊎◌, inl, inr, sym, refl, subst, ℕ, Bool, true, false, ◌||◌, cond, List, [], ◌∷◌, ◌++◌, map, length, Option, Some, None}
+use Rattle.std.proofs.Common.{◌≡◌, inl, inr, sym, refl, subst, ℕ, Bool, true, false, ◌||◌, cond, List, [], ◌∷◌, ◌++◌, map, length, Option, Some, None}
 use Rattle.std.specs.List.{AllByRecursion}
-use Rattle.spk_packets.specs.Message.{Message as Packet, WillData, Connect, ConnAck, Publish, PubAck, Subscribe, SubAck, Unsubscribe, UnsubAck, PingReq, PingResp, Disconnect}
-use Rattle.spk_packets.specs.Spelling.{spelling}
+use Rattle.spk_packets.specs.Message.{Message as Packet, Connect, ConnAck, Publish, PubAck, Subscribe, SubAck, Unsubscribe, UnsubAck, PingReq, PingResp, Disconnect}
 use Rattle.spk_broker.specs.Sent.{outgoing}
 use Rattle.spk_broker_rules.specs.Data.{Send}
 use Rattle.spk_broker_rules.specs.Origins.{SaidIn, WasSaid, SaysAll, Says as Speaks}
@@ -12,7 +11,7 @@ use Rattle.spk_broker_rules.specs.Step.{after, step}
 use Rattle.spk_ingress.specs.declared.rule.Message.{Message}
 use Rattle.spk_broker_body.specs.Data.{Input, Says, Breaks, Cuts, Ends, Offer, Entry, Took, Accepted, Refused, Passed, Told, Room}
 use Rattle.spk_broker_body.specs.Log.{IsLog, room_of, taken_of}
-use Rattle.spk_broker_body.specs.Step.{behind, called, called_on, conn_at, have_ended, known, may_open, next_conn, offer_of, opened, packet_on, told, took}
+use Rattle.spk_broker_body.specs.Step.{behind, called, called_on, conn_at, have_ended, known, may_open, next_conn, offer_of, opened, packet_on, took}
 use Rattle.spk_relay.specs.Origins.{AllSaidBefore, IsSaidBefore, IsSaying, WasTaken}
 
 -- what the broker's law on origins says
@@ -20,7 +19,7 @@ pub record OriginLaw : Type 0 where
   pub origins : (limit : ℕ) (es : List Event) (e : Event) → SaysAll (WasSaid (e ∷ es)) (step (after limit es) e).sends
 
 -- what holds of what a packet says holds by more
-more : (T U : List ℕ → List ℕ → Type 0) → ((t p : List ℕ) → T t p → U t p) → (q : Packet) → Speaks T q → Speaks U q
+pub more : (T U : List ℕ → List ℕ → Type 0) → ((t p : List ℕ) → T t p → U t p) → (q : Packet) → Speaks T q → Speaks U q
 more T U by (Connect client clean alive None) h = tt
 more T U by (Connect client clean alive (Some w)) h = by w.topic w.message h
 more T U by (ConnAck present code) h = tt
