@@ -25,14 +25,15 @@ none_refused c edges [] all few = refl
 none_refused c edges (Took m i ∷ l) all few = none_refused c edges l all few
 none_refused c edges (Accepted k o ∷ l) all few =
     none_refused c edges l all (fewer c (eqb k edges) (got_of edges l) (record { bytes = o.bytes; cuts = cuts_in edges (taken_of l) }) few)
-none_refused c edges (Refused k o ∷ l) all few = by (eqb k edges) refl
+none_refused c edges (Refused k o ∷ l) all few = by (eqb k edges) refl (none_refused c edges l all.1 few)
   where
-    by : (b : Bool) → eqb k edges ≡ b → refused_to edges (refusals_of l ++ (record { client = k; sort = o.sort; taken = length (taken_of l) }) ∷ []) ≡ 0
-    by true same =
+    by : (b : Bool) → eqb k edges ≡ b → refused_to edges (refusals_of l) ≡ 0
+        → refused_to edges (refusals_of l ++ (record { client = k; sort = o.sort; taken = length (taken_of l) }) ∷ []) ≡ 0
+    by true same none =
         let is : k ≡ edges = eqb-true k edges same in
         let full : c ≤ length (got_of edges l) = subst (λ j. c ≤ length (got_of j l)) is all.0 in
         absurd (omega (arith, full, few))
-    by false other = others edges (refusals_of l) _ other (none_refused c edges l all.1 few)
+    by false other none = others edges (refusals_of l) (record { client = k; sort = o.sort; taken = length (taken_of l) }) other none
 none_refused c edges (Passed o ∷ l) all few = none_refused c edges l all few
 none_refused c edges (Told o ∷ l) all few = none_refused c edges l all few
 
