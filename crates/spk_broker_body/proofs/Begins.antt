@@ -23,6 +23,7 @@ begins limit outlets h desk clients lines sized edges over untold taken refusals
       taken = taken;
       refusals = refusals;
       accepted = accepted;
+      full = tt;
     };
     pending = refl;
   };

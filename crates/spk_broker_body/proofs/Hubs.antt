@@ -24,7 +24,7 @@ use Rattle.spk_broker_body.specs.declared.part.BrokerEnd.{BrokerEnd}
 use Rattle.spk_broker_body.specs.Done.{BrokerDone, BrokerReady, IsEndOf, refused_to}
 use Rattle.spk_broker_body.specs.Data.{Entry, Input, Offer, Room, Took, Accepted, Refused, Passed, Told, Cuts, Ends}
 use Rattle.spk_broker_body.specs.Holding.{FitLines, FitsDesk, Gives, Holds, HasAllEnded, IsIdle, IsNoted, IsTaken, Offers, Rests, Setting, setting_of, untold_of}
-use Rattle.spk_broker_body.specs.Log.{IsLog, Means, accepted_of, got_of, refusals_of, room_of, taken_of}
+use Rattle.spk_broker_body.specs.Log.{HasFilled, IsLog, Means, accepted_of, got_of, refusals_of, room_of, taken_of}
 use Rattle.spk_broker_body.specs.Step.{behind, called_on, client_of, cuts_in, fresh_room, has_ended, have_ended, holds_client, is_client, is_cut, is_dropped, is_end, known, offer_of, ring_of, took}
 use Rattle.spk_broker_body.specs.declared.line.Line.{Line}
 use Rattle.spk_broker_body.proofs.Desks.{or_false}
@@ -79,6 +79,7 @@ passed_offers s closed log h k send sends closes f same untold refusals accepted
           taken = same.taken ∙ f.holds.taken;
           refusals = refusals ∙ f.holds.refusals;
           accepted = accepted ∙ f.holds.accepted;
+          full = f.holds.full;
         };
         awaits = record { pending = ap behind f.awaits.pending; shut = f.awaits.shut };
       },
@@ -117,6 +118,7 @@ accepted_offers s closed log h k send sends closes client f same untold refusals
           accepted = accepted ∙ (ap (λ e. if client == e then h.accepted.items ++ length h.taken.items ∷ [] else h.accepted.items) f.holds.edges
               ∙ (ap (λ xs. if client == s.edges then xs ++ length h.taken.items ∷ [] else xs) f.holds.accepted
               ∙ ap (λ ms. if client == s.edges then accepted_of s.edges log ++ length ms ∷ [] else accepted_of s.edges log) f.holds.taken));
+          full = f.holds.full;
         };
         awaits = record { pending = ap behind f.awaits.pending; shut = f.awaits.shut };
       },
@@ -129,8 +131,9 @@ pub refused_offers : (s : Setting) (closed : ℕ → Bool) (log : List Entry) (h
     → k.accepted.items ≡ h.accepted.items
     → Some client ≡ client_of h.desk.openers.items send.conn → drops s closed log client ≡ false
     → FitLines s.outlets (drops s closed log) (λ j. got_of j log) (taken_of log) k.lines.items
+    → HasFilled s.outlets client (got_of client log)
     → (e : Entry) × Offers s closed k (e ∷ log) sends closes
-refused_offers s closed log h k send sends closes client f same untold refusals accepted is stands lines =
+refused_offers s closed log h k send sends closes client f same untold refusals accepted is stands lines filled =
     let r : Room = room s log in
     let o : Offer = offer_of r.openers (drops s closed log) send in (
       Refused client o,
@@ -149,6 +152,7 @@ refused_offers s closed log h k send sends closes client f same untold refusals 
           refusals = refusals ∙ (ap (λ rs. rs ++ (record { client = client; sort = send.sort; taken = length h.taken.items }) ∷ []) f.holds.refusals
               ∙ ap (λ ms. refusals_of log ++ (record { client = client; sort = send.sort; taken = length ms }) ∷ []) f.holds.taken);
           accepted = accepted ∙ f.holds.accepted;
+          full = (filled, f.holds.full);
         };
         awaits = record { pending = ap behind f.awaits.pending; shut = f.awaits.shut };
       },
@@ -197,6 +201,7 @@ told_offers s log h k u now out f untold gives clients moment edges over lines t
               taken = taken ∙ f.holds.taken;
               refusals = refusals ∙ f.holds.refusals;
               accepted = accepted ∙ f.holds.accepted;
+              full = f.holds.full;
             };
             awaits = g.awaits;
           },
@@ -227,6 +232,7 @@ took_offers s log h k m i out f means taken g lines clients sized edges over unt
           taken = taken ∙ ap (λ ms. ms ++ m ∷ []) held.taken;
           refusals = refusals ∙ held.refusals;
           accepted = accepted ∙ held.accepted;
+          full = held.full;
         };
         awaits = g.awaits;
       },
@@ -313,6 +319,7 @@ end_offers s log old mid k sender now out f n same over lines empty =
           taken = ap (λ v. v.items) same.taken ∙ (n.taken ∙ ap (λ ms. ms ++ m ∷ []) held.taken);
           refusals = ap (λ v. v.items) (same.refusals ∙ ap (λ (x : Hub). x.refusals) n.same) ∙ held.refusals;
           accepted = ap (λ v. v.items) (same.accepted ∙ ap (λ (x : Hub). x.accepted) n.same) ∙ held.accepted;
+          full = held.full;
         };
         awaits = record {
           pending = f.rests.pending ∙ ap (λ ss. map (offer_of r.openers (is_dropped (r.over || have_ended s.edges (taken_of log ++ m ∷ [])) r.closed)) (map sent_view ss)) (sym empty.0);
@@ -389,6 +396,7 @@ holds_ext s c d h log same f = record {
   taken = f.taken;
   refusals = f.refusals;
   accepted = f.accepted;
+  full = f.full;
 }
 
 pub or_assoc : (a b c : Bool) → ((a || b) || c) ≡ (a || (b || c))
@@ -419,6 +427,7 @@ closed_holds s closed log h k client conn f is desk clients lines sized edges ov
       taken = ap (λ v. v.items) taken ∙ f.taken;
       refusals = ap (λ v. v.items) refusals ∙ f.refusals;
       accepted = ap (λ v. v.items) accepted ∙ f.accepted;
+      full = f.full;
     })
 
 -- nobody opened the connection
@@ -466,6 +475,7 @@ new_idle limit outlets h desk clients over lines sized untold edges taken refusa
       taken = taken;
       refusals = refusals;
       accepted = accepted;
+      full = tt;
     };
     pending = refl;
   };
@@ -506,6 +516,7 @@ run_done n start pass hub end ready all takes frames senders is =
       counted = subst (λ (ms : List Message). length ms < 2 ^ 64) held.taken (omega (arith, hub.taken.ok.0));
       refusals = is.refusals ∙ held.refusals;
       refused = is.refused ∙ (ap (λ e. refused_to e hub.refusals.items) (held.edges ∙ host) ∙ ap (refused_to (n.senders - 1)) held.refusals);
+      full = held.full;
       accepted = is.accepted ∙ (held.accepted ∙ ap (λ e. accepted_of e all.log) host);
       is_cut = is.is_cut limit (room s all.log).closed (room s all.log) held.desk ∙ (ap (room s all.log).closed (held.edges ∙ host) ∙ ap (λ e. (room_of limit e all.log).closed (n.senders - 1)) host);
       sized = is.sized ∙ (held.sized ∙ ready.rings);

@@ -48,7 +48,7 @@ offers_line firsts dropped got taken ls k bytes old new r fits below is offers =
           (f.0, f.1, subst (λ b. FitsLine f.0 (dropped k) (if b then got k ++ (record { bytes = bytes; cuts = cuts_in k taken }) ∷ [] else got k) (cuts_in k taken) (has_ended k taken) new) (sym (eq-eqb k k refl)) g.1)
           (λ j y ne p. (p.0, p.1, subst (λ b. FitsLine p.0 (dropped j) (if b then got j ++ (record { bytes = bytes; cuts = cuts_in j taken }) ∷ [] else got j) (cuts_in j taken) (has_ended j taken) y) (sym (differ j k ne)) p.2)),
     )
-    go (Some false) g = (g.0, each_set (FitLine firsts dropped got taken) (FitLine firsts dropped got taken) ls k new fits (f.0, f.1, g.1) (λ j y ne p. p))
+    go (Some false) g = (g.0, each_set (FitLine firsts dropped got taken) (FitLine firsts dropped got taken) ls k new fits (f.0, f.1, g.1) (λ j y ne p. p), (f.0, f.1, g.2))
 
 -- ---- which of them have ended
 

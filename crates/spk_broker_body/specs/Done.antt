@@ -16,7 +16,7 @@ use Rattle.spk_broker_body.specs.declared.hub.Hub.{Hub}
 use Rattle.spk_broker_body.specs.Data.{Entry, Room}
 use Rattle.spk_broker_body.specs.Holding.{FitsDesk, FitLines}
 use Rattle.spk_broker_body.specs.Step.{has_ended}
-use Rattle.spk_broker_body.specs.Log.{IsLog, accepted_of, got_of, refusals_of, room_of, taken_of}
+use Rattle.spk_broker_body.specs.Log.{AtRefusals, HasFilled, IsLog, accepted_of, got_of, refusals_of, room_of, taken_of}
 
 -- nothing was offered so far
 abbrev pub AreFresh : List Outlet → Type 0
@@ -63,6 +63,8 @@ pub record BrokerDone (n : Ingress) (start : BrokerStart) (end : BrokerEnd) : Ty
   pub counted : length (taken_of log) < 2 ^ 64
   pub refusals : end.refusals.items ≡ refusals_of log
   pub refused : end.refused ≡ refused_to (n.senders - 1) (refusals_of log)
+  -- a ring refuses nothing before it got as many items as it has room for
+  pub full : AtRefusals (HasFilled start.outlets.items) log
   pub accepted : end.accepted.items ≡ accepted_of (n.senders - 1) log
   pub is_cut : end.is_cut ≡ (room_of (256 - 2 * start.width) (n.senders - 1) log).closed (n.senders - 1)
   pub sized : length end.tokens.items ≡ n.senders

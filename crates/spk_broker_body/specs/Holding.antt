@@ -4,7 +4,7 @@ use Rattle.std.specs.List.{slice_get}
 use Rattle.std.specs.Option.{IfSome}
 use Rattle.spk_ingress.specs.declared.rule.Message.{Message}
 use Rattle.spk_session.specs.declared.answer.Sort.{Sort}
-use Rattle.spk_rings.specs.Ring.{SameOutlet, FinishedFrom, offered, all_offered}
+use Rattle.spk_rings.specs.Ring.{SameOutlet, FinishedFrom, free, offered, all_offered}
 use Rattle.spk_rings.specs.declared.item.Item.{Item}
 use Rattle.spk_rings.specs.declared.outlet.Outlet.{Outlet}
 use Rattle.spk_rings.specs.declared.token.Token.{Token}
@@ -18,7 +18,7 @@ use Rattle.spk_broker_body.specs.declared.hub.Hub.{Hub}
 use Rattle.spk_broker_body.specs.declared.hub.Untold.{Untold}
 use Rattle.spk_broker_body.specs.Data.{Offer, Entry, Room}
 use Rattle.spk_broker_body.specs.Step.{cuts_in, has_ended, have_ended, holds_client, is_dropped, next_conn, offer_of, opened}
-use Rattle.spk_broker_body.specs.Log.{IsLog, accepted_of, got_of, refusals_of, room_of, taken_of}
+use Rattle.spk_broker_body.specs.Log.{AtRefusals, HasFilled, IsLog, accepted_of, got_of, refusals_of, room_of, taken_of}
 
 -- ---- connections
 
@@ -64,9 +64,9 @@ pub record Gives (limit : ℕ) (r next : Room) (d : Desk) (out : Out) : Type 0 w
 
 -- ---- rings
 
--- the ring's end, or the token of its dropping, if there is one
+-- the ring's end, with room for what it didn't get yet for certain, or the token of its dropping, if there is one
 abbrev pub IsRing : Outlet → Option Outlet → Option Token → Bool → List Item → Type 0
-IsRing first (Some o) token dropped got = (dropped ≡ false) × SameOutlet first o × (offered o ≡ got)
+IsRing first (Some o) token dropped got = (dropped ≡ false) × SameOutlet first o × (offered o ≡ got) × (free first ≤ free o + length got)
 IsRing first None token dropped got = (dropped ≡ true) × IfSome token (λ t. FinishedFrom first t × (all_offered t ≡ got))
 
 pub record FitsLine (first : Outlet) (dropped : Bool) (got : List Item) (cuts : ℕ) (ended : Bool) (l : Line) : Type 0 where
@@ -87,14 +87,16 @@ abbrev pub OfferGives : Outlet → Bool → List Item → ℕ → Bool → List 
 OfferGives first dropped got cuts ended bytes l None = (dropped ≡ true) × FitsLine first dropped got cuts ended l
 OfferGives first dropped got cuts ended bytes l (Some true) =
     (dropped ≡ false) × FitsLine first dropped (got ++ (record { bytes = bytes; cuts = cuts }) ∷ []) cuts ended l
-OfferGives first dropped got cuts ended bytes l (Some false) = (dropped ≡ false) × FitsLine first dropped got cuts ended l
+OfferGives first dropped got cuts ended bytes l (Some false) =
+    (dropped ≡ false) × FitsLine first dropped got cuts ended l × (free first ≤ length got)
 
 -- what an offer to this client makes of the lines
 abbrev pub LinesGive : List Outlet → (ℕ → Bool) → (ℕ → List Item) → List Message → ℕ → List ℕ → List Line → Option Bool → Type 0
 LinesGive firsts dropped got taken client bytes ls None = (dropped client ≡ true) × FitLines firsts dropped got taken ls
 LinesGive firsts dropped got taken client bytes ls (Some true) = (dropped client ≡ false)
     × FitLines firsts dropped (λ k. if client == k then got k ++ (record { bytes = bytes; cuts = cuts_in k taken }) ∷ [] else got k) taken ls
-LinesGive firsts dropped got taken client bytes ls (Some false) = (dropped client ≡ false) × FitLines firsts dropped got taken ls
+LinesGive firsts dropped got taken client bytes ls (Some false) =
+    (dropped client ≡ false) × FitLines firsts dropped got taken ls × HasFilled firsts client (got client)
 
 -- ---- all of it
 
@@ -121,6 +123,7 @@ pub record Holds (s : Setting) (closed : ℕ → Bool) (h : Hub) (log : List Ent
   pub taken : h.taken.items ≡ taken_of log
   pub refusals : h.refusals.items ≡ refusals_of log
   pub accepted : h.accepted.items ≡ accepted_of s.edges log
+  pub full : AtRefusals (HasFilled s.outlets) log
 
 -- the sends of a call are being offered
 pub record Offers (s : Setting) (closed : ℕ → Bool) (h : Hub) (log : List Entry) (sends : List Sent) (closes : List ℕ) : Type 0 where

@@ -1,10 +1,13 @@
 -- Logs of a plant's broker (own rules): what each entry must find, and the lists that are read off a log. A log stands newest first.
-use Rattle.std.specs.Prelude.{◌≡◌, ℕ, ◌==◌, List, [], ◌∷◌, ◌++◌, length, Some, None, if◌then◌else◌}
+use Rattle.std.specs.Prelude.{◌≡◌, ℕ, ◌≤◌, ◌==◌, List, [], ◌∷◌, ◌++◌, length, Some, None, if◌then◌else◌}
+use Rattle.std.specs.List.{slice_get}
 use Rattle.spk_packets.specs.Grammar.{Spells}
 use Rattle.spk_ingress.specs.declared.rule.Message.{Message}
 use Rattle.spk_ingress.specs.declared.frame.Frame.{Frame}
 use Rattle.spk_ingress.specs.declared.frame.Frame.TheVariants as frame
+use Rattle.spk_rings.specs.Ring.{free}
 use Rattle.spk_rings.specs.declared.item.Item.{Item}
+use Rattle.spk_rings.specs.declared.outlet.Outlet.{Outlet}
 use Rattle.spk_broker_body.specs.declared.part.Refusal.{Refusal}
 use Rattle.spk_broker_body.specs.Data.{Input, Says, Breaks, Cuts, Ends, Offer, Entry, Took, Accepted, Refused, Passed, Told, Room}
 use Rattle.spk_broker_body.specs.Step.{cuts_in, moved, fresh_room}
@@ -77,3 +80,18 @@ MayMove (Told o) r = (r.pending ≡ []) × IsFirst o r.untold
 abbrev pub IsLog : ℕ → ℕ → List Entry → Type 0
 IsLog limit edges [] = Unit {0}
 IsLog limit edges (e ∷ l) = IsLog limit edges l × MayMove e (room_of limit edges l)
+
+-- ---- what a refusal must find
+
+-- wherever a send was refused, this holds of the client and of what its ring had got by then
+abbrev pub AtRefusals : (ℕ → List Item → Type 0) → List Entry → Type 0
+AtRefusals P [] = Unit {0}
+AtRefusals P (Took m i ∷ l) = AtRefusals P l
+AtRefusals P (Accepted k o ∷ l) = AtRefusals P l
+AtRefusals P (Refused k o ∷ l) = P k (got_of k l) × AtRefusals P l
+AtRefusals P (Passed o ∷ l) = AtRefusals P l
+AtRefusals P (Told o ∷ l) = AtRefusals P l
+
+-- the client's ring, one of these, has got as many items as it has room for when it is new
+abbrev pub HasFilled : List Outlet → ℕ → List Item → Type 0
+HasFilled os k got = (first : Outlet) × (slice_get os k ≡ Some first) × (free first ≤ length got)

@@ -1,12 +1,12 @@
 -- The threads' promises and what ties them are what the report says.
-use Rattle.std.proofs.Common.{◌≡◌, ◌∙◌, ℕ, ◌+◌, ◌-◌, ◌*◌, ◌<◌, List, [], ◌∷◌, ◌++◌, length, map, Option, Some, sym, ap, subst, arith}
+use Rattle.std.proofs.Common.{◌≡◌, ◌∙◌, ℕ, ◌+◌, ◌-◌, ◌*◌, ◌<◌, ◌≤◌, List, [], ◌∷◌, ◌++◌, length, map, Option, Some, sym, ap, subst, arith}
 use Rattle.std.specs.List.{AllByRecursion, slice_get}
 use Rattle.spk_ingress.specs.declared.rule.Message.{Message}
 use Rattle.spk_ingress.specs.Lanes.{share_of}
 use Rattle.spk_ingress.specs.Passes.{frames_put}
 use Rattle.spk_ingress.specs.declared.channel.Ingress.{Ingress}
 use Rattle.spk_rings.specs.Ring as rings
-use Rattle.spk_rings.specs.Ring.{FinishedFrom, SameInlet, all_offered, popped}
+use Rattle.spk_rings.specs.Ring.{FinishedFrom, SameInlet, all_offered, free, popped}
 use Rattle.spk_rings.specs.declared.inlet.Inlet.{Inlet}
 use Rattle.spk_rings.proofs.Ends.{ends_finish, token_take}
 use Rattle.spk_rings.specs.declared.item.Item.{Item}
@@ -23,9 +23,9 @@ use Rattle.spk_edge_body.specs.Told.{newest_first}
 use Rattle.spk_edge_body.specs.Done.{EdgeDone}
 use Rattle.spk_edge_body.specs.declared.edge.EdgeStart.{EdgeStart}
 use Rattle.spk_edge_body.specs.declared.edge.EdgeEnd.{EdgeEnd}
-use Rattle.spk_broker_body.specs.Data.{Entry}
+use Rattle.spk_broker_body.specs.Data.{Entry, Took, Accepted, Refused, Passed, Told}
 use Rattle.spk_broker_body.specs.Done.{AreTokens, BrokerDone, IsTokenAt}
-use Rattle.spk_broker_body.specs.Log.{got_of, taken_of}
+use Rattle.spk_broker_body.specs.Log.{AtRefusals, HasFilled, got_of, taken_of}
 use Rattle.spk_broker_body.specs.declared.part.BrokerStart.{BrokerStart}
 use Rattle.spk_host_body.specs.declared.ends.HostStart.{HostStart}
 use Rattle.spk_plant.specs.Done.{AllDone, AreReady, AreTheirs, AreTied, IsEdgeDone, IsFront, IsReportOf, IsTied}
@@ -135,11 +135,23 @@ host_is p n ss b h ends r parts d tied =
       consumed = d.host.consumed;
     }))
 
+-- all rings have room for the same number of items
+has_room : (c : ℕ) (os : List Outlet) (log : List Entry) → ((k : ℕ) (o : Outlet) → slice_get os k ≡ Some o → free o ≡ c)
+    → AtRefusals (HasFilled os) log → AtRefusals (λ k got. c ≤ length got) log
+has_room c os [] room all = tt
+has_room c os (Took m i ∷ l) room all = has_room c os l room all
+has_room c os (Accepted k o ∷ l) room all = has_room c os l room all
+has_room c os (Refused k o ∷ l) room all =
+    (subst (λ n. n ≤ length (got_of k l)) (room k all.0.0 all.0.1) all.0.2, has_room c os l room all.1)
+has_room c os (Passed o ∷ l) room all = has_room c os l room all
+has_room c os (Told o ∷ l) room all = has_room c os l room all
+
 pub runs : (p : Plan) (n : Ingress) (ss : List EdgeStart) (b : BrokerStart) (h : HostStart) (ends : Ends) (r : Report)
     → AreParts p n ss b h → AllDone n ss b h ends → IsTied ends r → RunsAs p r
 runs p n ss b h ends r parts d tied = record {
   log = d.broker.log;
   logged = subst (λ w. IsLogged (256 - 2 * w) (length p.nodes.items) d.broker.log r) parts.width (logged_is n b ends r (length p.nodes.items) d.broker parts.senders tied);
+  room = has_room p.ring b.outlets.items d.broker.log parts.room d.broker.full;
   sized = tied.sized ∙ (d.edges.sized ∙ parts.sized);
   nodes = node_at p n ss b h ends r parts d tied;
   host = host_is p n ss b h ends r parts d tied;

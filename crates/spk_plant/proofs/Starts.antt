@@ -5,7 +5,7 @@ use Rattle.spk_host.specs.Inputs.{new_host}
 use Rattle.spk_ingress.specs.Passes.{AllFresh, AllPutInto, ArePasses, TakesFrom, frames_taken}
 use Rattle.spk_ingress.specs.declared.channel.Ingress.{Ingress}
 use Rattle.spk_ingress.specs.declared.channel.PutPass.{PutPass}
-use Rattle.spk_rings.specs.Ring.{offered}
+use Rattle.spk_rings.specs.Ring.{free, offered}
 use Rattle.spk_rings.specs.declared.inlet.Inlet.{Inlet}
 use Rattle.spk_rings.specs.declared.outlet.Outlet.{Outlet}
 use Rattle.spk_plan.specs.declared.plan.Plan.{Plan}
@@ -19,9 +19,9 @@ use Rattle.spk_plant.proofs.Places.{get_last, get_more, get_parts, has_last, has
 
 -- ---- rings
 
-rings_snoc : (n : ℕ) (os : List Outlet) (is : List Inlet) (o : Outlet) (i : Inlet) → AreRings n os is → IsRing o i
-    → AreRings (n + 1) (os ++ o ∷ []) (is ++ i ∷ [])
-rings_snoc n os is o i all one =
+rings_snoc : (c n : ℕ) (os : List Outlet) (is : List Inlet) (o : Outlet) (i : Inlet) → AreRings c n os is → IsRing o i → free o ≡ c
+    → AreRings c (n + 1) (os ++ o ∷ []) (is ++ i ∷ [])
+rings_snoc c n os is o i all one room =
     let more : length (os ++ o ∷ []) ≡ length os + 1 = length-append os (o ∷ []) in
     let ends : length (is ++ i ∷ []) ≡ length is + 1 = length-append is (i ∷ []) in
     record {
@@ -37,12 +37,16 @@ rings_snoc n os is o i all one =
         | inl before ↦ all.fresh k x before
         | inr last ↦ ap offered last.1 ∙ one.offered
       ];
+      room = λ k x at. elim (get_parts os o k x at) [
+        | inl before ↦ all.room k x before
+        | inr last ↦ ap free last.1 ∙ room
+      ];
     }
 
-pub rings_push : (n : ℕ) (os ps : List Outlet) (is js : List Inlet) (o : Outlet) (i : Inlet) → AreRings n os is → IsRing o i
-    → ps ≡ os ++ o ∷ [] → js ≡ is ++ i ∷ [] → AreRings (n + 1) ps js
-rings_push n os ps is js o i all one more ends =
-    subst (λ xs. AreRings (n + 1) xs js) (sym more) (subst (λ ys. AreRings (n + 1) (os ++ o ∷ []) ys) (sym ends) (rings_snoc n os is o i all one))
+pub rings_push : (c n : ℕ) (os ps : List Outlet) (is js : List Inlet) (o : Outlet) (i : Inlet) → AreRings c n os is → IsRing o i → free o ≡ c
+    → ps ≡ os ++ o ∷ [] → js ≡ is ++ i ∷ [] → AreRings c (n + 1) ps js
+rings_push c n os ps is js o i all one room more ends =
+    subst (λ xs. AreRings c (n + 1) xs js) (sym more) (subst (λ ys. AreRings c (n + 1) (os ++ o ∷ []) ys) (sym ends) (rings_snoc c n os is o i all one room))
 
 -- ---- edges
 
@@ -128,7 +132,7 @@ first_pass n ps k p passes at =
 
 pub parts_are : (p : Plan) (n : Ingress) (all ps : List PutPass) (js is : List Inlet) (ss : List EdgeStart) (b : BrokerStart) (h : HostStart)
     → n.senders ≡ length p.nodes.items + 1 → ArePasses n all → all ≡ ps ++ h.pass ∷ []
-    → AreRings (length p.nodes.items + 1) b.outlets.items js → js ≡ is ++ h.inlet ∷ []
+    → AreRings p.ring (length p.nodes.items + 1) b.outlets.items js → js ≡ is ++ h.inlet ∷ []
     → AreStarts (string_bytes p.group) (string_bytes p.host) p.nodes.items ps is ss
     → b.width ≡ p.width → TakesFrom n b.pass → frames_taken b.pass ≡ [] → h.host ≡ new_host (host_in p) → AreParts p n ss b h
 parts_are p n all ps js is ss b h senders passes split rings ends starts width taker none host =
@@ -150,6 +154,7 @@ parts_are p n all ps js is ss b h senders passes split rings ends starts width t
       none = none;
       outlets = rings.outlets ∙ sym senders;
       fresh = rings.fresh;
+      room = rings.room;
       host = host;
       pass = subst (λ j. IsPass n j h.pass) own (pass_is (length ps) h.pass (subst (λ xs. slice_get xs (length ps) ≡ Some h.pass) (sym split) (get_last ps h.pass)));
       ring = subst (λ j. HasAt Outlet (λ o. IsRing o h.inlet) b.outlets.items j) ring (rings.each (length is) h.inlet (subst (λ xs. slice_get xs (length is) ≡ Some h.inlet) (sym ends) (get_last is h.inlet)));

@@ -1,5 +1,5 @@
 -- What a report of a plant says: a log of its broker, and of each thread what it did along it (own rules).
-use Rattle.std.specs.Prelude.{◌≡◌, ℕ, ◌+◌, ◌-◌, ◌*◌, ◌^◌, ◌<◌, true, List, [], ◌∷◌, ◌++◌, length, map, Some}
+use Rattle.std.specs.Prelude.{◌≡◌, ℕ, ◌+◌, ◌-◌, ◌*◌, ◌^◌, ◌<◌, ◌≤◌, true, List, [], ◌∷◌, ◌++◌, length, map, Some}
 use Rattle.std.specs.List.{AllByRecursion, slice_get}
 use Rattle.spk_edge.specs.Along.{AllWhole, messages_from}
 use Rattle.spk_edge.specs.View.{message_view}
@@ -20,7 +20,7 @@ use Rattle.spk_edge_body.specs.Script.{Leads}
 use Rattle.spk_edge_body.specs.Told.{newest_first}
 use Rattle.spk_broker_body.specs.Data.{Entry}
 use Rattle.spk_broker_body.specs.Done.{refused_to}
-use Rattle.spk_broker_body.specs.Log.{IsLog, accepted_of, got_of, refusals_of, room_of, taken_of}
+use Rattle.spk_broker_body.specs.Log.{AtRefusals, IsLog, accepted_of, got_of, refusals_of, room_of, taken_of}
 use Rattle.spk_broker_body.specs.Step.{has_ended}
 use Rattle.spk_host_session.specs.Data.{Config}
 use Rattle.spk_host_body.specs.Calls.{packets_of}
@@ -80,9 +80,14 @@ pub record IsHost (c : Config) (taken : List Frame) (got : List Item) (given : L
 
 -- ---- the plant
 
+-- a ring refuses nothing before it got as many items as it has room for by the plan
+abbrev pub HasRoom : Plan → List Entry → Type 0
+HasRoom p log = AtRefusals (λ k got. p.ring ≤ length got) log
+
 pub record RunsAs (p : Plan) (r : Report) : Type 0 where
   pub log : List Entry
   pub logged : IsLogged (256 - 2 * p.width) (length p.nodes.items) log r
+  pub room : HasRoom p log
   pub sized : length r.nodes.items ≡ length p.nodes.items
   pub nodes : (k : ℕ) (x : NodeReport) → slice_get r.nodes.items k ≡ Some x → IsNodeAt p log k x
   pub host : IsHost (host_in p) (share_of (length p.nodes.items) (taken_of log)) (got_of (length p.nodes.items) log) r.given.items

@@ -7,7 +7,7 @@ use Rattle.spk_host.specs.Inputs.{new_host}
 use Rattle.spk_ingress.specs.Passes.{PutsInto, TakesFrom, frames_put, frames_taken}
 use Rattle.spk_ingress.specs.declared.channel.Ingress.{Ingress}
 use Rattle.spk_ingress.specs.declared.channel.PutPass.{PutPass}
-use Rattle.spk_rings.specs.Ring.{AreEnds, offered, popped}
+use Rattle.spk_rings.specs.Ring.{AreEnds, free, offered, popped}
 use Rattle.spk_rings.specs.declared.inlet.Inlet.{Inlet}
 use Rattle.spk_rings.specs.declared.outlet.Outlet.{Outlet}
 use Rattle.spk_plan.specs.declared.plan.Plan.{Plan}
@@ -29,12 +29,13 @@ pub record IsRing (o : Outlet) (i : Inlet) : Type 0 where
   pub offered : offered o ≡ []
   pub popped : popped i ≡ []
 
--- so many new rings: their ends, place by place
-pub record AreRings (count : ℕ) (os : List Outlet) (is : List Inlet) : Type 0 where
+-- so many new rings with room for so many items each: their ends, place by place
+pub record AreRings (capacity count : ℕ) (os : List Outlet) (is : List Inlet) : Type 0 where
   pub outlets : length os ≡ count
   pub inlets : length is ≡ count
   pub each : (k : ℕ) (i : Inlet) → slice_get is k ≡ Some i → HasAt Outlet (λ o. IsRing o i) os k
   pub fresh : (k : ℕ) (o : Outlet) → slice_get os k ≡ Some o → offered o ≡ []
+  pub room : (k : ℕ) (o : Outlet) → slice_get os k ≡ Some o → free o ≡ capacity
 
 -- a new pass of a sender
 pub record IsPass (n : Ingress) (k : ℕ) (p : PutPass) : Type 0 where
@@ -68,6 +69,7 @@ pub record AreParts (p : Plan) (n : Ingress) (ss : List EdgeStart) (b : BrokerSt
   pub none : frames_taken b.pass ≡ []
   pub outlets : length b.outlets.items ≡ n.senders
   pub fresh : (k : ℕ) (o : Outlet) → slice_get b.outlets.items k ≡ Some o → offered o ≡ []
+  pub room : (k : ℕ) (o : Outlet) → slice_get b.outlets.items k ≡ Some o → free o ≡ p.ring
   pub host : h.host ≡ new_host (host_in p)
   pub pass : IsPass n (length p.nodes.items) h.pass
   pub ring : HasAt Outlet (λ o. IsRing o h.inlet) b.outlets.items (length p.nodes.items)

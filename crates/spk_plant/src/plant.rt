@@ -50,8 +50,5 @@ pub fn run_plant<R: Threads + Wait + Sync, G: Gate + Sync>(
         Ok(ends) => ends,
         Err(fault) => return Err(fault),
     };
-    match report_of(rt, alloc, ingress, ends) {
-        Ok(report) => Ok(report),
-        Err(fault) => Err(fault),
-    }
+    report_of(rt, alloc, ingress, ends)
 }

@@ -5,7 +5,7 @@ ghost use Rattle.spk_device.specs.Book.{Book};
 ghost use Rattle.spk_edge.specs.Along.{node_of};
 ghost use Rattle.spk_host.specs.Inputs.{new_host};
 ghost use Rattle.spk_host_session.specs.Data as host_names;
-ghost use Rattle.spk_rings.specs.Ring.{IsCapacity};
+ghost use Rattle.spk_rings.specs.Ring.{IsCapacity, free};
 ghost use Rattle.spk_plan_rules.specs.Plan.{AreEdges, CanRun, edge_setup, host_config, is_edge};
 ghost use Rattle.spk_plant.specs.Choice.{IsRefused};
 ghost use Rattle.spk_plant.specs.Start.{AreParts, AreRings, AreStarts, IsRing, IsStart};
@@ -32,9 +32,10 @@ pub(crate) struct Parts {
     pub(crate) host: HostStart,
 }
 
-/// A new ring.
+/// A new ring with room for so many items.
 fn new_ring(alloc: Global, capacity: usize) -> Result<(Outlet, Inlet), PlantFault>
     ensures ring { IfOk result (λ r. IsRing r.0 r.1) }
+    ensures room { IfOk result (λ r. free r.0 ≡ capacity) }
     ensures fault { IfErr result (λ e. (e ≡ PlantFault.NoMemory)
         ⊎ ((e ≡ PlantFault.BadPlan) × (IsCapacity capacity → ⊥))) }
 {
@@ -51,7 +52,7 @@ fn rings_of(
     capacity: usize,
     count: usize,
 ) -> Result<(Vec<Outlet>, Vec<Inlet>), PlantFault>
-    ensures rings { IfOk result (λ r. AreRings count r.0.items r.1.items) }
+    ensures rings { IfOk result (λ r. AreRings capacity count r.0.items r.1.items) }
     ensures fault { IfErr result (λ e. (e ≡ PlantFault.NoMemory)
         ⊎ ((e ≡ PlantFault.BadPlan) × (IsCapacity capacity → ⊥))) }
 {

@@ -1,5 +1,5 @@
 //! What must hold of every report, judged on its lists alone.
-use crate::plans::NAMES;
+use crate::plans::{NAMES, taken_in};
 use spk_broker_body::Refusal;
 use spk_edge::Published;
 use spk_host::Taken;
@@ -206,6 +206,114 @@ fn are_given(given: &[Given], sent: &[Sent]) -> bool {
     place == sent.len()
 }
 
+/// What an item says of a node.
+#[derive(Clone, Copy)]
+enum Word<'a> {
+    Nothing,
+    Message(&'a Taken),
+    Death,
+}
+
+/// What an item says of a node.
+fn word_of<'a>(given: &'a Given, name: &str) -> Word<'a> {
+    let Some(Heard::Published { content, .. }) = &given.heard else {
+        return Word::Nothing;
+    };
+    match content {
+        Content::Message(heard) if heard.node.as_str() == name => Word::Message(heard),
+        Content::Death { node, .. } if node.as_str() == name => Word::Death,
+        _ => Word::Nothing,
+    }
+}
+
+/// Where the host stands in what a node published.
+#[derive(Clone, Copy)]
+struct Stand {
+    /// One past the place of the message that was given last.
+    given: usize,
+    /// The place of the message that is consumed where it comes; None where only a birth is.
+    next: Option<usize>,
+}
+
+/// The place of a message, from a place on.
+fn place_from(published: &[Published], from: usize, given: &Taken) -> Option<usize> {
+    let rest = published.get(from..)?;
+    for (more, message) in rest.iter().enumerate() {
+        if is_same(message, given) {
+            return Some(from.saturating_add(more));
+        }
+    }
+    None
+}
+
+/// Where the host stands behind a message that is due: it was consumed, and it alone.
+fn behind_due(consumed: &[Taken], name: &str, message: &Published, behind: usize) -> Option<Stand> {
+    if taken_in(consumed, name) != 1 || !consumed.iter().any(|taken| is_same(message, taken)) {
+        return None;
+    }
+    Some(Stand {
+        given: behind,
+        next: Some(behind),
+    })
+}
+
+/// Where the host stands behind a message. Messages come in order, so one is consumed as it comes or never: a birth is, and another where
+/// the one before it was, and no death came since.
+fn behind_message(
+    consumed: &[Taken],
+    name: &str,
+    published: &[Published],
+    stand: Stand,
+    heard: &Taken,
+) -> Option<Stand> {
+    let place = place_from(published, stand.given, heard)?;
+    let message = published.get(place)?;
+    let behind = place.saturating_add(1);
+    if message.opens || stand.next == Some(place) {
+        return behind_due(consumed, name, message, behind);
+    }
+    behind_nothing(consumed, name, behind)
+}
+
+/// Where the host stands behind what makes it consume nothing of the node until a birth comes.
+fn behind_nothing(consumed: &[Taken], name: &str, given: usize) -> Option<Stand> {
+    if taken_in(consumed, name) > 0 {
+        return None;
+    }
+    Some(Stand { given, next: None })
+}
+
+/// Where the host stands behind an item.
+fn behind_item(
+    given: &Given,
+    name: &str,
+    published: &[Published],
+    stand: Stand,
+) -> Option<Stand> {
+    match word_of(given, name) {
+        Word::Message(heard) => behind_message(&given.consumed, name, published, stand, heard),
+        Word::Death => behind_nothing(&given.consumed, name, stand.given),
+        Word::Nothing if taken_in(&given.consumed, name) > 0 => None,
+        Word::Nothing => Some(stand),
+    }
+}
+
+/// Whether the messages given of a node are in the order of their publishing, each once, and consumption goes on and stands for a cause:
+/// it stands where a message is missing or a death came, until a birth comes, and nowhere else.
+fn has_causes(given: &[Given], name: &str, published: &[Published]) -> bool {
+    let mut stand = Some(Stand {
+        given: 0,
+        next: None,
+    });
+    for item in given {
+        stand = match stand {
+            Some(stand) => behind_item(item, name, published, stand),
+            None => None,
+        };
+    }
+    stand.is_some()
+}
+
 /// How many of the refused offers were the host's.
 fn refused_to(host: usize, refusals: &[Refusal]) -> usize {
     let mut count = 0usize;
@@ -229,6 +337,8 @@ fn complaint_of(
         Some("what was consumed is no front of what was published, birth by birth")
     } else if !are_taken(sent, place, published) {
         Some("what was taken isn't what was published")
+    } else if !has_causes(given, name, published) {
+        Some("what was given isn't in order, or consumption stands or goes on without a cause")
     } else {
         None
     }

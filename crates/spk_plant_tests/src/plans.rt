@@ -106,7 +106,7 @@ fn births_in(published: &[Published]) -> usize {
 }
 
 /// How many of the messages are a node's.
-fn taken_in(consumed: &[Taken], name: &str) -> usize {
+pub(crate) fn taken_in(consumed: &[Taken], name: &str) -> usize {
     let mut count = 0usize;
     for message in consumed {
         if message.node.as_str() == name {

@@ -5,3 +5,4 @@ pub mod Standing
 pub mod Since
 pub mod Placed
 pub mod Deaths
+pub mod Room

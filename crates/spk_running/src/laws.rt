@@ -147,6 +147,12 @@ pub fn placed()
     spk_relay::laws::shown();
 }
 
+/// How much is given to the host before anything is lost.
+pub fn roomy()
+    // while its ring got fewer items than the plan's rings have room for, no send to it was refused
+    ensures { (p : Plan) (r : Report) → RunsAs p r → length r.given.items < p.ring → r.refused ≡ 0 }
+{}
+
 /// The deaths that the host was told of a node, however what it was told is read at positions.
 pub fn deaths()
     // each is read as the death of the one session with its bdSeq: the node opened no other session that has it

@@ -14,7 +14,7 @@ returns-clause-parts g c =
     (record { width = p.width; pass = c.in-Ok-open.opened.2; outlets = c.in-Ok-rings_of.rings.0 })
     (record { host = c.in-Ok.node; nodes = c.in_ok-names.names; pass = c.in-Some.pass; inlet = c.in-Some-pop.inlet })
     (c.in-Ok-open.ensures.senders ∙ count) c.in-Ok-open.ensures.passes c.in-Some.ensures.items
-    (subst (λ n. AreRings n c.in-Ok-rings_of.rings.0.items c.in-Ok-rings_of.rings.1.items) count c.in-Ok-rings_of.ensures.rings) c.in-Some-pop.ensures.items
+    (subst (λ n. AreRings p.ring n c.in-Ok-rings_of.rings.0.items c.in-Ok-rings_of.rings.1.items) count c.in-Ok-rings_of.ensures.rings) c.in-Some-pop.ensures.items
     (subst (λ x. AreStarts x (string_bytes p.host) p.nodes.items c.pop.new.self.items c.pop-2.new.self.items c.in-Ok-starts_of.edges.items) c.as_str-3.ensures.value
     (subst (λ x. AreStarts c.as_str-3.result.now x p.nodes.items c.pop.new.self.items c.pop-2.new.self.items c.in-Ok-starts_of.edges.items) c.as_str-4.ensures.value c.in-Ok-starts_of.ensures.starts))
     refl c.in-Ok-open.ensures.taker.0 c.in-Ok-open.ensures.taker.1

@@ -39,7 +39,7 @@ returns-clause-offers g c s closed log sends closes f =
     refused_offers s closed log c.args.self.now c.note_refused.new.self (sent_view c.args.send) sends closes c.in-Some.client f
     (record { desk = ap (λ (h : Hub). h.desk) n.same; edges = ap (λ (h : Hub). h.edges) n.same; over = ap (λ (h : Hub). h.over) n.same; taken = ap (λ (h : Hub). h.taken.items) n.same; sized = ap (λ (h : Hub). length h.lines.items) n.same ∙ c.offer_to.ensures.sized })
     n.untold n.refusals (ap (λ (h : Hub). h.accepted.items) n.same)
-    c.in-Some.ensures l.0 (subst (λ (h : Hub). FitLines s.outlets (is_dropped (room_of s.limit s.edges log).over closed) (λ j. got_of j log) (taken_of log) h.lines.items) (sym n.same) l.1)
+    c.in-Some.ensures l.0 (subst (λ (h : Hub). FitLines s.outlets (is_dropped (room_of s.limit s.edges log).over closed) (λ j. got_of j log) (taken_of log) h.lines.items) (sym n.same) l.1) l.2
 
 pub offer_to-requires : goal.offer_to-requires
 offer_to-requires g c = opener_below (length c.args.self.now.lines.items) c.args.self.now.desk.openers.items c.args.send.conn c.in-Some.client c.requires.openers c.in-Some.ensures
