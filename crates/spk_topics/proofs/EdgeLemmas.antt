@@ -166,6 +166,10 @@ next_past (y ∷ ls) = next_past ls
 pub up_nowhere : (nodes : List Node) (n : ℕ) → slice_get nodes n ≡ None → up_in (links_in nodes) n ≡ None
 up_nowhere nodes n h = ap (λ o. option_and_then (λ (link : Link). link.1) o) (slice_get-map link_of nodes n ∙ ap (option_map link_of) h)
 
+-- nor does one lead on from there
+pub child_nowhere : (nodes : List Node) (n : ℕ) (l : List ℕ) → slice_get nodes n ≡ None → child_in (links_in nodes) n l ≡ None
+child_nowhere nodes n l h = ap (λ o. option_and_then (λ (link : Link). link.0 l) o) (slice_get-map link_of nodes n ∙ ap (option_map link_of) h)
+
 -- a node to which an edge leads is there
 pub up_within : (links : List Link) (n : ℕ) (e : ℕ × List ℕ) → up_in links n ≡ Some e → n < length links
 up_within links n e h = side (slice_get links n) refl h

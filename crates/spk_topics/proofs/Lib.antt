@@ -1,4 +1,5 @@
 pub mod BoolLemmas
+pub mod BranchLemmas
 pub mod FitLemmas
 pub mod FoundLemmas
 pub mod ChangeLemmas
@@ -15,5 +16,6 @@ pub mod NamedLemmas
 pub mod SparkLemmas
 pub mod TreeLemmas
 pub mod UnusedLemmas
+pub mod WalkLemmas
 pub mod WholeChanges
 pub mod WholeLemmas

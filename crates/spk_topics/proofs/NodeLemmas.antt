@@ -2,7 +2,7 @@
 use Rattle.std.proofs.Common.{◌≡◌, ◌⊎◌, ℕ, ◌<◌, List, [], Bool, true, false, refl, ap, sym, ◌∙◌, subst, cond, inl, inr, length, set, get_or, get_or-set_same, arith, map, Option, Some, None}
 use Rattle.std.specs.Cmp.{eq_by_cmp_equiv, nat_cmp_total}
 use Rattle.std.specs.Prelude.{slice_get}
-use Rattle.std.specs.Option.{option_map}
+use Rattle.std.specs.Option.{option_map, option_map_or}
 use Rattle.std.specs.Ordering.{eq_by_cmp, is_eq, nat_cmp}
 use Rattle.std.specs.declared.cmp.Ordering.{Ordering}
 use Rattle.std.specs.declared.cmp.Ordering.TheVariants.{Less, Equal, Greater}
@@ -16,7 +16,7 @@ use Rattle.spk_topics.specs.declared.node.Node.{Node}
 use Rattle.spk_topics.specs.Grants.{Grants, grant_cmp}
 use Rattle.spk_topics.specs.Rows.{Row, flat, grants_of, Absent, IsPlace, SetsRow}
 use Rattle.spk_topics.specs.Nodes.{row_of, link_of}
-use Rattle.spk_topics.specs.Paths.{Link}
+use Rattle.spk_topics.specs.Paths.{Link, text_in}
 use Rattle.spk_topics.specs.Whole.{HasGrants}
 use Rattle.spk_topics.proofs.RowLemmas.{grants_total, grants_exact, none_there, one_given, one_taken, get-grants_of, held}
 
@@ -96,16 +96,11 @@ node_holds nodes f i s key p is =
     let same : p.row ≡ row_of s = node_row nodes i p.row s p.there ∙ ap row_of (sym is) in
     get-grants_of (rows_in nodes) f i p.row key p.only p.there p.fits ∙ ap (λ (r : Row). held r.1 key) same
 
--- nothing is granted where the node is another filter's
-pub other_node : (nodes : List Node) (f : List ℕ) (i : ℕ) (s : Node) (key : ℕ) → IsPlace (rows_in nodes) f i → s ≡ get_or nodes i s → (string_bytes s.path ≡ f → ⊥)
-    → get (grants_of (rows_in nodes)) (f, key) ≡ None
-other_node nodes f i s key p is differs =
+-- the text of a node
+pub node_text : (nodes : List Node) (i : ℕ) (s : Node) → IsPlace (rows_in nodes) (text_in (rows_in nodes) i) i → s ≡ get_or nodes i s → string_bytes s.path ≡ text_in (rows_in nodes) i
+node_text nodes i s p is =
     let same : p.row ≡ row_of s = node_row nodes i p.row s p.there ∙ ap row_of (sym is) in
-    get-grants_of (rows_in nodes) f i p.row key p.only p.there p.fits ∙ nothing_in p.row p.fits same
-  where
-    nothing_in : (r : Row) → (r.0 ≡ f) ⊎ (r.1 ≡ []) → r ≡ row_of s → held r.1 key ≡ None
-    nothing_in r (inl h) same = absurd (differs (ap (λ (x : Row). x.0) (sym same) ∙ h))
-    nothing_in r (inr h) same = ap (λ es. held es key) h
+    sym (ap (λ (o : Option Row). option_map_or (λ (r : Row). r.0) o []) p.there ∙ ap (λ (r : Row). r.0) same)
 
 -- the rows once a node is the filter's, with other grants
 pub rows_after : (nodes : List Node) (f : List ℕ) (i : ℕ) (t : Node) → string_bytes t.path ≡ f → SetsRow (rows_in nodes) (rows_in (set nodes i t)) f i

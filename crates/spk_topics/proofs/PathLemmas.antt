@@ -1,8 +1,9 @@
 -- Where levels lead in a tree of levels.
-use Rattle.std.proofs.Common.{◌≡◌, ◌⊎◌, ◌<◌, ℕ, zero, suc, List, [], ◌∷◌, ◌++◌, true, refl, ap, sym, ◌∙◌, subst, inl, inr, arith, Option, Some, None, length, append_assoc}
+use Rattle.std.proofs.Common.{◌≡◌, ◌⊎◌, ◌<◌, ℕ, zero, suc, List, [], ◌∷◌, ◌++◌, false, true, refl, ap, sym, ◌∙◌, subst, inl, inr, arith, Option, Some, None, length, append_assoc}
 use Rattle.std.specs.Prelude.{option_and_then, nat_eq}
 use Rattle.std.proofs.lemmas.Bool.Decides.{nat_tests}
 use Rattle.std.proofs.Common.{length-append}
+use Rattle.spk_topics.specs.Levels.{IsParted, is_empty}
 use Rattle.spk_topics.specs.Rows.{Row}
 use Rattle.spk_topics.specs.Paths.{Child, Up, IsOn, IsTree, path}
 use Rattle.spk_topics.specs.Whole.{descend}
@@ -40,6 +41,15 @@ longer a b l x e = omega (arith, ap length e, length-append a (l ∷ x))
 pub to_end : (a : Levels) → a ++ [] ≡ a
 to_end [] = refl
 to_end (x ∷ a) = ap (λ r. x ∷ r) (to_end a)
+
+-- a path that goes on by other levels than what is left is no beginning of the whole
+pub parted_stops : (a : Levels) (level : List ℕ) (own_all rest own left more : Levels) → IsParted own_all rest own left → is_empty own ≡ false → (a ++ level ∷ own_all) ++ more ≡ a ++ level ∷ rest → ⊥
+parted_stops a level own_all rest [] left more p some e = cc
+parted_stops a level own_all rest (x ∷ own) left more p some e =
+    let one : level ∷ (own_all ++ more) ≡ level ∷ rest = same_behind a (level ∷ (own_all ++ more)) (level ∷ rest) (sym (append_assoc a (level ∷ own_all) more) ∙ e) in
+    let two : own_all ++ more ≡ rest = same_rest level level (own_all ++ more) rest one in
+    let three : p.common ++ (x ∷ own ++ more) ≡ p.common ++ left = sym (append_assoc p.common (x ∷ own) more) ∙ ap (λ y. y ++ more) (sym p.one_is) ∙ two ∙ p.other_is in
+    p.apart x own (own ++ more) refl (sym (same_behind p.common (x ∷ (own ++ more)) left three))
 
 -- ---- the first edge, and those after it
 

@@ -19,7 +19,7 @@ goes_kept : (rows new : List Row) (p : ℕ) (l : List ℕ) (n : ℕ) → path ne
 goes_kept rows new p l n en ep (more, is) = (more, en ∙ is ∙ ap (λ x. x ++ l ∷ more) (sym ep))
 
 -- a node with a path longer than another one is another node
-apart : (rows : List Row) (p : ℕ) (l : List ℕ) (n : ℕ) → GoesOn rows p l n → p ≡ n → ⊥
+pub apart : (rows : List Row) (p : ℕ) (l : List ℕ) (n : ℕ) → GoesOn rows p l n → p ≡ n → ⊥
 apart rows p l n (more, is) at = let less = longer (path rows p) (path rows n) l more is in absurd (omega (arith, less, ap length (ap (path rows) at)))
 
 module _ (rows : List Row) (child : Child) (up : Up) (t : IsTree rows child up) where

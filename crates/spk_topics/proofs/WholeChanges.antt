@@ -1,24 +1,26 @@
 -- How each change of a tree of levels keeps it whole.
-use Rattle.std.proofs.Common.{◌≡◌, ◌⊎◌, ◌<◌, ◌++◌, ℕ, zero, suc, List, [], ◌∷◌, false, true, refl, ap, sym, ◌∙◌, subst, inl, inr, arith, Option, Some, None, length, set}
-use Rattle.std.specs.Prelude.{slice_get}
+use Rattle.std.proofs.Common.{◌≡◌, ◌⊎◌, ◌<◌, ◌++◌, ◌+◌, ℕ, zero, suc, List, [], ◌∷◌, false, true, refl, ap, sym, ◌∙◌, subst, inl, inr, arith, cond, Option, Some, None, length, set}
+use Rattle.std.specs.Prelude.{slice_get, ◌&&◌}
+use Rattle.std.specs.Str.{bytes_eq}
 use Rattle.std.specs.Option.{option_map_or}
 use Rattle.std.proofs.lemmas.List.{length-set}
 use Rattle.std.proofs.lemmas.Option.{slice_get-get_or, slice_get_within}
 use Rattle.std.proofs.Common.{get_or}
-use Rattle.spk_topics.specs.Edges.{DropsChildren, HasChild, IsJoint, IsLeaf, IsSeat, Keeps, SetsChild, SetsNext, SetsUp, Stays, Stops}
+use Rattle.spk_topics.specs.Edges.{DropsChildren, HasChild, IsJoint, IsLeaf, IsMore, IsSeat, Keeps, SetsChild, SetsNext, SetsUp, Stays, Stops}
 use Rattle.spk_topics.specs.Levels.{is_empty, levels}
-use Rattle.spk_topics.specs.Paths.{Child, GoesOn, IsOn, IsTree, Link, Next, Up, child_in, next_in, path, text_in, up_in}
-use Rattle.spk_topics.specs.Rows.{Absent, IsPlace, Only, Row, SetsRow}
+use Rattle.spk_topics.specs.Parting.{only_to}
+use Rattle.spk_topics.specs.Paths.{Child, GoesOn, IsOn, IsTree, Link, Next, Up, child_in, next_in, path, path_end, text_in, up_in}
+use Rattle.spk_topics.specs.Rows.{Absent, IsPlace, Only, Row, SetsRow, grants_of}
 use Rattle.spk_topics.specs.Unused.{AreEmpty, HasUnused, IsUnused}
 use Rattle.spk_topics.specs.Whole.{HasGrants, HasTwo, IsNeeded, Sound, Whole, WholeBut}
-use Rattle.spk_topics.proofs.ChangeLemmas.{get_here, keeps_set, path_after, path_push, up_here, up_there}
-use Rattle.spk_topics.proofs.EdgeLemmas.{no_link, child_push, up_push, up_past, next_push, next_past}
-use Rattle.spk_topics.proofs.LevelLemmas.{is_empty-levels, same_levels}
-use Rattle.spk_topics.proofs.ListLemmas.{AreApart}
-use Rattle.spk_topics.proofs.PathLemmas.{Below, next_below, none_edge, none_some, one_node, to_end}
-use Rattle.spk_topics.proofs.TreeLemmas.{freed_tree, joined_tree, leaf_tree, split_tree, m_apart}
+use Rattle.spk_topics.proofs.ChangeLemmas.{get_here, keeps_same, keeps_set, path_after, path_push, set_there, up_here, up_there}
+use Rattle.spk_topics.proofs.EdgeLemmas.{no_link, child_push, up_push, up_past, up_within, next_push, next_past}
+use Rattle.spk_topics.proofs.LevelLemmas.{IsCutAt, cut_behind, is_empty-levels, same_levels, skip, skip-levels}
+use Rattle.spk_topics.proofs.ListLemmas.{AreApart, absent_push, grants_push}
+use Rattle.spk_topics.proofs.PathLemmas.{Below, nat_self, next_below, none_edge, none_some, one_node, to_end}
+use Rattle.spk_topics.proofs.TreeLemmas.{above_on, freed_tree, joined_tree, leaf_tree, m_apart, on_not, split_tree}
 use Rattle.spk_topics.proofs.UnusedLemmas.{empty_after, empty_freed, empty_hung, empty_pushed, empty_turned, first_unused, unused_freed, unused_linked, unused_planted, unused_pushed, unused_same, unused_turned}
-use Rattle.spk_topics.proofs.WholeLemmas.{pruned_but, pruned_done, pruned_filled, pruned_freed, pruned_joined, pruned_leaf, pruned_pushed, pruned_split, pruned_taken, stays_freed}
+use Rattle.spk_topics.proofs.WholeLemmas.{get_push, pruned_but, pruned_done, pruned_filled, pruned_freed, pruned_joined, pruned_leaf, pruned_pushed, pruned_split, pruned_taken, stays_freed}
 
 abbrev pub WholeIn : List Row → List Link → Option ℕ → Type 0
 WholeIn rows links first = Whole rows (child_in links) (up_in links) (next_in links) first
@@ -141,6 +143,21 @@ absent_stopped rows child up f n level rest t empty on e stops i row there same 
         let b : Below rows child n level i = next_below rows child up t n i level rest on (inr (d, is)) (whole ∙ sym e) in
         absurd (stops level rest b.rest b.node refl b.edge (sym b.leads ∙ whole))
 
+pub absent_left : (rows : List Row) (child : Child) (up : Up) (f : List ℕ) (n : ℕ) (left : List (List ℕ)) → IsTree rows child up → AreEmpty rows up → IsOn up n → path rows n ++ left ≡ levels f → Stops rows child (levels f) n left → is_empty left ≡ false → Absent rows f
+absent_left rows child up f n [] t empty on e stops some = cc
+absent_left rows child up f n (level ∷ rest) t empty on e stops some = absent_stopped rows child up f n level rest t empty on e stops
+
+-- nor of one whose levels lead to no row
+pub absent_nowhere : (rows : List Row) (child : Child) (up : Up) (f : List ℕ) (n : ℕ) → IsTree rows child up → AreEmpty rows up → IsOn up n → path rows n ++ [] ≡ levels f → slice_get rows n ≡ None → Absent rows f
+absent_nowhere rows child up f n t empty on e h i r there same = side (up i) refl
+  where
+    side : (o : Option (ℕ × List ℕ)) → up i ≡ o → r.1 ≡ []
+    side None off = vacant_off rows up i r empty there off
+    side (Some d) is =
+        let at : i ≡ n = one_node rows child up t i n (inr (d, is)) on (path_hung rows child up i d t is ∙ ap levels (seat_there rows i r there ∙ same) ∙ sym e ∙ to_end (path rows n)) in
+        let no : None ≡ Some r = sym h ∙ ap (slice_get rows) (sym at) ∙ there in
+        cc
+
 -- nor where the node that they lead to has none
 pub absent_there : (rows : List Row) (child : Child) (up : Up) (f : List ℕ) (n : ℕ) (row : Row) → IsTree rows child up → AreEmpty rows up → IsOn up n → path rows n ++ [] ≡ levels f → slice_get rows n ≡ Some row → row.1 ≡ [] → Absent rows f
 absent_there rows child up f n row t empty on e h none i r there same = side (up i) refl
@@ -153,6 +170,27 @@ absent_there rows child up f n row t empty on e h none i r there same = side (up
     side (Some d) is =
         here (one_node rows child up t i n (inr (d, is)) on
         (path_hung rows child up i d t is ∙ ap levels (seat_there rows i r there ∙ same) ∙ sym e ∙ to_end (path rows n)))
+
+-- where the levels of the edge to a child go on behind the first one
+pub record Cut (rows : List Row) (n : ℕ) (level : List ℕ) (m : ℕ) (text : List ℕ) : Type 0 where
+  pub more : List (List ℕ)
+  pub is : path rows m ≡ path rows n ++ level ∷ more
+  pub cut : IsCutAt text (path_end rows n + length level) more
+
+end_skip : (rows : List Row) (n : ℕ) → path_end rows n ≡ skip (path rows n)
+end_skip rows zero = refl
+end_skip rows (suc n) = let h = skip-levels (text_in rows (suc n)) in omega (arith, h)
+
+pub edge_cut : (rows : List Row) (child : Child) (up : Up) (n : ℕ) (level : List ℕ) (m : ℕ) (row : Row) → IsTree rows child up → child n level ≡ Some m → slice_get rows m ≡ Some row → Cut rows n level m row.0
+edge_cut rows child up n level m row t edge there =
+    let above = t.above n level m edge in
+    let (more, is) = t.spelled n level m above in
+    let text : levels row.0 ≡ path rows n ++ level ∷ more = ap levels (sym (seat_there rows m row there)) ∙ sym (path_hung rows child up m (n, level) t above) ∙ is in
+    record {
+      more = more;
+      is = is;
+      cut = subst (λ k. IsCutAt row.0 (k + length level) more) (sym (end_skip rows n)) (cut_behind row.0 (path rows n) level more text);
+    }
 
 -- ---- grants come and go
 
@@ -251,6 +289,30 @@ whole_pushed rows new links l first f at er el none rooted len is w =
       pruned = pruned_pushed rows new ([], []) (child_in links) (child_in l) (up_in links) (up_in l) at er (pushed_child rows new links l er el) same_up w.pruned;
     }
 
+-- what a row without text and grants leaves as it was
+
+pub path_more : (rows new : List Row) (x : ℕ) → IsMore rows new → path new x ≡ path rows x
+path_more rows new x (inl same) = ap (λ (r : List Row). path r x) same
+path_more rows new x (inr more) = path_push rows new x more
+
+pub keeps_with : (rows new : List Row) → IsMore rows new → Keeps rows new
+keeps_with rows new (inl same) = keeps_same rows new same
+keeps_with rows new (inr more) = record { same = ap grants_of more ∙ grants_push rows []; absent = λ f h. subst (λ (x : List Row). Absent x f) (sym more) (absent_push rows f [] h) }
+
+grants_more : (rows new : List Row) (x : ℕ) → IsMore rows new → HasGrants rows x → HasGrants new x
+grants_more rows new x (inl same) g = subst (λ (r : List Row). HasGrants r x) (sym same) g
+grants_more rows new x (inr more) g = record { row = g.row; there = ap (λ (r : List Row). slice_get r x) more ∙ get_push rows ([], []) x g.row g.there; granted = g.granted }
+
+pub stays_more : (rows new : List Row) (child c : Child) (up u : Up) (n : ℕ) → IsMore rows new → c ≡ child → u ≡ up → Stays rows child up n → Stays new c u n
+stays_more rows new child c up u n more ec eu (inl (inl g)) = inl (inl (grants_more rows new n more g))
+stays_more rows new child c up u n more ec eu (inl (inr (l, m, h))) = inl (inr (l, m, ap (λ (y : Child). y n l) ec ∙ h))
+stays_more rows new child c up u n more ec eu (inr none) = inr (ap (λ (y : Up). y n) eu ∙ none)
+
+-- a node on the tree is there
+pub on_within : (links : List Link) (n : ℕ) → IsOn (up_in links) n → 0 < length links → n < length links
+on_within links n (inl z) rooted = omega (arith, rooted, z)
+on_within links n (inr (e, h)) rooted = up_within links n e h
+
 -- ---- a leaf more
 
 module _ (rows r2 r : List Row) (child c1 c : Child) (up u1 u : Up) (next x1 x : Next) (first f1 f : Option ℕ) (n : ℕ) (level : List ℕ) (m : ℕ) (text : List ℕ) (e : ℕ × List ℕ) (w : WholeBut rows child up next first n) (nowhere : child n level ≡ None)
@@ -305,6 +367,14 @@ unused_row rows child up next first m w is =
 pub keeps_hung : (rows r : List Row) (child : Child) (up : Up) (next : Next) (first : Option ℕ) (m : ℕ) (text : List ℕ) → Sound rows child up next first → first ≡ Some m → r ≡ set rows m (text, []) → Keeps rows r
 keeps_hung rows r child up next first m text w is e = keeps_set rows r m text ([], []) (unused_row rows child up next first m w is) refl e
 
+-- no level leads on from a node to which no edge leads, but from the root
+pub childless : (rows : List Row) (child : Child) (up : Up) (s : ℕ) (l : List ℕ) → IsTree rows child up → IsUnused rows up s → child s l ≡ None
+childless rows child up s l t free = side (child s l) refl
+  where
+    side : (o : Option ℕ) → child s l ≡ o → child s l ≡ None
+    side None e = e
+    side (Some x) e = absurd (on_not rows child up t s s None (above_on rows child up t s l x e) free.2 free.0 refl)
+
 -- ---- a node in an edge
 
 module _ (rows r3 r : List Row) (child c1 c2 c3 c : Child) (up u1 u2 u : Up) (next x1 x : Next) (first f1 f : Option ℕ) (n : ℕ) (level : List ℕ) (m s : ℕ) (key text : List ℕ) (low high : ℕ × List ℕ) (w : Whole rows child up next first)
@@ -344,6 +414,16 @@ module _ (rows r3 r : List Row) (child c1 c2 c3 c : Child) (up u1 u2 u : Up) (ne
     };
     pruned = pruned_split rows r child c2 c up u1 u n level m s key text w.sound.tree leads split_free.0 split_free.2 split_free.1 split_s1 split_s2 split_v1 split_v2 split_r upper lower w.pruned;
   }
+
+  split_on_n : IsOn up n
+  split_on_n = w.sound.tree.hangs n level m (w.sound.tree.above n level m leads)
+
+  pub split_leads : (l : List ℕ) → c s l ≡ only_to key m l
+  split_leads l =
+      set_there c2 c n level (Some s) s l split_s2 (λ a _. on_not rows child up w.sound.tree n s None split_on_n split_free.2 split_free.0 (sym a))
+      ∙ split_s1 s l
+      ∙ ap (λ b. cond (b && bytes_eq key l) (Some m) (child s l)) (nat_self s)
+      ∙ ap (cond (bytes_eq key l) (Some m)) (childless rows child up s l w.sound.tree split_free)
 
   pub split_seat : IsSeat r u text s
   split_seat = record {

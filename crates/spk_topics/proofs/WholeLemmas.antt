@@ -70,7 +70,7 @@ pruned_taken rows new child up f n h s x e k = side (same_or_not x n)
 
 -- ---- a node more
 
-get_push : (rows : List Row) (r : Row) (x : ℕ) (row : Row) → slice_get rows x ≡ Some row → slice_get (rows ++ r ∷ []) x ≡ Some row
+pub get_push : (rows : List Row) (r : Row) (x : ℕ) (row : Row) → slice_get rows x ≡ Some row → slice_get (rows ++ r ∷ []) x ≡ Some row
 get_push [] r x row h = cc
 get_push (y ∷ rows) r zero row h = h
 get_push (y ∷ rows) r (suc x) row h = get_push rows r x row h

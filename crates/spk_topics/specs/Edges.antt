@@ -46,6 +46,10 @@ pub record Keeps (rows new_rows : List Row) : Type 0 where
   pub same : grants_of new_rows ≡ grants_of rows
   pub absent : (f : List ℕ) → Absent rows f → Absent new_rows f
 
+-- maybe one row more, without text and grants
+abbrev pub IsMore : List Row → List Row → Type 0
+IsMore old new = (new ≡ old) ⊎ (new ≡ old ++ ([], []) ∷ [])
+
 -- an edge leads to the node of the filter
 pub record IsSeat (rows : List Row) (up : Up) (filter : List ℕ) (n : ℕ) : Type 0 where
   pub row : Row

@@ -80,6 +80,10 @@ Settles nodes topic level found next way =
 abbrev pub Extends : List Ahead → List Ahead → Type 0
 Extends old new = (added : List Ahead) × (new ≡ old ++ added)
 
+-- a level leads from a node to that of the way, and so much is left of the edge then
+abbrev pub IsAheadOf : Nodes → ℕ → List ℕ → Way → Type 0
+IsAheadOf nodes n level way = (child_of nodes n level ≡ Some way.0) × (path (rows_of nodes) way.0 ≡ path (rows_of nodes) n ++ level ∷ way.1)
+
 -- the node to which a level leads from a node is appended, with what is left of the edge to it
 pub record Enters (nodes : Nodes) (n : ℕ) (level : List ℕ) (old new : List Ahead) : Type 0 where
   pub extends : Extends old new

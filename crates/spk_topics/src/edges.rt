@@ -137,7 +137,10 @@ impl Nodes {
             ⊎ (HasTwo (child_of self.now number)
             ⊎ ((l : List ℕ) → child_of self.now number l ≡ None))) }
     {
-        self.node(number)?.joint()
+        match self.node(number) {
+            Some(node) => node.joint(),
+            None => None,
+        }
     }
 
     /// Takes its edges and its path from a node that has no grants. From now on it is the first unused one.

@@ -2,7 +2,7 @@
 ghost use Rattle.std.specs.Prelude.{◌≡◌, ◌≢◌, ◌++◌, ◌∷◌, ◌<◌, ◌≤◌, ◌⊎◌, [], ℕ, List, Some, None, IfOk, IfErr, IfSome, MatchOption, OnErr, OnOk, slice_get, vec_len};
 ghost use Rattle.std.specs.Option.{option_map};
 ghost use Rattle.std.specs.String.{string_bytes};
-ghost use Rattle.spk_topics.specs.Edges.{HasChild, IsSeatIn, IsTreeIn, KeepsIn, StaysIn};
+ghost use Rattle.spk_topics.specs.Edges.{IsMore, IsSeatIn, IsTreeIn, KeepsIn, StaysIn};
 ghost use Rattle.spk_topics.specs.Levels.{levels, levels_left};
 ghost use Rattle.spk_topics.specs.Nodes.{IsWhole, IsWholeBut, child_of, edge_of, rows_of, up_of};
 ghost use Rattle.spk_topics.specs.Parting.{IsInside, PartsAt, only_to};
@@ -56,7 +56,7 @@ impl Nodes {
     fn unused_node(&mut self, alloc: Global) -> Result<usize, TopicFault>
         requires { 0 < vec_len self.old.list }
         ensures whole { (at : ℕ) → IsWholeBut self.old at → IsWholeBut self.new at }
-        ensures keeps { KeepsIn self.old self.new }
+        ensures rows { IsMore (rows_of self.old) (rows_of self.new) }
         ensures child { child_of self.new ≡ child_of self.old }
         ensures up { up_of self.new ≡ up_of self.old }
         ensures first { IfOk result (λ n. self.new.unused ≡ Some n) }
@@ -152,7 +152,7 @@ impl Nodes {
         requires rooted { 0 < vec_len self.old.list }
         requires leads { child_of self.old number level.now ≡ Some child }
         requires goes_on { levels filter.now ≡ path (rows_of self.old) number
-            ++ level.now ∷ levels_left (option_map (λ rest. rest.now) rest.entry) }
+            ++ level.now ∷ levels_left (option_map (λ rest. rest.now) rest) }
         requires stops { (more : List (List ℕ))
             → path (rows_of self.old) child ++ more ≢ levels filter.now }
         ensures whole { IfOk result (λ n. IsWholeBut self.new n) }
@@ -185,7 +185,7 @@ impl Nodes {
         requires stops { (more : List (List ℕ))
             → path (rows_of self.now) child ++ more
             ≢ path (rows_of self.now) number
-            ++ level.now ∷ levels_left (option_map (λ rest. rest.now) rest.entry) }
+            ++ level.now ∷ levels_left (option_map (λ rest. rest.now) rest) }
         ensures parts { IfOk result
             (λ r. PartsAt (path (rows_of self.now) number) level.now
             (path (rows_of self.now) child) (levels_left (option_map (λ rest. rest.now) rest.entry))

@@ -49,7 +49,7 @@ pub(crate) fn part<'a, 'b>(
 /// The levels of a text before those that are left.
 pub(crate) fn before<'a>(text: &'a str, left: Option<&str>) -> &'a str
     requires { (front : List (List ℕ)) × (front ≢ [])
-        × (levels text.now ≡ front ++ levels_left (option_map (λ rest. rest.now) left.entry)) }
+        × (levels text.now ≡ front ++ levels_left (option_map (λ rest. rest.now) left)) }
     ensures { levels text.now
         ≡ levels result.now ++ levels_left (option_map (λ rest. rest.now) left.entry) }
 {

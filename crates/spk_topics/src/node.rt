@@ -232,10 +232,10 @@ impl Children {
                 *self = Children::Many(both);
                 Ok(())
             }
-            Children::Many(branches) => match branches.insert(text, number) {
-                Ok(_) => Ok(()),
-                Err(_) => Err(TopicFault::NoMemory),
-            },
+            Children::Many(branches) => {
+                branches.insert(text, number)?;
+                Ok(())
+            }
         }
     }
 

@@ -33,8 +33,9 @@ impl Nodes {
             ≡ path (rows_of self.now) number
             ++ level.now ∷ levels_left (option_map (λ left. left.now) result) }
     {
+        let path = self.list[child].path.as_str();
         let from = self.end_of(number) + level.len();
-        let (_, left) = cut(&self.list[child].path.as_str()[from..]);
+        let (_, left) = cut(&path[from..]);
         left
     }
 

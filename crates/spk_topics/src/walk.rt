@@ -1,5 +1,5 @@
 //! The walk over the levels of a topic, along those branches of the tree alone that fit it.
-ghost use Rattle.std.specs.Prelude.{◌≡◌, ◌++◌, ◌∷◌, [], ℕ, List, Some, IfOk, IfErr, IfNone, OnOk};
+ghost use Rattle.std.specs.Prelude.{◌≡◌, ◌++◌, ◌∷◌, [], ℕ, List, Some, None, IfOk, IfErr, IfNone, IfSome, OnOk};
 ghost use Rattle.std.specs.Option.{option_map};
 ghost use Rattle.std.specs.Ordering.{nat_cmp};
 ghost use Rattle.std.specs.BTreeMap.{get};
@@ -7,7 +7,7 @@ ghost use Rattle.spk_topics.specs.Edges.{IsTreeIn};
 ghost use Rattle.spk_topics.specs.Levels.{levels, levels_left};
 ghost use Rattle.spk_topics.specs.Nodes.{IsWhole, child_of, rows_of};
 ghost use Rattle.spk_topics.specs.Reached.{FindsAll};
-ghost use Rattle.spk_topics.specs.Walk.{Begins, Enters, Extends, GainsIn, HasAll, IsOnTheWayIn, Passes, Settles, TakenIn, way_of};
+ghost use Rattle.spk_topics.specs.Walk.{Begins, Enters, Extends, GainsIn, HasAll, IsAheadOf, IsOnTheWayIn, Passes, Settles, TakenIn, way_of};
 
 use crate::fault::TopicFault;
 use crate::found::gather;
@@ -62,7 +62,10 @@ impl Nodes {
         let mut front: Vec<Ahead<'a>> = Vec::new(alloc);
         if begins_with_dollar(topic) {
             let (level, rest) = cut(topic);
-            self.enter(0, level, &mut front)?;
+            if let Some(ahead) = self.ahead(0, level) {
+                front.push(ahead)?;
+                return Ok((front, rest));
+            }
             return Ok((front, rest));
         }
         front.push(Ahead {
@@ -166,7 +169,22 @@ impl Nodes {
         self.enter(number, level, next)
     }
 
-    // Appends the child to which a level leads, if there is one, and what is left of the edge to it.
+    // The child to which a level leads, and what is left of the edge to it.
+    fn ahead(&self, number: usize, level: &str) -> Option<Ahead<'_>>
+        requires { IsTreeIn self.now }
+        ensures some { IfSome result
+            (λ ahead. IsAheadOf self.now number level.now (way_of ahead)) }
+        ensures none { IfNone result (child_of self.now number level.now ≡ None) }
+    {
+        let child = self.child(number, level)?;
+        let left = self.left_of(number, level, child);
+        Some(Ahead {
+            number: child,
+            left,
+        })
+    }
+
+    // Appends the child to which a level leads, if there is one.
     fn enter<'a>(
         &'a self,
         number: usize,
@@ -177,14 +195,10 @@ impl Nodes {
         ensures ok { OnOk result (Enters self.now number level.now next.old.items next.new.items) }
         ensures fault { IfErr result (λ e. e ≡ TopicFault.NoMemory) }
     {
-        let Some(child) = self.child(number, level) else {
+        let Some(ahead) = self.ahead(number, level) else {
             return Ok(());
         };
-        let left = self.left_of(number, level, child);
-        next.push(Ahead {
-            number: child,
-            left,
-        })?;
+        next.push(ahead)?;
         Ok(())
     }
 

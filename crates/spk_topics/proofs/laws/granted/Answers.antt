@@ -1,4 +1,4 @@
-use Rattle.spk_topics.proofs.WholeChanges.{seat_text}
+use Rattle.spk_topics.proofs.BranchLemmas.{map_two}
 use Rattle.spk_topics.proofs.GrantLemmas.{given-one, given-others}
 use Rattle.spk_topics.proofs.laws.granted.Goals as goal
 
