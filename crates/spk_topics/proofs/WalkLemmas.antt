@@ -13,7 +13,8 @@ use Rattle.spk_topics.specs.Paths.{Child, IsOn, IsTree, Up, path, text_in}
 use Rattle.spk_topics.specs.Reached.{Reached, HasLeast, FindsAll}
 use Rattle.spk_topics.specs.Rows.{Row}
 use Rattle.spk_topics.specs.Unused.{AreEmpty}
-use Rattle.spk_topics.specs.Walk.{Gains, Taken, IsAhead, IsOnTheWay, IsSettled, Way}
+use Rattle.spk_topics.specs.declared.walk.Ahead.{Ahead}
+use Rattle.spk_topics.specs.Walk.{Extends, Gains, Taken, IsAhead, IsOnTheWay, IsSettled, Way, front_of, way_of}
 use Rattle.spk_topics.proofs.PathLemmas.{Below, next_below, none_edge, one_node, same_behind, to_end}
 use Rattle.spk_topics.proofs.RowLemmas.{held}
 use Rattle.spk_topics.proofs.WholeChanges.{path_hung, seat_there}
@@ -260,3 +261,36 @@ sound_more rows topic old new sound g k q e = side (g.sound k q e)
 pub all_found : (rows : List Row) (topic : List ℕ) (old new : ℕ → Option ℕ) → ((key qos : ℕ) → old key ≡ Some qos → Reached rows topic key qos) → Gains rows topic old new
     → ((key qos : ℕ) → Reached rows topic key qos → HasLeast (new key) qos) → FindsAll rows topic new
 all_found rows topic old new sound g all = record { sound = sound_more rows topic old new sound g; all = all }
+
+-- ---- nodes that are appended
+
+front_more : (a b : List Ahead) → front_of (a ++ b) ≡ front_of a ++ front_of b
+front_more [] b = refl
+front_more (x ∷ a) b = ap (λ ws. way_of x ∷ ws) (front_more a b)
+
+pub front_kept : (a b : List Ahead) (way : Way) → Extends a b → Contains (front_of a) way → Contains (front_of b) way
+front_kept a b way (added, is) among =
+    subst (λ ws. Contains ws way) (sym (ap front_of is ∙ front_more a added)) (Contains-append_left (front_of a) (front_of added) way among)
+
+pub front_last : (a b : List Ahead) (x : Ahead) → b ≡ a ++ x ∷ [] → Contains (front_of b) (way_of x)
+front_last a b x is = subst (λ ws. Contains ws (way_of x)) (sym (ap front_of is ∙ front_more a (x ∷ []))) (Contains-append_right (front_of a) (way_of x ∷ []) (way_of x) (only_one (way_of x)))
+
+pub extends_more : (a b d : List Ahead) → Extends a b → Extends b d → Extends a d
+extends_more a b d (x, is) (y, e) = (x ++ y, e ∙ ap (λ z. z ++ y) is ∙ append_assoc a x y)
+
+pub settled_later : (rows : List Row) (topic : List ℕ) (up : Up) (a b : ℕ → Option ℕ) (next more : List Ahead) (way : Way) (left rest : List (List ℕ)) → Gains rows topic a b → Extends next more
+    → IsSettled rows topic up a (front_of next) way left rest → IsSettled rows topic up b (front_of more) way left rest
+settled_later rows topic up a b next more way left rest g (added, is) s =
+    subst (λ ws. IsSettled rows topic up b ws way left rest) (sym (ap front_of is ∙ front_more next added)) (settled_more rows topic up a b (front_of next) (front_of added) way left rest g s)
+
+-- the way of a place of the front
+pub way_at : (front : List Ahead) (k : ℕ) (way : Way) → slice_get (front_of front) k ≡ Some way → (ahead : Ahead) × (slice_get front k ≡ Some ahead) × (way_of ahead ≡ way)
+way_at [] k way h = cc
+way_at (x ∷ front) zero way h = (x, refl, same (way_of x) way h)
+  where
+    same : (a b : Way) → Some a ≡ Some b → a ≡ b
+    same a b e = cc
+way_at (x ∷ front) (suc k) way h = way_at front k way h
+
+pub this_ahead : (front : List Ahead) (k : ℕ) (ahead d : Ahead) → slice_get front k ≡ Some ahead → get_or front k d ≡ ahead
+this_ahead front k ahead d h = get_or_from_slice_get front k ahead d h

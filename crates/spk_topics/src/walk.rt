@@ -1,5 +1,5 @@
 //! The walk over the levels of a topic, along those branches of the tree alone that fit it.
-ghost use Rattle.std.specs.Prelude.{◌≡◌, ◌++◌, ◌∷◌, [], ℕ, List, Some, None, IfOk, IfErr, IfNone, IfSome, OnOk};
+ghost use Rattle.std.specs.Prelude.{◌≡◌, ◌⊎◌, ◌++◌, ◌∷◌, [], ℕ, List, IsTrue, Some, None, IfOk, IfErr, IfNone, IfSome, OnOk};
 ghost use Rattle.std.specs.Option.{option_map};
 ghost use Rattle.std.specs.Ordering.{nat_cmp};
 ghost use Rattle.std.specs.BTreeMap.{get};
@@ -68,11 +68,18 @@ impl Nodes {
             }
             return Ok((front, rest));
         }
-        front.push(Ahead {
+        front.push(self.root())?;
+        Ok((front, Some(topic)))
+    }
+
+    // The root, to which no level leads.
+    fn root(&self) -> Ahead<'_>
+        ensures { way_of result ≡ (0, []) }
+    {
+        Ahead {
             number: 0,
             left: None,
-        })?;
-        Ok((front, Some(topic)))
+        }
     }
 
     // The nodes to which a level of the topic leads from those of the front, with what `#` there matches.
@@ -139,13 +146,31 @@ impl Nodes {
         ensures fault { IfErr result (λ e. e ≡ TopicFault.NoMemory) }
     {
         let (own, rest) = cut(text);
-        if own == "#" {
-            self.gather_at(number, topic, found)?;
-        }
-        if own == "+" || own == level {
+        self.gather_at_hash(number, own, topic, found)?;
+        if leads(own, level) {
             next.push(Ahead { number, left: rest })?;
         }
         Ok(())
+    }
+
+    // Gathers the grants of a node to which `#` leads, if they match.
+    #[inline(always)]
+    fn gather_at_hash(
+        &self,
+        number: usize,
+        own: &str,
+        topic: &str,
+        found: &mut BTreeMap<u64, u8>,
+    ) -> Result<(), TopicFault>
+        ensures gains { OnOk result (GainsIn self.now topic.now found.old found.new) }
+        ensures taken { OnOk result
+            (own.now ≡ 35 ∷ [] → TakenIn self.now topic.now found.new (Some number)) }
+        ensures fault { IfErr result (λ e. e ≡ TopicFault.NoMemory) }
+    {
+        if own != "#" {
+            return Ok(());
+        }
+        self.gather_at(number, topic, found)
     }
 
     // Goes on from a node by `+` and by the level, and gathers what `#` there matches.
@@ -261,4 +286,12 @@ impl Nodes {
         }
         Ok(())
     }
+}
+
+// Whether a level of a filter leads on by a level of a topic.
+#[inline(always)]
+fn leads(own: &str, level: &str) -> bool
+    ensures { (own.now ≡ 43 ∷ []) ⊎ (own.now ≡ level.now) → IsTrue result }
+{
+    own == "+" || own == level
 }

@@ -1,4 +1,3 @@
-use Rattle.spk_topics.proofs.BranchLemmas.{map_two}
 use Rattle.spk_topics.proofs.GrantLemmas.{given-one, given-others}
 use Rattle.spk_topics.proofs.laws.granted.Goals as goal
 
