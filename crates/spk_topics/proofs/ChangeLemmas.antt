@@ -12,7 +12,7 @@ use Rattle.spk_topics.specs.Paths.{Child, Up, path, text_in}
 use Rattle.spk_topics.specs.Edges.{DropsChildren, Keeps, SetsChild, SetsUp}
 use Rattle.spk_topics.proofs.BoolLemmas.{and_parts, and_both}
 use Rattle.spk_topics.proofs.FitLemmas.{bytes_same, bytes_self}
-use Rattle.spk_topics.proofs.ListLemmas.{push_sees, set_sees}
+use Rattle.spk_topics.proofs.ListLemmas.{set_sees}
 use Rattle.spk_topics.proofs.PathLemmas.{nat_self}
 
 -- ---- whether two numbers, two levels, two edges are one

@@ -1,5 +1,5 @@
 -- The rows of nodes, and what the grants hold where nothing is granted.
-use Rattle.std.proofs.Common.{◌≡◌, ◌⊎◌, ℕ, ◌<◌, List, [], Bool, true, false, refl, ap, sym, ◌∙◌, subst, cond, inl, inr, length, set, get_or, get_or-set_same, arith, map, Option, Some, None}
+use Rattle.std.proofs.Common.{◌≡◌, ℕ, ◌<◌, List, [], Bool, true, false, refl, ap, sym, ◌∙◌, subst, cond, inr, length, set, get_or, get_or-set_same, arith, map, Option, Some, None}
 use Rattle.std.specs.Cmp.{eq_by_cmp_equiv, nat_cmp_total}
 use Rattle.std.specs.Prelude.{slice_get}
 use Rattle.std.specs.Option.{option_map, option_map_or}

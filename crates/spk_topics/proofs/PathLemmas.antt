@@ -1,5 +1,5 @@
 -- Where levels lead in a tree of levels.
-use Rattle.std.proofs.Common.{◌≡◌, ◌⊎◌, ◌<◌, ℕ, zero, suc, List, [], ◌∷◌, ◌++◌, false, true, refl, ap, sym, ◌∙◌, subst, inl, inr, arith, Option, Some, None, length, append_assoc}
+use Rattle.std.proofs.Common.{◌≡◌, ◌<◌, ℕ, zero, suc, List, [], ◌∷◌, ◌++◌, false, true, refl, ap, sym, ◌∙◌, inl, inr, arith, Option, Some, None, length, append_assoc}
 use Rattle.std.specs.Prelude.{option_and_then, nat_eq}
 use Rattle.std.proofs.lemmas.Bool.Decides.{nat_tests}
 use Rattle.std.proofs.Common.{length-append}

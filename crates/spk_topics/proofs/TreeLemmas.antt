@@ -1,7 +1,7 @@
 -- How a change of a node and its edges keeps a tree of levels a tree.
-use Rattle.std.proofs.Common.{◌≡◌, ◌⊎◌, ◌<◌, ℕ, List, [], ◌∷◌, ◌++◌, refl, ap, sym, ◌∙◌, subst, inl, inr, arith, Option, Some, None, length, set, append_assoc}
+use Rattle.std.proofs.Common.{◌≡◌, ◌⊎◌, ◌<◌, ℕ, List, [], ◌∷◌, ◌++◌, ap, sym, ◌∙◌, subst, inl, inr, arith, Option, Some, None, length, set, append_assoc}
 use Rattle.std.proofs.lemmas.Option.{some_pair_parts}
-use Rattle.spk_topics.specs.Edges.{DropsChildren, HasChild, IsJoint, IsLeaf, SetsChild, SetsUp}
+use Rattle.spk_topics.specs.Edges.{DropsChildren, IsJoint, IsLeaf, SetsChild, SetsUp}
 use Rattle.spk_topics.specs.Levels.{levels}
 use Rattle.spk_topics.specs.Paths.{Child, GoesOn, IsOn, IsTree, Up, path}
 use Rattle.spk_topics.specs.Rows.{Row}
@@ -352,10 +352,11 @@ module _ (rows new : List Row) (child c1 c : Child) (up u1 u : Up) (n m p0 : ℕ
       longer_edge : GoesOn new p0 l0 m
       longer_edge =
           let (first, above) = t.spelled p0 l0 n was in
-          let (second, is) = t.spelled n joint.one.level m below_it in
-          (first ++ joint.one.level ∷ second,
-          stays m m_apart ∙ is ∙ ap (λ y. y ++ joint.one.level ∷ second) above ∙ append_assoc (path rows p0) (l0 ∷ first) (joint.one.level ∷ second)
-          ∙ ap (λ y. y ++ l0 ∷ (first ++ joint.one.level ∷ second)) (sym (stays p0 p_apart)))
+          let (second, is) = t.spelled n joint.one.level m below_it in (
+            first ++ joint.one.level ∷ second,
+            stays m m_apart ∙ is ∙ ap (λ y. y ++ joint.one.level ∷ second) above ∙ append_assoc (path rows p0) (l0 ∷ first) (joint.one.level ∷ second)
+                ∙ ap (λ y. y ++ l0 ∷ (first ++ joint.one.level ∷ second)) (sym (stays p0 p_apart)),
+          )
 
       spelled_by : (p : ℕ) (l : List ℕ) (x : ℕ) → u x ≡ Some (p, l) → (x ≡ m) ⊎ (x ≡ m → ⊥) → (x ≡ n) ⊎ (x ≡ n → ⊥) → GoesOn new p l x
       spelled_by p l x h (inl at) q =

@@ -1,5 +1,5 @@
 -- A walk over a topic's levels passes each filter that fits them.
-use Rattle.std.proofs.Common.{◌≡◌, ◌⊎◌, ◌<◌, ℕ, zero, suc, List, [], ◌∷◌, ◌++◌, refl, ap, sym, ◌∙◌, subst, inl, inr, arith, Option, Some, None, get_or, length, map, append_assoc}
+use Rattle.std.proofs.Common.{◌≡◌, ◌⊎◌, ℕ, zero, suc, List, [], ◌∷◌, ◌++◌, refl, ap, sym, ◌∙◌, subst, inl, inr, arith, Option, Some, None, get_or, append_assoc}
 use Rattle.std.specs.Prelude.{slice_get, Contains}
 use Rattle.std.specs.Ordering.{nat_cmp}
 use Rattle.std.specs.BTreeMap as tree
@@ -9,13 +9,13 @@ use Rattle.spk_topics.specs.Found.{Gathers}
 use Rattle.spk_topics.specs.Levels.{levels}
 use Rattle.spk_topics.specs.Matching.{Fits, Matches, StartsWithWildcard, BeginsWithDollar}
 use Rattle.spk_topics.specs.Matching.Fits.{both_end, any_rest, any_level, same_level}
-use Rattle.spk_topics.specs.Paths.{Child, IsOn, IsTree, Up, path, text_in}
+use Rattle.spk_topics.specs.Paths.{Child, IsOn, IsTree, Up, path}
 use Rattle.spk_topics.specs.Reached.{Reached, HasLeast, FindsAll}
 use Rattle.spk_topics.specs.Rows.{Row}
 use Rattle.spk_topics.specs.Unused.{AreEmpty}
 use Rattle.spk_topics.specs.declared.walk.Ahead.{Ahead}
 use Rattle.spk_topics.specs.Walk.{Extends, Gains, Taken, IsAhead, IsOnTheWay, IsSettled, Way, front_of, way_of}
-use Rattle.spk_topics.proofs.PathLemmas.{Below, next_below, none_edge, one_node, same_behind, to_end}
+use Rattle.spk_topics.proofs.PathLemmas.{Below, next_below, one_node, same_behind, to_end}
 use Rattle.spk_topics.proofs.RowLemmas.{held}
 use Rattle.spk_topics.proofs.WholeChanges.{path_hung, seat_there}
 
@@ -111,7 +111,7 @@ module _ (rows : List Row) (topic : List ℕ) (child : Child) (up : Up) (t : IsT
       let whole : path rows n ++ level ∷ [] ≡ path rows n ++ level ∷ (more ++ b.rest) = sym e ∙ b.leads ∙ ap (λ x. x ++ b.rest) is ∙ append_assoc (path rows n) (level ∷ more) b.rest in
       let none : level ∷ [] ≡ level ∷ (more ++ b.rest) = same_behind (path rows n) (level ∷ []) (level ∷ (more ++ b.rest)) whole in
       let at : b.node ≡ place =
-          one_node rows child up t b.node place (inr ((n, level), t.above n level b.node b.edge)) p_on (is ∙ ap (λ x. path rows n ++ level ∷ x) (no_more more b.rest level none) ∙ sym e) in
+      one_node rows child up t b.node place (inr ((n, level), t.above n level b.node b.edge)) p_on (is ∙ ap (λ x. path rows n ++ level ∷ x) (no_more more b.rest level none) ∙ sym e) in
       b.edge ∙ ap (λ x. Some x) at
     where
       no_more : (x y : List (List ℕ)) (l : List ℕ) → l ∷ [] ≡ l ∷ (x ++ y) → x ≡ []

@@ -4,14 +4,14 @@ use Rattle.std.specs.Prelude.{slice_get, ◌&&◌}
 use Rattle.std.specs.Str.{bytes_eq}
 use Rattle.std.specs.Option.{option_map_or}
 use Rattle.std.proofs.lemmas.List.{length-set}
-use Rattle.std.proofs.lemmas.Option.{slice_get-get_or, slice_get_within}
+use Rattle.std.proofs.lemmas.Option.{slice_get-get_or}
 use Rattle.std.proofs.Common.{get_or}
-use Rattle.spk_topics.specs.Edges.{DropsChildren, HasChild, IsJoint, IsLeaf, IsMore, IsSeat, Keeps, SetsChild, SetsNext, SetsUp, Stays, Stops}
+use Rattle.spk_topics.specs.Edges.{DropsChildren, IsJoint, IsLeaf, IsMore, IsSeat, Keeps, SetsChild, SetsNext, SetsUp, Stays, Stops}
 use Rattle.spk_topics.specs.Levels.{is_empty, levels}
 use Rattle.spk_topics.specs.Parting.{only_to}
 use Rattle.spk_topics.specs.Paths.{Child, GoesOn, IsOn, IsTree, Link, Next, Up, child_in, next_in, path, path_end, text_in, up_in}
 use Rattle.spk_topics.specs.Rows.{Absent, IsPlace, Only, Row, SetsRow, grants_of}
-use Rattle.spk_topics.specs.Unused.{AreEmpty, HasUnused, IsUnused}
+use Rattle.spk_topics.specs.Unused.{AreEmpty, IsUnused}
 use Rattle.spk_topics.specs.Whole.{HasGrants, HasTwo, IsNeeded, Sound, Whole, WholeBut}
 use Rattle.spk_topics.proofs.ChangeLemmas.{get_here, keeps_same, keeps_set, path_after, path_push, set_there, up_here, up_there}
 use Rattle.spk_topics.proofs.EdgeLemmas.{no_link, child_push, up_push, up_past, up_within, next_push, next_past}

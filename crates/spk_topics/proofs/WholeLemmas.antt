@@ -1,17 +1,15 @@
 -- How each change of a tree of levels leaves it pruned.
 use Rattle.std.proofs.Common.{◌≡◌, ◌⊎◌, ◌<◌, ◌≤◌, ◌+◌, ℕ, zero, suc, List, [], ◌∷◌, ◌++◌, refl, ap, sym, ◌∙◌, subst, inl, inr, arith, Option, Some, None, length, set}
 use Rattle.std.specs.Prelude.{slice_get}
-use Rattle.std.specs.Option.{option_map_or}
 use Rattle.std.proofs.lemmas.Option.{some_pair_parts}
 use Rattle.spk_topics.specs.Edges.{DropsChildren, HasChild, IsJoint, IsLeaf, SetsChild, SetsUp, Stays}
 use Rattle.spk_topics.specs.Levels.{levels}
 use Rattle.spk_topics.specs.Paths.{Child, IsOn, IsTree, Up, path, text_in}
 use Rattle.spk_topics.specs.Rows.{Row, SetsRow}
-use Rattle.spk_topics.specs.Whole.{HasGrants, HasTwo, IsNeeded, IsPruned, IsPrunedBut, LeadsToGrants, descend}
-use Rattle.spk_topics.proofs.ChangeLemmas.{edge_or_not, get_there, level_or_not, same_or_not, set_at, set_here, set_there, up_here, up_there}
-use Rattle.spk_topics.proofs.ListLemmas.{push_sees}
-use Rattle.spk_topics.proofs.PathLemmas.{longer, none_edge, none_some, one, through}
-use Rattle.spk_topics.proofs.TreeLemmas.{freed_kept, joined_kept, joined_other, leaf_kept, m_apart, p_apart, split_away, split_kept, up_other}
+use Rattle.spk_topics.specs.Whole.{HasGrants, HasTwo, IsNeeded, IsPruned, IsPrunedBut, LeadsToGrants}
+use Rattle.spk_topics.proofs.ChangeLemmas.{edge_or_not, get_there, level_or_not, same_or_not, set_at, set_here, up_here, up_there}
+use Rattle.spk_topics.proofs.PathLemmas.{longer, none_edge, none_some, through}
+use Rattle.spk_topics.proofs.TreeLemmas.{freed_kept, joined_kept, joined_other, leaf_kept, m_apart, split_kept, up_other}
 
 -- ---- grants and ways that stay
 

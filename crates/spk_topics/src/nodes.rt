@@ -65,12 +65,7 @@ impl Nodes {
     }
 
     /// Sets the QoS of a key in the node of a filter, and says whether the key is new there.
-    pub(crate) fn set_at(
-        &mut self,
-        place: usize,
-        key: u64,
-        qos: u8,
-    ) -> Result<bool, TopicFault>
+    pub(crate) fn set_at(&mut self, place: usize, key: u64, qos: u8) -> Result<bool, TopicFault>
         requires { IsPlace (rows_of self.old) (text_in (rows_of self.old) place) place }
         ensures is_new { IfOk result
             (λ is_new. is_new

@@ -1,4 +1,4 @@
-use Rattle.std.proofs.Common.{◌≡◌, ◌∙◌, List, ℕ, Ok, Err, None, Result, ap, sym}
+use Rattle.std.proofs.Common.{◌∙◌, Ok, Err, Result, ap, sym}
 use Rattle.std.specs.Prelude.{OnErr, is_none}
 use Rattle.std.specs.FinMap as map
 use Rattle.spk_topics.specs.Grants.{Grants}

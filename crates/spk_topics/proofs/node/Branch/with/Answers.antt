@@ -1,4 +1,4 @@
-use Rattle.std.proofs.Common.{◌≡◌, ◌∙◌, List, ℕ, Option, String, Global, None, Some, ap, cond}
+use Rattle.std.proofs.Common.{◌∙◌, List, ℕ, Option, String, Global, Some, ap, cond}
 use Rattle.std.specs.Cmp.Lexicographic.{slice_cmp}
 use Rattle.std.specs.Map.{lookup}
 use Rattle.std.specs.Ordering.{is_eq, nat_cmp}

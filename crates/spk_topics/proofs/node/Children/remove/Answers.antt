@@ -1,4 +1,4 @@
-use Rattle.std.proofs.Common.{None, List, ℕ, ◌∙◌, ap, sym, cond}
+use Rattle.std.proofs.Common.{None, ◌∙◌, ap, sym, cond}
 use Rattle.std.specs.Str.{bytes_eq}
 use Rattle.std.proofs.lemmas.Map.Text.{btree_map_updates_text}
 use Rattle.spk_topics.specs.Nodes.{ways_of}

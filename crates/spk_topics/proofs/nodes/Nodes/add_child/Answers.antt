@@ -1,4 +1,4 @@
-use Rattle.std.proofs.Common.{arith, refl, Some, None, ap}
+use Rattle.std.proofs.Common.{arith, refl, Some, ap}
 use Rattle.spk_topics.proofs.NodeLemmas.{same_rows, same_links}
 use Rattle.spk_topics.proofs.EdgeLemmas.{node_ups_stay, node_nexts_stay, node_child_set}
 use Rattle.std.specs.Option.{option_map}

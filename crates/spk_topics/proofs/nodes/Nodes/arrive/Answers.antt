@@ -1,4 +1,4 @@
-use Rattle.std.proofs.Common.{◌≡◌, ◌∷◌, [], ℕ, Some, ap, arith, below_more, subst, sym}
+use Rattle.std.proofs.Common.{◌≡◌, ◌∷◌, [], Some, arith, below_more, subst}
 use Rattle.std.specs.Prelude.{slice_get}
 use Rattle.std.specs.Ordering.{nat_cmp}
 use Rattle.std.specs.BTreeMap.{get}

@@ -1,5 +1,5 @@
-use Rattle.std.proofs.Common.{arith, refl, Some, None}
-use Rattle.spk_topics.proofs.NodeLemmas.{same_rows, same_links}
+use Rattle.std.proofs.Common.{arith, refl, None}
+use Rattle.spk_topics.proofs.NodeLemmas.{same_rows}
 use Rattle.spk_topics.proofs.EdgeLemmas.{node_ups_stay, node_nexts_stay, node_child_set}
 use Rattle.spk_topics.proofs.nodes.Nodes.drop_child.Goals as goal
 

@@ -1,7 +1,7 @@
-use Rattle.std.proofs.Common.{◌≡◌, ◌++◌, ◌<◌, ◌∙◌, List, ℕ, ap, arith, length, sym}
+use Rattle.std.proofs.Common.{◌++◌, ◌<◌, ◌∙◌, ap, arith, length, sym}
 use Rattle.std.specs.Option.{option_map}
 use Rattle.std.proofs.lemmas.List.{length-map}
-use Rattle.spk_topics.specs.Levels.{levels, levels_left}
+use Rattle.spk_topics.specs.Levels.{levels_left}
 use Rattle.spk_topics.specs.Nodes.{child_of, link_of, links_of, next_unused_of, row_of, rows_of, up_of}
 use Rattle.spk_topics.specs.Paths.{path}
 use Rattle.spk_topics.proofs.ChangeLemmas.{keeps_more}

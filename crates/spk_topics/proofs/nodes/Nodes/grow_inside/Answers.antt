@@ -24,9 +24,11 @@ in_front above level below rest key left all p e = e ∙ ap (λ x. above ++ leve
 pub before-requires : goal.before-requires
 before-requires c =
     let rows = rows_of c.args.self.now in
-    let p = c.in_ok-key.ensures.parts in
-    (path rows c.args.number ++ c.args.level.now ∷ p.common, not_nothing (path rows c.args.number) c.args.level.now p.common,
-    in_front (path rows c.args.number) c.args.level.now (path rows c.args.child) (levels_left (option_map (λ t. t.now) c.args.rest)) (string_bytes c.in_ok-key.key) (levels_left (option_map (λ t. t.now) c.in_ok-key.left)) (levels c.args.filter.now) p c.requires.goes_on)
+    let p = c.in_ok-key.ensures.parts in (
+      path rows c.args.number ++ c.args.level.now ∷ p.common,
+      not_nothing (path rows c.args.number) c.args.level.now p.common,
+      in_front (path rows c.args.number) c.args.level.now (path rows c.args.child) (levels_left (option_map (λ t. t.now) c.args.rest)) (string_bytes c.in_ok-key.key) (levels_left (option_map (λ t. t.now) c.in_ok-key.left)) (levels c.args.filter.now) p c.requires.goes_on,
+    )
 
 pub split-requires-clause-inside : goal.split-requires-clause-inside
 split-requires-clause-inside c =
@@ -57,12 +59,13 @@ add_leaf-requires-clause-goes_on c =
     let seat = c.in_ok-place.ensures.seat in
     let rest = levels_left (option_map (λ t. t.now) c.cut.result.1) in
     let at : path (rows_of s) place ≡ levels c.before-2.result.now =
-    path_hung (rows_of s) (child_of s) (up_of s) place seat.edge c.in_ok-place.ensures.whole.sound.tree seat.hung ∙ ap levels (seat_text (rows_of s) (up_of s) c.before-2.result.now place seat) in
-    (rest,
-    c.before-2.ensures
-    ∙ ap (λ o. levels c.before-2.result.now ++ levels_left (option_map (λ t. t.now) o)) c.in-Some.is
-    ∙ ap (λ ls. levels c.before-2.result.now ++ ls) c.cut.ensures.levels
-    ∙ ap (λ p. p ++ c.cut.result.0.now ∷ rest) (sym at))
+    path_hung (rows_of s) (child_of s) (up_of s) place seat.edge c.in_ok-place.ensures.whole.sound.tree seat.hung ∙ ap levels (seat_text (rows_of s) (up_of s) c.before-2.result.now place seat) in (
+      rest,
+      c.before-2.ensures
+          ∙ ap (λ o. levels c.before-2.result.now ++ levels_left (option_map (λ t. t.now) o)) c.in-Some.is
+          ∙ ap (λ ls. levels c.before-2.result.now ++ ls) c.cut.ensures.levels
+          ∙ ap (λ p. p ++ c.cut.result.0.now ∷ rest) (sym at),
+    )
 
 pub add_leaf-requires-clause-stays : goal.add_leaf-requires-clause-stays
 add_leaf-requires-clause-stays c =

@@ -1,4 +1,4 @@
-use Rattle.std.proofs.Common.{◌≡◌, ◌<◌, ◌∙◌, List, ℕ, Some, [], arith, ap, get_or, length, refl}
+use Rattle.std.proofs.Common.{◌≡◌, ◌<◌, ◌∙◌, Some, [], arith, ap, get_or, length, refl}
 use Rattle.std.specs.Prelude.{slice_get}
 use Rattle.std.specs.String.{string_bytes}
 use Rattle.std.proofs.lemmas.List.{length-map}
@@ -31,9 +31,10 @@ turn_child-requires-clause-leads c =
     let p = c.in-Some-free.edge.parent in
     let l = string_bytes c.in-Some-free.edge.level in
     let t = c.requires.whole.sound.tree in
-    let off : p ≡ c.args.number → ⊥ = apart (rows_of old) p l c.args.number (t.spelled p l c.args.number c.in-Some-free.ensures.edge) in
-    (c.args.number,
-    ap (child_of c.free.new.self p) c.as_str.ensures.value ∙ drop_there (child_of old) (child_of c.free.new.self) c.args.number p l c.in-Some-free.ensures.child off ∙ t.below p l c.args.number c.in-Some-free.ensures.edge)
+    let off : p ≡ c.args.number → ⊥ = apart (rows_of old) p l c.args.number (t.spelled p l c.args.number c.in-Some-free.ensures.edge) in (
+      c.args.number,
+      ap (child_of c.free.new.self p) c.as_str.ensures.value ∙ drop_there (child_of old) (child_of c.free.new.self) c.args.number p l c.in-Some-free.ensures.child off ∙ t.below p l c.args.number c.in-Some-free.ensures.edge,
+    )
 
 pub turn_edge-requires : goal.turn_edge-requires
 turn_edge-requires c =

@@ -1,4 +1,4 @@
-use Rattle.std.proofs.Common.{◌≡◌, ◌∙◌, ◌+◌, ◌++◌, ◌∷◌, ◌≤◌, ◌<◌, [], List, ℕ, Some, arith, ap, drop, length, refl, subst, sym}
+use Rattle.std.proofs.Common.{◌≡◌, ◌∙◌, ◌+◌, ◌++◌, ◌∷◌, ◌<◌, [], List, ℕ, Some, arith, ap, drop, length, refl, subst, sym}
 use Rattle.std.specs.Prelude.{slice_get}
 use Rattle.std.specs.Option.{option_map}
 use Rattle.std.specs.Str.{IsCharBoundary}
@@ -60,6 +60,6 @@ returns c =
     let at : slice_get items c.args.child ≡ Some node = slice_get_read items (length items) c.args.child node refl h c.index.ensures in
     let cut = cut_of c.args.self.now c.args.number c.args.level.now c.args.child c.requires.tree c.requires.leads node at in
     let text : c.range_from.result.now ≡ drop (path_end (rows_of c.args.self.now) c.args.number + length c.args.level.now) (row_of node).0 =
-        c.range_from.ensures.value ∙ ap (drop (c.end_of.result + length c.args.level.now)) c.as_str-path.ensures.value ∙ ap (λ k. drop (k + length c.args.level.now) (row_of node).0) c.end_of.ensures in
+    c.range_from.ensures.value ∙ ap (drop (c.end_of.result + length c.args.level.now)) c.as_str-path.ensures.value ∙ ap (λ k. drop (k + length c.args.level.now) (row_of node).0) c.end_of.ensures in
     cut.is ∙ ap (λ ms. path (rows_of c.args.self.now) c.args.number ++ c.args.level.now ∷ ms)
     (same_rest [] c.cut.result.0.now cut.more (levels_left (option_map (λ left. left.now) c.cut.result.1)) (sym cut.cut.behind ∙ ap levels (sym text) ∙ c.cut.ensures.levels))

@@ -1,11 +1,11 @@
-use Rattle.std.proofs.Common.{◌≡◌, ◌<◌, ◌++◌, ◌∷◌, ◌∙◌, [], List, ℕ, Ok, Err, Result, Some, arith, ap, length, set, subst, sym}
+use Rattle.std.proofs.Common.{◌<◌, ◌++◌, ◌∷◌, ◌∙◌, [], List, Ok, Err, Result, arith, ap, length, set, subst, sym}
 use Rattle.std.specs.Prelude.{OnErr, slice_get}
 use Rattle.std.specs.String.{string_bytes}
 use Rattle.std.proofs.lemmas.List.{length-map}
 use Rattle.spk_topics.specs.Edges.{IsSeat, Keeps}
 use Rattle.spk_topics.specs.Levels.{levels}
 use Rattle.spk_topics.specs.Nodes.{child_of, link_of, links_of, next_unused_of, row_of, rows_of, up_of}
-use Rattle.spk_topics.specs.Paths.{Child, IsOn, Up, path}
+use Rattle.spk_topics.specs.Paths.{Child, IsOn, Up}
 use Rattle.spk_topics.specs.Rows.{Row}
 use Rattle.spk_topics.proofs.ChangeLemmas.{keeps_more}
 use Rattle.spk_topics.proofs.UnusedLemmas.{first_unused}

@@ -1,4 +1,4 @@
-use Rattle.std.proofs.Common.{◌≡◌, ◌∷◌, List, ℕ, Some, arith, below_more, subst, sym}
+use Rattle.std.proofs.Common.{◌≡◌, ◌∷◌, List, ℕ, Some, arith, below_more, subst}
 use Rattle.std.specs.Prelude.{slice_get}
 use Rattle.std.specs.Ordering.{nat_cmp}
 use Rattle.std.specs.BTreeMap.{get}

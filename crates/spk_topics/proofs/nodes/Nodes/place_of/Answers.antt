@@ -1,9 +1,9 @@
 use Rattle.std.proofs.Common.{◌≡◌, ◌++◌, ◌∙◌, ◌<◌, [], List, ℕ, Option, Bor, Some, None, false, true, ap, arith, length, sym}
-use Rattle.std.specs.Prelude.{IfNone, is_some, slice_get}
+use Rattle.std.specs.Prelude.{IfNone, is_some}
 use Rattle.std.specs.Option.{option_map}
 use Rattle.std.proofs.lemmas.List.{length-map}
 use Rattle.std.proofs.lemmas.Option.{slice_get-map}
-use Rattle.spk_topics.specs.Levels.{is_empty, levels, levels_left}
+use Rattle.spk_topics.specs.Levels.{is_empty, levels_left}
 use Rattle.spk_topics.specs.Nodes.{child_of, link_of, links_of, row_of, rows_of, up_of}
 use Rattle.spk_topics.specs.Paths.{path}
 use Rattle.spk_topics.proofs.EdgeLemmas.{row_at, up_within}

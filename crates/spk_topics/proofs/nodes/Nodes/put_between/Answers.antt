@@ -1,4 +1,4 @@
-use Rattle.std.proofs.Common.{◌≡◌, ◌<◌, ◌∙◌, List, ℕ, None, Some, [], arith, ap, length, set, sym}
+use Rattle.std.proofs.Common.{◌≡◌, ◌<◌, ◌∙◌, List, ℕ, None, Some, [], arith, ap, length, set}
 use Rattle.std.specs.Prelude.{slice_get}
 use Rattle.std.specs.String.{string_bytes}
 use Rattle.std.proofs.lemmas.List.{length-map}
@@ -57,11 +57,12 @@ turn_child-requires-clause-leads c =
     let t = c.requires.whole.sound.tree in
     let unused = free old c.args.place c.requires.whole c.requires.first in
     let off : c.args.number ≡ c.args.place → ⊥ =
-    on_not (rows_of old) (child_of old) (up_of old) t c.args.number c.args.place None (above_on (rows_of old) (child_of old) (up_of old) t c.args.number c.args.level.now c.args.child c.requires.leads) unused.2 unused.0 in
-    (c.args.child,
-    set_there (child_of c.turn_edge.new.self) (child_of c.set_only_child.new.self) c.args.place (string_bytes c.args.key) (Some c.args.child) c.args.number c.args.level.now c.set_only_child.ensures.child (λ a _. off a)
-    ∙ ap (λ (y : Child). y c.args.number c.args.level.now) c.turn_edge.ensures.child
-    ∙ c.requires.leads)
+    on_not (rows_of old) (child_of old) (up_of old) t c.args.number c.args.place None (above_on (rows_of old) (child_of old) (up_of old) t c.args.number c.args.level.now c.args.child c.requires.leads) unused.2 unused.0 in (
+      c.args.child,
+      set_there (child_of c.turn_edge.new.self) (child_of c.set_only_child.new.self) c.args.place (string_bytes c.args.key) (Some c.args.child) c.args.number c.args.level.now c.set_only_child.ensures.child (λ a _. off a)
+          ∙ ap (λ (y : Child). y c.args.number c.args.level.now) c.turn_edge.ensures.child
+          ∙ c.requires.leads,
+    )
 
 pub hang-requires-clause-within : goal.hang-requires-clause-within
 hang-requires-clause-within c =

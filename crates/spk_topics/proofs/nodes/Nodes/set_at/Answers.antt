@@ -1,9 +1,8 @@
-use Rattle.std.proofs.Common.{◌≡◌, ◌∙◌, List, ℕ, None, arith, length, refl, sym, ap, inl}
-use Rattle.std.specs.Prelude.{is_none, slice_get}
+use Rattle.std.proofs.Common.{◌∙◌, sym, ap}
+use Rattle.std.specs.Prelude.{is_none}
 use Rattle.std.specs.Ordering.{nat_cmp}
 use Rattle.std.specs.String.{string_bytes}
 use Rattle.std.specs.BTreeMap as tree
-use Rattle.spk_topics.specs.Rows.{IsPlace}
 use Rattle.spk_topics.specs.Nodes.{rows_of}
 use Rattle.spk_topics.specs.Paths.{text_in}
 use Rattle.spk_topics.proofs.NodeLemmas.{node_filled, node_given, node_holds, node_text, rows_after, same_rows, same_links}

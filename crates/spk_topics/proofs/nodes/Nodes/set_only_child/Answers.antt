@@ -2,7 +2,7 @@ use Rattle.std.specs.Str.{bytes_eq}
 use Rattle.std.specs.String.{string_bytes}
 use Rattle.std.proofs.lemmas.Option.{slice_get_read}
 use Rattle.std.proofs.Common.{arith, refl, ap, sym, ◌∙◌, cond, length, Some}
-use Rattle.spk_topics.proofs.NodeLemmas.{same_rows, same_links}
+use Rattle.spk_topics.proofs.NodeLemmas.{same_rows}
 use Rattle.spk_topics.proofs.EdgeLemmas.{child_at, node_ups_stay, node_nexts_stay, node_child_set}
 use Rattle.spk_topics.proofs.nodes.Nodes.set_only_child.Goals as goal
 

@@ -1,4 +1,4 @@
-use Rattle.std.proofs.Common.{◌≡◌, ◌++◌, ◌∷◌, ◌∙◌, List, ℕ, Ok, Err, Result, ap, sym}
+use Rattle.std.proofs.Common.{◌++◌, ◌∷◌, ◌∙◌, ℕ, Ok, Err, Result, ap, sym}
 use Rattle.std.specs.Prelude.{OnErr}
 use Rattle.std.specs.String.{string_bytes}
 use Rattle.spk_topics.specs.declared.nodes.Nodes.{Nodes}

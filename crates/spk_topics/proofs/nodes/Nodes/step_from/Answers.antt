@@ -1,4 +1,4 @@
-use Rattle.std.proofs.Common.{◌∷◌, [], Ok, Err, Result}
+use Rattle.std.proofs.Common.{Ok, Err, Result}
 use Rattle.std.specs.Prelude.{OnOk}
 use Rattle.std.specs.Ordering.{nat_cmp}
 use Rattle.std.specs.BTreeMap.{get}

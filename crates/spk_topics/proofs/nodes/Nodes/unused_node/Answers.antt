@@ -1,4 +1,4 @@
-use Rattle.std.proofs.Common.{◌≡◌, ◌<◌, arith, ap, sym, ◌∙◌, inr, length, Some}
+use Rattle.std.proofs.Common.{◌≡◌, ◌<◌, arith, ap, sym, ◌∙◌, length, Some}
 use Rattle.std.proofs.lemmas.List.{length-map}
 use Rattle.spk_topics.specs.Nodes.{rows_of, row_of, links_of, link_of}
 use Rattle.spk_topics.proofs.WholeChanges.{pushed_child, pushed_up, whole_pushed}
