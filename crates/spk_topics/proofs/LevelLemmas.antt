@@ -42,6 +42,19 @@ pub levels-whole : (s : List ℕ) → position_or_len (λ b. nat_eq b 47) s ≡ 
 levels-whole [] h = refl
 levels-whole (b ∷ s) h = whole_here b s (nat_eq b 47) refl (levels-whole s) h
 
+slash_here : (b : ℕ) (s : List ℕ) (t : Bool) → nat_eq b 47 ≡ t → (position_or_len (λ b. nat_eq b 47) s < length s → get_or s (position_or_len (λ b. nat_eq b 47) s) 0 ≡ 47)
+    → position_or_len (λ b. nat_eq b 47) (b ∷ s) < length (b ∷ s) → get_or (b ∷ s) (position_or_len (λ b. nat_eq b 47) (b ∷ s)) 0 ≡ 47
+slash_here b s true e ih h = rw e (eqb-true b 47 e)
+slash_here b s false e ih h =
+    let g : 1 + position_or_len (λ b. nat_eq b 47) s < length (b ∷ s) = (rw e at h) in
+    let f : 1 + position_or_len (λ b. nat_eq b 47) s ≡ suc (position_or_len (λ b. nat_eq b 47) s) = omega arith in
+    rw e (rw f (ih (omega arith)))
+
+-- a slash stands at the first place of one
+pub slash_there : (s : List ℕ) → position_or_len (λ b. nat_eq b 47) s < length s → get_or s (position_or_len (λ b. nat_eq b 47) s) 0 ≡ 47
+slash_there [] h = absurd (omega arith)
+slash_there (b ∷ s) h = slash_here b s (nat_eq b 47) refl (slash_there s) h
+
 -- a text has a level
 not_empty : (t : Bool) (b : ℕ) (ls : List (List ℕ)) → is_empty ls ≡ false → is_empty (cond t ([] ∷ ls) (widened b ls)) ≡ false
 not_empty true b ls h = refl
