@@ -230,12 +230,12 @@ impl Nodes {
             parent: place,
             level: text,
         };
-        self.put_between(number, level, child, place, path, key, lower);
+        self.set_between(number, level, child, place, path, key, lower);
         Ok(place)
     }
 
     // The same with the first unused node, for which there is all that it needs. It takes no memory.
-    fn put_between(
+    fn set_between(
         &mut self,
         number: usize,
         level: &str,

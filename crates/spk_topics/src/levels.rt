@@ -5,6 +5,7 @@ ghost use Rattle.std.specs.Option.{option_map};
 ghost use Rattle.spk_topics.specs.Levels.{IsParted, is_empty, left_size, levels, levels_left};
 
 /// The first level of a text, and what follows its slash, if there is one.
+#[inline(always)]
 pub(crate) fn cut(text: &str) -> (&str, Option<&str>)
     ensures levels { levels text.now
         ≡ result.0.now ∷ levels_left (option_map (λ rest. rest.now) result.1) }

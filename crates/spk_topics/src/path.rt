@@ -26,6 +26,7 @@ impl Nodes {
     }
 
     /// What is left of the edge to a child behind its first level.
+    #[inline(always)]
     pub(crate) fn left_of(&self, number: usize, level: &str, child: usize) -> Option<&str>
         requires tree { IsTreeIn self.now }
         requires leads { child_of self.now number level.now ≡ Some child }

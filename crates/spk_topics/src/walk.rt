@@ -195,6 +195,7 @@ impl Nodes {
     }
 
     // The child to which a level leads, and what is left of the edge to it.
+    #[inline(always)]
     fn ahead(&self, number: usize, level: &str) -> Option<Ahead<'_>>
         requires { IsTreeIn self.now }
         ensures some { IfSome result
@@ -210,6 +211,7 @@ impl Nodes {
     }
 
     // Appends the child to which a level leads, if there is one.
+    #[inline(always)]
     fn enter<'a>(
         &'a self,
         number: usize,

@@ -35,14 +35,14 @@ returns-in_err-text-clause-err c = either_way c.from_residual-in_err-text.result
 pub returns-in_err-text-clause-keeps : goal.returns-in_err-text-clause-keeps
 returns-in_err-text-clause-keeps c = keeps_with (rows_of c.args.self.now) (rows_of c.unused_node.new.self) c.unused_node.ensures.rows
 
-pub put_between-requires-clause-whole : goal.put_between-requires-clause-whole
-put_between-requires-clause-whole c = still c.args.self.now c.unused_node.new.self c.requires.whole c.unused_node.ensures.whole
+pub set_between-requires-clause-whole : goal.set_between-requires-clause-whole
+set_between-requires-clause-whole c = still c.args.self.now c.unused_node.new.self c.requires.whole c.unused_node.ensures.whole
 
-pub put_between-requires-clause-leads : goal.put_between-requires-clause-leads
-put_between-requires-clause-leads c = ap (λ (y : Child). y c.args.number c.args.level.now) c.unused_node.ensures.child ∙ c.requires.leads
+pub set_between-requires-clause-leads : goal.set_between-requires-clause-leads
+set_between-requires-clause-leads c = ap (λ (y : Child). y c.args.number c.args.level.now) c.unused_node.ensures.child ∙ c.requires.leads
 
-pub put_between-requires-clause-inside : goal.put_between-requires-clause-inside
-put_between-requires-clause-inside c =
+pub set_between-requires-clause-inside : goal.set_between-requires-clause-inside
+set_between-requires-clause-inside c =
     let old = c.args.self.now in
     let u = c.unused_node.new.self in
     let i = c.requires.inside in
@@ -55,4 +55,4 @@ put_between-requires-clause-inside c =
 
 pub returns-clause-keeps : goal.returns-clause-keeps
 returns-clause-keeps c =
-    keeps_more (rows_of c.args.self.now) (rows_of c.unused_node.new.self) (rows_of c.put_between.new.self) (keeps_with (rows_of c.args.self.now) (rows_of c.unused_node.new.self) c.unused_node.ensures.rows) c.put_between.ensures.keeps
+    keeps_more (rows_of c.args.self.now) (rows_of c.unused_node.new.self) (rows_of c.set_between.new.self) (keeps_with (rows_of c.args.self.now) (rows_of c.unused_node.new.self) c.unused_node.ensures.rows) c.set_between.ensures.keeps

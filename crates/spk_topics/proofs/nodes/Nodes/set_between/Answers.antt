@@ -12,7 +12,7 @@ use Rattle.spk_topics.proofs.EdgeLemmas.{up_within}
 use Rattle.spk_topics.proofs.TreeLemmas.{above_on, on_not}
 use Rattle.spk_topics.proofs.UnusedLemmas.{first_unused}
 use Rattle.spk_topics.proofs.WholeChanges.{childless, keeps_hung, on_within, split_leads, split_seat, unused_row, whole_split}
-use Rattle.spk_topics.proofs.nodes.Nodes.put_between.Goals as goal
+use Rattle.spk_topics.proofs.nodes.Nodes.set_between.Goals as goal
 
 module _ (nodes : Nodes) (place : ℕ) (w : IsWhole nodes) (first : nodes.unused ≡ Some place) where
   free : IsUnused (rows_of nodes) (up_of nodes) place
