@@ -209,3 +209,112 @@ fn filters_come_and_go_beside_one_that_stays(rt: HostRuntime) -> Result<(), Fail
     play(&rt, &mut tree, &[Find("a/b", &[(1, 1)])]);
     Ok(())
 }
+
+// Two filters part inside an edge; the node between comes, is granted itself, and goes.
+static PARTED: [Step; 27] = [
+    Grant("a/b/c/d", 1, 0, true),
+    Find("a/b/c", &[]),
+    Find("a/b/c/d", &[(1, 0)]),
+    Grant("a/b/x", 2, 1, true),
+    Find("a/b/c/d", &[(1, 0)]),
+    Find("a/b/x", &[(2, 1)]),
+    Find("a/b", &[]),
+    Grant("a/b", 3, 0, true),
+    Find("a/b", &[(3, 0)]),
+    Take("a/b", 3, true),
+    Take("a/b/x", 2, true),
+    Find("a/b/x", &[]),
+    Find("a/b/c/d", &[(1, 0)]),
+    Take("a/b", 3, false),
+    Grant("a/b/c", 4, 1, true),
+    Grant("a/b/c/d/e/f", 5, 0, true),
+    Take("a/b/c/d", 1, true),
+    Find("a/b/c/d", &[]),
+    Find("a/b/c", &[(4, 1)]),
+    Find("a/b/c/d/e/f", &[(5, 0)]),
+    Take("a/b/c", 4, true),
+    Find("a/b/c/d/e/f", &[(5, 0)]),
+    Grant("b/b/c/d/e/f", 6, 0, true),
+    Find("b/b/c/d/e/f", &[(6, 0)]),
+    Take("a/b/c/d/e/f", 5, true),
+    Find("a/b/c/d/e/f", &[]),
+    Find("b/b/c/d/e/f", &[(6, 0)]),
+];
+
+#[test]
+fn filters_part_inside_an_edge_and_join_again(rt: HostRuntime) -> Result<(), Fail> {
+    play(&rt, &mut Tree::new(rt.alloc()), &PARTED);
+    Ok(())
+}
+
+// Empty levels, and names of which one begins the other.
+static LOOKALIKES: [Step; 16] = [
+    Grant("a/bc", 1, 0, true),
+    Grant("a/b", 2, 0, true),
+    Grant("a/b/", 3, 0, true),
+    Grant("/", 4, 0, true),
+    Grant("//", 5, 0, true),
+    Find("a/bc", &[(1, 0)]),
+    Find("a/b", &[(2, 0)]),
+    Find("a/b/", &[(3, 0)]),
+    Find("/", &[(4, 0)]),
+    Find("//", &[(5, 0)]),
+    Find("a", &[]),
+    Take("a/b", 2, true),
+    Find("a/bc", &[(1, 0)]),
+    Find("a/b/", &[(3, 0)]),
+    Take("/", 4, true),
+    Find("//", &[(5, 0)]),
+];
+
+#[test]
+fn names_that_begin_alike_are_kept_apart(rt: HostRuntime) -> Result<(), Fail> {
+    play(&rt, &mut Tree::new(rt.alloc()), &LOOKALIKES);
+    Ok(())
+}
+
+// Wildcards stand inside an edge, and at its end.
+static INSIDE: [Step; 14] = [
+    Grant("a/+/c/#", 1, 0, true),
+    Grant("+/b/+", 2, 1, true),
+    Grant("$SYS/+/x/#", 3, 0, true),
+    Find("a/b", &[]),
+    Find("a/b/c", &[(1, 0), (2, 1)]),
+    Find("a/x/c", &[(1, 0)]),
+    Find("a/x/c/d/e", &[(1, 0)]),
+    Find("a/x/d", &[]),
+    Find("x/b/", &[(2, 1)]),
+    Find("x/b", &[]),
+    Find("$SYS/b/x", &[(3, 0)]),
+    Find("$SYS/b/x/y", &[(3, 0)]),
+    Find("$SYS/b/c", &[]),
+    Find("x/b/c/d", &[]),
+];
+
+#[test]
+fn wildcards_inside_an_edge_match_what_they_say(rt: HostRuntime) -> Result<(), Fail> {
+    play(&rt, &mut Tree::new(rt.alloc()), &INSIDE);
+    Ok(())
+}
+
+#[test]
+fn two_filters_share_65535_levels(rt: HostRuntime) -> Result<(), Fail> {
+    let longest = slashes(&rt, 65_535, "");
+    let shared = slashes(&rt, 65_534, "");
+    let other = slashes(&rt, 65_534, "x");
+    let steps = [
+        Grant(&longest, 1, 0, true),
+        Grant(&other, 2, 1, true),
+        Find(&shared, &[]),
+        Grant(&shared, 3, 0, true),
+        Find(&longest, &[(1, 0)]),
+        Find(&other, &[(2, 1)]),
+        Find(&shared, &[(3, 0)]),
+        Take(&longest, 1, true),
+        Take(&shared, 3, true),
+        Find(&other, &[(2, 1)]),
+        Find(&longest, &[]),
+    ];
+    play(&rt, &mut Tree::new(rt.alloc()), &steps);
+    Ok(())
+}

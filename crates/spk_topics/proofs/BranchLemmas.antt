@@ -1,82 +1,105 @@
--- Where the levels of a node lead after a change of its first branch or of the others.
-use Rattle.std.proofs.Common.{◌≡◌, ℕ, List, [], ◌∷◌, Bool, true, false, refl, sym, ap, ◌∙◌, cond, Option, Some, None}
-use Rattle.std.specs.Prelude.{String, is_none}
+-- Where the edges of a node lead: none, a single one, or those of a map.
+use Rattle.std.proofs.Common.{◌≡◌, ◌⊎◌, ℕ, List, [], ◌∷◌, Bool, true, false, refl, sym, ap, ◌∙◌, cond, inl, inr, arith, length, map, subst, Option, Some, None}
+use Rattle.std.specs.Prelude.{String, slice_get}
 use Rattle.std.specs.BTreeMap.{BTreeMap, get_by_text}
+use Rattle.std.specs.BTreeMap as tree
 use Rattle.std.specs.Map.{lookup}
 use Rattle.std.specs.Ordering.{is_eq, nat_cmp}
+use Rattle.std.specs.declared.cmp.Ordering.TheVariants.{Less}
 use Rattle.std.specs.Cmp.Lexicographic.{slice_cmp}
 use Rattle.std.specs.Str.{bytes_eq}
+use Rattle.std.specs.String.{string_bytes, string_cmp}
+use Rattle.std.specs.List.Sorted.{IsStrictlySortedBy}
 use Rattle.std.proofs.lemmas.Map.Text.{is_eq-slice_cmp}
 use Rattle.std.proofs.lemmas.Bool.{false≢true}
-use Rattle.std.specs.String.{string_bytes}
 use Rattle.spk_topics.specs.declared.node.Branch.{Branch}
-use Rattle.spk_topics.specs.Nodes.{has_level, next_by}
+use Rattle.spk_topics.specs.Nodes.{only_way}
+use Rattle.spk_topics.specs.Whole.{HasOne, HasTwo}
 use Rattle.spk_topics.proofs.FitLemmas.{bytes_same, bytes_self}
 
--- where a level leads
-abbrev Ways : Type 0
-Ways = List ℕ → Option ℕ
+differ : (a b : List ℕ) (c : Bool) → bytes_eq a b ≡ c → (a ≡ b → ⊥) → c ≡ false
+differ a b true e off = absurd (off (bytes_same a b e))
+differ a b false e off = refl
 
--- a test that two levels don't both pass
-apart : (first level l : List ℕ) → bytes_eq first level ≡ false → bytes_eq first l ≡ true → bytes_eq level l ≡ true → ⊥
-apart first level l differ one two =
-    let same : first ≡ level = bytes_same first l one ∙ sym (bytes_same level l two) in
-    let not_same : bytes_eq level level ≡ false = sym (ap (λ f. bytes_eq f level) same) ∙ differ in
-    false≢true (sym not_same ∙ bytes_self level)
-
-swapped : (p q : Bool) (a b rest : Option ℕ) → (p ≡ true → q ≡ true → ⊥) → cond p a (cond q b rest) ≡ cond q b (cond p a rest)
-swapped true true a b rest h = absurd (h refl refl)
-swapped true false a b rest h = refl
-swapped false q a b rest h = refl
-
-same_test : (p : Bool) (a b rest : Option ℕ) → cond p a rest ≡ cond p a (cond p b rest)
-same_test true a b rest = refl
-same_test false a b rest = refl
-
--- the first branch is another one's level: the others change
-pub others_set : (first : Option Branch) (old new : Ways) (level : List ℕ) (c : Option ℕ) → has_level first level ≡ false
-    → ((l : List ℕ) → new l ≡ cond (bytes_eq level l) c (old l))
-    → (l : List ℕ) → next_by first new l ≡ cond (bytes_eq level l) c (next_by first old l)
-others_set None old new level c differ h l = h l
-others_set (Some first) old new level c differ h l =
-    ap (cond (bytes_eq (string_bytes first.level) l) (Some first.number)) (h l)
-    ∙ swapped (bytes_eq (string_bytes first.level) l) (bytes_eq level l) (Some first.number) c (old l) (apart (string_bytes first.level) level l differ)
-
-first_dropped : (first : Option Branch) (old new : Ways) (level : List ℕ) → has_level first level ≡ true
-    → ((l : List ℕ) → new l ≡ cond (bytes_eq level l) None (old l))
-    → (l : List ℕ) → next_by None new l ≡ cond (bytes_eq level l) None (next_by first old l)
-first_dropped None old new level is h l = cc
-first_dropped (Some first) old new level is h l =
-    h l
-    ∙ same_test (bytes_eq level l) None (Some first.number) (old l)
-    ∙ ap (λ (f : List ℕ). cond (bytes_eq level l) None (cond (bytes_eq f l) (Some first.number) (old l))) (sym (bytes_same (string_bytes first.level) level is))
-
--- a level is dropped by the first branch, if it has it, and by the others
-pub dropped : (first after : Option Branch) (old new : Ways) (level : List ℕ) → after ≡ cond (has_level first level) None first
-    → ((l : List ℕ) → new l ≡ cond (bytes_eq level l) None (old l))
-    → (l : List ℕ) → next_by after new l ≡ cond (bytes_eq level l) None (next_by first old l)
-dropped first after old new level is h l = by_test (has_level first level) refl is
-  where
-    by_test : (b : Bool) → has_level first level ≡ b → after ≡ cond b None first → next_by after new l ≡ cond (bytes_eq level l) None (next_by first old l)
-    by_test true has is = ap (λ o. next_by o new l) is ∙ first_dropped first old new level has h l
-    by_test false has is = ap (λ o. next_by o new l) is ∙ others_set first old new level None has h l
-
--- ---- a level that leads on
-
-abbrev LeadsOn : Ways → Type 0
+abbrev LeadsOn : (List ℕ → Option ℕ) → Type 0
 LeadsOn ways = (level : List ℕ) × (n : ℕ) × (ways level ≡ Some n)
 
-pub leads_by_first : (first : Option Branch) (others : Ways) → is_none first ≡ false → LeadsOn (next_by first others)
-leads_by_first None others h = cc
-leads_by_first (Some first) others h =
-    (string_bytes first.level, first.number, ap (λ b. cond b (Some first.number) (others (string_bytes first.level))) (bytes_self (string_bytes first.level)))
+-- ---- a single edge
 
-first_entry : {Y : Type 0} (entries : List (String Y × ℕ)) → (entries ≡ [] → ⊥) → LeadsOn (λ level. lookup (λ k. is_eq (slice_cmp nat_cmp level (string_bytes k))) entries)
-first_entry [] h = absurd (h refl)
-first_entry (e ∷ entries) h =
-    let level = string_bytes e.0 in
-    (level, e.1, ap (λ b. cond b (Some e.1) (lookup (λ k. is_eq (slice_cmp nat_cmp level (string_bytes k))) entries)) (is_eq-slice_cmp level level ∙ bytes_self level))
+pub branch_leads : (branch : Branch) → only_way branch (string_bytes branch.level) ≡ Some branch.number
+branch_leads branch = ap (λ b. cond b (Some branch.number) nothing) (bytes_self (string_bytes branch.level))
+  where
+    nothing : Option ℕ
+    nothing = None
 
-pub leads_by_others : {Y : Type 0} (first : Option Branch) (others : BTreeMap (String Y) ℕ) → is_none first ≡ true → (others.entries ≡ [] → ⊥) → LeadsOn (next_by first (get_by_text others))
-leads_by_others None others h full = first_entry others.entries full
-leads_by_others (Some first) others h full = cc
+pub branch_on : (branch : Branch) → LeadsOn (only_way branch)
+branch_on branch = (string_bytes branch.level, branch.number, branch_leads branch)
+
+pub branch_one : (branch : Branch) → HasOne (only_way branch) branch.number
+branch_one branch = record {
+  level = string_bytes branch.level;
+  leads = branch_leads branch;
+  only = λ l off. ap (λ b. cond b (Some branch.number) nothing) (differ (string_bytes branch.level) l (bytes_eq (string_bytes branch.level) l) refl (λ e. off (sym e)));
+}
+  where
+    nothing : Option ℕ
+    nothing = None
+
+-- ---- a map of them
+
+-- where a level leads by entries
+abbrev by : {Y : Type 0} → List (String Y × ℕ) → List ℕ → Option ℕ
+by entries level = lookup (λ k. is_eq (slice_cmp nat_cmp level (string_bytes k))) entries
+
+first_leads : {Y : Type 0} (e : String Y × ℕ) (entries : List (String Y × ℕ)) → by (e ∷ entries) (string_bytes e.0) ≡ Some e.1
+first_leads e entries = ap (λ b. cond b (Some e.1) (by entries (string_bytes e.0))) (is_eq-slice_cmp (string_bytes e.0) (string_bytes e.0) ∙ bytes_self (string_bytes e.0))
+
+past_first : {Y : Type 0} (e : String Y × ℕ) (entries : List (String Y × ℕ)) (l : List ℕ) → (l ≡ string_bytes e.0 → ⊥) → by (e ∷ entries) l ≡ by entries l
+past_first e entries l off = ap (λ b. cond b (Some e.1) (by entries l)) (is_eq-slice_cmp l (string_bytes e.0) ∙ differ l (string_bytes e.0) (bytes_eq l (string_bytes e.0)) refl off)
+
+pub map_on : {Y : Type 0} (m : BTreeMap (String Y) ℕ) → (m.entries ≡ [] → ⊥) → LeadsOn (get_by_text m)
+map_on {Y = Y} m full = side m.entries refl full
+  where
+    side : (entries : List (String Y × ℕ)) → m.entries ≡ entries → (m.entries ≡ [] → ⊥) → LeadsOn (get_by_text m)
+    side [] e off = absurd (off e)
+    side (x ∷ entries) e off = (string_bytes x.0, x.1, ap (λ es. by es (string_bytes x.0)) e ∙ first_leads x entries)
+
+pub map_one : {Y : Type 0} (m : BTreeMap (String Y) ℕ) (k : String Y) (v : ℕ) → length m.entries ≡ 1 → slice_get m.entries 0 ≡ Some (k, v) → HasOne (get_by_text m) v
+map_one {Y = Y} m k v len first = side m.entries refl len first
+  where
+    side : (entries : List (String Y × ℕ)) → m.entries ≡ entries → length entries ≡ 1 → slice_get entries 0 ≡ Some (k, v) → HasOne (get_by_text m) v
+    side [] e one h = absurd (omega (arith, one))
+    side (x ∷ y ∷ entries) e one h = absurd (omega (arith, one))
+    side (x ∷ []) e one h =
+        let is : x.1 ≡ v = cc in
+        record {
+          level = string_bytes x.0;
+          leads = ap (λ es. by es (string_bytes x.0)) e ∙ first_leads x [] ∙ ap (λ n. Some n) is;
+          only = λ l off. ap (λ es. by es l) e ∙ past_first x [] l off;
+        }
+
+keys_apart : {Y : Type 0} (x y : String Y) → string_cmp x y ≡ Less → string_bytes x ≡ string_bytes y → ⊥
+keys_apart x y less same =
+    let yes : is_eq (slice_cmp nat_cmp (string_bytes x) (string_bytes y)) ≡ true = is_eq-slice_cmp (string_bytes x) (string_bytes y) ∙ ap (bytes_eq (string_bytes x)) (sym same) ∙ bytes_self (string_bytes x) in
+    let no : is_eq (slice_cmp nat_cmp (string_bytes x) (string_bytes y)) ≡ false = ap is_eq less in
+    false≢true (sym no ∙ yes)
+
+pub map_two : {Y : Type 0} (m : BTreeMap (String Y) ℕ) → tree.IsOrdered string_cmp m → (length m.entries ≡ 1 → ⊥) → HasTwo (get_by_text m) ⊎ ((l : List ℕ) → get_by_text m l ≡ None)
+unfolding IsStrictlySortedBy
+map_two {Y = Y} m ordered many = side m.entries refl ordered many
+  where
+    side : (entries : List (String Y × ℕ)) → m.entries ≡ entries → IsStrictlySortedBy string_cmp (map (λ e. e.0) m.entries) → (length m.entries ≡ 1 → ⊥) → HasTwo (get_by_text m) ⊎ ((l : List ℕ) → get_by_text m l ≡ None)
+    side [] e sorted off = inr (λ l. ap (λ es. by es l) e)
+    side (x ∷ []) e sorted off = absurd (off (ap length e))
+    side (x ∷ y ∷ entries) e sorted off =
+        let in_order : IsStrictlySortedBy string_cmp (x.0 ∷ y.0 ∷ map (λ z. z.0) entries) = subst (λ es. IsStrictlySortedBy string_cmp (map (λ z. z.0) es)) e sorted in
+        let less : string_cmp x.0 y.0 ≡ Less = in_order.0.0 in
+        inl (record {
+          one = string_bytes x.0;
+          other = string_bytes y.0;
+          one_node = x.1;
+          other_node = y.1;
+          apart = keys_apart x.0 y.0 less;
+          one_leads = ap (λ es. by es (string_bytes x.0)) e ∙ first_leads x (y ∷ entries);
+          other_leads = ap (λ es. by es (string_bytes y.0)) e ∙ past_first x (y ∷ entries) (string_bytes y.0) (λ same. keys_apart x.0 y.0 less (sym same)) ∙ first_leads y entries;
+        })

@@ -3,14 +3,13 @@ use Rattle.std.proofs.Common.{◌≡◌, ◌<◌, ℕ, zero, suc, List, [], ◌�
 use Rattle.std.specs.Prelude.{slice_get, option_and_then, nat_eq, ◌&&◌}
 use Rattle.std.specs.Option.{option_map}
 use Rattle.std.specs.Str.{bytes_eq}
-use Rattle.std.specs.BTreeMap.{get_by_text}
 use Rattle.std.proofs.Math.Dec.{eqb-suc-zero, eqb-zero-suc, eqb-suc-suc}
 use Rattle.std.proofs.lemmas.Bool.{eqb-true}
 use Rattle.std.proofs.lemmas.List.{length-map, map-set}
 use Rattle.std.proofs.lemmas.Option.{slice_get-map, slice_get_read, slice_get_within}
 use Rattle.spk_topics.specs.declared.node.Node.{Node}
-use Rattle.spk_topics.specs.Edges.{SetsChild, SetsUp, SetsNext}
-use Rattle.spk_topics.specs.Nodes.{row_of, link_of, next_by, next_of, edge_of}
+use Rattle.spk_topics.specs.Edges.{DropsChildren, SetsChild, SetsUp, SetsNext}
+use Rattle.spk_topics.specs.Nodes.{row_of, link_of, next_of, edge_of, ways_of}
 use Rattle.spk_topics.specs.Paths.{Child, Link, child_in, up_in, next_in}
 use Rattle.spk_topics.proofs.NodeLemmas.{rows_in, links_in}
 
@@ -97,11 +96,17 @@ node_nexts_stay nodes n s t h is e =
     ap next_in (map-set link_of nodes n t)
     ∙ next_same (links_in nodes) n (link_of t) (within nodes n h) (e ∙ sym (next_at nodes n s (slice_get_read nodes (length nodes) n s refl h is)))
 
-pub node_children_stay : (nodes : List Node) (n : ℕ) (s t : Node) → n < length nodes → s ≡ get_or nodes n s → t.first_child ≡ s.first_child → t.other_children ≡ s.other_children → child_in (links_in (set nodes n t)) ≡ child_in (links_in nodes)
-node_children_stay nodes n s t h is e k =
+pub node_children_stay : (nodes : List Node) (n : ℕ) (s t : Node) → n < length nodes → s ≡ get_or nodes n s → t.children ≡ s.children → child_in (links_in (set nodes n t)) ≡ child_in (links_in nodes)
+node_children_stay nodes n s t h is e =
     ap child_in (map-set link_of nodes n t)
     ∙ child_same (links_in nodes) n (link_of t) (within nodes n h)
-    (λ l. ap (λ o. next_by o (get_by_text t.other_children) l) e ∙ ap (λ m. next_by s.first_child (get_by_text m) l) k ∙ sym (child_at nodes n s l (slice_get_read nodes (length nodes) n s refl h is)))
+    (λ l. ap (λ c. ways_of c l) e ∙ sym (child_at nodes n s l (slice_get_read nodes (length nodes) n s refl h is)))
+
+pub node_children_drop : (nodes : List Node) (n : ℕ) (t : Node) → n < length nodes → ((l : List ℕ) → next_of t l ≡ None) → DropsChildren (child_in (links_in nodes)) (child_in (links_in (set nodes n t))) n
+node_children_drop nodes n t h none p l =
+    ap (λ ls. child_in ls p l) (map-set link_of nodes n t)
+    ∙ child_set (links_in nodes) n (link_of t) (within nodes n h) p l
+    ∙ ap (λ o. cond (nat_eq p n) o (child_in (links_in nodes) p l)) (none l)
 
 pub node_child_set : (nodes : List Node) (n : ℕ) (s t : Node) (level : List ℕ) (c : Option ℕ) → n < length nodes → s ≡ get_or nodes n s
     → ((l : List ℕ) → next_of t l ≡ cond (bytes_eq level l) c (next_of s l))
@@ -160,6 +165,10 @@ next_past (y ∷ ls) = next_past ls
 -- no edge leads to a node that isn't there
 pub up_nowhere : (nodes : List Node) (n : ℕ) → slice_get nodes n ≡ None → up_in (links_in nodes) n ≡ None
 up_nowhere nodes n h = ap (λ o. option_and_then (λ (link : Link). link.1) o) (slice_get-map link_of nodes n ∙ ap (option_map link_of) h)
+
+-- nor does one lead on from there
+pub child_nowhere : (nodes : List Node) (n : ℕ) (l : List ℕ) → slice_get nodes n ≡ None → child_in (links_in nodes) n l ≡ None
+child_nowhere nodes n l h = ap (λ o. option_and_then (λ (link : Link). link.0 l) o) (slice_get-map link_of nodes n ∙ ap (option_map link_of) h)
 
 -- a node to which an edge leads is there
 pub up_within : (links : List Link) (n : ℕ) (e : ℕ × List ℕ) → up_in links n ≡ Some e → n < length links

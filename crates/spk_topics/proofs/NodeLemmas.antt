@@ -1,8 +1,8 @@
 -- The rows of nodes, and what the grants hold where nothing is granted.
-use Rattle.std.proofs.Common.{◌≡◌, ◌⊎◌, ℕ, ◌<◌, List, [], Bool, true, false, refl, ap, sym, ◌∙◌, subst, cond, inl, inr, length, set, get_or, get_or-set_same, arith, map, Option, Some, None}
+use Rattle.std.proofs.Common.{◌≡◌, ℕ, ◌<◌, List, [], Bool, true, false, refl, ap, sym, ◌∙◌, subst, cond, inr, length, set, get_or, get_or-set_same, arith, map, Option, Some, None}
 use Rattle.std.specs.Cmp.{eq_by_cmp_equiv, nat_cmp_total}
-use Rattle.std.specs.Prelude.{slice_get, not}
-use Rattle.std.specs.Option.{option_map}
+use Rattle.std.specs.Prelude.{slice_get}
+use Rattle.std.specs.Option.{option_map, option_map_or}
 use Rattle.std.specs.Ordering.{eq_by_cmp, is_eq, nat_cmp}
 use Rattle.std.specs.declared.cmp.Ordering.{Ordering}
 use Rattle.std.specs.declared.cmp.Ordering.TheVariants.{Less, Equal, Greater}
@@ -16,11 +16,8 @@ use Rattle.spk_topics.specs.declared.node.Node.{Node}
 use Rattle.spk_topics.specs.Grants.{Grants, grant_cmp}
 use Rattle.spk_topics.specs.Rows.{Row, flat, grants_of, Absent, IsPlace, SetsRow}
 use Rattle.spk_topics.specs.Nodes.{row_of, link_of}
-use Rattle.spk_topics.specs.Paths.{Link}
+use Rattle.spk_topics.specs.Paths.{Link, text_in}
 use Rattle.spk_topics.specs.Whole.{HasGrants}
-use Rattle.std.specs.Str.{bytes_eq}
-use Rattle.spk_topics.proofs.FitLemmas.{bytes_self, bytes_same}
-use Rattle.spk_topics.proofs.BoolLemmas.{not_true, not_false}
 use Rattle.spk_topics.proofs.RowLemmas.{grants_total, grants_exact, none_there, one_given, one_taken, get-grants_of, held}
 
 -- the rows of a list of nodes
@@ -61,7 +58,7 @@ pub get-absent : (rows : List Row) (f : List ℕ) (k : ℕ) → Absent rows f �
 get-absent rows f k h = get-from_entries grants_total (flat rows) (f, k) ∙ none_there rows f k h
 
 -- the grants once a node has a key more
-pub node_given : (nodes : List Node) (f : List ℕ) (i : ℕ) (s t : Node) (key qos : ℕ) → IsPlace (rows_in nodes) f i → s ≡ get_or nodes i s → string_bytes t.filter ≡ f
+pub node_given : (nodes : List Node) (f : List ℕ) (i : ℕ) (s t : Node) (key qos : ℕ) → IsPlace (rows_in nodes) f i → s ≡ get_or nodes i s → string_bytes t.path ≡ f
     → ((j : ℕ) → tree.get nat_cmp t.grants j ≡ cond (is_eq (nat_cmp key j)) (Some qos) (tree.get nat_cmp s.grants j))
     → grants_of (rows_in (set nodes i t)) ≡ insert (grants_of (rows_in nodes)) (f, key) qos
 node_given nodes f i s t key qos p is filter h =
@@ -83,7 +80,7 @@ node_filled nodes f i t key qos o p h =
     differ e = cc
 
 -- the grants once a node has a key less
-pub node_taken : (nodes : List Node) (f : List ℕ) (i : ℕ) (s t : Node) (key : ℕ) → IsPlace (rows_in nodes) f i → s ≡ get_or nodes i s → string_bytes t.filter ≡ f
+pub node_taken : (nodes : List Node) (f : List ℕ) (i : ℕ) (s t : Node) (key : ℕ) → IsPlace (rows_in nodes) f i → s ≡ get_or nodes i s → string_bytes t.path ≡ f
     → ((j : ℕ) → tree.get nat_cmp t.grants j ≡ cond (is_eq (nat_cmp key j)) None (tree.get nat_cmp s.grants j))
     → grants_of (rows_in (set nodes i t)) ≡ remove (grants_of (rows_in nodes)) (f, key)
 node_taken nodes f i s t key p is filter h =
@@ -99,19 +96,14 @@ node_holds nodes f i s key p is =
     let same : p.row ≡ row_of s = node_row nodes i p.row s p.there ∙ ap row_of (sym is) in
     get-grants_of (rows_in nodes) f i p.row key p.only p.there p.fits ∙ ap (λ (r : Row). held r.1 key) same
 
--- nothing is granted where the node is another filter's
-pub other_node : (nodes : List Node) (f : List ℕ) (i : ℕ) (s : Node) (key : ℕ) → IsPlace (rows_in nodes) f i → s ≡ get_or nodes i s → (string_bytes s.filter ≡ f → ⊥)
-    → get (grants_of (rows_in nodes)) (f, key) ≡ None
-other_node nodes f i s key p is differs =
+-- the text of a node
+pub node_text : (nodes : List Node) (i : ℕ) (s : Node) → IsPlace (rows_in nodes) (text_in (rows_in nodes) i) i → s ≡ get_or nodes i s → string_bytes s.path ≡ text_in (rows_in nodes) i
+node_text nodes i s p is =
     let same : p.row ≡ row_of s = node_row nodes i p.row s p.there ∙ ap row_of (sym is) in
-    get-grants_of (rows_in nodes) f i p.row key p.only p.there p.fits ∙ nothing_in p.row p.fits same
-  where
-    nothing_in : (r : Row) → (r.0 ≡ f) ⊎ (r.1 ≡ []) → r ≡ row_of s → held r.1 key ≡ None
-    nothing_in r (inl h) same = absurd (differs (ap (λ (x : Row). x.0) (sym same) ∙ h))
-    nothing_in r (inr h) same = ap (λ es. held es key) h
+    sym (ap (λ (o : Option Row). option_map_or (λ (r : Row). r.0) o []) p.there ∙ ap (λ (r : Row). r.0) same)
 
 -- the rows once a node is the filter's, with other grants
-pub rows_after : (nodes : List Node) (f : List ℕ) (i : ℕ) (t : Node) → string_bytes t.filter ≡ f → SetsRow (rows_in nodes) (rows_in (set nodes i t)) f i
+pub rows_after : (nodes : List Node) (f : List ℕ) (i : ℕ) (t : Node) → string_bytes t.path ≡ f → SetsRow (rows_in nodes) (rows_in (set nodes i t)) f i
 rows_after nodes f i t filter = inr (t.grants.entries, rows_set nodes i t ∙ ap (λ g. set (rows_in nodes) i (g, t.grants.entries)) filter)
 
 -- a node that holds what it held leaves the rows as they were
@@ -121,12 +113,3 @@ same_rows nodes i s t is h = map-set_same row_of nodes i t s (h ∙ ap row_of is
 -- and the links, if it has the same edges
 pub same_links : (nodes : List Node) (i : ℕ) (s t : Node) → s ≡ get_or nodes i s → link_of t ≡ link_of s → links_in (set nodes i t) ≡ links_in nodes
 same_links nodes i s t is h = map-set_same link_of nodes i t s (h ∙ ap link_of is)
-
-pub texts_differ : (t u f : List ℕ) (b : Bool) → t ≡ u → b ≡ not (bytes_eq t f) → b ≡ true → u ≡ f → ⊥
-texts_differ t u f b e is h same =
-    let k : bytes_eq t f ≡ true = ap (λ x. bytes_eq x f) (e ∙ same) ∙ bytes_self f in
-    let n : bytes_eq t f ≡ false = not_true _ (sym is ∙ h) in
-    cc
-
-pub texts_same : (t u f : List ℕ) (b : Bool) → t ≡ u → b ≡ not (bytes_eq t f) → b ≡ false → u ≡ f
-texts_same t u f b e is h = sym e ∙ bytes_same t f (not_false _ (sym is ∙ h))

@@ -1,226 +1,368 @@
--- What a tree of levels says of its rows, and how a change of a row or an edge keeps it a tree.
-use Rattle.std.proofs.Common.{◌≡◌, ◌⊎◌, ℕ, List, [], ◌∷◌, ◌++◌, Bool, true, false, refl, ap, sym, ◌∙◌, subst, cond, inl, inr, Option, Some, None, length, set}
-use Rattle.std.specs.Prelude.{slice_get, nat_eq, ◌&&◌}
-use Rattle.std.specs.Str.{bytes_eq}
-use Rattle.std.proofs.lemmas.Bool.{eqb-true}
+-- How a change of a node and its edges keeps a tree of levels a tree.
+use Rattle.std.proofs.Common.{◌≡◌, ◌⊎◌, ◌<◌, ℕ, List, [], ◌∷◌, ◌++◌, ap, sym, ◌∙◌, subst, inl, inr, arith, Option, Some, None, length, set, append_assoc}
 use Rattle.std.proofs.lemmas.Option.{some_pair_parts}
+use Rattle.spk_topics.specs.Edges.{DropsChildren, IsJoint, IsLeaf, SetsChild, SetsUp}
 use Rattle.spk_topics.specs.Levels.{levels}
-use Rattle.spk_topics.specs.Rows.{Row, Only, Absent, IsPlace, SetsRow}
-use Rattle.spk_topics.specs.Paths.{Child, Up, descend, IsTree}
-use Rattle.spk_topics.specs.Edges.{SetsChild, SetsUp, IsLeaf, Grows}
-use Rattle.spk_topics.proofs.BoolLemmas.{and_parts, and_both}
-use Rattle.spk_topics.proofs.FitLemmas.{bytes_same, bytes_self}
-use Rattle.spk_topics.proofs.LevelLemmas.{same_levels}
-use Rattle.spk_topics.proofs.ListLemmas.{AreApart, set_sees, push_sees, empty_place}
-use Rattle.spk_topics.proofs.PathLemmas.{one, none_some, none_edge, nat_self, First, first_level, through, descend_kept, one_path}
+use Rattle.spk_topics.specs.Paths.{Child, GoesOn, IsOn, IsTree, Up, path}
+use Rattle.spk_topics.specs.Rows.{Row}
+use Rattle.spk_topics.proofs.ChangeLemmas.{drop_here, drop_there, edge_or_not, level_or_not, path_here, path_there, same_or_not, set_at, set_here, set_there, up_here, up_there}
+use Rattle.spk_topics.proofs.PathLemmas.{longer, none_edge, none_some, one}
 
--- ---- what a tree says of its rows
+abbrev edge : ℕ → List ℕ → Option (ℕ × List ℕ)
+edge p l = Some (p, l)
 
-pub apart_of : (rows : List Row) (child : Child) (up : Up) → IsTree rows child up → AreApart rows
-apart_of rows child up t i row h = side (t.routed i row h)
-  where
-    other : (j : ℕ) (s : Row) → descend child 0 (levels row.0) ≡ Some i → s.0 ≡ row.0 → (s.1 ≡ []) ⊎ (descend child 0 (levels s.0) ≡ Some j) → (s.1 ≡ []) ⊎ (j ≡ i)
-    other j s e same (inl none) = inl none
-    other j s e same (inr f) = inr (one j i (sym f ∙ ap (λ g. descend child 0 (levels g)) same ∙ e))
+some_same : (p q : ℕ) (l k : List ℕ) → (p ≡ q) × (l ≡ k) → edge p l ≡ edge q k
+some_same p q l k (a, b) = ap (λ x. edge x l) a ∙ ap (λ x. edge q x) b
 
-    side : (row.1 ≡ []) ⊎ (descend child 0 (levels row.0) ≡ Some i) → (row.1 ≡ []) ⊎ Only rows row.0 i
-    side (inl none) = inl none
-    side (inr e) = inr (λ j s k same. other j s e same (t.routed j s k))
+-- a path that goes on stays where both texts stay
+goes_kept : (rows new : List Row) (p : ℕ) (l : List ℕ) (n : ℕ) → path new n ≡ path rows n → path new p ≡ path rows p → GoesOn rows p l n → GoesOn new p l n
+goes_kept rows new p l n en ep (more, is) = (more, en ∙ is ∙ ap (λ x. x ++ l ∷ more) (sym ep))
 
--- where the levels of a filter lead, no other filter has grants
-pub vacant_at : (rows : List Row) (child : Child) (up : Up) (f : List ℕ) (n : ℕ) (row : Row) → IsTree rows child up → Absent rows f → descend child 0 (levels f) ≡ Some n → slice_get rows n ≡ Some row → row.1 ≡ []
-vacant_at rows child up f n row t absent e h = side (t.routed n row h)
-  where
-    side : (row.1 ≡ []) ⊎ (descend child 0 (levels row.0) ≡ Some n) → row.1 ≡ []
-    side (inl none) = none
-    side (inr g) = absent n row h (same_levels row.0 f (one_path rows child up (levels row.0) (levels f) n t g e))
+-- a node with a path longer than another one is another node
+pub apart : (rows : List Row) (p : ℕ) (l : List ℕ) (n : ℕ) → GoesOn rows p l n → p ≡ n → ⊥
+apart rows p l n (more, is) at = let less = longer (path rows p) (path rows n) l more is in absurd (omega (arith, less, ap length (ap (path rows) at)))
 
-pub new_place : (rows : List Row) (child : Child) (up : Up) (f : List ℕ) (n : ℕ) (row : Row) → IsTree rows child up → Absent rows f → descend child 0 (levels f) ≡ Some n → slice_get rows n ≡ Some row → IsPlace rows f n
-new_place rows child up f n row t absent e h = empty_place rows f n row absent h (vacant_at rows child up f n row t absent e h)
+module _ (rows : List Row) (child : Child) (up : Up) (t : IsTree rows child up) where
+  pub on_not : (p x : ℕ) (edge : Option (ℕ × List ℕ)) → IsOn up p → up x ≡ None → (x ≡ 0 → ⊥) → p ≡ x → ⊥
+  on_not p x edge (inl z) free off at = off (sym at ∙ z)
+  on_not p x edge (inr (e, h)) free off at = none_edge e (sym free ∙ ap up (sym at) ∙ h)
 
--- nor of one whose levels lead to a row that has none of it
-pub absent_there : (rows : List Row) (child : Child) (up : Up) (f : List ℕ) (n : ℕ) → IsTree rows child up → descend child 0 (levels f) ≡ Some n
-    → ((row : Row) → slice_get rows n ≡ Some row → row.0 ≡ f → row.1 ≡ []) → Absent rows f
-absent_there rows child up f n t e none i row h same = side (t.routed i row h)
-  where
-    side : (row.1 ≡ []) ⊎ (descend child 0 (levels row.0) ≡ Some i) → row.1 ≡ []
-    side (inl k) = k
-    side (inr g) =
-        let at : i ≡ n = one i n (sym g ∙ ap (λ x. descend child 0 (levels x)) same ∙ e) in
-        none row (ap (slice_get rows) (sym at) ∙ h) same
+  pub above_on : (p : ℕ) (l : List ℕ) (x : ℕ) → child p l ≡ Some x → IsOn up p
+  above_on p l x h = t.hangs p l x (t.above p l x h)
 
--- ---- a change of rows
+-- ---- a level that led nowhere leads to a node to which no edge led, and which has the filter's text then
 
-pub tree_after : (rows new : List Row) (child : Child) (up : Up) (f : List ℕ) (n : ℕ) → IsTree rows child up → descend child 0 (levels f) ≡ Some n → SetsRow rows new f n → IsTree new child up
-tree_after rows new child up f n t e s = record { routed = side s; above = t.above; below = t.below; root = t.root }
-  where
-    Routed : List Row → Type 0
-    Routed rs = (i : ℕ) (row : Row) → slice_get rs i ≡ Some row → (row.1 ≡ []) ⊎ (descend child 0 (levels row.0) ≡ Some i)
+module _ (rows new : List Row) (child c : Child) (up u : Up) (n : ℕ) (level : List ℕ) (m : ℕ) (f : List ℕ) (t : IsTree rows child up) (nowhere : child n level ≡ None) (off_root : m ≡ 0 → ⊥) (free : up m ≡ None)
+    (on : IsOn up n) (inside : m < length rows) (s : SetsChild child c n level (Some m)) (v : SetsUp up u m (Some (n, level))) (er : new ≡ set rows m (f, [])) (goes : (rest : List (List ℕ)) × (levels f ≡ path rows n ++ level ∷ rest)) where
+  leaf_away : (p : ℕ) → IsOn up p → p ≡ m → ⊥
+  leaf_away p h at = on_not rows child up t p m None h free off_root at
 
-    here : (es : List (ℕ × ℕ)) (i : ℕ) (row : Row) → ((i ≡ n) × ((f, es) ≡ row)) ⊎ ((i ≡ n → ⊥) × (slice_get rows i ≡ Some row)) → (row.1 ≡ []) ⊎ (descend child 0 (levels row.0) ≡ Some i)
-    here es i row (inl (at, is)) = inr (ap (λ (r : Row). descend child 0 (levels r.0)) (sym is) ∙ e ∙ ap (λ x. Some x) (sym at))
-    here es i row (inr (off, h)) = t.routed i row h
+  leaf_led : (x : ℕ) (e : ℕ × List ℕ) → up x ≡ Some e → x ≡ m → ⊥
+  leaf_led x e h at = none_edge e (sym free ∙ ap up (sym at) ∙ h)
 
-    side : (new ≡ rows) ⊎ ((es : List (ℕ × ℕ)) × (new ≡ set rows n (f, es))) → Routed new
-    side (inl same) = subst Routed (sym same) t.routed
-    side (inr (es, same)) = subst Routed (sym same) (λ i row h. here es i row (set_sees rows n (f, es) i row h))
+  pub leaf_kept : (p : ℕ) (l : List ℕ) (x : ℕ) → child p l ≡ Some x → c p l ≡ Some x
+  leaf_kept p l x h =
+      set_there child c n level (Some m) p l s (λ a k. none_some x (sym nowhere ∙ ap (λ q. child q level) (sym a) ∙ ap (child p) k ∙ h)) ∙ h
 
--- a row loses its text, and has no grants
-pub tree_emptied : (rows new : List Row) (child : Child) (up : Up) (n : ℕ) → IsTree rows child up → new ≡ set rows n ([], []) → IsTree new child up
-tree_emptied rows new child up n t e = record { routed = subst Routed (sym e) (λ i row h. side i row (set_sees rows n ([], []) i row h)); above = t.above; below = t.below; root = t.root }
-  where
-    Routed : List Row → Type 0
-    Routed rs = (i : ℕ) (row : Row) → slice_get rs i ≡ Some row → (row.1 ≡ []) ⊎ (descend child 0 (levels row.0) ≡ Some i)
+  leaf_on : (p : ℕ) → IsOn up p → IsOn u p
+  leaf_on p (inl z) = inl z
+  leaf_on p (inr (e, h)) = inr (e, up_there up u m (Some (n, level)) p v (leaf_led p e h) ∙ h)
 
-    side : (i : ℕ) (row : Row) → ((i ≡ n) × (([], []) ≡ row)) ⊎ ((i ≡ n → ⊥) × (slice_get rows i ≡ Some row)) → (row.1 ≡ []) ⊎ (descend child 0 (levels row.0) ≡ Some i)
-    side i row (inl (at, is)) = inl (ap (λ (r : Row). r.1) (sym is))
-    side i row (inr (off, h)) = t.routed i row h
-
--- one empty row more
-pub tree_push : (rows : List Row) (child : Child) (up : Up) → IsTree rows child up → IsTree (rows ++ ([], []) ∷ []) child up
-tree_push rows child up t = record { routed = λ i row h. side i row (push_sees rows ([], []) i row h); above = t.above; below = t.below; root = t.root }
-  where
-    side : (i : ℕ) (row : Row) → (slice_get rows i ≡ Some row) ⊎ ((i ≡ length rows) × (([], []) ≡ row)) → (row.1 ≡ []) ⊎ (descend child 0 (levels row.0) ≡ Some i)
-    side i row (inl h) = t.routed i row h
-    side i row (inr (at, is)) = inl (ap (λ (r : Row). r.1) (sym is))
-
-pub same_row : (rows : List Row) (n : ℕ) (r s : Row) → slice_get rows n ≡ Some r → slice_get rows n ≡ Some s → r ≡ s
-same_row rows n r s h k = let e : Some r ≡ Some s = sym h ∙ k in cc
-
--- ---- a change of edges
-
--- the test of one level of one node
-at_edge : (p n : ℕ) (level l : List ℕ) → (nat_eq p n && bytes_eq level l) ≡ true → (p ≡ n) × (level ≡ l)
-at_edge p n level l h = let (a, b) = and_parts _ _ h in (eqb-true p n a, bytes_same level l b)
-
-edge_self : (n : ℕ) (level : List ℕ) → (nat_eq n n && bytes_eq level level) ≡ true
-edge_self n level = and_both _ _ (nat_self n) (bytes_self level)
-
-pub set_here : (old new : Child) (n : ℕ) (level : List ℕ) (c : Option ℕ) → SetsChild old new n level c → new n level ≡ c
-set_here old new n level c s = s n level ∙ ap (λ b. cond b c (old n level)) (edge_self n level)
-
-pub up_here : (old new : Up) (n : ℕ) (u : Option (ℕ × List ℕ)) → SetsUp old new n u → new n ≡ u
-up_here old new n u s = s n ∙ ap (λ b. cond b u (old n)) (nat_self n)
-
-pub up_there : (old new : Up) (n : ℕ) (u : Option (ℕ × List ℕ)) (x : ℕ) → SetsUp old new n u → (x ≡ n → ⊥) → new x ≡ old x
-up_there old new n u x s off = s x ∙ side (nat_eq x n) refl
-  where
-    side : (b : Bool) → nat_eq x n ≡ b → cond b u (old x) ≡ old x
-    side true e = absurd (off (eqb-true x n e))
-    side false e = refl
-
-set_there : (old new : Child) (n : ℕ) (level : List ℕ) (c : Option ℕ) (p : ℕ) (l : List ℕ) → SetsChild old new n level c → (p ≡ n → level ≡ l → ⊥) → new p l ≡ old p l
-set_there old new n level c p l s off = s p l ∙ side (nat_eq p n && bytes_eq level l) refl
-  where
-    side : (b : Bool) → (nat_eq p n && bytes_eq level l) ≡ b → cond b c (old p l) ≡ old p l
-    side true e = let (a, k) = at_edge p n level l e in absurd (off a k)
-    side false e = refl
-
--- a level that led nowhere leads to a node to which no edge led
-module _ (rows : List Row) (child new : Child) (up new_up : Up) (n : ℕ) (level : List ℕ) (m : ℕ) (t : IsTree rows child up) (nowhere : child n level ≡ None) (off_root : m ≡ 0 → ⊥) (free : up m ≡ None)
-    (s : SetsChild child new n level (Some m)) (u : SetsUp up new_up m (Some (n, level))) where
-  grown_kept : (p : ℕ) (l : List ℕ) (x : ℕ) → child p l ≡ Some x → new p l ≡ Some x
-  grown_kept p l x h =
-      set_there child new n level (Some m) p l s (λ a k. none_some x (sym nowhere ∙ ap (λ q. child q level) (sym a) ∙ ap (child p) k ∙ h)) ∙ h
-
-  grown_above : (p : ℕ) (l : List ℕ) (x : ℕ) → new p l ≡ Some x → new_up x ≡ Some (p, l)
-  grown_above p l x h = side (nat_eq p n && bytes_eq level l) refl (sym (s p l) ∙ h)
-    where
-      side : (b : Bool) → (nat_eq p n && bytes_eq level l) ≡ b → cond b (Some m) (child p l) ≡ Some x → new_up x ≡ Some (p, l)
-      side true e k =
-          let (a, same) = at_edge p n level l e in
-          ap new_up (sym (one m x k)) ∙ up_here up new_up m (Some (n, level)) u ∙ ap (λ q. Some (q, level)) (sym a) ∙ ap (λ q. Some (p, q)) same
-      side false e k =
-          let v : up x ≡ Some (p, l) = t.above p l x k in
-          up_there up new_up m (Some (n, level)) x u (λ at. none_edge (p, l) (sym free ∙ ap up (sym at) ∙ v)) ∙ v
-
-  grown_below : (p : ℕ) (l : List ℕ) (x : ℕ) → new_up x ≡ Some (p, l) → new p l ≡ Some x
-  grown_below p l x h = side (nat_eq x m) refl (sym (u x) ∙ h)
-    where
-      side : (b : Bool) → nat_eq x m ≡ b → cond b (Some (n, level)) (up x) ≡ Some (p, l) → new p l ≡ Some x
-      side true e k =
-          let (a, same) = some_pair_parts n p level l k in
-          ap (λ q. new q l) (sym a) ∙ ap (new n) (sym same) ∙ set_here child new n level (Some m) s ∙ ap (λ q. Some q) (sym (eqb-true x m e))
-      side false e k = grown_kept p l x (t.below p l x k)
-
-  pub tree_grown : IsTree rows new new_up
-  tree_grown = record {
-    routed = λ i row h. side i row (t.routed i row h);
-    above = grown_above;
-    below = grown_below;
-    root = up_there up new_up m (Some (n, level)) 0 u (λ e. off_root (sym e)) ∙ t.root;
+  pub leaf_tree : IsTree new c u
+  leaf_tree = record {
+    above = λ p l x h. above_by p l x h (edge_or_not p n level l);
+    below = λ p l x h. below_by p l x h (same_or_not x m);
+    root = up_there up u m (Some (n, level)) 0 v (λ e. off_root (sym e)) ∙ t.root;
+    hangs = λ p l x h. hangs_by p l x h (same_or_not x m);
+    spelled = λ p l x h. spelled_by p l x h (same_or_not x m);
   }
     where
-      side : (i : ℕ) (row : Row) → (row.1 ≡ []) ⊎ (descend child 0 (levels row.0) ≡ Some i) → (row.1 ≡ []) ⊎ (descend new 0 (levels row.0) ≡ Some i)
-      side i row (inl none) = inl none
-      side i row (inr e) = inr (descend_kept child new grown_kept 0 (levels row.0) i e)
+      above_by : (p : ℕ) (l : List ℕ) (x : ℕ) → c p l ≡ Some x → ((p ≡ n) × (level ≡ l)) ⊎ (p ≡ n → level ≡ l → ⊥) → u x ≡ Some (p, l)
+      above_by p l x h (inl (a, b)) =
+          ap u (sym (one m x (sym (set_at child c n level (Some m) p l s (a, b)) ∙ h))) ∙ up_here up u m (Some (n, level)) v ∙ some_same n p level l (sym a, b)
+      above_by p l x h (inr off) =
+          let k : up x ≡ Some (p, l) = t.above p l x (sym (set_there child c n level (Some m) p l s off) ∙ h) in
+          up_there up u m (Some (n, level)) x v (leaf_led x (p, l) k) ∙ k
 
-  pub grows_grown : Grows rows rows child new
-  grows_grown = record { same = refl; absent = λ f h. h; kept = grown_kept }
+      -- an edge up to the new node, or to another one
+      parts : (p : ℕ) (l : List ℕ) (x : ℕ) → u x ≡ Some (p, l) → x ≡ m → (n ≡ p) × (level ≡ l)
+      parts p l x h at = some_pair_parts n p level l (sym (up_here up u m (Some (n, level)) v) ∙ ap u (sym at) ∙ h)
 
--- the edge to a node without grants and children goes
-module _ (rows : List Row) (child new : Child) (up new_up : Up) (p : ℕ) (level : List ℕ) (n : ℕ) (t : IsTree rows child up) (leaf : IsLeaf rows child n) (edge : up n ≡ Some (p, level))
-    (s : SetsChild child new p level None) (u : SetsUp up new_up n None) where
-  -- what leads to another node stays
-  cut_kept : (q : ℕ) (l : List ℕ) (x : ℕ) → (x ≡ n → ⊥) → child q l ≡ Some x → new q l ≡ Some x
-  cut_kept q l x off h =
-      set_there child new p level None q l s (λ a k. off (one x n (sym h ∙ ap (λ y. child y l) a ∙ ap (child p) (sym k) ∙ t.below p level n edge))) ∙ h
+      old : (p : ℕ) (l : List ℕ) (x : ℕ) → u x ≡ Some (p, l) → (x ≡ m → ⊥) → up x ≡ Some (p, l)
+      old p l x h off = sym (up_there up u m (Some (n, level)) x v off) ∙ h
 
-  pub cut_descend : (m : ℕ) (ls : List (List ℕ)) (i : ℕ) → (i ≡ n → ⊥) → descend child m ls ≡ Some i → descend new m ls ≡ Some i
-  cut_descend m [] i off h = h
-  cut_descend m (l ∷ ls) i off h =
-      let f : First child m l ls i = first_level child m l ls i h in
-      through new m l ls f.node i (cut_kept m l f.node (λ at. past ls at f.leads) f.edge) (cut_descend f.node ls i off f.leads)
+      below_by : (p : ℕ) (l : List ℕ) (x : ℕ) → u x ≡ Some (p, l) → (x ≡ m) ⊎ (x ≡ m → ⊥) → c p l ≡ Some x
+      below_by p l x h (inl at) =
+          let (a, b) = parts p l x h at in
+          set_at child c n level (Some m) p l s (sym a, b) ∙ ap (λ q. Some q) (sym at)
+      below_by p l x h (inr off) = leaf_kept p l x (t.below p l x (old p l x h off))
+
+      hangs_by : (p : ℕ) (l : List ℕ) (x : ℕ) → u x ≡ Some (p, l) → (x ≡ m) ⊎ (x ≡ m → ⊥) → IsOn u p
+      hangs_by p l x h (inl at) = let (a, b) = parts p l x h at in subst (IsOn u) a (leaf_on n on)
+      hangs_by p l x h (inr off) = leaf_on p (t.hangs p l x (old p l x h off))
+
+      stays : (x : ℕ) → (x ≡ m → ⊥) → path new x ≡ path rows x
+      stays x off = path_there rows new m (f, []) x er off
+
+      spelled_by : (p : ℕ) (l : List ℕ) (x : ℕ) → u x ≡ Some (p, l) → (x ≡ m) ⊎ (x ≡ m → ⊥) → GoesOn new p l x
+      spelled_by p l x h (inl at) =
+          let (a, b) = parts p l x h at in
+          let here : GoesOn new n level m = (goes.0, path_here rows new m (f, []) er off_root inside ∙ goes.1 ∙ ap (λ y. y ++ level ∷ goes.0) (sym (stays n (leaf_away n on)))) in
+          subst (λ y. GoesOn new p l y) (sym at) (subst (λ y. GoesOn new p y m) b (subst (λ y. GoesOn new y level m) a here))
+      spelled_by p l x h (inr off) =
+          let k = old p l x h off in
+          goes_kept rows new p l x (stays x off) (stays p (leaf_away p (t.hangs p l x k))) (t.spelled p l x k)
+
+-- ---- a node to which no edge led is put into an edge
+
+module _ (rows new : List Row) (child c1 c : Child) (up u1 u : Up) (n : ℕ) (level : List ℕ) (m s : ℕ) (key f : List ℕ) (t : IsTree rows child up) (leads : child n level ≡ Some m) (off_root : s ≡ 0 → ⊥) (free : up s ≡ None)
+    (inside : s < length rows) (s1 : SetsChild child c1 s key (Some m)) (s2 : SetsChild c1 c n level (Some s)) (v1 : SetsUp up u1 m (Some (s, key))) (v2 : SetsUp u1 u s (Some (n, level))) (er : new ≡ set rows s (f, []))
+    (upper : (common : List (List ℕ)) × (levels f ≡ path rows n ++ level ∷ common)) (lower : (more : List (List ℕ)) × (path rows m ≡ levels f ++ key ∷ more)) where
+  was : up m ≡ Some (n, level)
+  was = t.above n level m leads
+
+  on : IsOn up n
+  on = t.hangs n level m was
+
+  pub split_away : (p : ℕ) → IsOn up p → p ≡ s → ⊥
+  split_away p h at = on_not rows child up t p s None h free off_root at
+
+  split_led : (x : ℕ) (e : ℕ × List ℕ) → up x ≡ Some e → x ≡ s → ⊥
+  split_led x e h at = none_edge e (sym free ∙ ap up (sym at) ∙ h)
+
+  up_s : u s ≡ Some (n, level)
+  up_s = up_here u1 u s (Some (n, level)) v2
+
+  up_m : u m ≡ Some (s, key)
+  up_m = up_there u1 u s (Some (n, level)) m v2 (split_led m (n, level) was) ∙ up_here up u1 m (Some (s, key)) v1
+
+  pub up_other : (x : ℕ) → (x ≡ s → ⊥) → (x ≡ m → ⊥) → u x ≡ up x
+  up_other x a b = up_there u1 u s (Some (n, level)) x v2 a ∙ up_there up u1 m (Some (s, key)) x v1 b
+
+  at_key : c s key ≡ Some m
+  at_key = set_there c1 c n level (Some s) s key s2 (λ a _. split_away n on (sym a)) ∙ set_here child c1 s key (Some m) s1
+
+  -- what else led on from a node on the tree leads where it led
+  pub split_kept : (p : ℕ) (l : List ℕ) (x : ℕ) → (p ≡ n → level ≡ l → ⊥) → child p l ≡ Some x → c p l ≡ Some x
+  split_kept p l x off h =
+      set_there c1 c n level (Some s) p l s2 off ∙ set_there child c1 s key (Some m) p l s1 (λ a _. split_away p (above_on rows child up t p l x h) a) ∙ h
+
+  split_on : (p : ℕ) → IsOn up p → IsOn u p
+  split_on p (inl z) = inl z
+  split_on p (inr (e, h)) = side (same_or_not p m)
     where
-      past : (ks : List (List ℕ)) {x : ℕ} → x ≡ n → descend child x ks ≡ Some i → ⊥
-      past [] at e = off (sym (one _ i e) ∙ at)
-      past (k ∷ ks) at e =
-          let g : First child n k ks i = first_level child n k ks i (ap (λ y. descend child y (k ∷ ks)) (sym at) ∙ e) in
-          none_some g.node (sym (leaf.last k) ∙ g.edge)
+      side : (p ≡ m) ⊎ (p ≡ m → ⊥) → IsOn u p
+      side (inl at) = inr ((s, key), ap u at ∙ up_m)
+      side (inr off) = inr (e, up_other p (split_led p e h) off ∙ h)
 
-  cut_above : (q : ℕ) (l : List ℕ) (x : ℕ) → new q l ≡ Some x → new_up x ≡ Some (q, l)
-  cut_above q l x h = side (nat_eq q p && bytes_eq level l) refl (sym (s q l) ∙ h)
-    where
-      side : (b : Bool) → (nat_eq q p && bytes_eq level l) ≡ b → cond b None (child q l) ≡ Some x → new_up x ≡ Some (q, l)
-      side true e k = absurd (none_some x k)
-      side false e k =
-          let v : up x ≡ Some (q, l) = t.above q l x k in
-          up_there up new_up n None x u (λ at. differs e (some_pair_parts q p l level (sym v ∙ ap up at ∙ edge))) ∙ v
-        where
-          differs : (nat_eq q p && bytes_eq level l) ≡ false → (q ≡ p) × (l ≡ level) → ⊥
-          differs e (a, b) =
-              let yes : (nat_eq q p && bytes_eq level l) ≡ true = ap (λ y. nat_eq y p && bytes_eq level l) a ∙ ap (λ y. nat_eq p p && bytes_eq level y) b ∙ edge_self p level in
-              cc
-
-  cut_below : (q : ℕ) (l : List ℕ) (x : ℕ) → new_up x ≡ Some (q, l) → new q l ≡ Some x
-  cut_below q l x h = side (nat_eq x n) refl (sym (u x) ∙ h)
-    where
-      side : (b : Bool) → nat_eq x n ≡ b → cond b None (up x) ≡ Some (q, l) → new q l ≡ Some x
-      side true e k = absurd (none_edge (q, l) k)
-      side false e k = cut_kept q l x (λ at. let yes : nat_eq x n ≡ true = ap (λ y. nat_eq y n) at ∙ nat_self n in let no : true ≡ false = sym yes ∙ e in cc) (t.below q l x k)
-
-  pub tree_cut : IsTree rows new new_up
-  tree_cut = record {
-    routed = λ i row h. side i row h (t.routed i row h);
-    above = cut_above;
-    below = cut_below;
-    root = up_there up new_up n None 0 u (λ e. none_edge (p, level) (sym t.root ∙ ap up e ∙ edge)) ∙ t.root;
+  pub split_tree : IsTree new c u
+  split_tree = record {
+    above = λ p l x h. above_by p l x h (edge_or_not p n level l) (edge_or_not p s key l);
+    below = λ p l x h. below_by p l x h (same_or_not x s) (same_or_not x m);
+    root = up_other 0 (λ e. off_root (sym e)) (λ e. none_edge (n, level) (sym t.root ∙ ap up e ∙ was)) ∙ t.root;
+    hangs = λ p l x h. hangs_by p l x h (same_or_not x s) (same_or_not x m);
+    spelled = λ p l x h. spelled_by p l x h (same_or_not x s) (same_or_not x m);
   }
     where
-      off : (i : ℕ) (row : Row) → slice_get rows i ≡ Some row → (b : Bool) → nat_eq i n ≡ b → (row.1 ≡ []) ⊎ (i ≡ n → ⊥)
-      off i row h true e = inl (leaf.vacant row (ap (slice_get rows) (sym (eqb-true i n e)) ∙ h))
-      off i row h false e = inr (λ at. let yes : nat_eq i n ≡ true = ap (λ y. nat_eq y n) at ∙ nat_self n in let no : true ≡ false = sym yes ∙ e in cc)
+      above_by : (p : ℕ) (l : List ℕ) (x : ℕ) → c p l ≡ Some x → ((p ≡ n) × (level ≡ l)) ⊎ (p ≡ n → level ≡ l → ⊥) → ((p ≡ s) × (key ≡ l)) ⊎ (p ≡ s → key ≡ l → ⊥) → u x ≡ Some (p, l)
+      above_by p l x h (inl (a, b)) q = ap u (sym (one s x (sym (set_at c1 c n level (Some s) p l s2 (a, b)) ∙ h))) ∙ up_s ∙ some_same n p level l (sym a, b)
+      above_by p l x h (inr off) (inl (a, b)) =
+          let k : c1 p l ≡ Some x = sym (set_there c1 c n level (Some s) p l s2 off) ∙ h in
+          ap u (sym (one m x (sym (set_at child c1 s key (Some m) p l s1 (a, b)) ∙ k))) ∙ up_m ∙ some_same s p key l (sym a, b)
+      above_by p l x h (inr off) (inr away) =
+          let k : child p l ≡ Some x = sym (set_there child c1 s key (Some m) p l s1 away) ∙ sym (set_there c1 c n level (Some s) p l s2 off) ∙ h in
+          let w : up x ≡ Some (p, l) = t.above p l x k in
+          up_other x (split_led x (p, l) w) (λ at. let (a, b) = some_pair_parts p n l level (sym w ∙ ap up at ∙ was) in off a (sym b)) ∙ w
 
-      side_off : (i : ℕ) (row : Row) → descend child 0 (levels row.0) ≡ Some i → (row.1 ≡ []) ⊎ (i ≡ n → ⊥) → (row.1 ≡ []) ⊎ (descend new 0 (levels row.0) ≡ Some i)
-      side_off i row e (inl none) = inl none
-      side_off i row e (inr away) = inr (cut_descend 0 (levels row.0) i away e)
+      at_s : (p : ℕ) (l : List ℕ) (x : ℕ) → u x ≡ Some (p, l) → x ≡ s → (n ≡ p) × (level ≡ l)
+      at_s p l x h at = some_pair_parts n p level l (sym up_s ∙ ap u (sym at) ∙ h)
 
-      side : (i : ℕ) (row : Row) → slice_get rows i ≡ Some row → (row.1 ≡ []) ⊎ (descend child 0 (levels row.0) ≡ Some i) → (row.1 ≡ []) ⊎ (descend new 0 (levels row.0) ≡ Some i)
-      side i row h (inl none) = inl none
-      side i row h (inr e) = side_off i row e (off i row h (nat_eq i n) refl)
+      at_m : (p : ℕ) (l : List ℕ) (x : ℕ) → u x ≡ Some (p, l) → x ≡ m → (s ≡ p) × (key ≡ l)
+      at_m p l x h at = some_pair_parts s p key l (sym up_m ∙ ap u (sym at) ∙ h)
 
--- a node is taken off the tree in two steps
-pub freed : (rows after : List Row) (child new_child : Child) (up new_up : Up) (n p : ℕ) (level : List ℕ) → IsTree rows child up → IsLeaf rows child n → up n ≡ Some (p, level)
-    → SetsUp up new_up n None → SetsChild child new_child p level None → after ≡ set rows n ([], []) → IsTree after new_child new_up
-freed rows after child new_child up new_up n p level t leaf edge u s emptied =
-    tree_emptied rows after new_child new_up n (tree_cut rows child new_child up new_up p level n t leaf edge s u) emptied
+      old : (p : ℕ) (l : List ℕ) (x : ℕ) → u x ≡ Some (p, l) → (x ≡ s → ⊥) → (x ≡ m → ⊥) → up x ≡ Some (p, l)
+      old p l x h a b = sym (up_other x a b) ∙ h
+
+      below_by : (p : ℕ) (l : List ℕ) (x : ℕ) → u x ≡ Some (p, l) → (x ≡ s) ⊎ (x ≡ s → ⊥) → (x ≡ m) ⊎ (x ≡ m → ⊥) → c p l ≡ Some x
+      below_by p l x h (inl at) q =
+          let (a, b) = at_s p l x h at in
+          set_at c1 c n level (Some s) p l s2 (sym a, b) ∙ ap (λ y. Some y) (sym at)
+      below_by p l x h (inr off) (inl at) =
+          let (a, b) = at_m p l x h at in
+          ap (λ y. c y l) (sym a) ∙ ap (c s) (sym b) ∙ at_key ∙ ap (λ y. Some y) (sym at)
+      below_by p l x h (inr off) (inr away) =
+          let k : child p l ≡ Some x = t.below p l x (old p l x h off away) in
+          split_kept p l x (λ a b. away (one x m (sym k ∙ ap (λ q. child q l) a ∙ ap (child n) (sym b) ∙ leads))) k
+
+      hangs_by : (p : ℕ) (l : List ℕ) (x : ℕ) → u x ≡ Some (p, l) → (x ≡ s) ⊎ (x ≡ s → ⊥) → (x ≡ m) ⊎ (x ≡ m → ⊥) → IsOn u p
+      hangs_by p l x h (inl at) q = let (a, b) = at_s p l x h at in subst (IsOn u) a (split_on n on)
+      hangs_by p l x h (inr off) (inl at) = let (a, b) = at_m p l x h at in subst (IsOn u) a (inr ((n, level), up_s))
+      hangs_by p l x h (inr off) (inr away) = split_on p (t.hangs p l x (old p l x h off away))
+
+      stays : (x : ℕ) → (x ≡ s → ⊥) → path new x ≡ path rows x
+      stays x off = path_there rows new s (f, []) x er off
+
+      text : path new s ≡ levels f
+      text = path_here rows new s (f, []) er off_root inside
+
+      spelled_by : (p : ℕ) (l : List ℕ) (x : ℕ) → u x ≡ Some (p, l) → (x ≡ s) ⊎ (x ≡ s → ⊥) → (x ≡ m) ⊎ (x ≡ m → ⊥) → GoesOn new p l x
+      spelled_by p l x h (inl at) q =
+          let (a, b) = at_s p l x h at in
+          let here : GoesOn new n level s = (upper.0, text ∙ upper.1 ∙ ap (λ y. y ++ level ∷ upper.0) (sym (stays n (split_away n on)))) in
+          subst (λ y. GoesOn new p l y) (sym at) (subst (λ y. GoesOn new p y s) b (subst (λ y. GoesOn new y level s) a here))
+      spelled_by p l x h (inr off) (inl at) =
+          let (a, b) = at_m p l x h at in
+          let here : GoesOn new s key m = (lower.0, stays m (split_led m (n, level) was) ∙ lower.1 ∙ ap (λ y. y ++ key ∷ lower.0) (sym text)) in
+          subst (λ y. GoesOn new p l y) (sym at) (subst (λ y. GoesOn new p y m) b (subst (λ y. GoesOn new y key m) a here))
+      spelled_by p l x h (inr off) (inr away) =
+          let k = old p l x h off away in
+          goes_kept rows new p l x (stays x off) (stays p (split_away p (t.hangs p l x k))) (t.spelled p l x k)
+
+-- ---- a node without grants and children is taken off the tree
+
+module _ (rows new : List Row) (child c1 c : Child) (up u : Up) (n p0 : ℕ) (l0 : List ℕ) (t : IsTree rows child up) (leaf : IsLeaf rows child n) (was : up n ≡ Some (p0, l0))
+    (d : DropsChildren child c1 n) (s : SetsChild c1 c p0 l0 None) (v : SetsUp up u n None) (er : new ≡ set rows n ([], [])) where
+  pub freed_kept : (p : ℕ) (l : List ℕ) (x : ℕ) → (x ≡ n → ⊥) → child p l ≡ Some x → c p l ≡ Some x
+  freed_kept p l x off h =
+      set_there c1 c p0 l0 None p l s (λ a b. off (one x n (sym h ∙ ap (λ q. child q l) a ∙ ap (child p0) (sym b) ∙ t.below p0 l0 n was)))
+      ∙ drop_there child c1 n p l d (λ at. none_some x (sym (leaf.last l) ∙ ap (λ q. child q l) (sym at) ∙ h))
+      ∙ h
+
+  above_leaf : (p : ℕ) (l : List ℕ) (x : ℕ) → child p l ≡ Some x → p ≡ n → ⊥
+  above_leaf p l x h at = none_some x (sym (leaf.last l) ∙ ap (λ q. child q l) (sym at) ∙ h)
+
+  freed_on : (p : ℕ) → IsOn up p → (p ≡ n → ⊥) → IsOn u p
+  freed_on p (inl z) off = inl z
+  freed_on p (inr (e, h)) off = inr (e, up_there up u n None p v off ∙ h)
+
+  pub freed_tree : IsTree new c u
+  freed_tree = record {
+    above = λ p l x h. above_by p l x h (edge_or_not p p0 l0 l) (same_or_not p n);
+    below = λ p l x h. below_by p l x h (same_or_not x n);
+    root = up_there up u n None 0 v (λ e. none_edge (p0, l0) (sym t.root ∙ ap up e ∙ was)) ∙ t.root;
+    hangs = λ p l x h. hangs_by p l x h (same_or_not x n);
+    spelled = λ p l x h. spelled_by p l x h (same_or_not x n);
+  }
+    where
+      above_by : (p : ℕ) (l : List ℕ) (x : ℕ) → c p l ≡ Some x → ((p ≡ p0) × (l0 ≡ l)) ⊎ (p ≡ p0 → l0 ≡ l → ⊥) → (p ≡ n) ⊎ (p ≡ n → ⊥) → u x ≡ Some (p, l)
+      above_by p l x h (inl e) q = absurd (none_some x (sym (set_at c1 c p0 l0 None p l s e) ∙ h))
+      above_by p l x h (inr off) (inl at) = absurd (none_some x (sym (drop_here child c1 n p l d at) ∙ sym (set_there c1 c p0 l0 None p l s off) ∙ h))
+      above_by p l x h (inr off) (inr away) =
+          let k : up x ≡ Some (p, l) = t.above p l x (sym (drop_there child c1 n p l d away) ∙ sym (set_there c1 c p0 l0 None p l s off) ∙ h) in
+          up_there up u n None x v (λ at. let (a, b) = some_pair_parts p p0 l l0 (sym k ∙ ap up at ∙ was) in off a (sym b)) ∙ k
+
+      old : (p : ℕ) (l : List ℕ) (x : ℕ) → u x ≡ Some (p, l) → (x ≡ n → ⊥) → up x ≡ Some (p, l)
+      old p l x h off = sym (up_there up u n None x v off) ∙ h
+
+      gone : (p : ℕ) (l : List ℕ) (x : ℕ) → u x ≡ Some (p, l) → x ≡ n → ⊥
+      gone p l x h at = none_edge (p, l) (sym (up_here up u n None v) ∙ ap u (sym at) ∙ h)
+
+      below_by : (p : ℕ) (l : List ℕ) (x : ℕ) → u x ≡ Some (p, l) → (x ≡ n) ⊎ (x ≡ n → ⊥) → c p l ≡ Some x
+      below_by p l x h (inl at) = absurd (gone p l x h at)
+      below_by p l x h (inr off) = freed_kept p l x off (t.below p l x (old p l x h off))
+
+      hangs_by : (p : ℕ) (l : List ℕ) (x : ℕ) → u x ≡ Some (p, l) → (x ≡ n) ⊎ (x ≡ n → ⊥) → IsOn u p
+      hangs_by p l x h (inl at) = absurd (gone p l x h at)
+      hangs_by p l x h (inr off) = let k = old p l x h off in freed_on p (t.hangs p l x k) (above_leaf p l x (t.below p l x k))
+
+      spelled_by : (p : ℕ) (l : List ℕ) (x : ℕ) → u x ≡ Some (p, l) → (x ≡ n) ⊎ (x ≡ n → ⊥) → GoesOn new p l x
+      spelled_by p l x h (inl at) = absurd (gone p l x h at)
+      spelled_by p l x h (inr off) =
+          let k = old p l x h off in
+          goes_kept rows new p l x (path_there rows new n ([], []) x er off) (path_there rows new n ([], []) p er (above_leaf p l x (t.below p l x k))) (t.spelled p l x k)
+
+-- ---- a node with one child is taken out of its edge
+
+module _ (rows new : List Row) (child c1 c : Child) (up u1 u : Up) (n m p0 : ℕ) (l0 : List ℕ) (t : IsTree rows child up) (joint : IsJoint rows child n m) (was : up n ≡ Some (p0, l0))
+    (d : DropsChildren child c1 n) (s : SetsChild c1 c p0 l0 (Some m)) (v1 : SetsUp up u1 n None) (v2 : SetsUp u1 u m (Some (p0, l0))) (er : new ≡ set rows n ([], [])) where
+  key : List ℕ
+  key = joint.one.level
+
+  below_it : up m ≡ Some (n, joint.one.level)
+  below_it = t.above n joint.one.level m joint.one.leads
+
+  pub m_apart : m ≡ n → ⊥
+  m_apart at = apart rows n joint.one.level m (t.spelled n joint.one.level m below_it) (sym at)
+
+  pub p_apart : p0 ≡ n → ⊥
+  p_apart at = apart rows p0 l0 n (t.spelled p0 l0 n was) at
+
+  joined_m : u m ≡ Some (p0, l0)
+  joined_m = up_here u1 u m (Some (p0, l0)) v2
+
+  joined_n : u n ≡ None
+  joined_n = up_there u1 u m (Some (p0, l0)) n v2 (λ e. m_apart (sym e)) ∙ up_here up u1 n None v1
+
+  pub joined_other : (x : ℕ) → (x ≡ m → ⊥) → (x ≡ n → ⊥) → u x ≡ up x
+  joined_other x a b = up_there u1 u m (Some (p0, l0)) x v2 a ∙ up_there up u1 n None x v1 b
+
+  -- what leads on from another node leads on
+  pub joined_kept : (p : ℕ) (l : List ℕ) (x : ℕ) → (p ≡ n → ⊥) → child p l ≡ Some x → (y : ℕ) × (c p l ≡ Some y)
+  joined_kept p l x off h = side (edge_or_not p p0 l0 l)
+    where
+      side : ((p ≡ p0) × (l0 ≡ l)) ⊎ (p ≡ p0 → l0 ≡ l → ⊥) → (y : ℕ) × (c p l ≡ Some y)
+      side (inl e) = (m, set_at c1 c p0 l0 (Some m) p l s e)
+      side (inr away) = (x, set_there c1 c p0 l0 (Some m) p l s away ∙ drop_there child c1 n p l d off ∙ h)
+
+  -- the only node below is the child
+  only_m : (l : List ℕ) (x : ℕ) → child n l ≡ Some x → x ≡ m
+  only_m l x h = side (level_or_not l joint.one.level)
+    where
+      side : (l ≡ joint.one.level) ⊎ (l ≡ joint.one.level → ⊥) → x ≡ m
+      side (inl same) = one x m (sym h ∙ ap (child n) same ∙ joint.one.leads)
+      side (inr other) = absurd (none_some x (sym (joint.one.only l other) ∙ h))
+
+  joined_on : (p : ℕ) → IsOn up p → (p ≡ n → ⊥) → IsOn u p
+  joined_on p (inl z) off = inl z
+  joined_on p (inr (e, h)) off = side (same_or_not p m)
+    where
+      side : (p ≡ m) ⊎ (p ≡ m → ⊥) → IsOn u p
+      side (inl at) = inr ((p0, l0), ap u at ∙ joined_m)
+      side (inr away) = inr (e, joined_other p away off ∙ h)
+
+  pub joined_tree : IsTree new c u
+  joined_tree = record {
+    above = λ p l x h. above_by p l x h (edge_or_not p p0 l0 l) (same_or_not p n);
+    below = λ p l x h. below_by p l x h (same_or_not x m) (same_or_not x n);
+    root = joined_other 0 (λ e. none_edge (n, joint.one.level) (sym t.root ∙ ap up e ∙ below_it)) (λ e. none_edge (p0, l0) (sym t.root ∙ ap up e ∙ was)) ∙ t.root;
+    hangs = λ p l x h. hangs_by p l x h (same_or_not x m) (same_or_not x n);
+    spelled = λ p l x h. spelled_by p l x h (same_or_not x m) (same_or_not x n);
+  }
+    where
+      above_by : (p : ℕ) (l : List ℕ) (x : ℕ) → c p l ≡ Some x → ((p ≡ p0) × (l0 ≡ l)) ⊎ (p ≡ p0 → l0 ≡ l → ⊥) → (p ≡ n) ⊎ (p ≡ n → ⊥) → u x ≡ Some (p, l)
+      above_by p l x h (inl (a, b)) q = ap u (sym (one m x (sym (set_at c1 c p0 l0 (Some m) p l s (a, b)) ∙ h))) ∙ joined_m ∙ some_same p0 p l0 l (sym a, b)
+      above_by p l x h (inr off) (inl at) = absurd (none_some x (sym (drop_here child c1 n p l d at) ∙ sym (set_there c1 c p0 l0 (Some m) p l s off) ∙ h))
+      above_by p l x h (inr off) (inr away) =
+          let k : up x ≡ Some (p, l) = t.above p l x (sym (drop_there child c1 n p l d away) ∙ sym (set_there c1 c p0 l0 (Some m) p l s off) ∙ h) in
+          joined_other x (λ at. let (a, b) = some_pair_parts p n l joint.one.level (sym k ∙ ap up at ∙ below_it) in away a) (λ at. let (a, b) = some_pair_parts p p0 l l0 (sym k ∙ ap up at ∙ was) in off a (sym b)) ∙ k
+
+      at_m : (p : ℕ) (l : List ℕ) (x : ℕ) → u x ≡ Some (p, l) → x ≡ m → (p0 ≡ p) × (l0 ≡ l)
+      at_m p l x h at = some_pair_parts p0 p l0 l (sym joined_m ∙ ap u (sym at) ∙ h)
+
+      gone : (p : ℕ) (l : List ℕ) (x : ℕ) → u x ≡ Some (p, l) → x ≡ n → ⊥
+      gone p l x h at = none_edge (p, l) (sym joined_n ∙ ap u (sym at) ∙ h)
+
+      old : (p : ℕ) (l : List ℕ) (x : ℕ) → u x ≡ Some (p, l) → (x ≡ m → ⊥) → (x ≡ n → ⊥) → up x ≡ Some (p, l)
+      old p l x h a b = sym (joined_other x a b) ∙ h
+
+      -- no edge leads from the node to another one than the child
+      away_n : (p : ℕ) (l : List ℕ) (x : ℕ) → up x ≡ Some (p, l) → (x ≡ m → ⊥) → p ≡ n → ⊥
+      away_n p l x h off at = off (only_m l x (ap (λ q. child q l) (sym at) ∙ t.below p l x h))
+
+      below_by : (p : ℕ) (l : List ℕ) (x : ℕ) → u x ≡ Some (p, l) → (x ≡ m) ⊎ (x ≡ m → ⊥) → (x ≡ n) ⊎ (x ≡ n → ⊥) → c p l ≡ Some x
+      below_by p l x h (inl at) q =
+          let (a, b) = at_m p l x h at in
+          set_at c1 c p0 l0 (Some m) p l s (sym a, b) ∙ ap (λ y. Some y) (sym at)
+      below_by p l x h (inr off) (inl at) = absurd (gone p l x h at)
+      below_by p l x h (inr off) (inr away) =
+          let w = old p l x h off away in
+          let k : child p l ≡ Some x = t.below p l x w in
+          set_there c1 c p0 l0 (Some m) p l s (λ a b. away (one x n (sym k ∙ ap (λ q. child q l) a ∙ ap (child p0) (sym b) ∙ t.below p0 l0 n was)))
+          ∙ drop_there child c1 n p l d (away_n p l x w off)
+          ∙ k
+
+      hangs_by : (p : ℕ) (l : List ℕ) (x : ℕ) → u x ≡ Some (p, l) → (x ≡ m) ⊎ (x ≡ m → ⊥) → (x ≡ n) ⊎ (x ≡ n → ⊥) → IsOn u p
+      hangs_by p l x h (inl at) q = let (a, b) = at_m p l x h at in subst (IsOn u) a (joined_on p0 (t.hangs p0 l0 n was) p_apart)
+      hangs_by p l x h (inr off) (inl at) = absurd (gone p l x h at)
+      hangs_by p l x h (inr off) (inr away) = let w = old p l x h off away in joined_on p (t.hangs p l x w) (away_n p l x w off)
+
+      stays : (x : ℕ) → (x ≡ n → ⊥) → path new x ≡ path rows x
+      stays x off = path_there rows new n ([], []) x er off
+
+      longer_edge : GoesOn new p0 l0 m
+      longer_edge =
+          let (first, above) = t.spelled p0 l0 n was in
+          let (second, is) = t.spelled n joint.one.level m below_it in (
+            first ++ joint.one.level ∷ second,
+            stays m m_apart ∙ is ∙ ap (λ y. y ++ joint.one.level ∷ second) above ∙ append_assoc (path rows p0) (l0 ∷ first) (joint.one.level ∷ second)
+                ∙ ap (λ y. y ++ l0 ∷ (first ++ joint.one.level ∷ second)) (sym (stays p0 p_apart)),
+          )
+
+      spelled_by : (p : ℕ) (l : List ℕ) (x : ℕ) → u x ≡ Some (p, l) → (x ≡ m) ⊎ (x ≡ m → ⊥) → (x ≡ n) ⊎ (x ≡ n → ⊥) → GoesOn new p l x
+      spelled_by p l x h (inl at) q =
+          let (a, b) = at_m p l x h at in
+          subst (λ y. GoesOn new p l y) (sym at) (subst (λ y. GoesOn new p y m) b (subst (λ y. GoesOn new y l0 m) a longer_edge))
+      spelled_by p l x h (inr off) (inl at) = absurd (gone p l x h at)
+      spelled_by p l x h (inr off) (inr away) =
+          let w = old p l x h off away in
+          goes_kept rows new p l x (stays x away) (stays p (away_n p l x w off)) (t.spelled p l x w)

@@ -7,8 +7,8 @@ use Rattle.spk_topics.specs.Paths.{Next, Up}
 use Rattle.spk_topics.specs.Rows.{Row, SetsRow}
 use Rattle.spk_topics.specs.Unused.{AreEmpty, HasUnused, IsChain, IsUnused}
 use Rattle.spk_topics.proofs.ListLemmas.{push_sees, set_sees}
+use Rattle.spk_topics.proofs.ChangeLemmas.{same_or_not, up_here, up_there}
 use Rattle.spk_topics.proofs.PathLemmas.{nat_self, none_edge, one}
-use Rattle.spk_topics.proofs.TreeLemmas.{up_here, up_there}
 
 -- ---- elements of lists
 
@@ -27,14 +27,6 @@ either_in x ns n p = by_index p.0 p.1 p.2
     by_index : (k : ℕ) → k < suc (length ns) → get_or (x ∷ ns) k n ≡ n → (x ≡ n) ⊎ Contains ns n
     by_index zero within found = inl found
     by_index (suc k) within found = inr (k, omega arith, found)
-
--- whether two numbers are one
-pub same_or_not : (x n : ℕ) → (x ≡ n) ⊎ (x ≡ n → ⊥)
-same_or_not x n = side (nat_eq x n) refl
-  where
-    side : (b : Bool) → nat_eq x n ≡ b → (x ≡ n) ⊎ (x ≡ n → ⊥)
-    side true e = inl (eqb-true x n e)
-    side false e = inr (λ at. let yes : nat_eq x n ≡ true = ap (λ y. nat_eq y n) at ∙ nat_self n in let no : true ≡ false = sym yes ∙ e in cc)
 
 -- ---- chains
 
@@ -163,6 +155,17 @@ unused_planted rows new row up new_up next new_next first new_first u none er eu
       );
     }
 
+-- another edge leads to a node
+pub unused_turned : (rows : List Row) (up new_up : Up) (next : Next) (first : Option ℕ) (m : ℕ) (e d : ℕ × List ℕ) → HasUnused rows up next first → up m ≡ Some e → SetsUp up new_up m (Some d) → HasUnused rows new_up next first
+unused_turned rows up new_up next first m e d u was s = record {
+  chain = u.chain;
+  linked = u.linked;
+  exact = λ x. (
+    (λ p. let w : IsUnused rows up x = (u.exact x).0 p in (w.0, w.1, up_there up new_up m (Some d) x s (λ at. none_edge e (sym w.2 ∙ ap up at ∙ was)) ∙ w.2)),
+    (λ w. (u.exact x).1 (w.0, w.1, sym (up_there up new_up m (Some d) x s (λ at. none_edge d (sym w.2 ∙ ap new_up at ∙ up_here up new_up m (Some d) s))) ∙ w.2)),
+  );
+}
+
 pub unused_same : (rows new : List Row) (up new_up : Up) (next new_next : Next) (first new_first : Option ℕ) → HasUnused rows up next first
     → length new ≡ length rows → new_up ≡ up → new_next ≡ next → new_first ≡ first → HasUnused new new_up new_next new_first
 unused_same rows new up new_up next new_next first new_first u len eu en ef =
@@ -177,12 +180,22 @@ unused_same rows new up new_up next new_next first new_first u len eu en ef =
 
 -- ---- what nodes hold to which no edge leads
 
-pub empty_linked : (rows : List Row) (up new_up : Up) (n : ℕ) (e : ℕ × List ℕ) → AreEmpty rows up → SetsUp up new_up n (Some e) → AreEmpty rows new_up
-empty_linked rows up new_up n e h s i row there none = side (same_or_not i n)
+-- another edge leads to a node
+pub empty_turned : (rows : List Row) (up new_up : Up) (n : ℕ) (e : ℕ × List ℕ) → AreEmpty rows up → SetsUp up new_up n (Some e) → AreEmpty rows new_up
+empty_turned rows up new_up n e h s i row there none = side (same_or_not i n)
   where
     side : (i ≡ n) ⊎ (i ≡ n → ⊥) → row ≡ ([], [])
     side (inl at) = absurd (none_edge e (sym none ∙ ap new_up at ∙ up_here up new_up n (Some e) s))
     side (inr off) = h i row there (sym (up_there up new_up n (Some e) i s off) ∙ none)
+
+-- the first edge leads to a node, which has a text then
+pub empty_hung : (rows new : List Row) (up new_up : Up) (n : ℕ) (f : List ℕ) (e : ℕ × List ℕ) → AreEmpty rows up → SetsUp up new_up n (Some e) → new ≡ set rows n (f, []) → AreEmpty new new_up
+empty_hung rows new up new_up n f e h s is i row there none =
+    side (set_sees rows n (f, []) i row (subst (λ (r : List Row). slice_get r i ≡ Some row) is there))
+  where
+    side : ((i ≡ n) × ((f, []) ≡ row)) ⊎ ((i ≡ n → ⊥) × (slice_get rows i ≡ Some row)) → row ≡ ([], [])
+    side (inl (at, _)) = absurd (none_edge e (sym none ∙ ap new_up at ∙ up_here up new_up n (Some e) s))
+    side (inr (off, k)) = h i row k (sym (up_there up new_up n (Some e) i s off) ∙ none)
 
 pub empty_freed : (rows new : List Row) (up new_up : Up) (n : ℕ) → AreEmpty rows up → SetsUp up new_up n None → new ≡ set rows n ([], []) → AreEmpty new new_up
 empty_freed rows new up new_up n h s e i row there none =

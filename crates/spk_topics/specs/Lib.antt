@@ -6,6 +6,7 @@ pub mod Grants
 pub mod Levels
 pub mod Matching
 pub mod Nodes
+pub mod Parting
 pub mod Paths
 pub mod Reached
 pub mod Rows

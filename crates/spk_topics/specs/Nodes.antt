@@ -1,5 +1,5 @@
 -- The rows of grants, and the edges, that nodes carry.
-use Rattle.std.specs.Prelude.{ℕ, List, Bool, false, Option, Some, None, cond, map}
+use Rattle.std.specs.Prelude.{ℕ, List, Option, Some, None, cond, map}
 use Rattle.std.specs.Option.{option_map}
 use Rattle.std.specs.Str.{bytes_eq}
 use Rattle.std.specs.String.{string_bytes}
@@ -8,29 +8,31 @@ use Rattle.spk_topics.specs.Rows.{Row}
 use Rattle.spk_topics.specs.Paths.{Child, Up, Next, Link, child_in, up_in, next_in}
 use Rattle.spk_topics.specs.Whole.{Whole, WholeBut}
 use Rattle.spk_topics.specs.declared.node.Branch.{Branch}
+use Rattle.spk_topics.specs.declared.node.Children.{Children}
+use Rattle.spk_topics.specs.declared.node.Children.TheVariants.{Nothing, One, Many}
 use Rattle.spk_topics.specs.declared.node.Edge.{Edge}
 use Rattle.spk_topics.specs.declared.node.Node.{Node}
 use Rattle.spk_topics.specs.declared.nodes.Nodes.{Nodes}
 
 abbrev pub row_of : Node → Row
-row_of node = (string_bytes node.filter, node.grants.entries)
+row_of node = (string_bytes node.path, node.grants.entries)
 
 abbrev pub edge_of : Edge → ℕ × List ℕ
 edge_of edge = (edge.parent, string_bytes edge.level)
 
--- whether a branch is there, and has the level
-abbrev pub has_level : Option Branch → List ℕ → Bool
-has_level None level = false
-has_level (Some branch) level = bytes_eq (string_bytes branch.level) level
+-- where the level of one branch leads
+abbrev pub only_way : Branch → List ℕ → Option ℕ
+only_way branch level = cond (bytes_eq (string_bytes branch.level) level) (Some branch.number) None
 
--- where a level leads: by the branch if it has the level, and else where the others lead
-abbrev pub next_by : Option Branch → (List ℕ → Option ℕ) → List ℕ → Option ℕ
-next_by None others level = others level
-next_by (Some first) others level = cond (bytes_eq (string_bytes first.level) level) (Some first.number) (others level)
+-- where levels lead by these edges
+abbrev pub ways_of : Children → List ℕ → Option ℕ
+ways_of Nothing level = None
+ways_of (One branch) level = only_way branch level
+ways_of (Many branches) level = get_by_text branches level
 
 -- the node to which a level leads from a node
 abbrev pub next_of : Node → List ℕ → Option ℕ
-next_of node level = next_by node.first_child (get_by_text node.other_children) level
+next_of node = ways_of node.children
 
 abbrev pub link_of : Node → Link
 link_of node = (next_of node, option_map edge_of node.up, node.next_unused)

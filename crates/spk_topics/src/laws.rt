@@ -4,10 +4,13 @@ ghost use Rattle.std.specs.List.{list_all};
 ghost use Rattle.std.specs.FinMap as map;
 ghost use Rattle.spk_topics.specs.Grants.{Grants};
 ghost use Rattle.spk_topics.specs.Levels.{joined, levels};
+ghost use Rattle.spk_topics.specs.Paths.{Child, IsTree, Up};
+ghost use Rattle.spk_topics.specs.Rows.{Row};
 ghost use Rattle.spk_topics.specs.Spark.{Named, has_names, named_at, topic_of};
 ghost use Rattle.spk_topics.specs.Fitting.{is_match};
 ghost use Rattle.spk_topics.specs.Matching.{Matches};
 ghost use Rattle.spk_topics.specs.Text.{holds};
+ghost use Rattle.spk_topics.specs.Whole.{IsPruned, LeadsToGrants};
 
 /// The levels of a text are the texts between its slashes: joined by slashes they are the text, and levels
 /// without a slash, joined, are read again.
@@ -54,4 +57,12 @@ pub fn granted()
     ensures others { (grants : Grants) (filter other : List ℕ) (key qos at : ℕ)
         → is_some (map.get grants (other, at)) ≡ true →
         is_some (map.get (map.insert grants (filter, key) qos) (other, at)) ≡ true }
+{}
+
+/// In a tree of levels in which each node but the root has grants, or ways part there, edges lead on from each as
+/// far as grants: so a tree that is pruned leaks nothing. Trees are kept so (`specs/Whole.antt`).
+pub fn nothing_leaks()
+    ensures { (rows : List Row) (child : Child) (up : Up) → IsTree rows child up
+        → IsPruned rows child up → (n : ℕ) (edge : ℕ × List ℕ) → up n ≡ Some edge
+        → LeadsToGrants rows child n }
 {}

@@ -12,6 +12,7 @@ mod levels;
 mod matching;
 mod node;
 mod nodes;
+mod path;
 mod spark;
 mod topic;
 mod tree;

@@ -29,8 +29,11 @@ pub fn matches_text(filter: &str, topic: &str) -> bool
 pub(crate) fn is_barred(filter: &str, topic: &str) -> bool
     ensures { result ≡ is_barred filter.now topic.now }
 {
+    if !begins_with_dollar(topic) {
+        return false;
+    }
     let (first, _) = cut(filter);
-    (first == "+" || first == "#") && begins_with_dollar(topic)
+    first == "+" || first == "#"
 }
 
 /// Whether a topic begins with `$`.

@@ -5,7 +5,8 @@ ghost use Rattle.std.specs.Ordering.{nat_cmp, is_eq};
 ghost use Rattle.std.specs.Str.{bytes_eq};
 ghost use Rattle.std.specs.String.{string_bytes};
 ghost use Rattle.std.specs.BTreeMap.{get};
-ghost use Rattle.spk_topics.specs.Nodes.{edge_of, has_level, link_of, next_of, row_of};
+ghost use Rattle.spk_topics.specs.Nodes.{edge_of, link_of, next_of, only_way, row_of, ways_of};
+ghost use Rattle.spk_topics.specs.Whole.{HasOne, HasTwo};
 
 use crate::fault::TopicFault;
 use std::alloc::Global;
@@ -16,31 +17,40 @@ use std::collections::BTreeMap;
 pub(crate) struct Edge {
     /// The number of the node above.
     pub(crate) parent: usize,
-    /// The level by which it leads here.
+    /// The first level of the edge. The others stand in the node's path, behind that of the node above.
     pub(crate) level: String,
 }
 
 /// An edge to a node below.
 #[derive(Drop)]
 pub(crate) struct Branch {
-    /// The level that leads there.
+    /// The first level of the edge.
     pub(crate) level: String,
     /// The number of the node.
     pub(crate) number: usize,
 }
 
+/// The edges to the nodes below. One stands by itself, since many nodes have no other, and a map of one entry
+/// takes half a thousand bytes.
+#[derive(Drop)]
+pub(crate) enum Children {
+    /// None.
+    Nothing,
+    /// A single one.
+    One(Branch),
+    /// The numbers of the nodes below, by the first level of the edge.
+    Many(BTreeMap<String, usize>),
+}
+
 /// The grants of one filter, and where the tree goes on from here.
 #[derive(Drop)]
 pub(crate) struct Node {
-    /// The filter that the grants are of.
-    pub(crate) filter: String,
+    /// The levels from the root to here. Of a node with grants it is their filter.
+    pub(crate) path: String,
     /// The QoS of each key.
     pub(crate) grants: BTreeMap<u64, u8>,
-    /// The first edge to a node below. It stands here since most nodes have no other, and a map of one entry
-    /// takes half a thousand bytes.
-    pub(crate) first_child: Option<Branch>,
-    /// The numbers of the other nodes below, by the level that leads there.
-    pub(crate) other_children: BTreeMap<String, usize>,
+    /// The edges to the nodes below.
+    pub(crate) children: Children,
     /// The edge that leads here: none to the root, and none to a node that isn't used.
     pub(crate) up: Option<Edge>,
     /// Of a node that isn't used: the next one that isn't.
@@ -54,10 +64,9 @@ impl Node {
         ensures link { link_of result ≡ ((λ _. None), None, None) }
     {
         Node {
-            filter: String::new(alloc),
+            path: String::new(alloc),
             grants: BTreeMap::new(alloc),
-            first_child: None,
-            other_children: BTreeMap::new(alloc),
+            children: Children::Nothing,
             up: None,
             next_unused: None,
         }
@@ -71,73 +80,54 @@ impl Node {
             → (self.now.grants.entries ≢ [])
             ⊎ ((l : List ℕ) × (n : ℕ) × (next_of self.now l ≡ Some n)) }
     {
-        self.grants.is_empty() && self.first_child.is_none() && self.other_children.is_empty()
+        self.grants.is_empty() && self.children.are_none()
     }
 
-    /// Takes the edge that leads here, and the text of the last filter. The node is unused, and names the next one.
+    /// The number of the node below, if there is a single one and the node has no grants.
+    pub(crate) fn joint(&self) -> Option<usize>
+        ensures grants { IfSome result (λ n. self.now.grants.entries ≡ []) }
+        ensures one { IfSome result (λ n. HasOne (next_of self.now) n) }
+        ensures needed { IfNone result
+            ((self.now.grants.entries ≢ [])
+            ⊎ (HasTwo (next_of self.now) ⊎ ((l : List ℕ) → next_of self.now l ≡ None))) }
+    {
+        if !self.grants.is_empty() {
+            return None;
+        }
+        self.children.only()
+    }
+
+    /// Takes the edge that leads here, the path, and the edges that lead on. The node is unused, and names the next one.
     pub(crate) fn free(&mut self, next: Option<usize>) -> Option<Edge>
         ensures row { IfSome result (λ edge. row_of self.new ≡ ([], self.old.grants.entries)) }
         ensures up { IfSome result (λ edge. self.new.up ≡ None) }
         ensures next { IfSome result (λ edge. self.new.next_unused ≡ next) }
         ensures edge { IfSome result
             (λ edge. option_map edge_of self.old.up ≡ Some (edge_of edge)) }
-        ensures first { self.new.first_child ≡ self.old.first_child }
-        ensures others { self.new.other_children ≡ self.old.other_children }
+        ensures children { IfSome result (λ edge. (l : List ℕ) → next_of self.new l ≡ None) }
         ensures none { IfNone result (self.old.up ≡ None) }
         ensures same { IfNone result (row_of self.new ≡ row_of self.old) }
         ensures same_link { IfNone result (link_of self.new ≡ link_of self.old) }
     {
         let edge = self.up.take()?;
-        let alloc = *self.filter.allocator();
-        self.filter = String::new(alloc);
+        let alloc = *self.path.allocator();
+        self.path = String::new(alloc);
+        self.children = Children::Nothing;
         self.next_unused = next;
         Some(edge)
     }
 
-    /// Whether some key has a grant of the filter.
-    pub(crate) fn has_grants_of(&self, filter: &str) -> bool
-        ensures yes { IsTrue result
-            → (string_bytes self.now.filter ≡ filter.now) × (self.now.grants.entries ≢ []) }
-        ensures no { result ≡ false → string_bytes self.now.filter ≡ filter.now
-            → self.now.grants.entries ≡ [] }
+    /// Whether some key has a grant.
+    pub(crate) fn has_grants(&self) -> bool
+        ensures yes { IsTrue result → self.now.grants.entries ≢ [] }
+        ensures no { result ≡ false → self.now.grants.entries ≡ [] }
     {
-        self.filter.as_str() == filter && !self.grants.is_empty()
+        !self.grants.is_empty()
     }
 
-    /// Sets the QoS of a filter and a key, and says whether the key is new.
-    pub(crate) fn put(
-        &mut self,
-        alloc: Global,
-        filter: &str,
-        key: u64,
-        qos: u8,
-    ) -> Result<bool, TopicFault>
-        ensures filter { OnOk result (string_bytes self.new.filter ≡ filter.now) }
-        ensures is_new { IfOk result
-            (λ is_new. is_new ≡ is_none (get nat_cmp self.old.grants key)) }
-        ensures ok { OnOk result
-            ((j : ℕ)
-            → get nat_cmp self.new.grants j
-            ≡ cond (is_eq (nat_cmp key j)) (Some qos) (get nat_cmp self.old.grants j)) }
-        ensures link { link_of self.new ≡ link_of self.old }
-        ensures fault { IfErr result (λ e. e ≡ TopicFault.NoMemory) }
-        ensures err { OnErr result (row_of self.new ≡ row_of self.old) }
-        ensures fails_new { OnErr result
-            ((string_bytes self.old.filter ≡ filter.now → ⊥)
-            ⊎ (get nat_cmp self.old.grants key ≡ None)) }
-    {
-        if self.filter.as_str() != filter {
-            let text = String::from_str(alloc, filter)?;
-            let is_new = self.insert(key, qos)?;
-            self.filter = text;
-            return Ok(is_new);
-        }
-        self.insert(key, qos)
-    }
-
-    // The same with the filter that stands.
-    fn insert(&mut self, key: u64, qos: u8) -> Result<bool, TopicFault>
-        ensures filter { self.new.filter ≡ self.old.filter }
+    /// Sets the QoS of a key, and says whether the key is new.
+    pub(crate) fn set(&mut self, key: u64, qos: u8) -> Result<bool, TopicFault>
+        ensures path { self.new.path ≡ self.old.path }
         ensures is_new { IfOk result
             (λ is_new. is_new ≡ is_none (get nat_cmp self.old.grants key)) }
         ensures ok { OnOk result
@@ -157,7 +147,7 @@ impl Node {
 
     /// Takes a key's grant back, and says whether it stood.
     pub(crate) fn take(&mut self, key: u64) -> bool
-        ensures filter { self.new.filter ≡ self.old.filter }
+        ensures path { self.new.path ≡ self.old.path }
         ensures stood { result ≡ is_some (get nat_cmp self.old.grants key) }
         ensures rest { (j : ℕ)
             → get nat_cmp self.new.grants j
@@ -173,73 +163,171 @@ impl Node {
     pub(crate) fn child(&self, level: &str) -> Option<usize>
         ensures { result ≡ next_of self.now level.now }
     {
-        match &self.first_child {
-            Some(first) if first.level.as_str() == level => Some(first.number),
-            _ => self.other_children.get(level).copied(),
+        self.children.get(level)
+    }
+}
+
+impl Children {
+    /// The number of the node to which a level leads.
+    #[inline(always)]
+    pub(crate) fn get(&self, level: &str) -> Option<usize>
+        ensures { result ≡ ways_of self.now level.now }
+    {
+        match self {
+            Children::Nothing => None,
+            Children::One(branch) => branch.get(level),
+            Children::Many(branches) => branches.get(level).copied(),
         }
     }
 
-    // Whether the first edge is there, and has a level.
-    fn leads_first_by(&self, level: &str) -> bool
-        ensures { result ≡ has_level self.now.first_child level.now }
+    // Whether no edge leads on.
+    fn are_none(&self) -> bool
+        ensures none { IsTrue result → (l : List ℕ) → ways_of self.now l ≡ None }
+        ensures some { result ≡ false → (l : List ℕ) × (n : ℕ) × (ways_of self.now l ≡ Some n) }
     {
-        match &self.first_child {
-            Some(first) => first.level.as_str() == level,
-            None => false,
+        match self {
+            Children::Nothing => true,
+            Children::One(_) => false,
+            Children::Many(branches) => branches.is_empty(),
+        }
+    }
+
+    // The number of the node below, if there is a single one.
+    fn only(&self) -> Option<usize>
+        ensures one { IfSome result (λ n. HasOne (ways_of self.now) n) }
+        ensures none { IfNone result
+            (HasTwo (ways_of self.now) ⊎ ((l : List ℕ) → ways_of self.now l ≡ None)) }
+    {
+        match self {
+            Children::Nothing => None,
+            Children::One(branch) => Some(branch.number),
+            Children::Many(branches) => only_of(branches),
         }
     }
 
     /// Lets a level lead to the node of a number.
-    pub(crate) fn add_child(
+    pub(crate) fn add(
         &mut self,
         alloc: Global,
         level: &str,
         number: usize,
     ) -> Result<(), TopicFault>
-        ensures row { row_of self.new ≡ row_of self.old }
-        ensures up { self.new.up ≡ self.old.up }
-        ensures next { self.new.next_unused ≡ self.old.next_unused }
         ensures ok { OnOk result
             ((l : List ℕ)
-            → next_of self.new l ≡ cond (bytes_eq level.now l) (Some number) (next_of self.old l)) }
+            → ways_of self.new l ≡ cond (bytes_eq level.now l) (Some number) (ways_of self.old l)) }
         ensures fault { IfErr result (λ e. e ≡ TopicFault.NoMemory) }
-        ensures err { OnErr result (link_of self.new ≡ link_of self.old) }
+        ensures err { OnErr result (ways_of self.new ≡ ways_of self.old) }
     {
         let text = String::from_str(alloc, level)?;
-        if self.first_child.is_none() || self.leads_first_by(level) {
-            self.first_child = Some(Branch {
-                level: text,
-                number,
-            });
-            return Ok(());
+        match self {
+            Children::Nothing => {
+                *self = Children::One(Branch {
+                    level: text,
+                    number,
+                });
+                Ok(())
+            }
+            Children::One(branch) => {
+                let both = branch.with(alloc, text, number)?;
+                *self = Children::Many(both);
+                Ok(())
+            }
+            Children::Many(branches) => {
+                branches.insert(text, number)?;
+                Ok(())
+            }
         }
-        self.other_children.insert(text, number)?;
-        Ok(())
+    }
+
+    /// Lets a level that leads to a node lead to another one. It takes no memory.
+    pub(crate) fn turn(&mut self, level: &str, number: usize)
+        requires { (n : ℕ) × (ways_of self.old level.now ≡ Some n) }
+        ensures { (l : List ℕ)
+            → ways_of self.new l ≡ cond (bytes_eq level.now l) (Some number) (ways_of self.old l) }
+    {
+        match self {
+            Children::Nothing => {}
+            Children::One(branch) => branch.number = number,
+            Children::Many(branches) => turn_in(branches, level, number),
+        }
     }
 
     /// Lets a level lead nowhere.
-    pub(crate) fn drop_child(&mut self, level: &str)
-        ensures row { row_of self.new ≡ row_of self.old }
-        ensures up { self.new.up ≡ self.old.up }
-        ensures next { self.new.next_unused ≡ self.old.next_unused }
-        ensures children { (l : List ℕ)
-            → next_of self.new l ≡ cond (bytes_eq level.now l) None (next_of self.old l) }
+    pub(crate) fn remove(&mut self, level: &str)
+        ensures { (l : List ℕ)
+            → ways_of self.new l ≡ cond (bytes_eq level.now l) None (ways_of self.old l) }
     {
-        self.drop_first(level);
-        self.other_children.remove(level);
+        match self {
+            Children::Nothing => {}
+            Children::One(branch) => {
+                if branch.level.as_str() == level {
+                    *self = Children::Nothing;
+                }
+            }
+            Children::Many(branches) => {
+                branches.remove(level);
+            }
+        }
+    }
+}
+
+impl Branch {
+    // The number of the node, if the edge begins with a level.
+    fn get(&self, level: &str) -> Option<usize>
+        ensures { result ≡ only_way self.now level.now }
+    {
+        if self.level.as_str() == level {
+            Some(self.number)
+        } else {
+            None
+        }
     }
 
-    // Takes the first edge away, if it has a level.
-    fn drop_first(&mut self, level: &str)
-        ensures row { row_of self.new ≡ row_of self.old }
-        ensures up { self.new.up ≡ self.old.up }
-        ensures next { self.new.next_unused ≡ self.old.next_unused }
-        ensures first { self.new.first_child
-            ≡ cond (has_level self.old.first_child level.now) None self.old.first_child }
-        ensures others { self.new.other_children ≡ self.old.other_children }
+    // A map of the edge and of another one, which goes before it.
+    fn with(
+        &self,
+        alloc: Global,
+        level: String,
+        number: usize,
+    ) -> Result<BTreeMap<String, usize>, TopicFault>
+        ensures ok { IfOk result
+            (λ both. (l : List ℕ)
+            → ways_of (Children.Many both) l
+            ≡ cond (bytes_eq (string_bytes level) l) (Some number) (only_way self.now l)) }
+        ensures fault { IfErr result (λ e. e ≡ TopicFault.NoMemory) }
     {
-        if self.leads_first_by(level) {
-            self.first_child = None;
-        }
+        let text = String::from_str(alloc, self.level.as_str())?;
+        let mut both = BTreeMap::new(alloc);
+        both.insert(text, self.number)?;
+        both.insert(level, number)?;
+        Ok(both)
+    }
+}
+
+// The value of a map, if it has a single one.
+fn only_of(branches: &BTreeMap<String, usize>) -> Option<usize>
+    ensures one { IfSome result (λ n. HasOne (ways_of (Children.Many branches.now)) n) }
+    ensures none { IfNone result
+        (HasTwo (ways_of (Children.Many branches.now))
+        ⊎ ((l : List ℕ) → ways_of (Children.Many branches.now) l ≡ None)) }
+{
+    if branches.len() != 1 {
+        return None;
+    }
+    match branches.first_key_value() {
+        Some((_, number)) => Some(*number),
+        None => None,
+    }
+}
+
+// Sets the value of a key that is there.
+fn turn_in(branches: &mut BTreeMap<String, usize>, level: &str, number: usize)
+    requires { (n : ℕ) × (ways_of (Children.Many branches.old) level.now ≡ Some n) }
+    ensures { (l : List ℕ)
+        → ways_of (Children.Many branches.new) l
+        ≡ cond (bytes_eq level.now l) (Some number) (ways_of (Children.Many branches.old) l) }
+{
+    if let Some(at) = branches.get_mut(level) {
+        *at = number;
     }
 }

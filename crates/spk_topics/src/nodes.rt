@@ -1,15 +1,13 @@
 //! The nodes of the tree of levels, and the grants that stand in them.
-ghost use Rattle.std.specs.Prelude.{◌≡◌, ◌≢◌, ◌<◌, ◌++◌, ◌∷◌, [], ℕ, slice_get, length, IfOk, IfSome, IfNone, OnOk, OnErr, IfErr, Some, None, is_none, is_some};
+ghost use Rattle.std.specs.Prelude.{◌≡◌, ◌++◌, ◌∷◌, [], slice_get, IfOk, OnOk, OnErr, IfErr, None, is_none, is_some};
 ghost use Rattle.std.specs.FinMap as map;
 ghost use Rattle.std.specs.Option.{option_copied};
-ghost use Rattle.spk_topics.specs.Levels.{levels};
-ghost use Rattle.spk_topics.specs.Nodes.{IsWhole, child_of, links_of, rows_of};
-ghost use Rattle.spk_topics.specs.Paths.{descend};
-ghost use Rattle.spk_topics.specs.Rows.{Absent, IsPlace, Row, SetsRow, grants_of};
+ghost use Rattle.spk_topics.specs.Nodes.{child_of, links_of, rows_of};
+ghost use Rattle.spk_topics.specs.Paths.{text_in};
+ghost use Rattle.spk_topics.specs.Rows.{IsPlace, SetsRow, grants_of};
 ghost use Rattle.spk_topics.specs.Whole.{HasGrants};
 
 use crate::fault::TopicFault;
-use crate::levels::cut;
 use crate::node::Node;
 use std::alloc::Global;
 
@@ -66,85 +64,47 @@ impl Nodes {
         self.node(number)?.child(level)
     }
 
-    /// The node to which a filter's levels lead.
-    pub(crate) fn node_of(&self, filter: &str) -> Option<usize>
-        ensures { result ≡ descend (child_of self.now) 0 (levels filter.now) }
-    {
-        let mut number = 0;
-        let mut left = Some(filter);
-        while let Some(text) = left {
-            let (level, rest) = cut(text);
-            number = self.child(number, level)?;
-            left = rest;
-        }
-        Some(number)
-    }
-
-    /// The node of a filter's grants, if it has any.
-    pub(crate) fn place_of(&self, filter: &str) -> Option<usize>
-        requires { IsWhole self.now }
-        ensures found { IfSome result
-            (λ n. (row : Row) × (slice_get (rows_of self.now) n ≡ Some row) × (row.0 ≡ filter.now)
-            × (row.1 ≢ [])) }
-        ensures led { IfSome result
-            (λ n. descend (child_of self.now) 0 (levels filter.now) ≡ Some n) }
-        ensures none { IfNone result (Absent (rows_of self.now) filter.now) }
-    {
-        let number = self.node_of(filter)?;
-        let node = self.node(number)?;
-        if node.has_grants_of(filter) {
-            Some(number)
-        } else {
-            None
-        }
-    }
-
-    /// Sets the QoS of a filter and a key in a node, and says whether the key is new there.
-    pub(crate) fn put_at(
-        &mut self,
-        alloc: Global,
-        place: usize,
-        filter: &str,
-        key: u64,
-        qos: u8,
-    ) -> Result<bool, TopicFault>
-        requires { IsPlace (rows_of self.old) filter.now place }
+    /// Sets the QoS of a key in the node of a filter, and says whether the key is new there.
+    pub(crate) fn set_at(&mut self, place: usize, key: u64, qos: u8) -> Result<bool, TopicFault>
+        requires { IsPlace (rows_of self.old) (text_in (rows_of self.old) place) place }
         ensures is_new { IfOk result
             (λ is_new. is_new
-            ≡ is_none (map.get (grants_of (rows_of self.old)) (filter.now, key))) }
+            ≡ is_none (map.get (grants_of (rows_of self.old))
+            (text_in (rows_of self.old) place, key))) }
         ensures ok { OnOk result
             (grants_of (rows_of self.new)
-            ≡ map.insert (grants_of (rows_of self.old)) (filter.now, key) qos) }
-        ensures rows { SetsRow (rows_of self.old) (rows_of self.new) filter.now place }
+            ≡ map.insert (grants_of (rows_of self.old))
+            (text_in (rows_of self.old) place, key) qos) }
+        ensures rows { SetsRow (rows_of self.old) (rows_of self.new)
+            (text_in (rows_of self.old) place) place }
         ensures filled { OnOk result (HasGrants (rows_of self.new) place) }
         ensures links { links_of self.new ≡ links_of self.old }
         ensures unused { self.new.unused ≡ self.old.unused }
         ensures fault { IfErr result (λ e. e ≡ TopicFault.NoMemory) }
         ensures err { OnErr result (rows_of self.new ≡ rows_of self.old) }
         ensures fails_new { OnErr result
-            (map.get (grants_of (rows_of self.old)) (filter.now, key) ≡ None) }
+            (map.get (grants_of (rows_of self.old)) (text_in (rows_of self.old) place, key)
+            ≡ None) }
     {
-        match self.list[place].put(alloc, filter, key, qos) {
+        match self.list[place].set(key, qos) {
             Ok(is_new) => Ok(is_new),
             Err(fault) => Err(fault),
         }
     }
 
-    /// Takes the grant of a filter and a key back in a node, and says whether it stood.
-    pub(crate) fn take_at(&mut self, place: usize, filter: &str, key: u64) -> bool
-        requires { IsPlace (rows_of self.old) filter.now place }
+    /// Takes the grant of a key back in the node of a filter, and says whether it stood.
+    pub(crate) fn take_at(&mut self, place: usize, key: u64) -> bool
+        requires { IsPlace (rows_of self.old) (text_in (rows_of self.old) place) place }
         ensures stood { result
-            ≡ is_some (map.get (grants_of (rows_of self.old)) (filter.now, key)) }
+            ≡ is_some (map.get (grants_of (rows_of self.old))
+            (text_in (rows_of self.old) place, key)) }
         ensures gone { grants_of (rows_of self.new)
-            ≡ map.remove (grants_of (rows_of self.old)) (filter.now, key) }
-        ensures rows { SetsRow (rows_of self.old) (rows_of self.new) filter.now place }
+            ≡ map.remove (grants_of (rows_of self.old)) (text_in (rows_of self.old) place, key) }
+        ensures rows { SetsRow (rows_of self.old) (rows_of self.new)
+            (text_in (rows_of self.old) place) place }
         ensures links { links_of self.new ≡ links_of self.old }
         ensures unused { self.new.unused ≡ self.old.unused }
     {
-        let node = &mut self.list[place];
-        if node.filter.as_str() != filter {
-            return false;
-        }
-        node.take(key)
+        self.list[place].take(key)
     }
 }

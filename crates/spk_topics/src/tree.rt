@@ -1,11 +1,10 @@
 //! The grants of a broker: who gets a publish, and with which quality of service.
-ghost use Rattle.std.specs.Prelude.{◌≡◌, ◌≢◌, ◌<◌, ℕ, slice_get, IfOk, OnOk, OnErr, IfErr, Some, None, is_none, is_some, vec_len};
+ghost use Rattle.std.specs.Prelude.{◌≡◌, IfOk, OnOk, OnErr, IfErr, None, is_none, is_some};
 ghost use Rattle.std.specs.FinMap as map;
 ghost use Rattle.spk_topics.specs.Grants.{Finds};
-ghost use Rattle.spk_topics.specs.Levels.{levels};
-ghost use Rattle.spk_topics.specs.Nodes.{IsWhole, IsWholeBut, child_of, rows_of};
-ghost use Rattle.spk_topics.specs.Paths.{descend};
-ghost use Rattle.spk_topics.specs.Rows.{Absent, IsPlace, grants_of};
+ghost use Rattle.spk_topics.specs.Edges.{IsSeatIn};
+ghost use Rattle.spk_topics.specs.Nodes.{IsWhole, IsWholeBut, rows_of};
+ghost use Rattle.spk_topics.specs.Rows.{Absent, grants_of};
 
 use crate::fault::TopicFault;
 use crate::filter::Filter;
@@ -19,7 +18,8 @@ use std::marker::Model;
 /// of a filter's bytes and a key to a QoS.
 ///
 /// They stand in a tree of levels: the levels of a filter lead from the root, edge by edge, to the node of
-/// its grants. `grant` and `take_back` walk that way, `find` the ways that fit the topic, by the level
+/// its grants. An edge has as many levels as lead there alone, so a filter makes two nodes at most, however
+/// many levels it has. `grant` and `take_back` walk that way, `find` the ways that fit the topic, by the level
 /// itself, `+` and `#`. The nodes stand in one vector and name each other by number, and every walk is a
 /// loop, so a filter of many levels costs no stack. A node that carries nothing any more is used again.
 #[derive(Drop)]
@@ -94,10 +94,7 @@ fn find_in(alloc: Global, nodes: &Nodes, topic: &str) -> Result<Vec<(u64, u8)>, 
     ensures fault { IfErr result (λ e. e ≡ TopicFault.NoMemory) }
 {
     let found = nodes.find(alloc, topic)?;
-    match listed(alloc, &found) {
-        Ok(list) => Ok(list),
-        Err(fault) => Err(fault),
-    }
+    listed(alloc, &found)
 }
 
 fn grant_in(
@@ -120,7 +117,7 @@ fn grant_in(
     ensures err { OnErr result (grants_of (rows_of nodes.new) ≡ grants_of (rows_of nodes.old)) }
 {
     let place = place_for(alloc, nodes, filter)?;
-    match nodes.put_at(alloc, place, filter, key, qos) {
+    match nodes.set_at(place, key, qos) {
         Ok(is_new) => Ok(is_new),
         Err(fault) => {
             nodes.prune(place);
@@ -135,18 +132,14 @@ fn place_for(alloc: Global, nodes: &mut Nodes, filter: &str) -> Result<usize, To
     ensures whole { IfOk result (λ n. IsWholeBut nodes.new n) }
     ensures err { OnErr result (IsWhole nodes.new) }
     ensures same { grants_of (rows_of nodes.new) ≡ grants_of (rows_of nodes.old) }
-    ensures place { IfOk result (IsPlace (rows_of nodes.new) filter.now) }
-    ensures led { IfOk result (λ n. descend (child_of nodes.new) 0 (levels filter.now) ≡ Some n) }
+    ensures seat { IfOk result (λ n. IsSeatIn nodes.new filter.now n) }
     ensures fault { IfErr result (λ e. e ≡ TopicFault.NoMemory) }
     ensures fails_new { OnErr result (Absent (rows_of nodes.old) filter.now) }
 {
     if let Some(place) = nodes.place_of(filter) {
         return Ok(place);
     }
-    match nodes.grow(alloc, filter) {
-        Ok(place) => Ok(place),
-        Err(fault) => Err(fault),
-    }
+    nodes.grow(alloc, filter)
 }
 
 fn take_in(nodes: &mut Nodes, filter: &str, key: u64) -> bool
@@ -158,7 +151,7 @@ fn take_in(nodes: &mut Nodes, filter: &str, key: u64) -> bool
 {
     match nodes.place_of(filter) {
         Some(place) => {
-            let stood = nodes.take_at(place, filter, key);
+            let stood = nodes.take_at(place, key);
             nodes.prune(place);
             stood
         }

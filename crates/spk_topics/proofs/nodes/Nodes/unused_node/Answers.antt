@@ -1,8 +1,7 @@
 use Rattle.std.proofs.Common.{◌≡◌, ◌<◌, arith, ap, sym, ◌∙◌, length, Some}
 use Rattle.std.proofs.lemmas.List.{length-map}
 use Rattle.spk_topics.specs.Nodes.{rows_of, row_of, links_of, link_of}
-use Rattle.spk_topics.proofs.GrowthLemmas.{pushed_grows, pushed_child}
-use Rattle.spk_topics.proofs.WholeChanges.{whole_pushed}
+use Rattle.spk_topics.proofs.WholeChanges.{pushed_child, pushed_up, whole_pushed}
 use Rattle.spk_topics.proofs.nodes.Nodes.unused_node.Goals as goal
 
 pub returns-clause-whole : goal.returns-clause-whole
@@ -13,8 +12,8 @@ returns-clause-whole c = λ at w.
     whole_pushed (rows_of c.args.self.now) (rows_of c.push.new.self) (links_of c.args.self.now) (links_of c.push.new.self) c.args.self.now.unused (Some c.len-number.result) at
     c.in_ok-push.ensures.rows c.in_ok-push.ensures.links c.in_default.is rooted len (ap (λ n. Some n) number) w
 
-pub returns-clause-grows : goal.returns-clause-grows
-returns-clause-grows c = pushed_grows (rows_of c.args.self.now) (rows_of c.push.new.self) (links_of c.args.self.now) (links_of c.push.new.self) c.in_ok-push.ensures.rows c.in_ok-push.ensures.links
-
 pub returns-clause-child : goal.returns-clause-child
 returns-clause-child c = pushed_child (rows_of c.args.self.now) (rows_of c.push.new.self) (links_of c.args.self.now) (links_of c.push.new.self) c.in_ok-push.ensures.rows c.in_ok-push.ensures.links
+
+pub returns-clause-up : goal.returns-clause-up
+returns-clause-up c = pushed_up (rows_of c.args.self.now) (rows_of c.push.new.self) (links_of c.args.self.now) (links_of c.push.new.self) c.in_ok-push.ensures.rows c.in_ok-push.ensures.links
