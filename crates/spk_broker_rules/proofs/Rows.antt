@@ -129,6 +129,11 @@ a_will_is_routed_at_an_end : row (comes 1 (with_will (codes "x") (codes "w") (co
 unfolding step route route_some has_bad_text has_bad_body is_qos_two spelling body shortest
 a_will_is_routed_at_an_end = refl
 
+-- as any publish with RETAIN is
+a_will_with_retain_is_kept : last_of 128 (comes 1 (Connect (codes "x") true 0 (Some (record { topic = codes "w"; message = codes "6"; qos = 0; retain = true }))) ++ Closed 1 0 ∷ (comes 2 (hello []) ++ subscribes 2 (codes "w") 0 ∷ [])) ≡ (to 2 (SubAck 1 (0 ∷ [])) ∷ to 2 (kept_as (codes "w") (codes "6")) ∷ [], [])
+unfolding step route route_some has_bad_text has_bad_body is_qos_two spelling body shortest
+a_will_with_retain_is_kept = refl
+
 -- only the will
 a_will_is_routed_at_a_second_connect : row (comes 1 (with_will (codes "x") (codes "w") (codes "6")) ++ (comes 2 (hello (codes "y")) ++ subscribes 2 (codes "#") 2 ∷ []) ++ Packet 1 (hello (codes "x")) 0 ∷ []) ≡ welcomed 1 ++ (welcomed 2 ++ (to 2 (SubAck 1 (1 ∷ [])) ∷ [], []) ∷ []) ++ (to 2 (plain (codes "w") (codes "6")) ∷ [], 1 ∷ []) ∷ []
 unfolding step route route_some has_bad_text has_bad_body is_qos_two spelling body shortest
