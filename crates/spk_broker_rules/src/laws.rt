@@ -33,8 +33,8 @@ pub fn any_list()
         → may_be h e ≡ true → (g : Past) × Leads limit (e ∷ es) g }
 
     // the data are those that the past asks for: sessions, grants, identifiers, retained messages and connections by queries
-    ensures asked { (limit : ℕ) (es : List Event) (h : Past) → Leads limit es h → after limit es
-        ≡ broker_of limit h }
+    ensures asked { (limit : ℕ) (es : List Event) (h : Past) → Leads limit es h
+        → after limit es ≡ broker_of limit h }
 
     // the data know a connection exactly where it is open: NoSuchConn (30) elsewhere
     ensures known { (limit : ℕ) (es : List Event) (h : Past) (conn : ℕ) → Leads limit es h
@@ -64,16 +64,16 @@ pub fn take_over()
         (alive : ℕ) (will : Option WillData)
         (t : Telling limit h (Packet conn (Connect client clean alive will) moment))
         → is_some (find (λ g. g == conn) (guests h)) ≡ true → is_some (session_at h conn) ≡ false
-        → older_of h client ≡ Some older
-        → IsAccepted h client clean alive will → TakesOver conn older t.first t.end }
+        → older_of h client ≡ Some older → IsAccepted h client clean alive will
+        → TakesOver conn older t.first t.end }
 {}
 
 /// Routing, message by message: it is done where nothing waits, else the first is routed whole and then the rest, with
 /// what waits behind it.
 pub fn routing()
     ensures done { (t : Turn) → t.waiting ≡ [] → route t ≡ t }
-    ensures next { (t : Turn) (m : Post) (ms : List Post) → t.waiting ≡ m ∷ ms → route t
-        ≡ route (route_one m (record t { waiting = ms })) }
+    ensures next { (t : Turn) (m : Post) (ms : List Post) → t.waiting ≡ m ∷ ms
+        → route t ≡ route (route_one m (record t { waiting = ms })) }
 {}
 
 /// Each event leaves lawful data lawful.
@@ -105,8 +105,7 @@ pub fn staying()
         → lets_go conn e ≡ false
         → (is_joined (step b e).broker conn ≡ true) ⊎ (is_closed_in conn (step b e) ≡ true) }
     ensures listening { (b : Broker) (conn : ℕ) (topic : List ℕ) (e : Event) → IsLawful b
-        → listens b conn topic ≡ true
-        → lets_go conn e ≡ false → takes_back conn e ≡ false
+        → listens b conn topic ≡ true → lets_go conn e ≡ false → takes_back conn e ≡ false
         → (listens (step b e).broker conn topic ≡ true) ⊎ (is_closed_in conn (step b e) ≡ true) }
 {}
 
@@ -155,10 +154,10 @@ pub fn filters()
 pub fn knowing()
     // the number that the next one gets was never given, and `open` gives it
     ensures fresh { (b : Broker) → IsLawful b → knows b (b.given + 1) ≡ false }
-    ensures opened { (b : Broker) (moment : ℕ) → knows (step b (Open moment)).broker (b.given + 1)
-        ≡ true }
-    ensures given { (b : Broker) (e : Event) → IsLawful b → (step b e).broker.given
-        ≡ (if is_opening e then b.given + 1 else b.given) }
+    ensures opened { (b : Broker) (moment : ℕ)
+        → knows (step b (Open moment)).broker (b.given + 1) ≡ true }
+    ensures given { (b : Broker) (e : Event) → IsLawful b
+        → (step b e).broker.given ≡ (if is_opening e then b.given + 1 else b.given) }
 
     // it stands, or is among the closes, unless its client ends it
     ensures stands { (b : Broker) (conn : ℕ) (e : Event) → IsLawful b → knows b conn ≡ true
@@ -166,16 +165,16 @@ pub fn knowing()
         → (knows (step b e).broker conn ≡ true) ⊎ (is_closed_in conn (step b e) ≡ true) }
 
     // who is among the closes, or whose client ended it, is known no more; each is told once
-    ensures closed { (b : Broker) (conn : ℕ) (e : Event) → IsLawful b → is_closed_in conn (step b e)
-        ≡ true → knows (step b e).broker conn ≡ false }
+    ensures closed { (b : Broker) (conn : ℕ) (e : Event) → IsLawful b
+        → is_closed_in conn (step b e) ≡ true → knows (step b e).broker conn ≡ false }
     ensures ended { (b : Broker) (conn : ℕ) (e : Event) → IsLawful b → lets_go conn e ≡ true
         → knows (step b e).broker conn ≡ false }
     ensures once { (b : Broker) (conn : ℕ) (e : Event) → IsLawful b
         → length (filter (λ d. d == conn) (step b e).closes) ≤ 1 }
 
     // and doesn't come back
-    ensures gone { (b : Broker) (conn : ℕ) (e : Event) → IsLawful b → conn ≤ b.given → knows b conn
-        ≡ false → knows (step b e).broker conn ≡ false }
+    ensures gone { (b : Broker) (conn : ℕ) (e : Event) → IsLawful b → conn ≤ b.given
+        → knows b conn ≡ false → knows (step b e).broker conn ≡ false }
 {}
 
 /// Joining: a connection without an accepted CONNECT stays as it is at what others do, and its own first packet makes it join or
@@ -190,15 +189,14 @@ pub fn joining()
         → is_joined (step b e).broker conn ≡ false }
 
     // its first packet
-    ensures first { (b : Broker) (conn : ℕ) (p : Message) (moment : ℕ) → IsLawful b → knows b conn
-        ≡ true → is_joined b conn ≡ false
+    ensures first { (b : Broker) (conn : ℕ) (p : Message) (moment : ℕ) → IsLawful b
+        → knows b conn ≡ true → is_joined b conn ≡ false
         → (is_joined (step b (Packet conn p moment)).broker conn ≡ true)
         ⊎ (is_closed_in conn (step b (Packet conn p moment)) ≡ true) }
 
     // a CONNECT that isn't turned away joins
     ensures accepted { (b : Broker) (conn moment : ℕ) (client : List ℕ) (clean : Bool) (alive : ℕ)
-        (will : Option WillData)
-        → IsLawful b → knows b conn ≡ true → is_joined b conn ≡ false
+        (will : Option WillData) → IsLawful b → knows b conn ≡ true → is_joined b conn ≡ false
         → IsWelcomed b client clean alive will
         → is_joined (step b (Packet conn (Connect client clean alive will) moment)).broker conn
         ≡ true }

@@ -63,8 +63,8 @@ pub fn any_list()
     // an NBIRTH is followed by a DBIRTH for each device that is up, in order of adding, and by nothing else
     ensures whole_births { (s : Setup) (is : List Input) (i : Input) (answer : Answer)
         → right_at s (run_of s is) i ≡ Ok answer
-        → AreWholeBirths (book_of s (run_of s is))
-        (session_number s (opened (run_of s is) - 1)) answer.given.drafts }
+        → AreWholeBirths (book_of s (run_of s is)) (session_number s (opened (run_of s is) - 1))
+        answer.given.drafts }
 
     // a numbered message is given only between an accepted open and the next stop, cut or closing
     ensures joined { (s : Setup) (is : List Input) (i : Input) (answer : Answer)
@@ -90,7 +90,8 @@ pub fn published()
         → slice_get (published (run_of s is)) p ≡ Some m → m.draft.stamp < 2 ^ 63 }
 
     // it stays where it stands, whatever comes later
-    ensures grows { (s : Setup) (later is : List Input) → (more : List Message)
+    ensures grows { (s : Setup) (later is : List Input)
+        → (more : List Message)
         × (published (run_of s (later ++ is)) ≡ published (run_of s is) ++ more) }
 
     // its number is a byte
@@ -120,8 +121,8 @@ pub fn published()
         → is_birth m.draft.verb ≡ false
         → IsAlive name m.birth m.session (take p (published (run_of s is))) }
     ensures up { (s : Setup) (is : List Input) (n : ℕ) (d : DeviceData)
-        → phase_of (run_of s is) ≡ Born
-        → slice_get (book_of s (run_of s is)).devices n ≡ Some d → d.up ≡ true
+        → phase_of (run_of s is) ≡ Born → slice_get (book_of s (run_of s is)).devices n ≡ Some d
+        → d.up ≡ true
         → IsAlive d.name (births_in (published (run_of s is)) - 1) (opened (run_of s is) - 1)
         (published (run_of s is)) }
 
@@ -144,24 +145,22 @@ pub fn published()
 pub fn messages()
     // bytes that spell the packet of a message spell that packet alone, whatever follows them
     ensures alone { (c : Config) (number : ℕ) (d : Draft) (bytes other x y : List ℕ)
-        (p : packets.Message)
-        → IsWhole bytes c number d → Spells other p → bytes ++ x ≡ other ++ y
-        → (bytes ≡ other) × (p ≡ wire c number d) }
+        (p : packets.Message) → IsWhole bytes c number d → Spells other p
+        → bytes ++ x ≡ other ++ y → (bytes ≡ other) × (p ≡ wire c number d) }
 
     // its payload means these metrics, under that number and that stamp, and nothing else
     ensures means { (c : Config) (number : ℕ) (d : Draft) (bytes : List ℕ)
         → IsWhole bytes c number d
         → MeansPayload (spelling (payload_of number d)) (payload_of number d) }
     ensures read { (c : Config) (number : ℕ) (d : Draft) (bytes : List ℕ) (p : packets.Message)
-        (q : PayloadData)
-        → IsWhole bytes c number d → Spells bytes p → MeansPayload (payload_in p) q
-        → (topic_in p ≡ topic_of (named_by c d)) × (q.seq ≡ Some number)
-        × (q.timestamp ≡ Some d.stamp) × (q.metrics ≡ d.metrics) }
+        (q : PayloadData) → IsWhole bytes c number d → Spells bytes p
+        → MeansPayload (payload_in p) q
+        → (topic_in p ≡ topic_of (named_by c d))
+        × (q.seq ≡ Some number) × (q.timestamp ≡ Some d.stamp) × (q.metrics ≡ d.metrics) }
 
     // an Open gives the CONNECT of the next session
     ensures opens { (s : Setup) (is : List Input) (i : Input) (answer : Answer) → i.act ≡ Open
-        → i.ack ≡ None
-        → right_at s (run_of s is) i ≡ Ok answer
+        → i.ack ≡ None → right_at s (run_of s is) i ≡ Ok answer
         → answer.packets
         ≡ connect_of s.config (session_number s (opened (run_of s is))) i.now ∷ [] }
 
@@ -173,20 +172,20 @@ pub fn messages()
     // a Stop gives the NDEATH of the session that it ends, with that session's bdSeq, and DISCONNECT; and no DISCONNECT is
     // given in any other way
     ensures ends { (s : Setup) (is : List Input) (i : Input) (answer : Answer) → i.act ≡ Stop
-        → i.ack ≡ None
-        → right_at s (run_of s is) i ≡ Ok answer
-        → answer.packets ≡ farewell s.config (session_number s (opened (run_of s is) - 1))
+        → i.ack ≡ None → right_at s (run_of s is) i ≡ Ok answer
+        → answer.packets
+        ≡ farewell s.config (session_number s (opened (run_of s is) - 1))
         (opened_at (run_of s is)) }
     ensures disconnects { (s : Setup) (is : List Input) (i : Input) (answer : Answer)
         → right_at s (run_of s is) i ≡ Ok answer → list_any is_disconnect answer.packets ≡ true
-        → (front : List packets.Message) × (answer.packets
+        → (front : List packets.Message)
+        × (answer.packets
         ≡ front ++ farewell s.config (session_number s (opened (run_of s is) - 1))
         (opened_at (run_of s is))) }
 
     // messages of different nodes have different topics
     ensures topics { (b c : Config) (d e : Draft) → IsTrue (has_names (named_by b d))
-        → IsTrue (has_names (named_by c e))
-        → topic_of (named_by b d) ≡ topic_of (named_by c e)
+        → IsTrue (has_names (named_by c e)) → topic_of (named_by b d) ≡ topic_of (named_by c e)
         → (b.group ≡ c.group) × (b.node ≡ c.node) }
 {
     spk_payload::laws::canonical();

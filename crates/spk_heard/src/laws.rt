@@ -18,61 +18,56 @@ ghost use Rattle.spk_heard.specs.Read.{AreMessagesAt, AreRead, HandsOutFronts, I
 /// out is what was published at the positions consumed, one by one, in their order. A window has 1 to 96 numbers.
 pub fn consumption()
     // the order stands as that of the positions
-    ensures standing { (s : Setup) (published : List Message) (wait width : ℕ)
-        (is : List Input) (js : List node.Input)
-        → AreRead s published is js
+    ensures standing { (s : Setup) (published : List Message) (wait width : ℕ) (is : List Input)
+        (js : List node.Input) → AreRead s published is js
         → (order_after wait width js).standing
         ≡ standing_of (host_setting s published wait width) is }
 
     // the next message's step is that of its position
-    ensures steps { (s : Setup) (published : List Message) (wait width : ℕ)
-        (is : List Input) (js : List node.Input) (p now : ℕ) (m : Message) (read : NumberedData)
-        → let setting = host_setting s published wait width in
-        AreRead s published is js → IsMessageAt s published p m read
+    ensures steps { (s : Setup) (published : List Message) (wait width : ℕ) (is : List Input)
+        (js : List node.Input) (p now : ℕ) (m : Message) (read : NumberedData)
+        → let setting = host_setting s published wait width in AreRead s published is js
+        → IsMessageAt s published p m read
         → call.Stepped (step_of (order_after wait width js) read now)
         ≡ (done_at setting (record_of setting is) (standing_of setting is)
         (MessageComes p now)).reply }
 
     // the next death matches as that of its session
-    ensures deaths { (s : Setup) (published : List Message) (wait width : ℕ)
-        (is : List Input) (js : List node.Input) (session now bd : ℕ)
-        → let setting = host_setting s published wait width in
-        AreRead s published is js → IsRead s published (DeathComes session now) (Dies bd)
+    ensures deaths { (s : Setup) (published : List Message) (wait width : ℕ) (is : List Input)
+        (js : List node.Input) (session now bd : ℕ)
+        → let setting = host_setting s published wait width in AreRead s published is js
+        → IsRead s published (DeathComes session now) (Dies bd)
         → call.Told (sequence.match_of (order_after wait width js).standing bd)
         ≡ (done_at setting (record_of setting is) (standing_of setting is)
         (DeathComes session now)).reply }
 
     // at the next moment there is a gap where there is one by positions
-    ensures ticks { (s : Setup) (published : List Message) (wait width : ℕ)
-        (is : List Input) (js : List node.Input) (now : ℕ)
-        → let setting = host_setting s published wait width in
-        AreRead s published is js
+    ensures ticks { (s : Setup) (published : List Message) (wait width : ℕ) (is : List Input)
+        (js : List node.Input) (now : ℕ)
+        → let setting = host_setting s published wait width in AreRead s published is js
         → call.Ticked (sequence.is_over (order_after wait width js).standing now)
-        ≡ (done_at setting (record_of setting is) (standing_of setting is)
-        (TickComes now)).reply }
+        ≡ (done_at setting (record_of setting is) (standing_of setting is) (TickComes now)).reply }
 
     // at the next message what is handed out is what was published at the positions consumed
-    ensures consumed { (s : Setup) (published : List Message) (wait width : ℕ)
-        (is : List Input) (js : List node.Input) (p now : ℕ) (m : Message) (read : NumberedData)
-        → let setting = host_setting s published wait width in
-        0 < width → width ≤ 96 → AreRead s published is js → IsMessageAt s published p m read
+    ensures consumed { (s : Setup) (published : List Message) (wait width : ℕ) (is : List Input)
+        (js : List node.Input) (p now : ℕ) (m : Message) (read : NumberedData)
+        → let setting = host_setting s published wait width in 0 < width → width ≤ 96
+        → AreRead s published is js → IsMessageAt s published p m read
         → AreMessagesAt s published
         (done_at setting (record_of setting is) (standing_of setting is)
         (MessageComes p now)).consumed
         (taken_of (order_after wait width js) read now) }
 
     // so is all that the session hands out, in the order of time
-    ensures session { (s : Setup) (published : List Message) (wait width : ℕ)
-        (is : List Input) (js : List node.Input)
-        → let setting = host_setting s published wait width in
-        0 < width → width ≤ 96 → AreRead s published is js
+    ensures session { (s : Setup) (published : List Message) (wait width : ℕ) (is : List Input)
+        (js : List node.Input) → let setting = host_setting s published wait width in 0 < width
+        → width ≤ 96 → AreRead s published is js
         → AreMessagesAt s published (consumed_of (record_of setting is)) (all_taken wait width js) }
 
     // and where the inputs are lawful, it is birth by birth the first messages of that birth
-    ensures births { (s : Setup) (published : List Message) (wait width : ℕ)
-        (is : List Input) (js : List node.Input)
-        → IsLawful (host_setting s published wait width) is → AreRead s published is js
-        → HandsOutFronts s published (all_taken wait width js) }
+    ensures births { (s : Setup) (published : List Message) (wait width : ℕ) (is : List Input)
+        (js : List node.Input) → IsLawful (host_setting s published wait width) is
+        → AreRead s published is js → HandsOutFronts s published (all_taken wait width js) }
 {
     spk_sequence::laws::numbers();
     spk_sequence::laws::positions();
@@ -90,7 +85,8 @@ pub fn grows()
         → AreMessagesAt s (published ++ more) ps reads }
 
     ensures inputs { (s : Setup) (published more : List Message) (is : List Input)
-        (js : List node.Input) → AreRead s published is js → AreRead s (published ++ more) is js }
+        (js : List node.Input) → AreRead s published is js
+        → AreRead s (published ++ more) is js }
 
     // a session begins with nothing read
     ensures nothing { (s : Setup) (published : List Message) → AreRead s published [] [] }

@@ -35,8 +35,7 @@ pub fn relayed()
     ensures near_deaths { (s : Setting) (inputs : List Input) → IsRelayed s inputs
         → AllNearDeaths s inputs }
     ensures near_birth { (s : Setting) (inputs : List Input) (input : Input)
-        → IsRelayed s (input ∷ inputs)
-        → IsNearBirth s (record_of s inputs) input }
+        → IsRelayed s (input ∷ inputs) → IsNearBirth s (record_of s inputs) input }
 
     // and at every moment
     ensures before { (s : Setting) (later inputs : List Input) → IsRelayed s (later ++ inputs)
@@ -83,23 +82,20 @@ pub fn headline()
 pub fn few()
     // no client has two connections, so the broker may always have a further one
     ensures places { (limit edges k : ℕ) (on : List ℕ → Bool) (log : List Entry) → limit ≤ 65535
-        → IsLog limit edges log
-        → AllMaySay on k edges log → AreSenders edges (taken_of log) → HasPlaces limit edges log }
+        → IsLog limit edges log → AllMaySay on k edges log → AreSenders edges (taken_of log)
+        → HasPlaces limit edges log }
 
     // The numbered messages of a node that the host's ring got are in the order of taking, each once; and from the first to the last
     // fewer are missing than refusals close a connection.
     ensures few { (limit edges k : ℕ) (on : List ℕ → Bool) (log : List Entry) → limit ≤ 65535
-        → IsLog limit edges log
-        → AllMaySay on k edges log → AreSenders edges (taken_of log)
+        → IsLog limit edges log → AllMaySay on k edges log → AreSenders edges (taken_of log)
         → IsFew limit (count_numbered on k log) (shown on k edges log) }
 
     // where none was refused and all was offered, these are all that were due
     ensures complete { (limit edges k : ℕ) (on : List ℕ → Bool) (log : List Entry) → limit ≤ 65535
-        → IsLog limit edges log
-        → AllMaySay on k edges log → AreSenders edges (taken_of log)
-        → refused_to edges (refusals_of log) ≡ 0
-        → (room_of limit edges log).pending ≡ [] → due limit edges on k edges log
-        ≡ shown on k edges log }
+        → IsLog limit edges log → AllMaySay on k edges log → AreSenders edges (taken_of log)
+        → refused_to edges (refusals_of log) ≡ 0 → (room_of limit edges log).pending ≡ []
+        → due limit edges on k edges log ≡ shown on k edges log }
 {
     spk_broker_rules::laws::any_list();
     spk_broker_rules::laws::routing();
@@ -115,30 +111,29 @@ pub fn few()
 pub fn shown()
     // they say no more than they may
     ensures orderly { (width edges k : ℕ) (setup : ℕ → Setup) (inputs : ℕ → List edge.Input)
-        (c : Config) (told : List (Option HeardData))
-        (log : List Entry) → k < edges → IsPlant width edges setup inputs c told log
+        (c : Config) (told : List (Option HeardData)) (log : List Entry) → k < edges
+        → IsPlant width edges setup inputs c told log
         → AllMaySay (is_numbered_topic (setup k).config.group (setup k).config.node) k edges log }
 
     // as many numbered messages of a node were taken as it published
     ensures counted { (width edges k : ℕ) (setup : ℕ → Setup) (inputs : ℕ → List edge.Input)
-        (c : Config) (told : List (Option HeardData))
-        (log : List Entry) → k < edges → IsPlant width edges setup inputs c told log
+        (c : Config) (told : List (Option HeardData)) (log : List Entry) → k < edges
+        → IsPlant width edges setup inputs c told log
         → count_numbered (is_numbered_topic (setup k).config.group (setup k).config.node) k log
         ≡ length (published (run_of (setup k) (inputs k))) }
 
     // what the host's ring got of a node are positions of what the node published, in order, each once, and from the first to the last
     // fewer are missing than refusals close the host's connection
     ensures few { (width edges k : ℕ) (setup : ℕ → Setup) (inputs : ℕ → List edge.Input)
-        (c : Config) (told : List (Option HeardData))
-        (log : List Entry) → k < edges → IsPlant width edges setup inputs c told log
+        (c : Config) (told : List (Option HeardData)) (log : List Entry) → k < edges
+        → IsPlant width edges setup inputs c told log
         → IsFew (256 - 2 * width) (length (published (run_of (setup k) (inputs k))))
         (shown (is_numbered_topic (setup k).config.group (setup k).config.node) k edges log) }
 
     // where no send to the host was refused and all was offered, these are all that were due to it
     ensures complete { (width edges k : ℕ) (setup : ℕ → Setup) (inputs : ℕ → List edge.Input)
-        (c : Config) (told : List (Option HeardData))
-        (log : List Entry) → k < edges → IsPlant width edges setup inputs c told log
-        → refused_to edges (refusals_of log) ≡ 0
+        (c : Config) (told : List (Option HeardData)) (log : List Entry) → k < edges
+        → IsPlant width edges setup inputs c told log → refused_to edges (refusals_of log) ≡ 0
         → (room_of (256 - 2 * width) edges log).pending ≡ []
         → due (256 - 2 * width) edges
         (is_numbered_topic (setup k).config.group (setup k).config.node) k edges log
@@ -146,15 +141,15 @@ pub fn shown()
 
     // what else the ring got is no numbered message of the node
     ensures others { (width edges k : ℕ) (setup : ℕ → Setup) (inputs : ℕ → List edge.Input)
-        (c : Config) (told : List (Option HeardData))
-        (log : List Entry) → k < edges → IsPlant width edges setup inputs c told log
+        (c : Config) (told : List (Option HeardData)) (log : List Entry) → k < edges
+        → IsPlant width edges setup inputs c told log
         → AreOthers (is_numbered_topic (setup k).config.group (setup k).config.node) k edges
         (setup k).config.group (setup k).config.node log }
 
     // and none of it says that the host was turned away
     ensures welcome { (width edges : ℕ) (setup : ℕ → Setup) (inputs : ℕ → List edge.Input)
-        (c : Config) (given : List Given)
-        (log : List Entry) → IsPlant width edges setup inputs c (told_in given) log
+        (c : Config) (given : List Given) (log : List Entry)
+        → IsPlant width edges setup inputs c (told_in given) log
         → AreToldBy (got_of edges log) (map heard_in given) → AreWelcome (told_in given) }
 {
     spk_packets::laws::prefix_free();
@@ -172,8 +167,7 @@ pub fn running()
     // what the host was told of the node was read at the positions shown, one by one, and these are relayed: so the headline holds of
     // them, without a window as a premise
     ensures heard { (edges k : ℕ) (setup : ℕ → Setup) (inputs : ℕ → List edge.Input) (c : Config)
-        (given : List Given) (log : List Entry)
-        → k < edges → 0 < c.width → c.width ≤ 96
+        (given : List Given) (log : List Entry) → k < edges → 0 < c.width → c.width ≤ 96
         → IsPlant c.width edges setup inputs c (told_in given) log
         → opened (run_of (setup k) (inputs k)) ≤ 256
         → AreToldBy (got_of edges log) (map heard_in given)
@@ -184,8 +178,7 @@ pub fn running()
     // birth by birth in increasing order, what it consumed of the node is a prefix of the messages that the node published under that
     // birth, each once, as they were published
     ensures consumed { (edges k : ℕ) (setup : ℕ → Setup) (inputs : ℕ → List edge.Input) (c : Config)
-        (given : List Given) (log : List Entry)
-        → k < edges → 0 < c.width → c.width ≤ 96
+        (given : List Given) (log : List Entry) → k < edges → 0 < c.width → c.width ≤ 96
         → IsPlant c.width edges setup inputs c (told_in given) log
         → opened (run_of (setup k) (inputs k)) ≤ 256
         → AreToldBy (got_of edges log) (map heard_in given)

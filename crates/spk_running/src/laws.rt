@@ -37,8 +37,7 @@ pub fn plant()
 
     // a node opens at most 200 connections, as many as its script may ask for
     ensures opened { (p : Plan) (r : Report) (k : ℕ) → CanRun p → RunsAs p r
-        → k < length p.nodes.items
-        → opened (run_of (setup_at p k) (inputs_at r k)) ≤ 200 }
+        → k < length p.nodes.items → opened (run_of (setup_at p k) (inputs_at r k)) ≤ 200 }
 {}
 
 /// What holds between the lists of a report, for every width of 1 to 96 and whatever the threads did: no window is asked for.
@@ -56,8 +55,7 @@ pub fn running()
 
     // where no send to the host was refused, these are all that were due to it
     ensures complete { (p : Plan) (r : Report) (k : ℕ) → CanRun p → IsMade p → (ran : RunsAs p r)
-        → k < length p.nodes.items
-        → r.refused ≡ 0 → due_at p ran.log k ≡ shown_at p ran.log k }
+        → k < length p.nodes.items → r.refused ≡ 0 → due_at p ran.log k ≡ shown_at p ran.log k }
 
     // What the host was told of a node was read at the positions shown, one by one, and at every moment of it the order is kept: what was
     // consumed by then is birth by birth a prefix, it stands only for a cause, after a gap nothing is consumed but a newer birth, nothing
@@ -88,36 +86,32 @@ pub fn running()
 pub fn uncut()
     // the host's ring stands at every moment, until the end of each edge node was taken
     ensures standing { (p : Plan) (r : Report) → (ran : RunsAs p r) → r.is_cut ≡ false
-        → (later before : List Entry)
-        → ran.log ≡ later ++ before → have_nodes_ended p before ≡ false → rings_at p before ≡ true }
+        → (later before : List Entry) → ran.log ≡ later ++ before
+        → have_nodes_ended p before ≡ false → rings_at p before ≡ true }
 
     // once the host is subscribed to a node's numbered messages, it stays so
     ensures subscribed { (p : Plan) (r : Report) (k : ℕ) → CanRun p → IsMade p → (ran : RunsAs p r)
-        → k < length p.nodes.items
-        → r.is_cut ≡ false → (later middle before : List Entry) → ran.log
-        ≡ later ++ (middle ++ before)
-        → IsSubscribed p k before → IsSubscribed p k (middle ++ before) }
+        → k < length p.nodes.items → r.is_cut ≡ false → (later middle before : List Entry)
+        → ran.log ≡ later ++ (middle ++ before) → IsSubscribed p k before
+        → IsSubscribed p k (middle ++ before) }
 
     // and it is, where its ring got one of them, the node's connection stands and not all edge nodes have ended
     ensures begun { (p : Plan) (r : Report) (k : ℕ) → CanRun p → IsMade p → (ran : RunsAs p r)
-        → k < length p.nodes.items
-        → r.is_cut ≡ false → (later before : List Entry) → ran.log ≡ later ++ before
-        → have_nodes_ended p before ≡ false
+        → k < length p.nodes.items → r.is_cut ≡ false → (later before : List Entry)
+        → ran.log ≡ later ++ before → have_nodes_ended p before ≡ false
         → has_connection_at p before k ≡ true → (shown_at p before k ≡ [] → ⊥)
         → IsSubscribed p k before }
 
     // so all of them that are taken from then on, while the node's connection stands, are due to the host
     ensures due { (p : Plan) (r : Report) (k : ℕ) → CanRun p → IsMade p → (ran : RunsAs p r)
-        → k < length p.nodes.items
-        → r.is_cut ≡ false → (later before : List Entry) → ran.log ≡ later ++ before
-        → IsSubscribed p k before
+        → k < length p.nodes.items → r.is_cut ≡ false → (later before : List Entry)
+        → ran.log ≡ later ++ before → IsSubscribed p k before
         → due_at p ran.log k ≡ since_at p k later before ++ due_at p before k }
 
     // and where no send to the host was refused, its ring got each of them
     ensures shown { (p : Plan) (r : Report) (k : ℕ) → CanRun p → IsMade p → (ran : RunsAs p r)
-        → k < length p.nodes.items
-        → r.is_cut ≡ false → r.refused ≡ 0 → (later before : List Entry) → ran.log ≡ later ++ before
-        → IsSubscribed p k before
+        → k < length p.nodes.items → r.is_cut ≡ false → r.refused ≡ 0 → (later before : List Entry)
+        → ran.log ≡ later ++ before → IsSubscribed p k before
         → shown_at p ran.log k ≡ since_at p k later before ++ due_at p before k }
 {
     spk_broker_rules::laws::any_list();
@@ -138,13 +132,11 @@ pub fn uncut()
 pub fn placed()
     // those lists give the positions that the host's ring got
     ensures shown { (p : Plan) (r : Report) (k : ℕ) → CanRun p → IsMade p → (ran : RunsAs p r)
-        → k < length p.nodes.items
-        → ArePlacedAt p r k (shown_at p ran.log k) }
+        → k < length p.nodes.items → ArePlacedAt p r k (shown_at p ran.log k) }
 
     // and no others
     ensures only { (p : Plan) (r : Report) (k : ℕ) (one other : List ℕ) → ArePlacedAt p r k one
-        → ArePlacedAt p r k other
-        → one ≡ other }
+        → ArePlacedAt p r k other → one ≡ other }
 {
     spk_packets::laws::prefix_free();
     spk_packets::laws::spelling_spells();

@@ -73,8 +73,8 @@ pub fn headline()
         → consumed_of w (Renew h now ∷ done) h n ≡ [] }
 
     // what was published stays at its position
-    ensures published { (w : World) (done : List Deed) (e : Deed) (n : ℕ) → (more : List Message)
-        × (published_of w (e ∷ done) n ≡ published_of w done n ++ more) }
+    ensures published { (w : World) (done : List Deed) (e : Deed) (n : ℕ)
+        → (more : List Message) × (published_of w (e ∷ done) n ≡ published_of w done n ++ more) }
 {
     spk_edge_rules::laws::any_list();
     spk_edge_rules::laws::published();

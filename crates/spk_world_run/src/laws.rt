@@ -14,8 +14,8 @@ ghost use Rattle.spk_world_run.specs.Tests.{refusal_at};
 
 /// A world as it begins is one in which nothing was done.
 pub fn begins()
-    ensures { (w : World) (configs : List Config) (d : WorldData) → IsWorld w
-        → IsFresh w configs d → IsRun w [] d }
+    ensures { (w : World) (configs : List Config) (d : WorldData) → IsWorld w → IsFresh w configs d
+        → IsRun w [] d }
 {
     spk_edge::laws::along();
 }
@@ -38,8 +38,8 @@ pub fn inputs()
     ensures runs { (w : World) (done : List Deed) (d after : WorldData) (n : ℕ) (input : Input)
         (answer : Answer) → IsRun w done d → refusal_of w done (AtNode n input) ≡ None
         → IsInput d n input after answer → IsRun w (AtNode n input ∷ done) after }
-    ensures answers { (w : World) (done : List Deed) (d after : WorldData) (n : ℕ)
-        (input : Input) (answer : Answer) → IsRun w done d → IsInput d n input after answer
+    ensures answers { (w : World) (done : List Deed) (d after : WorldData) (n : ℕ) (input : Input)
+        (answer : Answer) → IsRun w done d → IsInput d n input after answer
         → answer ≡ answer_of w done (AtNode n input) }
 {
     spk_sequence::laws::positions();
@@ -113,8 +113,8 @@ pub fn renewals()
 /// What a world hands to a host is refused for want of memory alone: the host is within a session,
 /// the packet can be written, and nobody refuses its bytes.
 pub fn sent()
-    ensures messages { (w : World) (done : List Deed) (d : WorldData) (h n p : ℕ)
-        (host : HostPart) (part : NodePart) (message : PublishedData) → IsRun w done d
+    ensures messages { (w : World) (done : List Deed) (d : WorldData) (h n p : ℕ) (host : HostPart)
+        (part : NodePart) (message : PublishedData) → IsRun w done d
         → slice_get d.hosts h ≡ Some host → slice_get d.nodes n ≡ Some part
         → slice_get part.published p ≡ Some message
         → IsSendable host.host (packet_of message) × IsKnown message }
@@ -132,8 +132,8 @@ pub fn sent()
 /// numberings, any hosts, windows of any width. A step by the data is the next thing of the list,
 /// and answers what is asked of the list.
 pub fn any_list()
-    ensures runs { (w : World) (done : List Deed) (d after : WorldData) (e : Deed)
-        (answer : Answer) → IsRun w done d → refusal_at d e ≡ None → IsStep d e after answer
+    ensures runs { (w : World) (done : List Deed) (d after : WorldData) (e : Deed) (answer : Answer)
+        → IsRun w done d → refusal_at d e ≡ None → IsStep d e after answer
         → IsRun w (e ∷ done) after }
     ensures answers { (w : World) (done : List Deed) (d after : WorldData) (e : Deed)
         (answer : Answer) → IsRun w done d → refusal_at d e ≡ None → IsStep d e after answer
