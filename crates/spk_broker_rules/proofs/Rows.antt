@@ -8,10 +8,10 @@ use Rattle.spk_packets.specs.Spelling.{has_bad_text, has_bad_body, is_qos_two, s
 use Rattle.spk_session.specs.PacketIds.{next_id, ids_after}
 use Rattle.spk_session.specs.declared.answer.Sort.TheVariants as sort
 use Rattle.spk_broker_rules.specs.Data.{Post, Seat, Broker, Send, fresh_broker}
-use Rattle.spk_broker_rules.specs.Plan.{Event, Open, Packet, Fault, Closed, Tick, Refused, Seen, Forget, Accept, connect, turn_away, shut}
+use Rattle.spk_broker_rules.specs.Plan.{Event, Open, Packet, Fault, Closed, Tick, Refused, Seen, Forget, Accept, connect, turn_away, shut, next_packet}
 use Rattle.spk_broker_rules.specs.Past.{counts}
-use Rattle.spk_broker_rules.specs.Words.{codes_of, with_entry}
-use Rattle.spk_broker_rules.specs.Step.{step, route, route_some, hand}
+use Rattle.spk_broker_rules.specs.Words.{codes_of, with_entry, last_number}
+use Rattle.spk_broker_rules.specs.Step.{step, route, route_some, hand, is_full, welcome_in}
 
 -- what each of these events sends and closes
 abbrev Out : Type 0
@@ -129,6 +129,11 @@ a_will_is_routed_at_an_end : row (comes 1 (with_will (codes "x") (codes "w") (co
 unfolding step route route_some has_bad_text has_bad_body is_qos_two spelling body shortest
 a_will_is_routed_at_an_end = refl
 
+-- as any publish with RETAIN is
+a_will_with_retain_is_kept : last_of 128 (comes 1 (Connect (codes "x") true 0 (Some (record { topic = codes "w"; message = codes "6"; qos = 0; retain = true }))) ++ Closed 1 0 ∷ (comes 2 (hello []) ++ subscribes 2 (codes "w") 0 ∷ [])) ≡ (to 2 (SubAck 1 (0 ∷ [])) ∷ to 2 (kept_as (codes "w") (codes "6")) ∷ [], [])
+unfolding step route route_some has_bad_text has_bad_body is_qos_two spelling body shortest
+a_will_with_retain_is_kept = refl
+
 -- only the will
 a_will_is_routed_at_a_second_connect : row (comes 1 (with_will (codes "x") (codes "w") (codes "6")) ++ (comes 2 (hello (codes "y")) ++ subscribes 2 (codes "#") 2 ∷ []) ++ Packet 1 (hello (codes "x")) 0 ∷ []) ≡ welcomed 1 ++ (welcomed 2 ++ (to 2 (SubAck 1 (1 ∷ [])) ∷ [], []) ∷ []) ++ (to 2 (plain (codes "w") (codes "6")) ∷ [], 1 ∷ []) ∷ []
 unfolding step route route_some has_bad_text has_bad_body is_qos_two spelling body shortest
@@ -224,10 +229,25 @@ a_filter_that_is_refused_closes : row (comes 1 (hello []) ++ Packet 1 (Subscribe
 unfolding step route route_some has_bad_text has_bad_body is_qos_two spelling body shortest
 a_filter_that_is_refused_closes = refl
 
+-- the grant of the other one isn't taken back: its connection is closed before
+a_filter_that_is_refused_closes_at_unsubscribe_too : row (comes 1 (stay (codes "x")) ++ subscribes 1 (codes "a") 1 ∷ Packet 1 (Unsubscribe 3 (codes "a" ∷ codes "a#" ∷ [])) 0 ∷ [])
+    ≡ welcomed 1 ++ (to 1 (SubAck 1 (1 ∷ [])) ∷ [], []) ∷ ([], 1 ∷ []) ∷ []
+unfolding step route route_some has_bad_text has_bad_body is_qos_two spelling body shortest
+a_filter_that_is_refused_closes_at_unsubscribe_too = refl
+
 -- a publish of QoS 2
 qos_2_closes : row (comes 1 (hello []) ++ Packet 1 (Publish false 2 false (codes "a") (Some 9) []) 0 ∷ []) ≡ welcomed 1 ++ ([], 1 ∷ []) ∷ []
 unfolding step route route_some has_bad_text has_bad_body is_qos_two spelling body shortest
 qos_2_closes = refl
+
+-- without CONNACK
+a_will_of_qos_2_closes : row (comes 1 (Connect (codes "x") true 0 (Some (record { topic = codes "w"; message = []; qos = 2; retain = false })))) ≡ quiet ∷ ([], 1 ∷ []) ∷ []
+unfolding step route route_some has_bad_text has_bad_body is_qos_two spelling body shortest
+a_will_of_qos_2_closes = refl
+
+-- CONNACK, SUBACK, UNSUBACK, PINGRESP
+what_only_a_broker_sends_closes : next_packet 1 (ConnAck false 0) ∷ next_packet 1 (SubAck 1 (0 ∷ [])) ∷ next_packet 1 (UnsubAck 1) ∷ next_packet 1 PingResp ∷ [] ≡ replicate 4 (shut 1)
+what_only_a_broker_sends_closes = refl
 
 -- the first doesn't
 drop_2_of_limit_2_closes : outs (fresh_broker 2) (comes 1 (hello []) ++ Refused 1 sort.QosZero 0 ∷ Refused 1 sort.QosZero 0 ∷ []) ≡ welcomed 1 ++ quiet ∷ ([], 1 ∷ []) ∷ []
@@ -283,6 +303,11 @@ the_older_ones_will_is_kept_for_the_newer = refl
 a_clean_connect_takes_over_and_ends_the_kept_session : last_of 128 (comes 1 (stay (codes "x")) ++ subscribes 1 (codes "w") 1 ∷ comes 2 (hello (codes "x"))) ≡ (to 2 (ConnAck false 0) ∷ [], 1 ∷ [])
 unfolding step route route_some has_bad_text has_bad_body is_qos_two spelling body shortest
 a_clean_connect_takes_over_and_ends_the_kept_session = refl
+
+-- the client's next CONNECT finds none
+a_clean_take_over_leaves_no_kept_session : last_of 128 (comes 1 (stay (codes "x")) ++ (comes 2 (hello (codes "x")) ++ Packet 2 Disconnect 0 ∷ comes 3 (stay (codes "x")))) ≡ (to 3 (ConnAck false 0) ∷ [], [])
+unfolding step route route_some has_bad_text has_bad_body is_qos_two spelling body shortest
+a_clean_take_over_leaves_no_kept_session = refl
 
 -- a session with 1,024 unacknowledged
 
@@ -352,7 +377,76 @@ a_full_session_gets_retained_qos_0 : outs full_broker (Packet 9 (Subscribe 1 ((c
 unfolding step route route_some has_bad_text has_bad_body is_qos_two spelling body shortest
 a_full_session_gets_retained_qos_0 = refl
 
+-- two silent ones with wills, a full session that the first will is for, and one that listens to all
+abbrev silent_seat : ℕ → List ℕ → Seat
+silent_seat key topic = record {
+  key = key;
+  client = [];
+  kept = false;
+  here = Some (record { conn = key; alive = 1; heard = 0; will = Some (record { topic = topic; payload = []; qos = 1; retain = false }); drops = 0 });
+  grants = [];
+  used = [];
+  last = 0;
+  copies = [];
+}
+
+abbrev silent_broker : Broker
+silent_broker = record {
+  limit = 128;
+  given = 9;
+  made = 4;
+  clock = 0;
+  guests = [];
+  seats = silent_seat 1 (codes "a") ∷ silent_seat 2 (codes "b") ∷ record (full_seat false) { grants = (codes "a", 1) ∷ [] } ∷ (record {
+    key = 4;
+    client = codes "y";
+    kept = false;
+    here = Some (record { conn = 8; alive = 0; heard = 0; will = None; drops = 0 });
+    grants = (codes "#", 0) ∷ [];
+    used = [];
+    last = 0;
+    copies = [];
+  }) ∷ [];
+  retained = [];
+}
+
+-- the will of the session that the first will ends goes behind the second one's
+a_will_that_a_routing_frees_goes_behind_those_that_wait : outs silent_broker (Tick 1501 ∷ [])
+    ≡ (to 8 (plain (codes "a") []) ∷ to 8 (plain (codes "b") []) ∷ to 8 (plain (codes "w") (codes "6")) ∷ [], 1 ∷ 2 ∷ 9 ∷ []) ∷ []
+unfolding step route route_some has_bad_text has_bad_body is_qos_two spelling body shortest
+a_will_that_a_routing_frees_goes_behind_those_that_wait = refl
+
 -- ---- limits
+
+-- a thousand connections, or the greatest number, leave no room for one more
+abbrev crowd : ℕ → ℕ → Broker
+crowd count given = record (fresh_broker 128) { given = given; guests = replicate count (record { conn = 1; heard = 0; drops = 0 }) }
+
+connection_1001_has_no_room : is_full (crowd 1000 1000) ≡ true
+connection_1001_has_no_room = refl
+
+the_1000th_connection_has_room : is_full (crowd 999 999) ≡ false
+the_1000th_connection_has_room = refl
+
+behind_the_greatest_number_there_is_none : is_full (crowd 0 last_number) ≡ true
+behind_the_greatest_number_there_is_none = refl
+
+the_greatest_number_is_given : is_full (crowd 0 18446744073709551614) ≡ false
+the_greatest_number_is_given = refl
+
+-- so many kept sessions, all of them away
+abbrev away : ℕ → List Seat
+away count = replicate count (record { key = 1; client = codes "x"; kept = true; here = None; grants = []; used = []; last = 0; copies = [] })
+
+kept_session_1001_has_no_room : welcome_in (codes "y") (away 1000) ≡ false
+kept_session_1001_has_no_room = refl
+
+the_1000th_kept_session_has_room : welcome_in (codes "y") (away 999) ≡ true
+the_1000th_kept_session_has_room = refl
+
+-- its session stands already
+a_kept_client_comes_back_to_a_full_broker : welcome_in (codes "x") (away 1000) ≡ true
+a_kept_client_comes_back_to_a_full_broker = refl
 
 -- the 10,000th pair of session and filter is granted, the 10,001st gets 128, and a filter that stands gets its new grant
 the_10001st_filter_gets_128 : codes_of 9999 [] ((codes "a", 0) ∷ (codes "b", 0) ∷ (codes "a", 2) ∷ []) ≡ 0 ∷ 128 ∷ 1 ∷ []

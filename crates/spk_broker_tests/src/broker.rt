@@ -18,6 +18,8 @@ pub(crate) enum Event {
     Ticks,
     /// A send of QoS 0 to it was refused.
     Drops,
+    /// Any other send to it was.
+    Refuses,
 }
 
 /// What the tests ask of a broker. They are written over any type that answers it, since a function over a type parameter is
@@ -91,6 +93,7 @@ fn call(
         Event::Ends => broker.ended(conn, now),
         Event::Ticks => broker.ticked(now),
         Event::Drops => broker.dropped(conn, Sort::QosZero, now),
+        Event::Refuses => broker.dropped(conn, Sort::Other, now),
     }
 }
 
@@ -312,6 +315,28 @@ static KEPT: [Row; 22] = [
     (7, Event::Says(X_STAYS), 0, &[(7, WELCOME)], &[]),
 ];
 
+/// A send that may not be lost was refused: closed at once, and the will routed.
+static REFUSED: [Row; 6] = [
+    (1, Event::Opens, 0, &[], &[]),
+    (1, Event::Says(HELLO), 0, &[(1, WELCOME)], &[]),
+    (
+        1,
+        Event::Says(b"\x82\x06\x00\x01\x00\x01w\x00"),
+        0,
+        &[(1, b"\x90\x03\x00\x01\x00")],
+        &[],
+    ),
+    (2, Event::Opens, 0, &[], &[]),
+    (
+        2,
+        Event::Says(b"\x10\x13\x00\x04MQTT\x04\x06\x00\x3c\x00\x01x\x00\x01w\x00\x016"),
+        0,
+        &[(2, WELCOME)],
+        &[],
+    ),
+    (2, Event::Refuses, 0, &[(1, b"\x30\x04\x00\x01w6")], &[2]),
+];
+
 /// How many rows of a table are right with a new broker.
 fn rows_right(alloc: Global, rows: &[Row]) -> Result<usize, BrokerFault> {
     plays(alloc, &mut Broker::new(alloc, 128), rows)
@@ -319,7 +344,7 @@ fn rows_right(alloc: Global, rows: &[Row]) -> Result<usize, BrokerFault> {
 
 #[test]
 fn rows_are_right(rt: HostRuntime) -> Result<(), Fail> {
-    let tables: [&[Row]; 4] = [&FIRST, &TAKE_OVER, &RETAINED, &KEPT];
+    let tables: [&[Row]; 5] = [&FIRST, &TAKE_OVER, &RETAINED, &KEPT, &REFUSED];
     for rows in tables {
         assert_eq!(rt; rows_right(rt.alloc(), rows)?, rows.len());
     }
@@ -339,7 +364,7 @@ fn drops_that_close(alloc: Global, broker: &mut impl Talks) -> Result<usize, Bro
 }
 
 /// Limits, and the drops that close.
-static DROPS: [(u16, usize); 3] = [(64, 64), (254, 254), (0, 1)];
+static DROPS: [(u16, usize); 4] = [(64, 64), (128, 128), (254, 254), (0, 1)];
 
 #[test]
 fn the_limit_of_drops_is_the_one_that_closes(rt: HostRuntime) -> Result<(), Fail> {
@@ -347,6 +372,20 @@ fn the_limit_of_drops_is_the_one_that_closes(rt: HostRuntime) -> Result<(), Fail
         let drops = drops_that_close(rt.alloc(), &mut Broker::new(rt.alloc(), *limit))?;
         assert_eq!(rt; drops, *wanted, "at {limit}");
     }
+    Ok(())
+}
+
+/// Whether one that was silent for too long is closed, and isn't there any more.
+fn silent_one_is_gone(alloc: Global, broker: &mut impl Talks) -> Result<bool, BrokerFault> {
+    all_told(alloc, broker, &COMES)?;
+    let out = answer(alloc, broker, 0, &Event::Ticks, 90_001)?;
+    let is_closed = is_right(&out, &[], &[1]);
+    Ok(is_closed && broker.ended(1, 90_001) == Err(BrokerFault::NoSuchConn))
+}
+
+#[test]
+fn who_was_silent_for_too_long_is_gone(rt: HostRuntime) -> Result<(), Fail> {
+    assert!(rt; silent_one_is_gone(rt.alloc(), &mut Broker::new(rt.alloc(), 128))?);
     Ok(())
 }
 
