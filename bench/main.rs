@@ -1,6 +1,8 @@
 //! Measures the proved crates beside peers: `bench table` by the clock, `bench counts` by instructions under valgrind,
-//! `bench profile` says where the instructions of ours are, and `bench worlds` what an event of a world costs, few or many.
+//! `bench profile` says where the instructions of ours are, `bench worlds` what an event of a world costs, few or many, and
+//! `bench memory` what long filters take.
 mod inputs;
+mod memory;
 #[path = "peers/order.rs"]
 mod order;
 #[path = "peers/packets.rs"]
@@ -394,6 +396,12 @@ fn worlds() {
     }
 }
 
+// Grants the filters, one a line, and lets them go.
+fn grant_all(filters: &str) {
+    // The lengths are those of the texts.
+    unsafe { spk_bench_find(filters.as_ptr(), filters.len(), "x".as_ptr(), 1, 0) };
+}
+
 fn main() {
     let words: Vec<String> = std::env::args().skip(1).collect();
     let number = |n: usize| words.get(n).and_then(|w| w.parse::<u64>().ok());
@@ -403,9 +411,11 @@ fn main() {
         (Some("counts"), ..) => counts(word),
         (Some("profile"), ..) => profile(word),
         (Some("worlds"), ..) => worlds(),
+        (Some("memory"), Some(case), ..) => memory::one(case as usize, grant_all),
+        (Some("memory"), ..) => memory::table(),
         (Some("one"), Some(row), Some(who), Some(rounds)) => {
             println!("{}", body_of(&rows()[row as usize], who as usize)(rounds));
         }
-        _ => eprintln!("usage: bench table [WORD] | counts [WORD] | profile [WORD] | worlds | one ROW WHO ROUNDS"),
+        _ => eprintln!("usage: bench table [WORD] | counts [WORD] | profile [WORD] | worlds | memory | one ROW WHO ROUNDS"),
     }
 }
