@@ -3,6 +3,7 @@ pub mod Dropping
 pub mod Knowing
 pub mod Lawful
 pub mod Listening
+pub mod Origins
 pub mod Past
 pub mod Plan
 pub mod Step

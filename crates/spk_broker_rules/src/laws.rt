@@ -9,6 +9,7 @@ ghost use Rattle.spk_broker_rules.specs.Dropping.{HasFew, drops_after};
 ghost use Rattle.spk_broker_rules.specs.Knowing.{IsWelcomed, is_opening, speaks_of};
 ghost use Rattle.spk_broker_rules.specs.Lawful.{IsLawful};
 ghost use Rattle.spk_broker_rules.specs.Listening.{IsPlain, given_to, is_closed_in, is_joined, lets_go, listens, plain_publish, takes_back};
+ghost use Rattle.spk_broker_rules.specs.Origins.{SaysAll, WasSaid};
 ghost use Rattle.spk_broker_rules.specs.Past.{Past, broker_of, guests, is_open, may_open, older_of, session_at};
 ghost use Rattle.spk_broker_rules.specs.Plan.{Event, Open, Packet, Refused};
 ghost use Rattle.spk_broker_rules.specs.Step.{Turn, after, drops_in, is_full, is_guest, knows, noted, route, route_one, step};
@@ -107,6 +108,13 @@ pub fn staying()
     ensures listening { (b : Broker) (conn : ℕ) (topic : List ℕ) (e : Event) → IsLawful b
         → listens b conn topic ≡ true → lets_go conn e ≡ false → takes_back conn e ≡ false
         → (listens (step b e).broker conn topic ≡ true) ⊎ (is_closed_in conn (step b e) ≡ true) }
+{}
+
+/// A broker invents nothing, for every limit of drops and every list of events.
+pub fn origins()
+    // each PUBLISH that an event sends has topic and payload of a PUBLISH, or of the will of a CONNECT, that came by then
+    ensures { (limit : ℕ) (es : List Event) (e : Event)
+        → SaysAll (WasSaid (e ∷ es)) (step (after limit es) e).sends }
 {}
 
 /// Topics: nothing is sent on a topic that nobody brought. While the topics of wills, of retained and of unacknowledged

@@ -33,6 +33,7 @@ use Rattle.spk_host.specs.Inputs.{Call, Heard, Ticked, Connected, Stopped, Ended
 use Rattle.spk_host.specs.Step.{acks, is_asked, packet_out, requests_at, requests_to, said_by, spelled}
 use Rattle.spk_host_body.specs.Calls.{done, is_done, out_at, packets_of}
 use Rattle.spk_host_body.specs.Told.{asked, calls_of}
+use Rattle.spk_relay.proofs.Dying.{DiesOwn, IsNoDeath, command-apart, state-apart}
 use Rattle.spk_relay.proofs.Offers.{no-yes}
 use Rattle.spk_relay.specs.Topics.{is_numbered_topic}
 use Rattle.spk_relay.proofs.Parse.{same-topic}
@@ -53,9 +54,10 @@ pub record IsHarmless (q : Packet) : Type 0 where
   pub keeps : is_unsubscribe q ≡ false
   pub off : KeepsOff q
   pub clean : JoinsClean q
+  pub dies : DiesOwn (λ topic. false) q
 
-with-topics : (q : Packet) → IsMild q → KeepsOff q → JoinsClean q → IsHarmless q
-with-topics q m off clean = record { asks = m.asks; stays = m.stays; keeps = m.keeps; off = off; clean = clean }
+with-topics : (q : Packet) → IsMild q → KeepsOff q → JoinsClean q → DiesOwn (λ topic. false) q → IsHarmless q
+with-topics q m off clean dies = record { asks = m.asks; stays = m.stays; keeps = m.keeps; off = off; clean = clean; dies = dies }
 
 clean-first : (q : Packet) → (first_byte q ≡ 16 → ⊥) → JoinsClean q
 clean-first (Connect client clean alive will) other = absurd (other refl)
@@ -172,7 +174,7 @@ pub data IsHosts (c : Config) (p : Packet) : Type 0 where
   Acks : (id : ℕ) → p ≡ PubAck id → IsHosts c p
   Joins : p ≡ connect_of c 0 → IsHosts c p
   Asks : p ≡ subscribe_of c → IsHosts c p
-  Publishes : (qos : ℕ) (retain : Bool) (topic : List ℕ) (id : Option ℕ) (payload : List ℕ) → qos ≤ 1 → IsOffTopic topic → p ≡ Publish false qos retain topic id payload → IsHosts c p
+  Publishes : (qos : ℕ) (retain : Bool) (topic : List ℕ) (id : Option ℕ) (payload : List ℕ) → qos ≤ 1 → IsOffTopic topic → IsNoDeath topic → p ≡ Publish false qos retain topic id payload → IsHosts c p
 
 abbrev pub AreHosts : Config → List Packet → Type 0
 AreHosts c [] = Unit {0}
@@ -195,6 +197,24 @@ publish-off qos retain topic id payload PingReq low off s = λ group node. tt
 publish-off qos retain topic id payload PingResp low off s = λ group node. tt
 publish-off qos retain topic id payload Disconnect low off s = λ group node. tt
 
+-- and one on no node's NDEATH as such a one
+publish-apart : (qos : ℕ) (retain : Bool) (topic : List ℕ) (id : Option ℕ) (payload : List ℕ) (q : Packet) → qos ≤ 1 → IsOffTopic topic → IsNoDeath topic → Spells (spelling (Publish false qos retain topic id payload)) q →
+    DiesOwn (λ topic. false) q
+publish-apart qos retain topic id payload (Publish d r t other i l) low off apart s group node text named h =
+    let short = ltb-false 65535 (length topic) (or_parts (is_numbered_topic group node topic) (ltb 65535 (length topic)) (off group node)).1 in
+    absurd (apart group node named (same-topic false qos retain topic id payload d r t other i l (omega (arith, short)) s ∙ h.0))
+publish-apart qos retain topic id payload (Connect client clean alive will) low off apart s group node text named h = absurd
+    (let first = first-of-spelled (Publish false qos retain topic id payload) (Connect client clean alive will) s in let b = publish-first false qos retain low in let x = b.0 in let y = b.1 in omega (arith, first, x, y))
+publish-apart qos retain topic id payload (ConnAck present code) low off apart s group node text named h = absurd h
+publish-apart qos retain topic id payload (PubAck other) low off apart s group node text named h = absurd h
+publish-apart qos retain topic id payload (Subscribe other filters) low off apart s group node text named h = absurd h
+publish-apart qos retain topic id payload (SubAck other given) low off apart s group node text named h = absurd h
+publish-apart qos retain topic id payload (Unsubscribe other filters) low off apart s group node text named h = absurd h
+publish-apart qos retain topic id payload (UnsubAck other) low off apart s group node text named h = absurd h
+publish-apart qos retain topic id payload PingReq low off apart s group node text named h = absurd h
+publish-apart qos retain topic id payload PingResp low off apart s group node text named h = absurd h
+publish-apart qos retain topic id payload Disconnect low off apart s group node text named h = absurd h
+
 -- ---- STATE and commands
 
 state-size : (h : List ℕ) → length (topic_of (of_state h)) ≡ length h + 14
@@ -209,6 +229,14 @@ state-off t h short group node =
 
 command-size : (g n : List ℕ) → length (topic_of (of_node g Command n)) ≡ length g + length n + 14
 command-size g n = let a = length-append g (47 ∷ 78 ∷ 67 ∷ 77 ∷ 68 ∷ 47 ∷ n) in omega (arith, a)
+
+address-names : (g n : List ℕ) → is_address g n ≡ true → (is_name g && is_name n) ≡ true
+address-names g n e = by (is_name g) (is_name n) (leb (length g) 65521) (leb (length n) (65521 - length g)) e
+  where
+    by : (a b c d : Bool) → (a && b && c && d) ≡ true → (a && b) ≡ true
+    by true true c d e = refl
+    by true false c d e = absurd (no-yes e)
+    by false b c d e = absurd (no-yes e)
 
 command-off : TopicFacts → (g n : List ℕ) → is_address g n ≡ true → IsOffTopic (topic_of (of_node g Command n))
 command-off t g n e group node =
@@ -279,22 +307,24 @@ pub record HostTexts (c : Config) : Type 0 where
 pub hosts-harmless : PacketFacts → TopicFacts → (c : Config) → HostTexts c → (p q : Packet) → IsHosts c p → Spells (spelling p) q → IsHarmless q
 hosts-harmless f t c h p q (Acks id is) says =
     with-topics q (harmless-low p q (subst (λ x. first_byte x < 128) (sym is) (omega arith)) says) (puback-quiet (λ topic. false) id q (subst (λ x. Spells (spelling x) q) is says)).2 (puback-quiet (λ topic. false) id q (subst (λ x. Spells (spelling x) q) is says)).3
+    (puback-quiet (λ topic. false) id q (subst (λ x. Spells (spelling x) q) is says)).4
 hosts-harmless f t c h p q (Joins is) says =
     let short = (and_parts (is_short_name c.name) (is_short_name c.group) h.good).0 in
     let own = written f (connect_of c 0) (connect-fits c h.name h.keep) (can-connect c short) in
     subst IsHarmless (sym (one-reading f (spelling (connect_of c 0)) (connect_of c 0) q own (subst (λ x. Spells (spelling x) q) is says)))
-    (record { asks = λ group node one two x y. tt; stays = refl; keeps = refl; off = state-off t c.name short; clean = refl })
-hosts-harmless f t c h p q (Publishes qos retain topic id payload low off is) says =
+    (record { asks = λ group node one two x y. tt; stays = refl; keeps = refl; off = state-off t c.name short; clean = refl; dies = λ group node payload named h. absurd (state-apart t c.name (and_parts (is_name c.name) (leb (length c.name) 60000) short).0 group node named h.0) })
+hosts-harmless f t c h p q (Publishes qos retain topic id payload low off apart is) says =
     with-topics q (harmless-low p q (subst (λ x. first_byte x < 128) (sym is) (let b = (publish-first false qos retain low).1 in omega (arith, b))) says)
     (publish-off qos retain topic id payload q low off (subst (λ x. Spells (spelling x) q) is says))
     (clean-first q (λ e. let first = first-of-spelled (Publish false qos retain topic id payload) q (subst (λ x. Spells (spelling x) q) is says) in
     let b = publish-first false qos retain low in let u = b.0 in let v = b.1 in omega (arith, first, e, u, v)))
+    (publish-apart qos retain topic id payload q low off apart (subst (λ x. Spells (spelling x) q) is says))
 hosts-harmless f t c h p q (Asks is) says =
     let short = (and_parts (is_short_name c.name) (is_short_name c.group) h.good).1 in
     let own = written f (subscribe_of c) (subscribe-fits c h.group) (can-subscribe c short) in
     let name = (and_parts (is_name c.group) (leb (length c.group) 60000) short).0 in
     subst IsHarmless (sym (one-reading f (spelling (subscribe_of c)) (subscribe_of c) q own (subst (λ x. Spells (spelling x) q) is says)))
-    (record { asks = group-asks t c name; stays = refl; keeps = refl; off = λ group node. tt; clean = tt })
+    (record { asks = group-asks t c name; stays = refl; keeps = refl; off = λ group node. tt; clean = tt; dies = λ group node payload named h. absurd h })
 
 hosts-append : (c : Config) (xs ys : List Packet) → AreHosts c xs → AreHosts c ys → AreHosts c (xs ++ ys)
 hosts-append c [] ys x y = y
@@ -306,7 +336,7 @@ hosts-acks c (Some id) = (Acks id refl, tt)
 
 hosts-many : TopicFacts → (c : Config) (group name : List ℕ) (now n : ℕ) → is_address group name ≡ true → AreHosts c (replicate n (rebirth_of group name now))
 hosts-many t c group name now zero can = tt
-hosts-many t c group name now (suc n) can = (Publishes 0 false _ None _ (omega arith) (command-off t group name can) refl, hosts-many t c group name now n can)
+hosts-many t c group name now (suc n) can = (Publishes 0 false _ None _ (omega arith) (command-off t group name can) (command-apart t group name (address-names group name can)) refl, hosts-many t c group name now n can)
 
 hosts-requests : TopicFacts → (c : Config) (group name : List ℕ) (now n : ℕ) → AreHosts c (requests_to group name now n)
 hosts-requests t c group name now n = by (is_address group name) refl
@@ -349,7 +379,11 @@ hosts-heard t c h said.Granted now short same = record { packets = said_by (sess
   where
     by : (o : Option ℕ) → AreHosts c (said_by (session.within o (λ began. online_of h.session.config began ∷ [])))
     by None = tt
-    by (Some began) = (Publishes 1 true _ (Some 2) _ (omega arith) (subst (λ (x : Config). IsOffTopic (topic_of (of_state x.name))) (sym same) (state-off t c.name short)) refl, tt)
+    by (Some began) = (
+      Publishes 1 true _ (Some 2) _ (omega arith) (subst (λ (x : Config). IsOffTopic (topic_of (of_state x.name))) (sym same) (state-off t c.name short))
+          (subst (λ (x : Config). IsNoDeath (topic_of (of_state x.name))) (sym same) (state-apart t c.name (and_parts (is_name c.name) (leb (length c.name) 60000) short).0)) refl,
+      tt,
+    )
 hosts-heard t c h said.Other now short same = record { packets = []; hosts = tt; spell = refl }
 
 -- calls of a run: a session is begun, and the rest is heard

@@ -3,6 +3,7 @@ pub mod Base
 pub mod Carries
 pub mod Deaths
 pub mod Due
+pub mod Dying
 pub mod Facts
 pub mod Few
 pub mod Heard
@@ -11,6 +12,7 @@ pub mod Moves
 pub mod Nodes
 pub mod Off
 pub mod Offers
+pub mod Origins
 pub mod Owns
 pub mod Parse
 pub mod Places
@@ -18,6 +20,7 @@ pub mod Plant
 pub mod Rows
 pub mod Running
 pub mod Silence
+pub mod Speakers
 pub mod State
 pub mod Tells
 pub mod Topics

@@ -27,6 +27,7 @@ use Rattle.spk_edge_rules.specs.Packets.{connect_of, death_topic, subscribe_of}
 use Rattle.spk_edge_rules.specs.Rules.{Asked, Given, accepting, acked, acts, born, changing, is_born, is_connecting, is_same_value, is_so_already, is_waiting, commanded, draining, fits, hearing, heard_in, is_timely, joining, leaving, nothing, obeying, on_ok, refused_or, rules, telling, timely, turned_away, turning}
 use Rattle.spk_relay.specs.Speech.{HasTexts}
 use Rattle.spk_relay.specs.Topics.{is_numbered_topic}
+use Rattle.spk_relay.proofs.Dying.{own-birth}
 use Rattle.spk_relay.proofs.Tells.{PacketFacts, Quietly, connect-fits, connect-off, death-fits, dying-off, disconnect-fits, itself-quiet, puback-quiet, subscribe-asks, subscribe-fits, written}
 use Rattle.spk_relay.proofs.Topics.{TopicFacts, numbered-is}
 
@@ -157,17 +158,17 @@ own-quiet f t s names texts p q (Acknowledges id is) can says =
 own-quiet f t s names texts p q (Connects bd time is) can says =
     itself-quiet f (is_numbered_topic s.config.group s.config.node) (connect_of s.config bd time) q
     (written f (connect_of s.config bd time) (connect-fits s.config bd time texts) (subst (λ x. is_writable x ≡ true) is can))
-    (refl, (λ group node one two x y. tt), connect-off t s.config bd time names.group names.node (subst (λ x. is_writable x ≡ true) is can), refl) (subst (λ x. Spells (spelling x) q) is says)
+    (refl, (λ group node one two x y. tt), connect-off t s.config bd time names.group names.node (subst (λ x. is_writable x ≡ true) is can), refl, (λ group node payload named h. own-birth t s.config.group s.config.node group node (and_from _ _ names.group names.node) named h.0)) (subst (λ x. Spells (spelling x) q) is says)
 own-quiet f t s names texts p q (Subscribes is) can says =
     itself-quiet f (is_numbered_topic s.config.group s.config.node) (subscribe_of s.config) q
     (written f (subscribe_of s.config) (subscribe-fits s.config texts) (subst (λ x. is_writable x ≡ true) is can))
-    (refl, subscribe-asks t s.config names.group names.node texts.primary, (λ group node. tt), tt) (subst (λ x. Spells (spelling x) q) is says)
+    (refl, subscribe-asks t s.config names.group names.node texts.primary, (λ group node. tt), tt, (λ group node payload named h. absurd h)) (subst (λ x. Spells (spelling x) q) is says)
 own-quiet f t s names texts p q (Dies text is) can says =
     itself-quiet f (is_numbered_topic s.config.group s.config.node) (Publish false 1 false (death_topic s.config) (Some 2) text) q
     (written f (Publish false 1 false (death_topic s.config) (Some 2) text) (death-fits s.config text texts) (subst (λ x. is_writable x ≡ true) is can))
-    (numbered-is t s.config.group s.config.node (of_node s.config.group Death s.config.node) (and_from _ _ names.group names.node), (λ group node one two x y. tt), dying-off t s.config text names.group names.node (subst (λ x. is_writable x ≡ true) is can), tt)
+    (numbered-is t s.config.group s.config.node (of_node s.config.group Death s.config.node) (and_from _ _ names.group names.node), (λ group node one two x y. tt), dying-off t s.config text names.group names.node (subst (λ x. is_writable x ≡ true) is can), tt, (λ group node payload named h. own-birth t s.config.group s.config.node group node (and_from _ _ names.group names.node) named h.0))
     (subst (λ x. Spells (spelling x) q) is says)
 own-quiet f t s names texts p q (Leaves is) can says =
     itself-quiet f (is_numbered_topic s.config.group s.config.node) Disconnect q
     (written f Disconnect disconnect-fits (subst (λ x. is_writable x ≡ true) is can))
-    (refl, (λ group node one two x y. tt), (λ group node. tt), tt) (subst (λ x. Spells (spelling x) q) is says)
+    (refl, (λ group node one two x y. tt), (λ group node. tt), tt, (λ group node payload named h. absurd h)) (subst (λ x. Spells (spelling x) q) is says)

@@ -63,7 +63,7 @@ same-name g n g' n' (of_device h Death k d) x y = same-two h k g n g' n' x y
 same-name g n g' n' (of_device h Command k d) x y = absurd (no-yes x)
 same-name g n g' n' (of_state h) x y = absurd (no-yes x)
 
-same-node : (g n g' n' topic : List ℕ) → is_numbered_topic g n topic ≡ true → is_numbered_topic g' n' topic ≡ true → SameNode g n g' n'
+pub same-node : (g n g' n' topic : List ℕ) → is_numbered_topic g n topic ≡ true → is_numbered_topic g' n' topic ≡ true → SameNode g n g' n'
 unfolding is_numbered_topic
 same-node g n g' n' topic x y = by (named_at topic) x y
   where

@@ -28,6 +28,7 @@ use Rattle.spk_edge_rules.specs.Packets.{client_of, connect_of, death_topic, sub
 use Rattle.spk_relay.specs.Shown.{AsksAlike, is_on, is_publish_on}
 use Rattle.spk_relay.specs.Speech.{HasTexts, IsPrimary}
 use Rattle.spk_relay.specs.Topics.{is_numbered_topic}
+use Rattle.spk_relay.proofs.Dying.{DiesIn, DiesOwn}
 use Rattle.spk_relay.proofs.Offers.{no-yes}
 use Rattle.spk_relay.proofs.Welcome.{IsCleanInput, JoinsClean}
 use Rattle.spk_relay.proofs.Topics.{TopicFacts, barred, device-commands, fits-alike, five-levels, levels-of, name-slashless, node-commands, numbered-is, states}
@@ -83,16 +84,17 @@ KeepsIn Cuts = Unit {0}
 KeepsIn Ends = Unit {0}
 
 abbrev pub Quietly : (List ℕ → Bool) → Packet → Type 0
-Quietly on q = (is_publish_on on q ≡ false) × AsksForAll q × KeepsOff q × JoinsClean q
+Quietly on q = (is_publish_on on q ≡ false) × AsksForAll q × KeepsOff q × JoinsClean q × DiesOwn on q
 
 pub record IsQuiet (on : List ℕ → Bool) (f : Frame) : Type 0 where
   pub off : (i : Input) → Means f i → is_on on i ≡ false
   pub asks : (i : Input) → Means f i → AsksIn i
   pub keeps : (i : Input) → Means f i → KeepsIn i
   pub clean : (i : Input) → Means f i → IsCleanInput i
+  pub dies : (i : Input) → Means f i → DiesIn on i
 
 pub packet-quiet : (on : List ℕ → Bool) (bytes : _) → ((q : Packet) → Means (frame.Packet bytes) (Says q) → Quietly on q) → IsQuiet on (frame.Packet bytes)
-packet-quiet on bytes says = record { off = off; asks = asks; keeps = keeps; clean = clean }
+packet-quiet on bytes says = record { off = off; asks = asks; keeps = keeps; clean = clean; dies = dies }
   where
     off : (i : Input) → Means (frame.Packet bytes) i → is_on on i ≡ false
     off (Says q) m = (says q m).0
@@ -112,6 +114,12 @@ packet-quiet on bytes says = record { off = off; asks = asks; keeps = keeps; cle
     clean Cuts m = tt
     clean Ends m = tt
 
+    dies : (i : Input) → Means (frame.Packet bytes) i → DiesIn on i
+    dies (Says q) m = (says q m).4
+    dies (Breaks f) m = tt
+    dies Cuts m = tt
+    dies Ends m = tt
+
     asks : (i : Input) → Means (frame.Packet bytes) i → AsksIn i
     asks (Says q) m = (says q m).1
     asks (Breaks f) m = tt
@@ -119,7 +127,7 @@ packet-quiet on bytes says = record { off = off; asks = asks; keeps = keeps; cle
     asks Ends m = tt
 
 pub cut-quiet : (on : List ℕ → Bool) → IsQuiet on frame.Cut
-cut-quiet on = record { off = off; asks = asks; keeps = keeps; clean = clean }
+cut-quiet on = record { off = off; asks = asks; keeps = keeps; clean = clean; dies = dies }
   where
     off : (i : Input) → Means frame.Cut i → is_on on i ≡ false
     off (Says q) m = absurd m
@@ -139,6 +147,12 @@ cut-quiet on = record { off = off; asks = asks; keeps = keeps; clean = clean }
     clean Cuts m = tt
     clean Ends m = tt
 
+    dies : (i : Input) → Means frame.Cut i → DiesIn on i
+    dies (Says q) m = absurd m
+    dies (Breaks f) m = tt
+    dies Cuts m = tt
+    dies Ends m = tt
+
     asks : (i : Input) → Means frame.Cut i → AsksIn i
     asks (Says q) m = absurd m
     asks (Breaks f) m = tt
@@ -146,7 +160,7 @@ cut-quiet on = record { off = off; asks = asks; keeps = keeps; clean = clean }
     asks Ends m = tt
 
 pub end-quiet : (on : List ℕ → Bool) → IsQuiet on frame.End
-end-quiet on = record { off = off; asks = asks; keeps = keeps; clean = clean }
+end-quiet on = record { off = off; asks = asks; keeps = keeps; clean = clean; dies = dies }
   where
     off : (i : Input) → Means frame.End i → is_on on i ≡ false
     off (Says q) m = absurd m
@@ -166,6 +180,12 @@ end-quiet on = record { off = off; asks = asks; keeps = keeps; clean = clean }
     clean Cuts m = tt
     clean Ends m = tt
 
+    dies : (i : Input) → Means frame.End i → DiesIn on i
+    dies (Says q) m = absurd m
+    dies (Breaks f) m = tt
+    dies Cuts m = tt
+    dies Ends m = tt
+
     asks : (i : Input) → Means frame.End i → AsksIn i
     asks (Says q) m = absurd m
     asks (Breaks f) m = tt
@@ -181,14 +201,14 @@ puback-quiet on id (Publish dup qos retain topic other payload) s =
     absurd (omega (arith, first, high))
 puback-quiet on id (Subscribe other filters) s = absurd (let first = first-of-spelled (PubAck id) (Subscribe other filters) s in omega (arith, first))
 puback-quiet on id (Connect client clean keep will) s = absurd (let first = first-of-spelled (PubAck id) (Connect client clean keep will) s in omega (arith, first))
-puback-quiet on id (ConnAck present code) s = (refl, (λ group node one two x y. tt), (λ group node. tt), tt)
-puback-quiet on id (PubAck other) s = (refl, (λ group node one two x y. tt), (λ group node. tt), tt)
-puback-quiet on id (SubAck other given) s = (refl, (λ group node one two x y. tt), (λ group node. tt), tt)
-puback-quiet on id (Unsubscribe other filters) s = (refl, (λ group node one two x y. tt), (λ group node. tt), tt)
-puback-quiet on id (UnsubAck other) s = (refl, (λ group node one two x y. tt), (λ group node. tt), tt)
-puback-quiet on id PingReq s = (refl, (λ group node one two x y. tt), (λ group node. tt), tt)
-puback-quiet on id PingResp s = (refl, (λ group node one two x y. tt), (λ group node. tt), tt)
-puback-quiet on id Disconnect s = (refl, (λ group node one two x y. tt), (λ group node. tt), tt)
+puback-quiet on id (ConnAck present code) s = (refl, (λ group node one two x y. tt), (λ group node. tt), tt, (λ group node payload names h. absurd h))
+puback-quiet on id (PubAck other) s = (refl, (λ group node one two x y. tt), (λ group node. tt), tt, (λ group node payload names h. absurd h))
+puback-quiet on id (SubAck other given) s = (refl, (λ group node one two x y. tt), (λ group node. tt), tt, (λ group node payload names h. absurd h))
+puback-quiet on id (Unsubscribe other filters) s = (refl, (λ group node one two x y. tt), (λ group node. tt), tt, (λ group node payload names h. absurd h))
+puback-quiet on id (UnsubAck other) s = (refl, (λ group node one two x y. tt), (λ group node. tt), tt, (λ group node payload names h. absurd h))
+puback-quiet on id PingReq s = (refl, (λ group node one two x y. tt), (λ group node. tt), tt, (λ group node payload names h. absurd h))
+puback-quiet on id PingResp s = (refl, (λ group node one two x y. tt), (λ group node. tt), tt, (λ group node payload names h. absurd h))
+puback-quiet on id Disconnect s = (refl, (λ group node one two x y. tt), (λ group node. tt), tt, (λ group node payload names h. absurd h))
 
 -- a packet that its spelling spells says itself
 pub itself-quiet : PacketFacts → (on : List ℕ → Bool) (p q : Packet) → Spells (spelling p) p → Quietly on p → Spells (spelling p) q → Quietly on q

@@ -1,5 +1,6 @@
 pub mod Due
 pub mod Given
+pub mod Origins
 pub mod Relayed
 pub mod Senders
 pub mod Shown

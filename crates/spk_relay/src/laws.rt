@@ -10,10 +10,12 @@ ghost use Rattle.spk_broker_body.specs.Done.{refused_to};
 ghost use Rattle.spk_broker_body.specs.Log.{IsLog, got_of, refusals_of, room_of, taken_of};
 ghost use Rattle.spk_relay.specs.Due.{due};
 ghost use Rattle.spk_relay.specs.Given.{AreOthers, IsHeard};
+ghost use Rattle.spk_relay.specs.Origins.{AllSaidBefore, AreOwnOn};
 ghost use Rattle.spk_relay.specs.Relayed.{IsRelayed};
 ghost use Rattle.spk_reading.specs.Data.{HeardData};
 ghost use Rattle.spk_edge_rules.specs.Config.{Setup};
 ghost use Rattle.spk_edge_rules.specs.Inputs as edge;
+ghost use Rattle.spk_edge_rules.specs.Packets.{death_topic};
 ghost use Rattle.spk_edge_rules.specs.Run.{opened, published, run_of};
 ghost use Rattle.spk_heard.specs.Read.{HandsOutFronts};
 ghost use Rattle.spk_host.specs.Inputs.{node_calls};
@@ -107,6 +109,15 @@ pub fn few()
     spk_broker_rules::laws::drops();
 }
 
+/// Along every log of a plant's broker, whatever its clients say.
+pub fn origins()
+    // What a ring got is the spelling of a packet; and where that is a PUBLISH, a PUBLISH that was taken by then, or the will of a
+    // CONNECT, had its topic and its payload.
+    ensures { (limit edges : ℕ) (log : List Entry) → IsLog limit edges log → AllSaidBefore log }
+{
+    spk_broker_rules::laws::origins();
+}
+
 /// Along every log of a plant whose edge nodes and host say what their rules give: nothing is asked of windows, orders or losses.
 pub fn shown()
     // they say no more than they may
@@ -151,12 +162,19 @@ pub fn shown()
         (c : Config) (given : List Given) (log : List Entry)
         → IsPlant width edges setup inputs c (told_in given) log
         → AreToldBy (got_of edges log) (map heard_in given) → AreWelcome (told_in given) }
+
+    // on the topic of a node's NDEATH rings got only what the node itself said: a PUBLISH that was taken by then, or the will of a CONNECT
+    ensures deaths { (width edges k : ℕ) (setup : ℕ → Setup) (inputs : ℕ → List edge.Input)
+        (c : Config) (told : List (Option HeardData)) (log : List Entry) → k < edges
+        → IsPlant width edges setup inputs c told log
+        → AreOwnOn (death_topic (setup k).config) k log }
 {
     spk_packets::laws::prefix_free();
     spk_packets::laws::spelling_spells();
     spk_topics::laws::reading();
     spk_topics::laws::levels_are_parts();
     spk_edge_rules::laws::published();
+    spk_broker_rules::laws::origins();
     spk_broker_rules::laws::topics();
     few();
 }

@@ -4,6 +4,7 @@ ghost use Rattle.std.specs.List.{flat_map, slice_get};
 ghost use Rattle.spk_broker_body.specs.Data.{Entry};
 ghost use Rattle.spk_edge.specs.Along.{messages_from};
 ghost use Rattle.spk_edge.specs.View.{message_view};
+ghost use Rattle.spk_edge_rules.specs.Packets.{death_topic};
 ghost use Rattle.spk_edge_rules.specs.Run.{opened, run_of};
 ghost use Rattle.spk_heard.specs.Read.{HandsOutFronts};
 ghost use Rattle.spk_host.specs.Inputs.{node_calls};
@@ -14,6 +15,7 @@ ghost use Rattle.spk_plant.specs.Report.{RunsAs};
 ghost use Rattle.spk_plant.specs.declared.report.NodeReport.{NodeReport};
 ghost use Rattle.spk_plant.specs.declared.report.Report.{Report};
 ghost use Rattle.spk_relay.specs.Given.{IsHeard};
+ghost use Rattle.spk_relay.specs.Origins.{AllSaidBefore, AreOwnOn};
 ghost use Rattle.spk_relay.specs.Shown.{IsFew, count_numbered};
 ghost use Rattle.spk_relay.specs.Speech.{IsPlant};
 ghost use Rattle.spk_running.specs.Deaths.{AreDeathsOf};
@@ -163,5 +165,21 @@ pub fn deaths()
         (node_calls (asked (told_in r.given.items)) (setup_at p k).config.group
         (setup_at p k).config.node) }
 {
+    plant();
+}
+
+/// Where what the clients' rings got comes from, for every plan and every report of it.
+pub fn origins()
+    // What a ring got is the spelling of a packet; and where that is a PUBLISH, a PUBLISH that was taken by then, or the will of a
+    // CONNECT, had its topic and its payload.
+    ensures said { (p : Plan) (r : Report) → CanRun p → IsMade p → (ran : RunsAs p r)
+        → AllSaidBefore ran.log }
+
+    // and where it is on the topic of a node's NDEATH, that PUBLISH or CONNECT was the node's own
+    ensures deaths { (p : Plan) (r : Report) (k : ℕ) → CanRun p → IsMade p → (ran : RunsAs p r)
+        → k < length p.nodes.items → AreOwnOn (death_topic (setup_at p k).config) k ran.log }
+{
+    spk_relay::laws::origins();
+    spk_relay::laws::shown();
     plant();
 }

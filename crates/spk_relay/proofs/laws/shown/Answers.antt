@@ -6,6 +6,7 @@ use Rattle.spk_relay.proofs.Nodes.{EdgeFacts, on_of}
 use Rattle.spk_relay.proofs.Off.{TopicLaw}
 use Rattle.spk_relay.proofs.Plant.{plant-counts, plant-says}
 use Rattle.spk_relay.proofs.Silence.{plant-others, plant-welcome}
+use Rattle.spk_relay.proofs.Speakers.{plant-deaths}
 use Rattle.spk_relay.proofs.Tells.{PacketFacts}
 use Rattle.spk_relay.proofs.Topics.{TopicFacts}
 use Rattle.spk_relay.proofs.laws.shown.Goals as goal
@@ -33,6 +34,10 @@ returns-clause-counted c = λ width edges k setup inputs config told log low pla
 
 pub returns-clause-others : goal.returns-clause-others
 returns-clause-others c = λ width edges k setup inputs config told log low plant. plant-others (packets c) (topics c) (rules c) (law c) width edges k setup inputs config told log low plant
+
+pub returns-clause-deaths : goal.returns-clause-deaths
+returns-clause-deaths c = λ width edges k setup inputs config told log low plant.
+    plant-deaths (record { origins = c.origins.ensures }) (packets c) (topics c) (rules c) width edges k setup inputs config told log low plant
 
 pub returns-clause-few : goal.returns-clause-few
 returns-clause-few c = λ width edges k setup inputs config told log low plant.

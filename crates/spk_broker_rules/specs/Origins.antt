@@ -1,0 +1,69 @@
+-- What was said to a broker: the messages of PUBLISH packets, and the wills of CONNECT packets.
+use Rattle.std.specs.Prelude.{◌≡◌, ◌⊎◌, ℕ, List, [], ◌∷◌, Option, Some, None}
+use Rattle.std.specs.List.{AllByRecursion}
+use Rattle.spk_packets.specs.Message.{Message, WillData, Connect, ConnAck, Publish, PubAck, Subscribe, SubAck, Unsubscribe, UnsubAck, PingReq, PingResp, Disconnect}
+use Rattle.spk_broker_rules.specs.Data.{Post, Line, Send}
+use Rattle.spk_broker_rules.specs.Plan.{Event, Open, Packet, Fault, Closed, Tick, Refused}
+
+-- the will has this topic and this message
+abbrev pub WillIs : Option WillData → (topic payload : List ℕ) → Type 0
+WillIs None topic payload = ⊥
+WillIs (Some w) topic payload = (w.topic ≡ topic) × (w.message ≡ payload)
+
+-- the packet is a PUBLISH of this payload on this topic, or a CONNECT with such a will
+abbrev pub SaidBy : Message → (topic payload : List ℕ) → Type 0
+SaidBy (Connect client clean alive will) topic payload = WillIs will topic payload
+SaidBy (ConnAck present code) topic payload = ⊥
+SaidBy (Publish dup qos retain t id p) topic payload = (t ≡ topic) × (p ≡ payload)
+SaidBy (PubAck id) topic payload = ⊥
+SaidBy (Subscribe id entries) topic payload = ⊥
+SaidBy (SubAck id codes) topic payload = ⊥
+SaidBy (Unsubscribe id filters) topic payload = ⊥
+SaidBy (UnsubAck id) topic payload = ⊥
+SaidBy PingReq topic payload = ⊥
+SaidBy PingResp topic payload = ⊥
+SaidBy Disconnect topic payload = ⊥
+
+abbrev pub SaidIn : Event → (topic payload : List ℕ) → Type 0
+SaidIn (Open moment) topic payload = ⊥
+SaidIn (Packet conn p moment) topic payload = SaidBy p topic payload
+SaidIn (Fault conn f moment) topic payload = ⊥
+SaidIn (Closed conn moment) topic payload = ⊥
+SaidIn (Tick moment) topic payload = ⊥
+SaidIn (Refused conn s moment) topic payload = ⊥
+
+-- a packet among these events said it
+abbrev pub WasSaid : List Event → (topic payload : List ℕ) → Type 0
+WasSaid [] topic payload = ⊥
+WasSaid (e ∷ es) topic payload = SaidIn e topic payload ⊎ WasSaid es topic payload
+
+-- what holds of the message of a will, where there is one
+abbrev pub PostSays : (List ℕ → List ℕ → Type 0) → Option Post → Type 0
+PostSays T None = Unit {0}
+PostSays T (Some m) = T m.topic m.payload
+
+abbrev pub WillSays : (List ℕ → List ℕ → Type 0) → Option Line → Type 0
+WillSays T None = Unit {0}
+WillSays T (Some l) = PostSays T l.will
+
+abbrev pub WillOf : (List ℕ → List ℕ → Type 0) → Option WillData → Type 0
+WillOf T None = Unit {0}
+WillOf T (Some w) = T w.topic w.message
+
+-- what holds of topic and payload of a PUBLISH, and of a CONNECT's will
+abbrev pub Says : (List ℕ → List ℕ → Type 0) → Message → Type 0
+Says T (Connect client clean alive will) = WillOf T will
+Says T (ConnAck present code) = Unit {0}
+Says T (Publish dup qos retain topic id payload) = T topic payload
+Says T (PubAck id) = Unit {0}
+Says T (Subscribe id entries) = Unit {0}
+Says T (SubAck id codes) = Unit {0}
+Says T (Unsubscribe id filters) = Unit {0}
+Says T (UnsubAck id) = Unit {0}
+Says T PingReq = Unit {0}
+Says T PingResp = Unit {0}
+Says T Disconnect = Unit {0}
+
+-- the same of each packet that is sent
+abbrev pub SaysAll : (List ℕ → List ℕ → Type 0) → List Send → Type 0
+SaysAll T sends = AllByRecursion (λ (s : Send). Says T s.packet) sends
