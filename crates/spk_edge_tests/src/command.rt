@@ -1,5 +1,5 @@
 //! What commands ask of a node with the metric `t`, 1, and a device `D` with a metric `t`, 2, both Int32.
-use crate::node::{Call, PLAIN, Plays, REBIRTH, play_on, told};
+use crate::node::{Call, PLAIN, Plays, REBIRTH, play_on, refusal_of};
 use crate::which::Test;
 use spk_device::Alias;
 use spk_edge::{EdgeFault, Out, Write};
@@ -84,8 +84,8 @@ fn assert_writes(rt: &impl Abort, writes: &[Write], want: &[(Alias, i64)]) {
 }
 
 pub(crate) fn does_commands(rt: &impl Abort, node: &mut impl Plays) {
-    assert!(rt; told(node, 5, Call::Open).is_ok());
-    assert!(rt; told(node, 6, Call::Accepted).is_ok());
+    assert_eq!(rt; refusal_of(node, 5, Call::Open), None);
+    assert_eq!(rt; refusal_of(node, 6, Call::Accepted), None);
     for (topic, payload, want) in ROWS {
         match (commanded(node, topic, payload), want) {
             (Ok(out), Some((values, is_born_again))) => {

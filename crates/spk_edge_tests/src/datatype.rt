@@ -1,6 +1,6 @@
 //! Commands with a value of each datatype, as Sparkplug 3.0.0 (6.4.16) writes it in a payload.
 use crate::command::commanded;
-use crate::node::{Call, FIRST, PLAIN, Plays, config, told};
+use crate::node::{Call, FIRST, PLAIN, Plays, config, refusal_of};
 use spk_device::{DeviceFault, Owner, Registry};
 use spk_edge::{EdgeFault, EdgeNode, Out, Write};
 use spk_payload::Value;
@@ -209,8 +209,8 @@ fn takes(
     topic: &str,
     payload: &[u8],
 ) -> Result<Out, EdgeFault> {
-    assert!(rt; told(node, 5, Call::Open).is_ok());
-    assert!(rt; told(node, 6, Call::Accepted).is_ok());
+    assert_eq!(rt; refusal_of(node, 5, Call::Open), None);
+    assert_eq!(rt; refusal_of(node, 6, Call::Accepted), None);
     commanded(node, topic, payload)
 }
 

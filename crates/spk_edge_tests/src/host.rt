@@ -1,7 +1,7 @@
 //! A node with a primary host: STATE, kept changes, packets of the server, and the phases.
 use crate::node::{
     CONNECT, Call, Kind, NBIRTH, NDEATH, PLAIN, Plays, Row, assert_answer, lost_by, phase_of, play,
-    play_on, told,
+    play_on, refusal_of, told,
 };
 use crate::which::Test;
 use spk_edge::{Act, EdgeFault, Phase, Plan, Published};
@@ -127,7 +127,7 @@ pub(crate) fn hears_its_host(rt: &impl Abort, node: &mut impl Plays) {
 
 pub(crate) fn hears_no_host(rt: &impl Abort, node: &mut impl Plays) {
     for (now, call) in [(5, Call::Open), (6, Call::Accepted)] {
-        assert!(rt; told(node, now, call).is_ok());
+        assert_eq!(rt; refusal_of(node, now, call), None);
     }
     for payload in [OFFLINE, b"ONLINE"] {
         assert_answer(rt, 7, told(node, 7, Call::State(payload)), &Ok(&[]));
@@ -147,6 +147,11 @@ pub(crate) fn planned(node: &impl Plays, now: u64, act: Act<'_>) -> Result<Plan,
         Err(EdgeFault::NoMemory) => node.plan_of(now, act),
         answer => answer,
     }
+}
+
+/// What an act is refused for, if it is.
+pub(crate) fn plan_refusal(node: &impl Plays, now: u64, act: Act<'_>) -> Option<EdgeFault> {
+    planned(node, now, act).err()
 }
 
 /// What an act publishes.
@@ -174,7 +179,7 @@ fn drained(rt: &impl Abort, node: &mut impl Plays) -> Option<(bool, usize)> {
 /// Does calls that are all taken.
 pub(crate) fn done(rt: &impl Abort, node: &mut impl Plays, calls: &[Call]) {
     for call in calls {
-        assert!(rt; told(node, 9, *call).is_ok(), "of {call:?}");
+        assert_eq!(rt; refusal_of(node, 9, *call), None, "of {call:?}");
     }
 }
 
@@ -286,8 +291,8 @@ pub(crate) fn assert_refused(
     fault: Option<EdgeFault>,
     late: EdgeFault,
 ) {
-    assert_eq!(rt; planned(node, 9, act).err(), fault);
-    assert_eq!(rt; planned(node, 1 << 63, act).err(), Some(late));
+    assert_eq!(rt; plan_refusal(node, 9, act), fault);
+    assert_eq!(rt; plan_refusal(node, 1 << 63, act), Some(late));
 }
 
 pub(crate) fn takes_acts_in_their_phases(rt: &impl Abort, node: &mut impl Plays) {

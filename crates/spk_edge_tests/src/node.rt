@@ -244,6 +244,11 @@ pub(crate) fn told(node: &mut impl Plays, now: u64, call: Call) -> Result<Out, E
     }
 }
 
+/// What a call is refused for, if it is. It stands apart since whoever holds an answer is dear to prove.
+pub(crate) fn refusal_of(node: &mut impl Plays, now: u64, call: Call) -> Option<EdgeFault> {
+    told(node, now, call).err()
+}
+
 /// In which phase a node is.
 pub(crate) fn phase_of(node: &impl Plays) -> Phase {
     node.stands().0
@@ -365,7 +370,7 @@ pub(crate) fn is_born_twice(rt: &impl Abort, node: &mut impl Plays) {
     };
     assert_eq!(rt; record_of(node), record);
     assert_eq!(rt;
-        told(node, 9, Call::Stop).err(),
+        refusal_of(node, 9, Call::Stop),
         Some(EdgeFault::WrongPhase)
     );
     assert_eq!(rt; lost_by(node), 0);

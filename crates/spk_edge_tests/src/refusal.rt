@@ -1,5 +1,7 @@
 //! Each refusal in each phase, in the order in which refusals are asked for.
-use crate::host::{BAD, HOSTED, ONLINE, STEPS, assert_refused, done, is_taken, letters, planned};
+use crate::host::{
+    BAD, HOSTED, ONLINE, STEPS, assert_refused, done, is_taken, letters, plan_refusal,
+};
 use crate::node::{Call, Kind, Plays, phase_of, play_on};
 use crate::which::Test;
 use spk_device::Refusal;
@@ -68,17 +70,17 @@ const LAST: u64 = (1 << 63) - 1;
 
 pub(crate) fn waits_behind_the_last_stamp(rt: &impl Abort, node: &mut impl Plays) {
     done(rt, node, &[Call::Open, Call::Accepted]);
-    let online = planned(node, 9, Act::State(ONLINE));
-    assert_eq!(rt; online.err(), Some(EdgeFault::ClockEnd));
+    let online = plan_refusal(node, 9, Act::State(ONLINE));
+    assert_eq!(rt; online, Some(EdgeFault::ClockEnd));
     assert_eq!(rt; phase_of(node), Phase::Waiting);
 }
 
 pub(crate) fn is_not_born_again(rt: &impl Abort, node: &mut impl Plays) {
     done(rt, node, &[Call::Open, Call::Accepted, Call::State(ONLINE)]);
     let again = Act::Command("spBv1.0/G/NCMD/N", crate::node::REBIRTH);
-    assert_eq!(rt; planned(node, 9, again).err(), Some(EdgeFault::ClockEnd));
+    assert_eq!(rt; plan_refusal(node, 9, again), Some(EdgeFault::ClockEnd));
     // other messages may repeat the last stamp
-    assert!(rt; planned(node, 9, Act::Device("D", true)).is_ok());
+    assert_eq!(rt; plan_refusal(node, 9, Act::Device("D", true)), None);
 }
 
 #[test]
@@ -104,7 +106,7 @@ fn is_too_large(
     phase: Phase,
 ) {
     done(rt, node, calls);
-    assert_eq!(rt; planned(node, 9, act).err(), Some(EdgeFault::TooLarge));
+    assert_eq!(rt; plan_refusal(node, 9, act), Some(EdgeFault::TooLarge));
     assert_eq!(rt; phase_of(node), phase);
 }
 

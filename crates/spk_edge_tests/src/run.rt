@@ -1,6 +1,8 @@
 //! Long runs of a node: the numbers of its messages, and a full store.
 use crate::host::published;
-use crate::node::{Call, Kind, PLAIN, Plays, REBIRTH, lost_by, play_on, record_of, told};
+use crate::node::{
+    Call, Kind, PLAIN, Plays, REBIRTH, lost_by, play_on, record_of, refusal_of, told,
+};
 use crate::which::Test;
 use spk_edge::{Act, Numbering, Published};
 use spk_payload::{Metric, Raw, Value};
@@ -134,7 +136,7 @@ pub(crate) fn keeps_the_last_4096(rt: &impl Abort, node: &mut impl Plays) {
     }
     assert_eq!(rt; lost_by(node), 904);
     for call in [Call::Open, Call::Accepted] {
-        assert!(rt; told(node, 9, call).is_ok());
+        assert_eq!(rt; refusal_of(node, 9, call), None);
     }
     assert_eq!(rt; drains(rt, node, 1_904), 6_000);
     assert!(rt; published(rt, node, 9, Act::Drain).is_empty());

@@ -146,3 +146,22 @@ pub(crate) fn renewed(host: &mut impl Asks, now: u64) -> Result<Out, AllocError>
         Err(_) => host.tell_renew(now),
     }
 }
+
+/// What a packet is refused for, if it is. It stands apart since whoever holds an answer is dear to prove.
+pub(crate) fn refusal_of(host: &mut impl Asks, bytes: &[u8], now: u64) -> Option<HostFault> {
+    told(host, bytes, now).err()
+}
+
+/// What a moment and the end of a session are refused for, if they are.
+pub(crate) fn refusals_at(host: &mut impl Asks, now: u64) -> [Option<HostFault>; 2] {
+    [tick_refusal(host, now), host.tell_stop(now).err()]
+}
+
+fn tick_refusal(host: &mut impl Asks, now: u64) -> Option<HostFault> {
+    host.tell_tick(now).err()
+}
+
+/// What the beginning of a session is refused for, if it is.
+pub(crate) fn connect_refusal(host: &mut impl Asks, now: u64) -> Option<HostFault> {
+    host.tell_connected(now).err()
+}

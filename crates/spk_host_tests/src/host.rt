@@ -1,6 +1,6 @@
 //! Sessions, their bytes by hand from MQTT 3.1.1 (chapter 3) and Sparkplug's schema. Out of memory is a right answer wherever memory
 //! is asked for: nothing has changed then, and the call is made again.
-use crate::asks::{Asks, Case, begin, play, renewed, stopped, ticked, told};
+use crate::asks::{Asks, Case, begin, play, refusal_of, renewed, stopped, ticked, told};
 use spk_host::HostFault;
 use spk_sequence::{Phase, Step};
 use std::process::Abort;
@@ -145,7 +145,7 @@ const REFUSED: [(&[u8], HostFault, u32); 6] = [
 
 fn refuses(rt: &impl Abort, host: &mut impl Asks) {
     for (bytes, fault, number) in REFUSED {
-        assert_eq!(rt; told(host, bytes, 1).err(), Some(fault));
+        assert_eq!(rt; refusal_of(host, bytes, 1), Some(fault));
         assert_eq!(rt; fault.number(), number);
     }
     let out = renewed(host, 2).expect(rt, "an answer");

@@ -1,7 +1,9 @@
 //! Each refusal of a packet, at each kind of message that can meet it. Topics, payloads and their numbers are by hand from MQTT 3.1.1
 //! (chapter 3) and Sparkplug 3.0.0 (chapters 4 and 6), each message at QoS 0 and at QoS 1, retained. None is acknowledged, and each
 //! leaves the host as it was.
-use crate::asks::{Asks, Case, begin, play, stopped, told};
+use crate::asks::{
+    Asks, Case, begin, connect_refusal, play, refusal_of, refusals_at, stopped, told,
+};
 use crate::bytes::publish;
 use spk_host::HostFault;
 use spk_sequence::{Phase, Step};
@@ -228,7 +230,7 @@ fn assert_refused(
 ) {
     for id in [None, Some(7)] {
         let packet = made(rt, topic, id, front, rest);
-        let refused = told(host, packet.as_slice(), 9).err();
+        let refused = refusal_of(host, packet.as_slice(), 9);
         assert_eq!(rt; refused, Some(fault), "{topic} with {rest:?}");
     }
 }
@@ -307,7 +309,7 @@ fn a_topic_is_judged_before_its_payload(rt: HostRuntime) {
 fn refuses_no_packets(rt: &(impl Abort + AllocGlobal), host: &mut impl Asks) {
     live(rt, host);
     for bytes in NO_PACKETS {
-        let refused = told(host, bytes, 9).err();
+        let refused = refusal_of(host, bytes, 9);
         assert_eq!(rt; refused, Some(HostFault::BadPayload), "{bytes:?}");
     }
     assert_as_before(rt, host);
@@ -426,20 +428,21 @@ fn the_greatest_numbers_and_the_last_ones_are_read(rt: HostRuntime) {
 fn assert_outside(rt: &(impl Abort + AllocGlobal), host: &mut impl Asks) {
     let wrong = Some(HostFault::WrongPhase);
     for bytes in NO_PACKETS {
-        assert_eq!(rt; told(host, bytes, 9).err(), wrong, "{bytes:?}");
+        assert_eq!(rt; refusal_of(host, bytes, 9), wrong, "{bytes:?}");
     }
     for topic in READ.iter().chain(UNREAD.iter()) {
         let packet = made(rt, topic, None, b"", WHOLE);
-        assert_eq!(rt; told(host, packet.as_slice(), 9).err(), wrong);
+        assert_eq!(rt; refusal_of(host, packet.as_slice(), 9), wrong);
     }
-    assert_eq!(rt; host.tell_tick(9).err(), wrong);
-    assert_eq!(rt; host.tell_stop(9).err(), wrong);
+    let [tick, stop] = refusals_at(host, 9);
+    assert_eq!(rt; tick, wrong);
+    assert_eq!(rt; stop, wrong);
 }
 
 fn reads_nothing_outside(rt: &(impl Abort + AllocGlobal), host: &mut impl Asks) {
     assert_outside(rt, host);
     begin(rt, host, 5);
-    assert_eq!(rt; host.tell_connected(6).err(), Some(HostFault::WrongPhase));
+    assert_eq!(rt; connect_refusal(host, 6), Some(HostFault::WrongPhase));
     host.tell_ended();
     assert_outside(rt, host);
     begin(rt, host, 5);

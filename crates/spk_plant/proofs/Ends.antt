@@ -70,6 +70,16 @@ pub theirs_less : (es : List EdgeEnd) (ts us : List (Option Token)) (t : Option 
 theirs_less es ts us t tokens all k x token there got =
     all k x token there (subst (λ xs. slice_get xs k ≡ Some (Some token)) (sym tokens) (get_more ts (t ∷ []) k (Some token) got))
 
+pub theirs_before : (es fs : List EdgeEnd) (ts us : List (Option Token)) (e : EdgeEnd) (t : Option Token) → es ≡ fs ++ e ∷ [] → us ≡ ts ++ t ∷ [] → AreTheirs es us → AreTheirs fs ts
+theirs_before es fs ts us e t ends tokens all k x token there got =
+    theirs_less es ts us t tokens all k x token (subst (λ xs. slice_get xs k ≡ Some x) (sym ends) (get_more fs (e ∷ []) k x there)) got
+
+pub sized_before : (es fs : List EdgeEnd) (ts us : List (Option Token)) (e : EdgeEnd) (t : Option Token) → es ≡ fs ++ e ∷ [] → us ≡ ts ++ t ∷ [] → length us ≡ length es → length ts ≡ length fs
+sized_before es fs ts us e t ends tokens sized =
+    let more : length us ≡ length ts + 1 = ap length tokens ∙ length-append ts (t ∷ []) in
+    let least : length es ≡ length fs + 1 = ap length ends ∙ length-append fs (e ∷ []) in
+    omega (arith, more, least, sized)
+
 pub token_at : (us ts : List (Option Token)) (t : Token) (k : ℕ) → us ≡ ts ++ Some t ∷ [] → length us ≡ k + 1 → slice_get us k ≡ Some (Some t)
 token_at us ts t k is sized =
     let more : length us ≡ length ts + 1 = ap length is ∙ length-append ts (Some t ∷ []) in

@@ -1,7 +1,8 @@
 //! What is tied once all threads are joined.
 ghost use Rattle.std.specs.Prelude.{◌≡◌, ◌⊎◌, ◌<◌, [], ◌∷◌, ◌++◌, length, IfOk, IfErr, IfSome, Some, None};
 ghost use Rattle.spk_plant.specs.Choice.{IsMissing, IsUnsettled};
-ghost use Rattle.spk_plant.specs.Done.{AreApart, AreTheirs, AreTied, IsTied};
+ghost use Rattle.spk_plant.specs.Done.{AreApart, AreTheirs, AreTied, IsFrontOf, IsReportOf, IsTied};
+ghost use Rattle.spk_rings.specs.Ring.{IsTokenOf};
 
 use crate::choice::Ends;
 use crate::report::{NodeReport, Report};
@@ -23,6 +24,24 @@ fn last_of(tokens: &mut Vec<Option<Token>>) -> Option<Token>
     tokens.pop()?
 }
 
+/// What an edge node's end leaves for the report, and its pass. What is left on its ring is counted with its token.
+fn parted(end: EdgeEnd, mut token: Token) -> (NodeReport, PutPass)
+    requires { IsTokenOf token end.inlet }
+    ensures report { IsReportOf end result.0 }
+    ensures pass { result.1 ≡ end.pass }
+    ensures front { IsFrontOf end (Some token) }
+{
+    let EdgeEnd {
+        inputs,
+        published,
+        node: _node,
+        pass,
+        mut inlet,
+    } = end;
+    let _left = inlet.left_after(&mut token);
+    (NodeReport { inputs, published }, pass)
+}
+
 /// The edges' reports and passes, in order. What is left on each ring is counted with its token.
 fn apart(
     alloc: Global,
@@ -38,22 +57,15 @@ fn apart(
     let Some(end) = ends.pop() else {
         return Ok((Vec::new(alloc), Vec::new(alloc)));
     };
-    let Some(mut token) = last_of(&mut tokens) else {
+    let Some(token) = last_of(&mut tokens) else {
         return Err(PlantFault::Unsettled);
     };
-    let EdgeEnd {
-        inputs,
-        published,
-        pass,
-        mut inlet,
-        ..
-    } = end;
-    let _left = inlet.left_after(&mut token);
+    let (report, pass) = parted(end, token);
     let (mut reports, mut passes) = match apart(alloc, ends, tokens) {
         Ok(others) => others,
         Err(fault) => return Err(fault),
     };
-    reports.push(NodeReport { inputs, published })?;
+    reports.push(report)?;
     passes.push(pass)?;
     Ok((reports, passes))
 }
@@ -87,9 +99,9 @@ pub(crate) fn report_of<R: Wait>(
     } = broker;
     let HostEnd {
         given,
+        host: _host,
         pass,
         mut inlet,
-        ..
     } = host;
     let Some(mut token) = last_of(&mut tokens) else {
         return Err(PlantFault::Unsettled);

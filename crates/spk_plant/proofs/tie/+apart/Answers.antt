@@ -1,19 +1,28 @@
-use Rattle.std.proofs.Common.{inl, inr, Some, refl}
-use Rattle.spk_rings.specs.Ring.{all_offered, popped}
+use Rattle.std.proofs.Common.{rules, inl, inr, Some, sym}
 use Rattle.spk_plant.proofs.Chosen.{missing_more}
-use Rattle.spk_plant.proofs.Ends.{apart_push, front_is}
+use Rattle.spk_plant.proofs.Ends.{apart_push, sized_before, theirs_before}
 use Rattle.spk_plant.proofs.tie.+apart.Goals as goal
+
+pub apart-requires : goal.apart-requires
+apart-requires t c =
+    (
+      search rules,
+      (
+        sized_before c.args.ends.items c.pop.new.self.items c.last_of.new.tokens.items c.args.tokens.items c.in-Some.end (Some c.in-Some-last_of.token)
+        c.in-Some.ensures.items c.in-Some-last_of.ensures.there c.requires.sized,
+        theirs_before c.args.ends.items c.pop.new.self.items c.last_of.new.tokens.items c.args.tokens.items c.in-Some.end (Some c.in-Some-last_of.token)
+        c.in-Some.ensures.items c.in-Some-last_of.ensures.there c.requires.theirs,
+      ),
+    )
 
 pub returns-clause-apart : goal.returns-clause-apart
 returns-clause-apart t c =
     let end = c.in-Some.end in
     let token = c.in-Some-last_of.token in
     apart_push c.pop.new.self.items c.args.ends.items c.last_of.new.tokens.items c.args.tokens.items c.in-Ok.others.0.items c.push.new.self.items
-    c.in-Ok.others.1.items c.push-2.new.self.items end (Some token) (record { inputs = end.inputs; published = end.published }) end.pass
+    c.in-Ok.others.1.items c.push-2.new.self.items end (Some token) c.parted-report.result.0 c.parted-report.result.1
     c.in-Some.ensures.items c.in-Some-last_of.ensures.there c.in_ok-push.ensures.items c.in_ok-push-2.ensures.items c.requires.sized
-    refl (record { inputs = refl; published = refl })
-    (front_is c.left_after-left.result end token (popped c.left_after-left.new.self) (all_offered c.left_after-left.new.token)
-    c.left_after-left.ensures.shorter c.left_after-left.ensures.inlet.1 c.left_after-left.ensures.token.1) c.in-Ok.ensures.apart
+    (sym c.parted-report.ensures.pass) c.parted-report.ensures.report c.parted-report.ensures.front c.in-Ok.ensures.apart
 
 pub returns-in-Err-clause-fault : goal.returns-in-Err-clause-fault
 returns-in-Err-clause-fault t c = elim c.in-Err.ensures.fault [
