@@ -100,41 +100,78 @@ pub enum Outcome {
     Plant(Plan),
 }
 
-fn command<F: Files, W: Write, N: Write>(
+/// `show`: the payload that digits say.
+fn shown<F: Files, W: Write, N: Write>(
     alloc: Global,
-    words: &[&str],
+    given: &ArgMatches<'_>,
     files: &mut F,
     out: &mut W,
     notes: &mut N,
 ) -> Result<Outcome, Stop> {
-    let matches = match command_line(alloc)?.try_get_matches_from(words) {
-        Ok(matches) => matches,
-        Err(error) => return Err(refusal(alloc, &error)?),
-    };
+    let digits = digits_of(alloc, given, files)?;
+    let birth = birth_of(alloc, given, files)?;
+    let birth = birth.as_ref().map(|digits| digits.as_str());
+    show(alloc, out, notes, digits.as_str(), birth)?;
+    Ok(Outcome::Over(0))
+}
+
+/// `packets`: the packets that digits say.
+fn listed<F: Files, W: Write, N: Write>(
+    alloc: Global,
+    given: &ArgMatches<'_>,
+    files: &mut F,
+    out: &mut W,
+    notes: &mut N,
+) -> Result<Outcome, Stop> {
+    let digits = digits_of(alloc, given, files)?;
+    packets(alloc, out, notes, digits.as_str())?;
+    Ok(Outcome::Over(0))
+}
+
+/// `world`: a world's file, played.
+fn played<F: Files, W: Write, N: Write>(
+    alloc: Global,
+    given: &ArgMatches<'_>,
+    files: &mut F,
+    out: &mut W,
+    notes: &mut N,
+) -> Result<Outcome, Stop> {
+    let text = noted_text_of(alloc, given, files, notes)?;
+    let status = world(alloc, out, notes, text.as_str())?;
+    Ok(Outcome::Over(status))
+}
+
+/// `plant`: the plan of a file, which is to be run.
+fn planned<F: Files, N: Write>(
+    alloc: Global,
+    given: &ArgMatches<'_>,
+    files: &mut F,
+    notes: &mut N,
+) -> Result<Outcome, Stop> {
+    let text = noted_text_of(alloc, given, files, notes)?;
+    let plan = plan_from(alloc, notes, text.as_str())?;
+    Ok(Outcome::Plant(plan))
+}
+
+/// The command that was given. Each has a function of its own, since whoever holds all that was given is dear to prove.
+fn chosen<F: Files, W: Write, N: Write>(
+    alloc: Global,
+    matches: &ArgMatches<'_>,
+    files: &mut F,
+    out: &mut W,
+    notes: &mut N,
+) -> Result<Outcome, Stop> {
     if let Some(given) = matches.subcommand_matches("show") {
-        let digits = digits_of(alloc, given, files)?;
-        let birth = birth_of(alloc, given, files)?;
-        show(
-            alloc,
-            out,
-            notes,
-            digits.as_str(),
-            birth.as_ref().map(|digits| digits.as_str()),
-        )?;
+        return shown(alloc, given, files, out, notes);
     }
     if let Some(given) = matches.subcommand_matches("packets") {
-        let digits = digits_of(alloc, given, files)?;
-        packets(alloc, out, notes, digits.as_str())?;
+        return listed(alloc, given, files, out, notes);
     }
     if let Some(given) = matches.subcommand_matches("world") {
-        let text = noted_text_of(alloc, given, files, notes)?;
-        let status = world(alloc, out, notes, text.as_str())?;
-        return Ok(Outcome::Over(status));
+        return played(alloc, given, files, out, notes);
     }
     if let Some(given) = matches.subcommand_matches("plant") {
-        let text = noted_text_of(alloc, given, files, notes)?;
-        let plan = plan_from(alloc, notes, text.as_str())?;
-        return Ok(Outcome::Plant(plan));
+        return planned(alloc, given, files, notes);
     }
     if let Some(given) = matches.subcommand_matches("serve") {
         return Ok(Outcome::Serve {
@@ -143,6 +180,19 @@ fn command<F: Files, W: Write, N: Write>(
         });
     }
     Ok(Outcome::Over(0))
+}
+
+fn command<F: Files, W: Write, N: Write>(
+    alloc: Global,
+    words: &[&str],
+    files: &mut F,
+    out: &mut W,
+    notes: &mut N,
+) -> Result<Outcome, Stop> {
+    match command_line(alloc)?.try_get_matches_from(words) {
+        Ok(matches) => chosen(alloc, &matches, files, out, notes),
+        Err(error) => Err(refusal(alloc, &error)?),
+    }
 }
 
 /// The last lines of a command, and its status.
