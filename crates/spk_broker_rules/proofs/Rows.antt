@@ -416,6 +416,18 @@ a_will_that_a_routing_frees_goes_behind_those_that_wait : outs silent_broker (Ti
 unfolding step route route_some has_bad_text has_bad_body is_qos_two spelling body shortest
 a_will_that_a_routing_frees_goes_behind_those_that_wait = refl
 
+-- one with a will, a full session that it is for, and a newer connection
+abbrev older_broker : Broker
+older_broker = record silent_broker {
+  guests = record { conn = 2; heard = 0; drops = 0 } ∷ [];
+  seats = record (silent_seat 1 (codes "a")) { client = codes "p" } ∷ record (full_seat false) { grants = (codes "a", 1) ∷ [] } ∷ [];
+}
+
+-- behind the one that its will closes
+the_older_connection_is_closed_last : outs older_broker (Packet 2 (hello (codes "p")) 0 ∷ []) ≡ (to 2 (ConnAck false 0) ∷ [], 9 ∷ 1 ∷ []) ∷ []
+unfolding step route route_some has_bad_text has_bad_body is_qos_two spelling body shortest
+the_older_connection_is_closed_last = refl
+
 -- ---- limits
 
 -- a thousand connections, or the greatest number, leave no room for one more
