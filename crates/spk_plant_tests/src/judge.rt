@@ -284,12 +284,7 @@ fn behind_nothing(consumed: &[Taken], name: &str, given: usize) -> Option<Stand>
 }
 
 /// Where the host stands behind an item.
-fn behind_item(
-    given: &Given,
-    name: &str,
-    published: &[Published],
-    stand: Stand,
-) -> Option<Stand> {
+fn behind_item(given: &Given, name: &str, published: &[Published], stand: Stand) -> Option<Stand> {
     match word_of(given, name) {
         Word::Message(heard) => behind_message(&given.consumed, name, published, stand, heard),
         Word::Death => behind_nothing(&given.consumed, name, stand.given),

@@ -4,16 +4,15 @@ use Rattle.spk_plant.proofs.Ends.{apart_push, sized_before, theirs_before}
 use Rattle.spk_plant.proofs.tie.+apart.Goals as goal
 
 pub apart-requires : goal.apart-requires
-apart-requires t c =
-    (
-      search rules,
-      (
-        sized_before c.args.ends.items c.pop.new.self.items c.last_of.new.tokens.items c.args.tokens.items c.in-Some.end (Some c.in-Some-last_of.token)
+apart-requires t c = (
+  search rules,
+  (
+    sized_before c.args.ends.items c.pop.new.self.items c.last_of.new.tokens.items c.args.tokens.items c.in-Some.end (Some c.in-Some-last_of.token)
         c.in-Some.ensures.items c.in-Some-last_of.ensures.there c.requires.sized,
-        theirs_before c.args.ends.items c.pop.new.self.items c.last_of.new.tokens.items c.args.tokens.items c.in-Some.end (Some c.in-Some-last_of.token)
+    theirs_before c.args.ends.items c.pop.new.self.items c.last_of.new.tokens.items c.args.tokens.items c.in-Some.end (Some c.in-Some-last_of.token)
         c.in-Some.ensures.items c.in-Some-last_of.ensures.there c.requires.theirs,
-      ),
-    )
+  ),
+)
 
 pub returns-clause-apart : goal.returns-clause-apart
 returns-clause-apart t c =

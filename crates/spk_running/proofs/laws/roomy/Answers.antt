@@ -9,5 +9,5 @@ pub returns : goal.returns
 returns c = λ p r ran few.
     let edges = length p.nodes.items in
     let got : length (got_of edges ran.log) ≡ length r.given.items =
-        told_length (got_of edges ran.log) (map heard_in r.given.items) ran.host.told ∙ length-map r.given.items heard_in in
+    told_length (got_of edges ran.log) (map heard_in r.given.items) ran.host.told ∙ length-map r.given.items heard_in in
     ran.logged.refused ∙ none_refused p.ring edges ran.log ran.room (subst (λ n. n < p.ring) (sym got) few)
