@@ -10,7 +10,8 @@ use Rattle.spk_broker_rules.specs.Lawful.{IsLawful}
 use Rattle.spk_broker_rules.specs.Plan.{Accept, Act, Forget, Seen, connect, has_bad_topic, join, shut, take_over, tell_older, turn_away}
 use Rattle.spk_broker_rules.specs.Step.{Turn, accept_of, act, acts, away_for, begun, is_guest, line_of, take_up}
 use Rattle.spk_packets.specs.Message.{WillData}
-use Rattle.spk_broker_rules.specs.Words.{is_empty, option_list, will_post}
+use Rattle.spk_packets.specs.Spelling.{is_empty}
+use Rattle.spk_broker_rules.specs.Words.{option_list, will_post}
 use Rattle.spk_broker.specs.Asking.{guest_here, guests_now, test_at}
 use Rattle.spk_broker.specs.Connecting.{Comes, acts_of, finished, judged}
 use Rattle.spk_broker.specs.Drafts.{Drafted, draft_view}

@@ -5,7 +5,7 @@ use Rattle.std.specs.Option.{option_map_or, option_and_then}
 use Rattle.std.proofs.lemmas.List.{take_more}
 use Rattle.spk_broker_rules.specs.Data as plain
 use Rattle.spk_broker_rules.specs.Step.{conn_at, is_guest, is_kept_of, older_in, seat_at, silent_at, sits, welcome_in}
-use Rattle.spk_broker_rules.specs.Words.{is_empty}
+use Rattle.spk_packets.specs.Spelling.{is_empty}
 use Rattle.spk_broker_rules.proofs.Lists.{eqb-is, flat_map-append}
 use Rattle.spk_broker.specs.Both.{Both}
 use Rattle.spk_broker.specs.Asking.{drops_at, guest_here, guests_now, is_joined_by, passes, seat_here, seats_now, test_at}

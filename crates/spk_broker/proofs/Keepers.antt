@@ -7,7 +7,8 @@ use Rattle.std.proofs.lemmas.Slice.Eq.{bytes_eq-Decides}
 use Rattle.spk_broker_rules.specs.Data as plain
 use Rattle.spk_broker_rules.specs.Step.{retained_with}
 use Rattle.spk_broker_rules.specs.Table.{Table, has, put, remove, replaced}
-use Rattle.spk_broker_rules.specs.Words.{is_empty, most_topics, stored}
+use Rattle.spk_packets.specs.Spelling.{is_empty}
+use Rattle.spk_broker_rules.specs.Words.{most_topics, stored}
 use Rattle.spk_broker.specs.Sendable.{are_sendable, is_sendable}
 
 and-join : (a b : Bool) → a ≡ true → b ≡ true → (a && b) ≡ true

@@ -4,12 +4,12 @@ use Rattle.std.specs.Option.{is_some, option_map}
 use Rattle.std.specs.List.{flat_map}
 use Rattle.spk_packets.specs.Fault.{first_of}
 use Rattle.spk_packets.specs.Message.{Message, WillData, Connect, ConnAck, Publish, PubAck, Subscribe, SubAck, Unsubscribe, UnsubAck, PingReq, PingResp, Disconnect}
-use Rattle.spk_packets.specs.Spelling.{unwritable}
+use Rattle.spk_packets.specs.Spelling.{unwritable, is_empty}
 use Rattle.spk_session.specs.declared.answer.Sort.{Sort}
 use Rattle.spk_session.specs.declared.answer.Sort.TheVariants as sort
 use Rattle.spk_topics.specs.Text.{topic_refusal}
 use Rattle.spk_broker_rules.specs.Data.{Post, Seat, Broker}
-use Rattle.spk_broker_rules.specs.Words.{is_empty, will_post}
+use Rattle.spk_broker_rules.specs.Words.{will_post}
 use Rattle.spk_broker_rules.specs.Plan.{Act, Hear, Leave, Tell, Queue, Route, Event, Open, Packet, Fault, Closed, Tick, Refused, Seen, before, plan, next_packet, first_packet, connect, has_bad_topic, join, turn_away, shut, is_bad_level, is_fatal, puback}
 use Rattle.spk_broker_rules.specs.Step.{Turn, act, begun, noted, seen, serve, step}
 use Rattle.spk_broker_rules.specs.Table.{Table}

@@ -4,7 +4,7 @@ use Rattle.spk_packets.specs.Message.{WillData}
 use Rattle.spk_broker_rules.specs.Data.{Post}
 use Rattle.spk_broker_rules.specs.Plan.{Act, has_bad_topic, join, shut, turn_away}
 use Rattle.spk_broker_rules.specs.Step.{Turn}
-use Rattle.spk_broker_rules.specs.Words.{is_empty}
+use Rattle.spk_packets.specs.Spelling.{is_empty}
 use Rattle.spk_broker.specs.Entering.{entered}
 use Rattle.spk_broker.specs.View.{Stands}
 use Rattle.spk_broker.specs.declared.connecting.Judged.{Judged}

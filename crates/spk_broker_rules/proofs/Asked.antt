@@ -6,7 +6,8 @@ use Rattle.std.specs.Str.{bytes_eq}
 use Rattle.std.proofs.lemmas.List.{length-map}
 use Rattle.spk_session.specs.Step.{is_spent}
 use Rattle.spk_broker_rules.specs.Data.{Line, Guest, Seat}
-use Rattle.spk_broker_rules.specs.Words.{is_empty, is_silent, most_kept}
+use Rattle.spk_packets.specs.Spelling.{is_empty}
+use Rattle.spk_broker_rules.specs.Words.{is_silent, most_kept}
 use Rattle.spk_broker_rules.specs.Plan.{Event, Seen, conn_of, client_of}
 use Rattle.spk_broker_rules.specs.Step.{seat_at, conn_at, older_in, welcome_in, is_kept_of, drops_in, silent_at, seen}
 use Rattle.spk_broker_rules.specs.Past.{Past, Joining, conn_deeds, deeds, clock, heard, drops, client, kept, here, guests, sessions, conn_here, session_at, is_of, older_of, is_welcome, joined_drops, drops_of, silent_of, seen_in, guest_of, line_of, seat_of, broker_of}

@@ -7,7 +7,8 @@ use Rattle.spk_session.specs.Step.{without}
 use Rattle.spk_broker_rules.specs.Data.{Post, Guest, Seat, Broker, Send}
 use Rattle.spk_broker_rules.specs.Lawful.{Rises, IsLawful}
 use Rattle.spk_broker_rules.specs.Table.{has, put, remove}
-use Rattle.spk_broker_rules.specs.Words.{is_empty, stored, most_topics}
+use Rattle.spk_packets.specs.Spelling.{is_empty}
+use Rattle.spk_broker_rules.specs.Words.{stored, most_topics}
 use Rattle.spk_broker_rules.specs.Step.{Turn, Served, serve, retain_in, retained_with, route_one}
 use Rattle.spk_broker_rules.specs.Past.{Past, ConnDeed, heard, drops, Deed, conn_deeds, deeds, clock, given, made, guests, sessions, routed, retained_notes, note_if, counts, staying, table, guest_of, line_of, seat_with, seat_of, broker_of}
 use Rattle.spk_broker_rules.specs.Story.{Story, share, session_facts, told_one}

@@ -4,10 +4,10 @@ use Rattle.std.specs.List.{find, list_any, AllByRecursion}
 use Rattle.std.specs.Option.{option_map, option_map_or, is_some}
 use Rattle.spk_packets.specs.Fault.{first_of}
 use Rattle.spk_packets.specs.Message.{WillData, Connect, ConnAck, Disconnect}
-use Rattle.spk_packets.specs.Spelling.{unwritable, has_bad_text, has_bad_body, is_qos_two, spelling, body, shortest}
+use Rattle.spk_packets.specs.Spelling.{unwritable, has_bad_text, has_bad_body, is_qos_two, spelling, body, shortest, is_empty}
 use Rattle.spk_session.specs.Step.{without}
 use Rattle.spk_broker_rules.specs.Data.{Post, Copy, Send}
-use Rattle.spk_broker_rules.specs.Words.{is_empty, will_post, resent}
+use Rattle.spk_broker_rules.specs.Words.{will_post, resent}
 use Rattle.spk_broker_rules.specs.Plan.{Packet, Act, At, Hear, Leave, Tell, Forget, Accept, plan, join, has_bad_topic, shut, turn_away}
 use Rattle.spk_broker_rules.specs.Past.{Past, OfConn, Moment, Heard, Joining, deeds, clock, here, kept, copies, guests, sessions, open_conns, routed, conn_here, sits_at, session_at, is_of, older_of, is_welcome, seen_in}
 use Rattle.spk_broker_rules.specs.Story as story

@@ -7,7 +7,7 @@ use Rattle.std.specs.Str.{bytes_eq}
 use Rattle.std.proofs.lemmas.Bool.{or_right}
 use Rattle.spk_packets.specs.Message.{Message, WillData, Connect, ConnAck, Publish, PubAck, Subscribe, SubAck, Unsubscribe, UnsubAck, PingReq, PingResp, Disconnect}
 use Rattle.spk_packets.specs.Fault.{first_of}
-use Rattle.spk_packets.specs.Spelling.{unwritable}
+use Rattle.spk_packets.specs.Spelling.{unwritable, is_empty}
 use Rattle.spk_packets.specs.declared.fault.PacketFault.{PacketFault}
 use Rattle.spk_session.specs.declared.answer.Sort.{Sort}
 use Rattle.spk_session.specs.declared.answer.Sort.TheVariants as sort
@@ -15,7 +15,7 @@ use Rattle.spk_session.specs.Step.{one_more}
 use Rattle.spk_broker_rules.specs.Data.{Post, Line, Guest, Seat, Broker}
 use Rattle.spk_broker_rules.specs.Knowing.{speaks_of, IsWelcomed}
 use Rattle.spk_broker_rules.specs.Lawful.{IsLawful, places}
-use Rattle.spk_broker_rules.specs.Words.{is_empty, is_silent, granted_of, offers_to, handed_out, will_post, most_kept}
+use Rattle.spk_broker_rules.specs.Words.{is_silent, granted_of, offers_to, handed_out, will_post, most_kept}
 use Rattle.spk_broker_rules.specs.Plan.{Event, Open, Packet, Fault, Closed, Tick, Refused, Act, Opens, At, Hear, Drop, Say, Leave, Tell, Queue, Route, Forget, Accept, Give, Take, Ack, before, plan, has_bad_topic, client_in, shut, turn_away, take_over, tell_older, join, first_packet, next_packet, tick, is_fatal, is_bad_level, Seen}
 use Rattle.spk_broker_rules.specs.Listening.{is_joined, is_disconnect, lets_go, is_closed_in}
 use Rattle.spk_broker_rules.specs.Step.{Turn, act, acts, sits, swap, conn_at, seat_at, is_guest, is_away, is_kept_of, other_guests, guest_heard, guest_dropped, line_heard, leave_at, forget_at, line_of, new_seat, take_up, away_for, accept_of, other_grants, give_at, take_at, ack_at, offer, offer_at, with_key, older_in, silent_at, welcome_in, route_one, route_some, route, noted, begun, seen, step, knows}

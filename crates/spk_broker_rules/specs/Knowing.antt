@@ -2,9 +2,8 @@
 use Rattle.std.specs.Prelude.{◌≡◌, ℕ, ◌==◌, Bool, true, false, not, ◌&&◌, List, Option, is_some}
 use Rattle.spk_packets.specs.Fault.{first_of}
 use Rattle.spk_packets.specs.Message.{WillData, Connect}
-use Rattle.spk_packets.specs.Spelling.{unwritable}
+use Rattle.spk_packets.specs.Spelling.{unwritable, is_empty}
 use Rattle.spk_broker_rules.specs.Data.{Broker}
-use Rattle.spk_broker_rules.specs.Words.{is_empty}
 use Rattle.spk_broker_rules.specs.Step.{welcome_in}
 use Rattle.spk_broker_rules.specs.Plan.{has_bad_topic, Event, Open, Packet, Fault, Closed, Tick, Refused}
 

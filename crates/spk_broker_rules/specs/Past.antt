@@ -7,7 +7,8 @@ use Rattle.std.specs.Str.{bytes_eq}
 use Rattle.spk_session.specs.Step.{without, one_more, is_spent}
 use Rattle.spk_broker_rules.specs.Data.{Post, Copy, Line, Guest, Seat, Stored, Broker}
 use Rattle.spk_broker_rules.specs.Table.{Table}
-use Rattle.spk_broker_rules.specs.Words.{is_empty, handed_out, without_id, stored, is_silent, most_topics, most_kept, most_open, last_number}
+use Rattle.spk_packets.specs.Spelling.{is_empty}
+use Rattle.spk_broker_rules.specs.Words.{handed_out, without_id, stored, is_silent, most_topics, most_kept, most_open, last_number}
 use Rattle.spk_broker_rules.specs.Plan.{Event, Seen, conn_of, client_of}
 
 -- ---- facts

@@ -7,12 +7,12 @@ use Rattle.spk_packets.specs.declared.fault.PacketFault.{PacketFault}
 use Rattle.spk_packets.specs.declared.fault.PacketFault.TheVariants as fault
 use Rattle.spk_packets.specs.Fault.{first_of}
 use Rattle.spk_packets.specs.Message.{Message, WillData, Connect, ConnAck, Publish, PubAck, Subscribe, SubAck, Unsubscribe, UnsubAck, PingReq, PingResp, Disconnect}
-use Rattle.spk_packets.specs.Spelling.{unwritable}
+use Rattle.spk_packets.specs.Spelling.{unwritable, is_empty}
 use Rattle.spk_topics.specs.Text.{filter_refusal, topic_refusal}
 use Rattle.spk_session.specs.declared.answer.Sort.{Sort}
 use Rattle.spk_session.specs.declared.answer.Sort.TheVariants as sort
 use Rattle.spk_broker_rules.specs.Data.{Post}
-use Rattle.spk_broker_rules.specs.Words.{is_empty, will_post}
+use Rattle.spk_broker_rules.specs.Words.{will_post}
 
 -- what comes to a broker, each with its moment
 pub data Event : Type 0 where

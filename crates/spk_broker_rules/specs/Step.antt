@@ -9,7 +9,8 @@ use Rattle.spk_session.specs.PacketIds.{next_id}
 use Rattle.spk_session.specs.Step.{has_room, without, one_more, is_spent}
 use Rattle.spk_broker_rules.specs.Data.{Post, Copy, Line, Guest, Seat, Stored, Broker, Send, fresh_broker}
 use Rattle.spk_broker_rules.specs.Table.{Table, has, put, remove}
-use Rattle.spk_broker_rules.specs.Words.{is_empty, best, level, sent_as, plain_packet, numbered_packet, to_line, option_list, resent, handed_out, without_id, stored, offers_to, granted_of, codes_of, with_entry, is_silent, most_topics, most_kept, most_open, last_number}
+use Rattle.spk_packets.specs.Spelling.{is_empty}
+use Rattle.spk_broker_rules.specs.Words.{best, level, sent_as, plain_packet, numbered_packet, to_line, option_list, resent, handed_out, without_id, stored, offers_to, granted_of, codes_of, with_entry, is_silent, most_topics, most_kept, most_open, last_number}
 use Rattle.spk_broker_rules.specs.Plan.{Event, Act, Opens, At, Hear, Drop, Say, Leave, Tell, Queue, Route, Forget, Accept, Give, Take, Ack, Seen, before, plan, conn_of, client_of}
 
 -- A broker in the midst of a call: its data by now, what it sends and closes so far, and the messages that wait.

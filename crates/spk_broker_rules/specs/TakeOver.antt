@@ -3,9 +3,8 @@ use Rattle.std.specs.Prelude.{◌≡◌, ℕ, Bool, true, false, not, ◌&&◌, 
 use Rattle.std.specs.List.{AllByRecursion}
 use Rattle.spk_packets.specs.Message.{WillData, Connect, ConnAck}
 use Rattle.spk_packets.specs.Fault.{first_of}
-use Rattle.spk_packets.specs.Spelling.{unwritable}
+use Rattle.spk_packets.specs.Spelling.{unwritable, is_empty}
 use Rattle.spk_broker_rules.specs.Data.{Send}
-use Rattle.spk_broker_rules.specs.Words.{is_empty}
 use Rattle.spk_broker_rules.specs.Plan.{Leave, Route, has_bad_topic}
 use Rattle.spk_broker_rules.specs.Past.{Past, is_open, is_welcome, routed}
 use Rattle.spk_broker_rules.specs.Story.{Story, TellsAll}

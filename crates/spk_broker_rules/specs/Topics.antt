@@ -1,9 +1,10 @@
 -- Which filters and topics stand in the data of a broker, which an event brings, and on which topics is sent.
-use Rattle.std.specs.Prelude.{◌≡◌, ℕ, Bool, false, List, Option, Some, None}
+use Rattle.std.specs.Prelude.{◌≡◌, ℕ, Bool, false, List}
 use Rattle.std.specs.List.{AllByRecursion}
-use Rattle.spk_packets.specs.Message.{Message, WillData, Connect, ConnAck, Publish, PubAck, Subscribe, SubAck, Unsubscribe, UnsubAck, PingReq, PingResp, Disconnect}
+use Rattle.spk_packets.specs.Message.{Message, Connect, ConnAck, Publish, PubAck, Subscribe, SubAck, Unsubscribe, UnsubAck, PingReq, PingResp, Disconnect}
 use Rattle.spk_topics.specs.Fitting.{is_match}
-use Rattle.spk_broker_rules.specs.Data.{Post, Copy, Line, Seat, Stored, Broker, Send}
+use Rattle.spk_broker_rules.specs.Data.{Copy, Seat, Stored, Broker, Send}
+use Rattle.spk_broker_rules.specs.Origins.{WillSays, Says, SaysAll}
 use Rattle.spk_broker_rules.specs.Plan.{Event, Open, Packet, Fault, Closed, Tick, Refused}
 
 -- it is none of these topics
@@ -14,18 +15,9 @@ IsOff on topic = on topic ≡ false
 abbrev pub FitsAlike : List ℕ → List ℕ → List ℕ → Type 0
 FitsAlike one other filter = is_match filter one ≡ is_match filter other
 
--- the topic of a will, where there is one
-abbrev pub IsOn : (List ℕ → Type 0) → Option Post → Type 0
-IsOn P None = Unit {0}
-IsOn P (Some m) = P m.topic
-
-abbrev pub WillIsOn : (List ℕ → Type 0) → Option Line → Type 0
-WillIsOn P None = Unit {0}
-WillIsOn P (Some l) = IsOn P l.will
-
 -- every topic of a will, of an unacknowledged and of a retained message is such
 pub record HasTopics (P : List ℕ → Type 0) (b : Broker) : Type 0 where
-  pub wills : AllByRecursion (λ (s : Seat). WillIsOn P s.here) b.seats
+  pub wills : AllByRecursion (λ (s : Seat). WillSays (λ topic payload. P topic) s.here) b.seats
   pub copies : AllByRecursion (λ (s : Seat). AllByRecursion (λ (c : Copy). P c.post.topic) s.copies) b.seats
   pub retained : AllByRecursion (λ (e : List ℕ × Stored). P e.0) b.retained
 
@@ -33,24 +25,9 @@ pub record HasTopics (P : List ℕ → Type 0) (b : Broker) : Type 0 where
 abbrev pub HasFilters : (List ℕ → Type 0) → Broker → Type 0
 HasFilters P b = AllByRecursion (λ (s : Seat). AllByRecursion (λ (g : List ℕ × ℕ). P g.0) s.grants) b.seats
 
--- the topic of a CONNECT's will
-abbrev pub AsksFor : (List ℕ → Type 0) → Option WillData → Type 0
-AsksFor P None = Unit {0}
-AsksFor P (Some w) = P w.topic
-
 -- the topic of a PUBLISH, and that of a CONNECT's will
 abbrev pub TopicIn : (List ℕ → Type 0) → Message → Type 0
-TopicIn P (Connect client clean alive will) = AsksFor P will
-TopicIn P (ConnAck present code) = Unit {0}
-TopicIn P (Publish dup qos retain topic id payload) = P topic
-TopicIn P (PubAck id) = Unit {0}
-TopicIn P (Subscribe id entries) = Unit {0}
-TopicIn P (SubAck id codes) = Unit {0}
-TopicIn P (Unsubscribe id filters) = Unit {0}
-TopicIn P (UnsubAck id) = Unit {0}
-TopicIn P PingReq = Unit {0}
-TopicIn P PingResp = Unit {0}
-TopicIn P Disconnect = Unit {0}
+TopicIn P = Says (λ topic payload. P topic)
 
 -- the filters of a SUBSCRIBE
 abbrev pub FiltersIn : (List ℕ → Type 0) → Message → Type 0
@@ -77,4 +54,4 @@ Brings Q (Refused conn s moment) = Unit {0}
 
 -- each PUBLISH that is sent is on such a topic
 abbrev pub SendsOn : (List ℕ → Type 0) → List Send → Type 0
-SendsOn P sends = AllByRecursion (λ (s : Send). TopicIn P s.packet) sends
+SendsOn P = SaysAll (λ topic payload. P topic)

@@ -6,10 +6,6 @@ use Rattle.spk_topics.specs.Fitting.{is_match}
 use Rattle.spk_broker_rules.specs.Data.{Post, Copy, Stored, Send}
 use Rattle.spk_broker_rules.specs.Table.{Table, has, put}
 
-abbrev pub is_empty : {X : Type 0} → List X → Bool
-is_empty [] = true
-is_empty (x ∷ xs) = false
-
 -- ---- routing
 
 -- the greatest grant by the filters that match a topic

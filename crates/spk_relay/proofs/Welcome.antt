@@ -207,7 +207,7 @@ kind-join None conn client clean alive will = acts-append (cond clean (event.For
 kind-join (Some older) conn client clean alive will = (tt, (tt, acts-append (cond clean (event.Forget client ∷ []) []) _ (acts-cond clean (event.Forget client ∷ []) [] (tt, tt) tt) (tt, (tt, tt))))
 
 kind-connect : (s : Seen) (conn : ℕ) (client : List ℕ) (alive : ℕ) (will : Option WillData) → AreKindActs (event.connect s conn client true alive will)
-kind-connect s conn client alive will = by (Rattle.spk_broker_rules.specs.Words.is_empty client) (event.has_bad_topic will)
+kind-connect s conn client alive will = by (Rattle.spk_packets.specs.Spelling.is_empty client) (event.has_bad_topic will)
   where
     by : (a b : Bool) → AreKindActs (cond (a && false) (event.turn_away conn 2) (cond b (event.shut conn) (event.join s.older conn client true alive (option_map Rattle.spk_broker_rules.specs.Words.will_post will))))
     by true true = (tt, (tt, (tt, tt)))
