@@ -100,7 +100,9 @@ impl<T> Closed<T> {
     }
 
     /// The refusal, without what was to be put.
-    pub fn gone(&self) -> Gone {
+    pub fn gone(&self) -> Gone
+        ensures { result ≡ self.now.gone }
+    {
         self.gone
     }
 
