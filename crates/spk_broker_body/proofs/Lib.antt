@@ -3,5 +3,6 @@ pub mod Desks
 pub mod Each
 pub mod Hubs
 pub mod Lines
+pub mod Ringing
 pub mod Rings
 pub mod Rows

@@ -1,5 +1,5 @@
 //! The calls of the broker for a connection that it may not know any more.
-ghost use Rattle.std.specs.Prelude.{◌≡◌, ℕ, Some, None, IfOk, IfErr};
+ghost use Rattle.std.specs.Prelude.{◌≡◌, ℕ, Some, None, IfOk};
 ghost use Rattle.std.specs.Option.{IfSome, IfNone};
 ghost use Rattle.spk_packets.specs.View.{view};
 ghost use Rattle.spk_broker_rules.specs.Plan as event;
@@ -8,8 +8,8 @@ ghost use Rattle.spk_broker_body.specs.Step.{known};
 
 use spk_broker::{Broker, BrokerFault, Conn, Out};
 use spk_packets::{Packet, PacketFault};
-use spk_plan::PlantFault;
 use spk_session::Sort;
+use std::alloc::AllocError;
 
 /// A packet of a connection. None where there is none, or the broker doesn't know it.
 pub(crate) fn packet_on(
@@ -17,12 +17,11 @@ pub(crate) fn packet_on(
     conn: Option<Conn>,
     packet: &Packet,
     now: u64,
-) -> Result<Option<Out>, PlantFault>
+) -> Result<Option<Out>, AllocError>
     ensures some { IfOk result (λ o. IfSome o (λ out. (c : ℕ) × (known broker.old conn ≡ Some c)
         × Answers broker.old broker.new (event.Packet c (view packet.now) now) out)) }
     ensures none { IfOk result
         (λ o. IfNone o ((broker.new ≡ broker.old) × (known broker.old conn ≡ None))) }
-    ensures fault { IfErr result (λ e. e ≡ PlantFault.NoMemory) }
 {
     let Some(conn) = conn else {
         return Ok(None);
@@ -30,7 +29,7 @@ pub(crate) fn packet_on(
     match broker.packet(conn, packet, now) {
         Ok(out) => Ok(Some(out)),
         Err(BrokerFault::NoSuchConn) => Ok(None),
-        Err(_) => Err(PlantFault::NoMemory),
+        Err(_) => Err(AllocError),
     }
 }
 
@@ -40,12 +39,11 @@ pub(crate) fn fault_on(
     conn: Option<Conn>,
     fault: PacketFault,
     now: u64,
-) -> Result<Option<Out>, PlantFault>
+) -> Result<Option<Out>, AllocError>
     ensures some { IfOk result (λ o. IfSome o (λ out. (c : ℕ) × (known broker.old conn ≡ Some c)
         × Answers broker.old broker.new (event.Fault c fault now) out)) }
     ensures none { IfOk result
         (λ o. IfNone o ((broker.new ≡ broker.old) × (known broker.old conn ≡ None))) }
-    ensures fault { IfErr result (λ e. e ≡ PlantFault.NoMemory) }
 {
     let Some(conn) = conn else {
         return Ok(None);
@@ -53,7 +51,7 @@ pub(crate) fn fault_on(
     match broker.fault(conn, fault, now) {
         Ok(out) => Ok(Some(out)),
         Err(BrokerFault::NoSuchConn) => Ok(None),
-        Err(_) => Err(PlantFault::NoMemory),
+        Err(_) => Err(AllocError),
     }
 }
 
@@ -62,12 +60,11 @@ pub(crate) fn closed_on(
     broker: &mut Broker,
     conn: Option<Conn>,
     now: u64,
-) -> Result<Option<Out>, PlantFault>
+) -> Result<Option<Out>, AllocError>
     ensures some { IfOk result (λ o. IfSome o (λ out. (c : ℕ) × (known broker.old conn ≡ Some c)
         × Answers broker.old broker.new (event.Closed c now) out)) }
     ensures none { IfOk result
         (λ o. IfNone o ((broker.new ≡ broker.old) × (known broker.old conn ≡ None))) }
-    ensures fault { IfErr result (λ e. e ≡ PlantFault.NoMemory) }
 {
     let Some(conn) = conn else {
         return Ok(None);
@@ -75,7 +72,7 @@ pub(crate) fn closed_on(
     match broker.closed(conn, now) {
         Ok(out) => Ok(Some(out)),
         Err(BrokerFault::NoSuchConn) => Ok(None),
-        Err(_) => Err(PlantFault::NoMemory),
+        Err(_) => Err(AllocError),
     }
 }
 
@@ -85,17 +82,16 @@ pub(crate) fn refused_on(
     conn: Conn,
     sort: Sort,
     now: u64,
-) -> Result<Option<Out>, PlantFault>
+) -> Result<Option<Out>, AllocError>
     ensures some { IfOk result
         (λ o. IfSome o (λ out. (c : ℕ) × (known broker.old (Some conn) ≡ Some c)
         × Answers broker.old broker.new (event.Refused c sort now) out)) }
     ensures none { IfOk result
         (λ o. IfNone o ((broker.new ≡ broker.old) × (known broker.old (Some conn) ≡ None))) }
-    ensures fault { IfErr result (λ e. e ≡ PlantFault.NoMemory) }
 {
     match broker.refused(conn, sort, now) {
         Ok(out) => Ok(Some(out)),
         Err(BrokerFault::NoSuchConn) => Ok(None),
-        Err(_) => Err(PlantFault::NoMemory),
+        Err(_) => Err(AllocError),
     }
 }

@@ -1,5 +1,5 @@
 //! The broker, and the connections of its clients.
-ghost use Rattle.std.specs.Prelude.{◌≡◌, ℕ, ◌<◌, ◌||◌, Bool, [], length, Some, None, IfOk, IfErr, OnOk, true, false};
+ghost use Rattle.std.specs.Prelude.{◌≡◌, ℕ, ◌<◌, ◌||◌, Bool, [], length, Some, None, IfOk, OnOk, true, false};
 ghost use Rattle.std.specs.Option.{IfSome, IfNone};
 ghost use Rattle.spk_packets.specs.View.{view};
 ghost use Rattle.spk_broker_rules.specs.Plan as event;
@@ -11,7 +11,6 @@ ghost use Rattle.spk_broker_body.specs.Step.{called_on, client_of, conn_at, fres
 use crate::answers::{closed_on, fault_on, packet_on, refused_on};
 use spk_broker::{Broker, BrokerFault, Conn, Out};
 use spk_packets::{Packet, PacketFault};
-use spk_plan::PlantFault;
 use spk_session::Sort;
 use std::alloc::{AllocError, Global};
 
@@ -104,7 +103,7 @@ impl Desk {
     }
 
     /// A client opens a connection. None where the broker may have no further one.
-    fn open(&mut self, client: usize, now: u64) -> Result<Option<Conn>, PlantFault>
+    fn open(&mut self, client: usize, now: u64) -> Result<Option<Conn>, AllocError>
         requires { client < length self.old.clients.items }
         ensures some { IfOk result
             (λ o. IfSome o (λ conn. (limit : ℕ) (r : Room) → FitsDesk limit r.closed self.old r
@@ -116,13 +115,12 @@ impl Desk {
         ensures known { IfOk result
             (λ o. IfSome o (λ conn. known self.new.broker (Some conn) ≡ Some conn)) }
         ensures openers { OnOk result (MayOpen client self.old self.new) }
-        ensures fault { IfErr result (λ e. e ≡ PlantFault.NoMemory) }
     {
         self.openers.reserve(1)?;
         let conn = match self.broker.open(now) {
             Ok(conn) => conn,
             Err(BrokerFault::Limit) => return Ok(None),
-            Err(_) => return Err(PlantFault::NoMemory),
+            Err(_) => return Err(AllocError),
         };
         self.openers.push_reserved(client);
         self.clients[client].conn = Some(conn);
@@ -130,14 +128,13 @@ impl Desk {
     }
 
     /// A packet of a client without a connection opens one, unless the broker closed that client.
-    fn first_packet(&mut self, client: usize, packet: &Packet, now: u64) -> Result<Out, PlantFault>
+    fn first_packet(&mut self, client: usize, packet: &Packet, now: u64) -> Result<Out, AllocError>
         requires { client < length self.old.clients.items }
         ensures done { IfOk result
             (λ out. (limit : ℕ) (r : Room) → FitsDesk limit r.closed self.old r → r.pending ≡ []
             → Gives limit r (packet_on limit now r client (view packet.now) None) self.new out) }
         ensures sized { length self.new.clients.items ≡ length self.old.clients.items }
         ensures openers { OnOk result (MayOpen client self.old self.new) }
-        ensures fault { IfErr result (λ e. e ≡ PlantFault.NoMemory) }
     {
         if self.is_closed(client) {
             return Ok(self.nothing());
@@ -157,7 +154,7 @@ impl Desk {
         client: usize,
         packet: &Packet,
         now: u64,
-    ) -> Result<Out, PlantFault>
+    ) -> Result<Out, AllocError>
         requires { client < length self.old.clients.items }
         ensures done { IfOk result
             (λ out. (limit : ℕ) (r : Room) → FitsDesk limit r.closed self.old r → r.pending ≡ []
@@ -166,7 +163,6 @@ impl Desk {
             out) }
         ensures sized { length self.new.clients.items ≡ length self.old.clients.items }
         ensures openers { OnOk result (MayOpen client self.old self.new) }
-        ensures fault { IfErr result (λ e. e ≡ PlantFault.NoMemory) }
     {
         let conn = self.conn_of(client);
         let Some(out) = packet_on(&mut self.broker, conn, packet, now)? else {
@@ -181,7 +177,7 @@ impl Desk {
         client: usize,
         fault: PacketFault,
         now: u64,
-    ) -> Result<Out, PlantFault>
+    ) -> Result<Out, AllocError>
         requires { client < length self.old.clients.items }
         ensures done { IfOk result
             (λ out. (limit : ℕ) (r : Room) → FitsDesk limit r.closed self.old r → r.pending ≡ []
@@ -190,7 +186,6 @@ impl Desk {
             self.new out) }
         ensures sized { length self.new.clients.items ≡ length self.old.clients.items }
         ensures openers { self.new.openers ≡ self.old.openers }
-        ensures fault { IfErr result (λ e. e ≡ PlantFault.NoMemory) }
     {
         let conn = self.conn_of(client);
         let Some(out) = fault_on(&mut self.broker, conn, fault, now)? else {
@@ -200,7 +195,7 @@ impl Desk {
     }
 
     /// A client's connection ended. Without one nothing happens.
-    pub(crate) fn cut(&mut self, client: usize, now: u64) -> Result<Out, PlantFault>
+    pub(crate) fn cut(&mut self, client: usize, now: u64) -> Result<Out, AllocError>
         requires { client < length self.old.clients.items }
         ensures done { IfOk result
             (λ out. (limit : ℕ) (r : Room) → FitsDesk limit r.closed self.old r → r.pending ≡ []
@@ -209,7 +204,6 @@ impl Desk {
             out) }
         ensures sized { length self.new.clients.items ≡ length self.old.clients.items }
         ensures openers { self.new.openers ≡ self.old.openers }
-        ensures fault { IfErr result (λ e. e ≡ PlantFault.NoMemory) }
     {
         let conn = self.conn_of(client);
         let Some(out) = closed_on(&mut self.broker, conn, now)? else {
@@ -219,7 +213,7 @@ impl Desk {
     }
 
     /// An offer was refused. Where its connection stands no more nothing happens.
-    pub(crate) fn refused(&mut self, conn: Conn, sort: Sort, now: u64) -> Result<Out, PlantFault>
+    pub(crate) fn refused(&mut self, conn: Conn, sort: Sort, now: u64) -> Result<Out, AllocError>
         ensures done { IfOk result
             (λ out. (limit : ℕ) (r : Room) → FitsDesk limit r.closed self.old r → r.pending ≡ []
             → Gives limit r
@@ -227,7 +221,6 @@ impl Desk {
             (known (after limit r.events) (Some conn))) self.new out) }
         ensures sized { length self.new.clients.items ≡ length self.old.clients.items }
         ensures openers { self.new.openers ≡ self.old.openers }
-        ensures fault { IfErr result (λ e. e ≡ PlantFault.NoMemory) }
     {
         let Some(out) = refused_on(&mut self.broker, conn, sort, now)? else {
             return Ok(self.nothing());

@@ -1,5 +1,5 @@
 //! What the broker's thread hands on.
-ghost use Rattle.std.specs.Prelude.{◌≡◌, ◌<◌, ◌+◌, ℕ, Bool, List, length, IfOk, IfErr, OnOk};
+ghost use Rattle.std.specs.Prelude.{◌≡◌, ◌<◌, ◌+◌, ℕ, Bool, List, length, IfOk, OnOk};
 ghost use Rattle.spk_ingress.specs.declared.rule.Message.{Message};
 ghost use Rattle.spk_rings.specs.declared.item.Item.{Item};
 ghost use Rattle.spk_rings.specs.declared.outlet.Outlet.{Outlet};
@@ -10,7 +10,6 @@ use crate::hub::Hub;
 use crate::line::Line;
 use crate::part::{BrokerEnd, Refusal};
 use spk_ingress::TakePass;
-use spk_plan::PlantFault;
 use spk_rings::Token;
 use std::alloc::{AllocError, Global};
 
@@ -37,10 +36,9 @@ fn tokens_of(alloc: Global, lines: Vec<Line>) -> Result<Vec<Option<Token>>, Allo
 }
 
 /// What is handed on when all senders have ended.
-pub(crate) fn end_of(alloc: Global, hub: Hub, pass: TakePass) -> Result<BrokerEnd, PlantFault>
+pub(crate) fn end_of(alloc: Global, hub: Hub, pass: TakePass) -> Result<BrokerEnd, AllocError>
     requires { hub.edges < length hub.desk.clients.items }
     ensures done { IfOk result (λ end. IsEndOf hub pass end) }
-    ensures fault { IfErr result (λ e. e ≡ PlantFault.NoMemory) }
 {
     let is_cut = hub.desk.is_closed(hub.edges);
     let refused = refused_to(hub.refusals.as_slice(), hub.edges);

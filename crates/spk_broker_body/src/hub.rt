@@ -1,5 +1,5 @@
 //! The broker's thread between two frames: connections, rings, and what is handed on at its end.
-ghost use Rattle.std.specs.Prelude.{◌≡◌, ◌+◌, ◌<◌, ◌^◌, ◌||◌, ◌++◌, ◌∷◌, [], ℕ, Bool, List, map, length, Some, None, IfOk, IfErr, OnOk, IfSome, true, false};
+ghost use Rattle.std.specs.Prelude.{◌≡◌, ◌+◌, ◌<◌, ◌^◌, ◌||◌, ◌++◌, ◌∷◌, [], ℕ, Bool, List, map, length, Some, None, IfOk, OnOk, IfSome, true, false};
 ghost use Rattle.std.specs.List.{slice_get};
 ghost use Rattle.std.specs.Option.{IfNone};
 ghost use Rattle.spk_ingress.specs.declared.rule.Message.{Message};
@@ -18,7 +18,7 @@ use crate::part::Refusal;
 use spk_broker::{Bytes, Conn, Out, Outgoing};
 use spk_ingress::{Frame, Message, Whole};
 use spk_packets::PacketFault;
-use spk_plan::{Gate, PlantFault};
+use spk_plan::Gate;
 use spk_rings::Outlet;
 use spk_session::Sort;
 use std::alloc::{AllocError, Global};
@@ -182,7 +182,7 @@ impl Hub {
     }
 
     /// Offers a send to its client's ring, unless that was dropped.
-    fn offer<G: Gate>(&mut self, gate: &G, send: Outgoing) -> Result<(), PlantFault>
+    fn offer<G: Gate>(&mut self, gate: &G, send: Outgoing) -> Result<(), AllocError>
         requires { HasRings self.old }
         ensures offers { OnOk result
             ((s : Setting) (closed : ℕ → Bool) (log : List Entry) (sends : List Sent)
@@ -191,7 +191,6 @@ impl Hub {
             × Offers s closed self.new (e ∷ log) sends closes) }
         ensures taken { OnOk result (self.new.taken ≡ self.old.taken) }
         ensures rings { OnOk result (HasRings self.new) }
-        ensures fault { IfErr result (λ e. e ≡ PlantFault.NoMemory) }
     {
         let Outgoing { conn, sort, bytes } = send;
         let Some(client) = self.desk.client_of(conn) else {
@@ -210,7 +209,7 @@ impl Hub {
     }
 
     /// Offers the sends of a call, in order.
-    fn offer_all<G: Gate>(&mut self, gate: &G, sends: Vec<Outgoing>) -> Result<(), PlantFault>
+    fn offer_all<G: Gate>(&mut self, gate: &G, sends: Vec<Outgoing>) -> Result<(), AllocError>
         requires { HasRings self.old }
         ensures offers { OnOk result
             ((s : Setting) (closed : ℕ → Bool) (log : List Entry) (closes : List ℕ)
@@ -218,7 +217,6 @@ impl Hub {
             × Offers s closed self.new l [] closes) }
         ensures taken { OnOk result (self.new.taken ≡ self.old.taken) }
         ensures rings { OnOk result (HasRings self.new) }
-        ensures fault { IfErr result (λ e. e ≡ PlantFault.NoMemory) }
     {
         for send in sends {
             self.offer(gate, send)?;
@@ -257,14 +255,13 @@ impl Hub {
     }
 
     /// Offers what a call answered, in order, and then drops the rings of those that it closes.
-    fn hand_out<G: Gate>(&mut self, gate: &G, out: Out) -> Result<(), PlantFault>
+    fn hand_out<G: Gate>(&mut self, gate: &G, out: Out) -> Result<(), AllocError>
         requires { HasRings self.old }
         ensures rests { OnOk result ((s : Setting) (closed : ℕ → Bool) (log : List Entry)
             → Offers s closed self.old log (map sent_view out.sends.items) out.closes.items
             → (l : List Entry) × Rests s self.new l) }
         ensures taken { OnOk result (self.new.taken ≡ self.old.taken) }
         ensures rings { OnOk result (HasRings self.new) }
-        ensures fault { IfErr result (λ e. e ≡ PlantFault.NoMemory) }
     {
         let Out { sends, closes } = out;
         self.offer_all(gate, sends)?;
@@ -273,7 +270,7 @@ impl Hub {
     }
 
     /// Tells the broker of the first refused offer of which it isn't told yet. None where there is none.
-    fn tell(&mut self) -> Result<Option<Out>, PlantFault>
+    fn tell(&mut self) -> Result<Option<Out>, AllocError>
         requires { HasRings self.old }
         ensures some { IfOk result
             (λ o. IfSome o (λ out. (s : Setting) (log : List Entry) → Rests s self.old log
@@ -285,7 +282,6 @@ impl Hub {
             ((s : Setting) (log : List Entry) → Rests s self.old log → IsIdle s self.new log)) }
         ensures taken { OnOk result (self.new.taken ≡ self.old.taken) }
         ensures rings { OnOk result (HasRings self.new) }
-        ensures fault { IfErr result (λ e. e ≡ PlantFault.NoMemory) }
     {
         let Some(untold) = self.untold.pop_front() else {
             return Ok(None);
@@ -296,14 +292,13 @@ impl Hub {
     }
 
     /// Tells the broker of all refused offers, in order, and offers what it answers before the next.
-    fn tell_all<R: Wait, G: Gate>(&mut self, rt: &R, gate: &G) -> Result<(), PlantFault>
+    fn tell_all<R: Wait, G: Gate>(&mut self, rt: &R, gate: &G) -> Result<(), AllocError>
         requires { HasRings self.old }
         ensures idle { OnOk result
             ((s : Setting) (log : List Entry) → Rests s self.old log → (l : List Entry)
             × IsIdle s self.new l) }
         ensures taken { OnOk result (self.new.taken ≡ self.old.taken) }
         ensures rings { OnOk result (HasRings self.new) }
-        ensures fault { IfErr result (λ e. e ≡ PlantFault.NoMemory) }
     {
         for _ in rt.forever() {
             let Some(out) = self.tell()? else {
@@ -324,7 +319,7 @@ impl Hub {
     }
 
     /// A client's packet.
-    fn packet(&mut self, sender: usize, whole: Whole) -> Result<Out, PlantFault>
+    fn packet(&mut self, sender: usize, whole: Whole) -> Result<Out, AllocError>
         requires clients { sender < length self.old.desk.clients.items }
         requires lines { sender < length self.old.lines.items }
         requires rings { HasRings self.old }
@@ -332,31 +327,29 @@ impl Hub {
             (λ out. IsTaken
             (record { sender = sender; frame = Frame.Packet whole }) self.old self.new out) }
         ensures rings { OnOk result (HasRings self.new) }
-        ensures fault { IfErr result (λ e. e ≡ PlantFault.NoMemory) }
     {
         let Ok(packet) = whole.read(self.alloc) else {
-            return Err(PlantFault::NoMemory);
+            return Err(AllocError);
         };
         let now = self.note(sender, Frame::Packet(whole))?;
         self.desk.packet(sender, &packet, now)
     }
 
     /// A client's bytes that are no packet.
-    fn fault(&mut self, sender: usize, fault: PacketFault) -> Result<Out, PlantFault>
+    fn fault(&mut self, sender: usize, fault: PacketFault) -> Result<Out, AllocError>
         requires clients { sender < length self.old.desk.clients.items }
         requires rings { HasRings self.old }
         ensures taken { IfOk result
             (λ out. IsTaken
             (record { sender = sender; frame = Frame.Fault fault }) self.old self.new out) }
         ensures rings { OnOk result (HasRings self.new) }
-        ensures fault { IfErr result (λ e. e ≡ PlantFault.NoMemory) }
     {
         let now = self.note(sender, Frame::Fault(fault))?;
         self.desk.fault(sender, fault, now)
     }
 
     /// The end of a client's connection.
-    fn cut(&mut self, sender: usize) -> Result<Out, PlantFault>
+    fn cut(&mut self, sender: usize) -> Result<Out, AllocError>
         requires clients { sender < length self.old.desk.clients.items }
         requires lines { sender < length self.old.lines.items }
         requires rings { HasRings self.old }
@@ -364,7 +357,6 @@ impl Hub {
         ensures taken { IfOk result
             (λ out. IsTaken (record { sender = sender; frame = Frame.Cut }) self.old self.new out) }
         ensures rings { OnOk result (HasRings self.new) }
-        ensures fault { IfErr result (λ e. e ≡ PlantFault.NoMemory) }
     {
         let now = self.note(sender, Frame::Cut)?;
         note_cut(&mut self.lines, sender);
@@ -372,14 +364,13 @@ impl Hub {
     }
 
     /// A client's own end. When all edge nodes have ended all rings are dropped.
-    fn end(&mut self, sender: usize) -> Result<Out, PlantFault>
+    fn end(&mut self, sender: usize) -> Result<Out, AllocError>
         requires lines { sender < length self.old.lines.items }
         requires edges { self.old.edges < length self.old.lines.items + 1 }
         requires rings { HasRings self.old }
         ensures taken { IfOk result
             (λ out. IsTaken (record { sender = sender; frame = Frame.End }) self.old self.new out) }
         ensures rings { OnOk result (HasRings self.new) }
-        ensures fault { IfErr result (λ e. e ≡ PlantFault.NoMemory) }
     {
         self.note(sender, Frame::End)?;
         note_end(&mut self.lines, sender);
@@ -395,7 +386,7 @@ impl Hub {
     }
 
     /// What a frame does.
-    fn frame(&mut self, sender: usize, frame: Frame) -> Result<Out, PlantFault>
+    fn frame(&mut self, sender: usize, frame: Frame) -> Result<Out, AllocError>
         requires clients { sender < length self.old.desk.clients.items }
         requires lines { sender < length self.old.lines.items }
         requires edges { self.old.edges < length self.old.lines.items + 1 }
@@ -404,7 +395,6 @@ impl Hub {
         ensures taken { IfOk result
             (λ out. IsTaken (record { sender = sender; frame = frame }) self.old self.new out) }
         ensures rings { OnOk result (HasRings self.new) }
-        ensures fault { IfErr result (λ e. e ≡ PlantFault.NoMemory) }
     {
         match frame {
             Frame::Packet(whole) => self.packet(sender, whole),
@@ -421,7 +411,7 @@ impl Hub {
         gate: &G,
         sender: usize,
         frame: Frame,
-    ) -> Result<(), PlantFault>
+    ) -> Result<(), AllocError>
         requires clients { sender < length self.old.desk.clients.items }
         requires lines { sender < length self.old.lines.items }
         requires edges { self.old.edges < length self.old.lines.items + 1 }
@@ -434,7 +424,6 @@ impl Hub {
             (self.new.taken.items
             ≡ self.old.taken.items ++ (record { sender = sender; frame = frame }) ∷ []) }
         ensures rings { OnOk result (HasRings self.new) }
-        ensures fault { IfErr result (λ e. e ≡ PlantFault.NoMemory) }
     {
         let out = self.frame(sender, frame)?;
         self.hand_out(gate, out)?;

@@ -3,12 +3,16 @@
 #![tactic(auto)]
 
 mod answers;
+mod bells;
 mod desk;
 mod done;
+mod fault;
 mod hub;
 mod line;
 mod part;
 mod run;
 
+pub use bells::Bells;
+pub use fault::BrokerFailed;
 pub use part::{BrokerEnd, BrokerStart, Refusal};
 pub use run::run_broker;

@@ -13,8 +13,8 @@ use Rattle.spk_host.specs.Inputs.{Call, Connected, host_with}
 use Rattle.spk_host.specs.Step.{nothing, said_by}
 use Rattle.spk_host.specs.View.{out_view}
 use Rattle.spk_host.specs.declared.out.Out.{Out}
-use Rattle.spk_plan.specs.declared.fault.PlantFault.{PlantFault}
-use Rattle.spk_plan.specs.declared.fault.PlantFault.TheVariants as fault
+use Rattle.spk_host_body.specs.declared.fault.HostCause.{HostCause}
+use Rattle.spk_host_body.specs.declared.fault.HostCause.TheVariants as why
 use Rattle.spk_host_body.specs.Calls.{answer_at, host_asked, is_done, out_at}
 use Rattle.spk_host_body.specs.Ends.{IsCause}
 use Rattle.spk_host_body.specs.Steps.{FailsAt, Answers, answered, handed}
@@ -122,7 +122,7 @@ begin_answers h new now r g a d u = answers (Connected now) h new r (begin_gives
 
 -- ---- want of memory is the only fault
 
-pub memory_alone : (r : Result Out HostFault) → IfErr (answered r) (λ e. e ≡ fault.NoMemory)
+pub memory_alone : (r : Result Out HostFault) → IfErr (answered r) (λ e. e ≡ why.NoMemory)
 memory_alone (Ok out) = tt
 memory_alone (Err NoMemory) = refl
 memory_alone (Err NotSparkplug) = tt
@@ -133,7 +133,7 @@ memory_alone (Err NoBdSeq) = tt
 memory_alone (Err WrongPhase) = tt
 
 -- why its packets weren't put
-pub fails : {X : Type 0} (call : Call) (h new : HostData) (out : Option Out) (r : Result X PlantFault) → Answers call h new out →
+pub fails : {X : Type 0} (call : Call) (h new : HostData) (out : Option Out) (r : Result X HostCause) → Answers call h new out →
     IfErr r (λ e. IsCause (handed out).packets e) → IfErr r (λ e. FailsAt h e)
 fails call h new out (Ok x) a c = tt
 fails call h new out (Err e) a c = (call, subst (λ (o : OutData). IsCause o.packets e) a.hands_out c)

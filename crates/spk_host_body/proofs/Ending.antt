@@ -7,8 +7,8 @@ use Rattle.spk_ingress.specs.declared.channel.Ingress.{Ingress}
 use Rattle.spk_ingress.specs.declared.channel.PutPass.{PutPass}
 use Rattle.spk_ingress.specs.declared.frame.Frame.{Frame}
 use Rattle.spk_ingress.specs.declared.frame.Frame.TheVariants as frame
-use Rattle.spk_plan.specs.declared.fault.PlantFault.{PlantFault}
-use Rattle.spk_plan.specs.declared.fault.PlantFault.TheVariants as fault
+use Rattle.spk_host_body.specs.declared.fault.HostCause.{HostCause}
+use Rattle.spk_host_body.specs.declared.fault.HostCause.TheVariants as why
 use Rattle.spk_host_session.specs.Data.{Config}
 use Rattle.spk_host_body.specs.Ends.{Fails, HostBroke, IsEnded, IsLast, config_of, ends_put, is_closed, is_end}
 use Rattle.spk_host_body.specs.declared.ends.HostStart.{HostStart}
@@ -25,19 +25,18 @@ ended start q p same put = record {
   once = ap (λ (fs : List Frame). count_by is_end fs) put ∙ ends_more (frames_put q) ∙ ap (λ n. n + 1) same;
 }
 
-last_is : (A : Type 0) (config : Config) (start q p : PutPass) (f : PlantFault) → is_closed {A = A} (Err f) ≡ false → Fails config f → ends_put q ≡ ends_put start
+last_is : (A : Type 0) (config : Config) (start q p : PutPass) (f : HostCause) → is_closed {A = A} (Err f) ≡ false → Fails config f → ends_put q ≡ ends_put start
     → frames_put p ≡ frames_put q ++ frame.End ∷ [] → IsLast f start p
-last_is A config start q p fault.NoMemory still fails same put = ended start q p same put
-last_is A config start q p fault.Unsettled still fails same put = ended start q p same put
-last_is A config start q p fault.Closed still fails same put = cc
-last_is A config start q p fault.BadPlan still fails same put = fails.2
+last_is A config start q p why.NoMemory still fails same put = ended start q p same put
+last_is A config start q p why.Unsettled still fails same put = ended start q p same put
+last_is A config start q p (why.Closed gone) still fails same put = cc
 
 pub ended_badly : (A : Type 0) (n : Ingress) (s : HostStart) (f : HostFailed) (q : PutPass) → PutsInto n f.pass → f.pass.sender ≡ s.pass.sender
-    → is_closed {A = A} (Err f.fault) ≡ false → Fails (config_of s) f.fault → ends_put q ≡ ends_put s.pass → frames_put f.pass ≡ frames_put q ++ frame.End ∷ []
+    → is_closed {A = A} (Err f.cause) ≡ false → Fails (config_of s) f.cause → ends_put q ≡ ends_put s.pass → frames_put f.pass ≡ frames_put q ++ frame.End ∷ []
     → HostBroke n s f
 ended_badly A n s f q into sender still fails same put = record {
   puts_into = into;
   sender = sender;
-  last = last_is A (config_of s) s.pass q f.pass f.fault still fails same put;
+  last = last_is A (config_of s) s.pass q f.pass f.cause still fails same put;
   cause = fails;
 }

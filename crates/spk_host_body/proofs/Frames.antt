@@ -7,8 +7,8 @@ use Rattle.spk_ingress.specs.declared.fault.FrameFault.{FrameFault}
 use Rattle.spk_ingress.specs.declared.fault.FrameFault.TheVariants as framed
 use Rattle.spk_ingress.specs.declared.frame.Frame.{Frame}
 use Rattle.spk_ingress.specs.declared.frame.Frame.TheVariants as frame
-use Rattle.spk_plan.specs.declared.fault.PlantFault.{PlantFault}
-use Rattle.spk_plan.specs.declared.fault.PlantFault.TheVariants as fault
+use Rattle.spk_host_body.specs.declared.fault.HostCause.{HostCause}
+use Rattle.spk_host_body.specs.declared.fault.HostCause.TheVariants as why
 use Rattle.spk_host_body.specs.Ends.{IsCause}
 use Rattle.spk_host_body.specs.Steps.{IsCauseOf, Puts, unframed}
 
@@ -40,9 +40,8 @@ puts_one packets left bytes p q r s e = record {
 pub puts_all : (packets : List (List ℕ)) (p q : List Frame) → Puts packets [] p q → q ≡ p ++ map frame.Packet packets
 puts_all packets p q s = s.frames ∙ ap (λ l. p ++ map frame.Packet l) (sym (s.parts ∙ append-nil s.before))
 
-pub puts_cause : (packets left : List (List ℕ)) (bytes : List ℕ) (p q : List Frame) (f : PlantFault) → Puts packets (bytes ∷ left) p q →
+pub puts_cause : (packets left : List (List ℕ)) (bytes : List ℕ) (p q : List Frame) (f : HostCause) → Puts packets (bytes ∷ left) p q →
     IsCauseOf bytes f → IsCause packets f
-puts_cause packets left bytes p q fault.NoMemory s c = tt
-puts_cause packets left bytes p q fault.Closed s c = tt
-puts_cause packets left bytes p q fault.Unsettled s c = record { before = s.before; bytes = bytes; after = left; parts = s.parts; none = c }
-puts_cause packets left bytes p q fault.BadPlan s c = c
+puts_cause packets left bytes p q why.NoMemory s c = tt
+puts_cause packets left bytes p q (why.Closed gone) s c = tt
+puts_cause packets left bytes p q why.Unsettled s c = record { before = s.before; bytes = bytes; after = left; parts = s.parts; none = c }

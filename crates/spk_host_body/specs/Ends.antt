@@ -8,8 +8,8 @@ use Rattle.spk_ingress.specs.declared.frame.Frame.{Frame}
 use Rattle.spk_ingress.specs.declared.frame.Frame.TheVariants as frame
 use Rattle.spk_rings.specs.Ring.{SameInlet, ahead, popped}
 use Rattle.spk_rings.specs.declared.item.Item.{Item}
-use Rattle.spk_plan.specs.declared.fault.PlantFault.{PlantFault}
-use Rattle.spk_plan.specs.declared.fault.PlantFault.TheVariants as fault
+use Rattle.spk_host_body.specs.declared.fault.HostCause.{HostCause}
+use Rattle.spk_host_body.specs.declared.fault.HostCause.TheVariants as why
 use Rattle.spk_host_session.specs.Data.{Config}
 use Rattle.spk_host.specs.Inputs.{Call, host_after, new_host}
 use Rattle.spk_host_body.specs.Calls.{answer_at, packets_of}
@@ -56,14 +56,13 @@ pub record HasNoPacket (packets : List (List ℕ)) : Type 0 where
   pub none : IsOnePacket bytes → ⊥
 
 -- Why packets aren't put: a growth was refused, the taker is gone, or one of them isn't a packet.
-abbrev pub IsCause : List (List ℕ) → PlantFault → Type 0
-IsCause packets fault.NoMemory = Unit {0}
-IsCause packets fault.Closed = Unit {0}
-IsCause packets fault.Unsettled = HasNoPacket packets
-IsCause packets fault.BadPlan = ⊥
+abbrev pub IsCause : List (List ℕ) → HostCause → Type 0
+IsCause packets why.NoMemory = Unit {0}
+IsCause packets (why.Closed gone) = Unit {0}
+IsCause packets why.Unsettled = HasNoPacket packets
 
 -- why a host fails: for the packets of a call, after some calls that were done
-abbrev pub Fails : Config → PlantFault → Type 0
+abbrev pub Fails : Config → HostCause → Type 0
 Fails config f = (before : List Call) × (call : Call) × IsCause (answer_at (host_after config before) call).packets f
 
 abbrev pub is_end : Frame → Bool
@@ -77,12 +76,11 @@ abbrev pub ends_put : PutPass → ℕ
 ends_put p = count_by is_end (frames_put p)
 
 -- the taker is gone
-abbrev pub is_closed : {A : Type 0} → Result A PlantFault → Bool
+abbrev pub is_closed : {A : Type 0} → Result A HostCause → Bool
 is_closed (Ok done) = false
-is_closed (Err fault.Closed) = true
-is_closed (Err fault.NoMemory) = false
-is_closed (Err fault.Unsettled) = false
-is_closed (Err fault.BadPlan) = false
+is_closed (Err (why.Closed gone)) = true
+is_closed (Err why.NoMemory) = false
+is_closed (Err why.Unsettled) = false
 
 -- the end was put once since the start, and last
 pub record IsEnded (start p : PutPass) : Type 0 where
@@ -91,14 +89,13 @@ pub record IsEnded (start p : PutPass) : Type 0 where
   pub once : ends_put p ≡ ends_put start + 1
 
 -- The end is put once and last; where the taker is gone it isn't put.
-abbrev pub IsLast : PlantFault → PutPass → PutPass → Type 0
-IsLast fault.Closed start p = ends_put p ≡ ends_put start
-IsLast fault.NoMemory start p = IsEnded start p
-IsLast fault.Unsettled start p = IsEnded start p
-IsLast fault.BadPlan start p = ⊥
+abbrev pub IsLast : HostCause → PutPass → PutPass → Type 0
+IsLast (why.Closed gone) start p = ends_put p ≡ ends_put start
+IsLast why.NoMemory start p = IsEnded start p
+IsLast why.Unsettled start p = IsEnded start p
 
 pub record HostBroke (n : Ingress) (s : HostStart) (f : HostFailed) : Type 0 where
   pub puts_into : PutsInto n f.pass
   pub sender : f.pass.sender ≡ s.pass.sender
-  pub last : IsLast f.fault s.pass f.pass
-  pub cause : Fails (config_of s) f.fault
+  pub last : IsLast f.cause s.pass f.pass
+  pub cause : Fails (config_of s) f.cause

@@ -12,8 +12,8 @@ use Rattle.spk_ingress.specs.declared.frame.Frame.TheVariants as frame
 use Rattle.spk_rings.specs.Ring.{popped}
 use Rattle.spk_rings.specs.declared.inlet.Inlet.{Inlet}
 use Rattle.spk_rings.specs.declared.item.Item.{Item}
-use Rattle.spk_plan.specs.declared.fault.PlantFault.{PlantFault}
-use Rattle.spk_plan.specs.declared.fault.PlantFault.TheVariants as fault
+use Rattle.spk_host_body.specs.declared.fault.HostCause.{HostCause}
+use Rattle.spk_host_body.specs.declared.fault.HostCause.TheVariants as why
 use Rattle.spk_reading.specs.Data.{HeardData, NumberedData}
 use Rattle.spk_host_session.specs.Data.{Config}
 use Rattle.spk_host_session.specs.declared.fault.HostFault.{HostFault}
@@ -37,25 +37,24 @@ pub record SamePass (n : Ingress) (a b : PutPass) : Type 0 where
   pub ends : ends_put b ≡ ends_put a
 
 -- why bytes aren't put
-abbrev pub IsCauseOf : List ℕ → PlantFault → Type 0
-IsCauseOf bytes fault.NoMemory = Unit {0}
-IsCauseOf bytes fault.Closed = Unit {0}
-IsCauseOf bytes fault.Unsettled = IsOnePacket bytes → ⊥
-IsCauseOf bytes fault.BadPlan = ⊥
+abbrev pub IsCauseOf : List ℕ → HostCause → Type 0
+IsCauseOf bytes why.NoMemory = Unit {0}
+IsCauseOf bytes (why.Closed gone) = Unit {0}
+IsCauseOf bytes why.Unsettled = IsOnePacket bytes → ⊥
 
 -- bytes that make no frame: for want of memory, or since they aren't one packet
-abbrev pub unframed : FrameFault → PlantFault
-unframed (framed.Packet packet.NoMemory) = fault.NoMemory
-unframed (framed.Packet packet.More) = fault.Unsettled
-unframed (framed.Packet packet.BadLength) = fault.Unsettled
-unframed (framed.Packet packet.BadFlags) = fault.Unsettled
-unframed (framed.Packet packet.BadType) = fault.Unsettled
-unframed (framed.Packet packet.BadText) = fault.Unsettled
-unframed (framed.Packet packet.BadBody) = fault.Unsettled
-unframed (framed.Packet packet.TooLarge) = fault.Unsettled
-unframed (framed.Packet packet.QosTwo) = fault.Unsettled
-unframed (framed.Packet packet.BadLevel) = fault.Unsettled
-unframed framed.NotOne = fault.Unsettled
+abbrev pub unframed : FrameFault → HostCause
+unframed (framed.Packet packet.NoMemory) = why.NoMemory
+unframed (framed.Packet packet.More) = why.Unsettled
+unframed (framed.Packet packet.BadLength) = why.Unsettled
+unframed (framed.Packet packet.BadFlags) = why.Unsettled
+unframed (framed.Packet packet.BadType) = why.Unsettled
+unframed (framed.Packet packet.BadText) = why.Unsettled
+unframed (framed.Packet packet.BadBody) = why.Unsettled
+unframed (framed.Packet packet.TooLarge) = why.Unsettled
+unframed (framed.Packet packet.QosTwo) = why.Unsettled
+unframed (framed.Packet packet.BadLevel) = why.Unsettled
+unframed framed.NotOne = why.Unsettled
 
 -- of these packets all but what is left were put, in order
 pub record Puts (packets left : List (List ℕ)) (put_before put : List Frame) : Type 0 where
@@ -66,9 +65,9 @@ pub record Puts (packets left : List (List ℕ)) (put_before put : List Frame) :
 -- ---- one call
 
 -- what a call answered, but for want of memory: nothing where it was refused
-abbrev pub answered : Result Out HostFault → Result (Option Out) PlantFault
+abbrev pub answered : Result Out HostFault → Result (Option Out) HostCause
 answered (Ok out) = Ok (Some out)
-answered (Err host.NoMemory) = Err fault.NoMemory
+answered (Err host.NoMemory) = Err why.NoMemory
 answered (Err host.NotSparkplug) = Ok None
 answered (Err host.BadPayload) = Ok None
 answered (Err host.NoSeq) = Ok None
@@ -97,7 +96,7 @@ TookTold (Some heard) now h new put_before put consumed = Took (Heard heard now)
 TookTold None now h new put_before put consumed = (new ≡ h) × (put ≡ put_before) × (consumed ≡ [])
 
 -- why that failed
-abbrev pub FailsAt : HostData → PlantFault → Type 0
+abbrev pub FailsAt : HostData → HostCause → Type 0
 FailsAt h f = (call : Call) × IsCause (answer_at h call).packets f
 
 -- ---- many calls

@@ -5,42 +5,42 @@ ghost use Rattle.spk_reading.specs.Meaning.{Says};
 ghost use Rattle.spk_host.specs.Inputs as calls;
 ghost use Rattle.spk_host_body.specs.Steps as step;
 
+use crate::fault::HostCause;
 use spk_host::{Host, HostFault, Out};
-use spk_plan::PlantFault;
 
 /// A call that was refused hands out nothing; want of memory ends the run.
-fn answered(answer: Result<Out, HostFault>) -> Result<Option<Out>, PlantFault>
+fn answered(answer: Result<Out, HostFault>) -> Result<Option<Out>, HostCause>
     ensures { result ≡ step.answered answer }
 {
     match answer {
         Ok(out) => Ok(Some(out)),
-        Err(HostFault::NoMemory) => Err(PlantFault::NoMemory),
+        Err(HostFault::NoMemory) => Err(HostCause::NoMemory),
         Err(_) => Ok(None),
     }
 }
 
 /// A session is to begin.
-pub(crate) fn begin(host: &mut Host, now: u64) -> Result<Option<Out>, PlantFault>
+pub(crate) fn begin(host: &mut Host, now: u64) -> Result<Option<Out>, HostCause>
     ensures answers { IfOk result
         (λ out. step.Answers (calls.Connected now) host.old host.new out) }
-    ensures memory { IfErr result (λ e. e ≡ PlantFault.NoMemory) }
+    ensures memory { IfErr result (λ e. e ≡ HostCause.NoMemory) }
 {
     answered(host.connected(now))
 }
 
 /// A packet came that says something.
-pub(crate) fn hear(host: &mut Host, bytes: &[u8], now: u64) -> Result<Option<Out>, PlantFault>
+pub(crate) fn hear(host: &mut Host, bytes: &[u8], now: u64) -> Result<Option<Out>, HostCause>
     ensures answers { (h : HeardData) → Says bytes.now h
         → IfOk result (λ out. step.Answers (calls.Heard h now) host.old host.new out) }
-    ensures memory { IfErr result (λ e. e ≡ PlantFault.NoMemory) }
+    ensures memory { IfErr result (λ e. e ≡ HostCause.NoMemory) }
 {
     answered(host.packet(bytes, now))
 }
 
 /// A moment passed.
-pub(crate) fn tick(host: &mut Host, now: u64) -> Result<Option<Out>, PlantFault>
+pub(crate) fn tick(host: &mut Host, now: u64) -> Result<Option<Out>, HostCause>
     ensures answers { IfOk result (λ out. step.Answers (calls.Ticked now) host.old host.new out) }
-    ensures memory { IfErr result (λ e. e ≡ PlantFault.NoMemory) }
+    ensures memory { IfErr result (λ e. e ≡ HostCause.NoMemory) }
 {
     answered(host.tick(now))
 }

@@ -12,10 +12,11 @@ ghost use Rattle.spk_host_body.specs.Told.{IsToldBy, consumed_in, heard_in};
 
 use crate::desk::Desk;
 use crate::ends::{Given, HostEnd, HostFailed, HostStart};
+use crate::fault::HostCause;
 use crate::line::Line;
 use crate::watch::Watch;
 use spk_ingress::Ingress;
-use spk_plan::{Gate, PlantFault};
+use spk_plan::Gate;
 use spk_reading::{ReadFault, read};
 use spk_rings::{Inlet, Item};
 use std::alloc::Global;
@@ -33,7 +34,7 @@ fn tell<R: Wait, G: Gate>(
     desk: &mut Desk,
     item: &Item,
     now: u64,
-) -> Result<Given, PlantFault>
+) -> Result<Given, HostCause>
     requires { PutsInto ingress.now desk.old.line.pass }
     ensures pass { SamePass ingress.now desk.old.line.pass desk.new.line.pass }
     ensures told { IfOk result (λ g. IsToldBy item.now (heard_in g)) }
@@ -44,7 +45,7 @@ fn tell<R: Wait, G: Gate>(
     let bytes = item.bytes.as_slice();
     let heard = match read(desk.alloc, bytes) {
         Ok(heard) => heard,
-        Err(ReadFault::NoMemory) => return Err(PlantFault::NoMemory),
+        Err(ReadFault::NoMemory) => return Err(HostCause::NoMemory),
         Err(_) => {
             return Ok(Given {
                 heard: None,
@@ -70,7 +71,7 @@ fn take_in<R: Wait, G: Gate>(
     desk: &mut Desk,
     given: &mut Vec<Given>,
     item: &Item,
-) -> Result<(), PlantFault>
+) -> Result<(), HostCause>
     requires { PutsInto ingress.now desk.old.line.pass }
     ensures pass { SamePass ingress.now desk.old.line.pass desk.new.line.pass }
     ensures along { (config : Config) (put : List Frame) (items : List plain.Item)
@@ -82,7 +83,7 @@ fn take_in<R: Wait, G: Gate>(
         → IfErr result (λ e. Fails config e) }
 {
     let Ok(()) = given.reserve(1) else {
-        return Err(PlantFault::NoMemory);
+        return Err(HostCause::NoMemory);
     };
     let _room = given.capacity();
     let now = (given.len() + 1) as u64;
@@ -107,7 +108,7 @@ fn run<R: Wait, G: Gate>(
     bell: &Parker,
     desk: &mut Desk,
     inlet: &mut Inlet,
-) -> Result<Vec<Given>, PlantFault>
+) -> Result<Vec<Given>, HostCause>
     requires into { PutsInto ingress.now desk.old.line.pass }
     requires fresh { desk.old.host ≡ new_host desk.old.host.session.config }
     ensures pass { SamePass ingress.now desk.old.line.pass desk.new.line.pass }
@@ -119,7 +120,7 @@ fn run<R: Wait, G: Gate>(
     ensures cause { IfErr result (λ e. Fails desk.old.host.session.config e) }
 {
     let Ok(()) = desk.watch.start() else {
-        return Err(PlantFault::NoMemory);
+        return Err(HostCause::NoMemory);
     };
     let mut given = Vec::new(desk.alloc);
     match desk.begin(rt, ingress, gate, 0) {
@@ -187,15 +188,15 @@ pub fn run_host<R: Wait, G: Gate>(
     let ended = desk.line.end(rt, ingress, gate, &ran);
     let Desk { host, line, .. } = desk;
     let pass = line.pass;
-    let Ok(()) = ended else {
+    if let Err(gone) = ended {
         return Err(HostFailed {
-            fault: PlantFault::Closed,
+            cause: HostCause::Closed(gone),
             pass,
         });
-    };
+    }
     let given = match ran {
         Ok(given) => given,
-        Err(fault) => return Err(HostFailed { fault, pass }),
+        Err(cause) => return Err(HostFailed { cause, pass }),
     };
     Ok(HostEnd {
         given,

@@ -10,11 +10,12 @@ ghost use Rattle.spk_host_body.specs.Ends.{IsCause};
 ghost use Rattle.spk_host_body.specs.Steps.{FailsAt, SamePass, Took, handed};
 
 use crate::asking;
+use crate::fault::HostCause;
 use crate::line::Line;
 use crate::watch::Watch;
 use spk_host::{Host, Out, Taken};
 use spk_ingress::{Frame, Ingress};
-use spk_plan::{Gate, PlantFault};
+use spk_plan::Gate;
 use std::alloc::Global;
 use std::sync::Wait;
 
@@ -36,7 +37,7 @@ fn hand_out<R: Wait, G: Gate>(
     line: &mut Line,
     watch: &mut Watch,
     out: Option<Out>,
-) -> Result<Vec<Taken>, PlantFault>
+) -> Result<Vec<Taken>, HostCause>
     requires { PutsInto ingress.now line.old.pass }
     ensures pass { SamePass ingress.now line.old.pass line.new.pass }
     ensures consumed { IfOk result (λ v. map numbered_view v.items ≡ (handed out).consumed) }
@@ -68,7 +69,7 @@ impl Desk {
         ingress: &Ingress,
         gate: &G,
         now: u64,
-    ) -> Result<Vec<Taken>, PlantFault>
+    ) -> Result<Vec<Taken>, HostCause>
         requires { PutsInto ingress.now self.old.line.pass }
         ensures pass { SamePass ingress.now self.old.line.pass self.new.line.pass }
         ensures took { IfOk result (λ v. Took (calls.Connected now) self.old.host self.new.host
@@ -99,7 +100,7 @@ impl Desk {
         gate: &G,
         bytes: &[u8],
         now: u64,
-    ) -> Result<Vec<Taken>, PlantFault>
+    ) -> Result<Vec<Taken>, HostCause>
         requires { PutsInto ingress.now self.old.line.pass }
         ensures pass { SamePass ingress.now self.old.line.pass self.new.line.pass }
         ensures took { (h : HeardData) → Says bytes.now h
@@ -131,7 +132,7 @@ impl Desk {
         ingress: &Ingress,
         gate: &G,
         now: u64,
-    ) -> Result<Vec<Taken>, PlantFault>
+    ) -> Result<Vec<Taken>, HostCause>
         requires { PutsInto ingress.now self.old.line.pass }
         ensures pass { SamePass ingress.now self.old.line.pass self.new.line.pass }
         ensures took { IfOk result (λ v. Took (calls.Ticked now) self.old.host self.new.host

@@ -1,4 +1,8 @@
 //! What the host's thread begins with, and what it hands on.
+ghost use Rattle.std.specs.Prelude.{◌≡◌};
+ghost use Rattle.spk_host_body.specs.Fault.{fault_of};
+
+use crate::fault::HostCause;
 use spk_host::{Host, Taken};
 use spk_ingress::PutPass;
 use spk_plan::PlantFault;
@@ -57,9 +61,18 @@ impl fmt::Debug for HostEnd {
 #[derive(Drop)]
 pub struct HostFailed {
     /// Why it failed.
-    pub fault: PlantFault,
+    pub cause: HostCause,
     /// What was put until then, and then End, unless it failed with Closed.
     pub pass: PutPass,
+}
+
+impl HostFailed {
+    /// The fault of a plant: NoMemory (1), Closed (90) or Unsettled (93).
+    pub fn fault(&self) -> PlantFault
+        ensures { result ≡ fault_of self.now.cause }
+    {
+        self.cause.fault()
+    }
 }
 
 impl fmt::Debug for HostFailed {

@@ -6,9 +6,11 @@ mod asking;
 mod body;
 mod desk;
 mod ends;
+mod fault;
 pub mod laws;
 mod line;
 mod watch;
 
 pub use body::run_host;
 pub use ends::{Given, HostEnd, HostFailed, HostStart};
+pub use fault::HostCause;

@@ -1,14 +1,15 @@
 //! What the host's thread puts.
-ghost use Rattle.std.specs.Prelude.{◌≡◌, ◌+◌, ◌-◌, ◌^◌, ◌∷◌, [], ◌++◌, map, min, false, IfErr, OnOk};
+ghost use Rattle.std.specs.Prelude.{◌≡◌, ◌+◌, ◌-◌, ◌^◌, ◌∷◌, [], ◌++◌, map, min, false, IfErr, OnErr, OnOk, is_some};
 ghost use Rattle.spk_ingress.specs.Passes.{PutsInto, frames_put};
 ghost use Rattle.spk_host_body.specs.Ends.{IsCause, is_closed, is_end};
 ghost use Rattle.spk_host_body.specs.Steps as step;
 ghost use Rattle.spk_host_body.specs.Steps.{IsCauseOf, SamePass};
 
 use crate::ends::Given;
-use spk_ingress::{Frame, FrameFault, Ingress, PutPass};
+use crate::fault::HostCause;
+use spk_ingress::{Frame, FrameFault, Gone, Ingress, PutPass};
 use spk_packets::PacketFault;
-use spk_plan::{Gate, PlantFault};
+use spk_plan::Gate;
 use std::alloc::Global;
 use std::sync::Wait;
 
@@ -22,23 +23,22 @@ pub(crate) struct Line {
 }
 
 /// Why bytes make no frame.
-fn unframed(fault: FrameFault) -> PlantFault
+fn unframed(fault: FrameFault) -> HostCause
     ensures { result ≡ step.unframed fault }
 {
     match fault {
-        FrameFault::Packet(PacketFault::NoMemory) => PlantFault::NoMemory,
-        _ => PlantFault::Unsettled,
+        FrameFault::Packet(PacketFault::NoMemory) => HostCause::NoMemory,
+        _ => HostCause::Unsettled,
     }
 }
 
-/// Whether a session ended since the taker is gone.
-fn is_closed(ran: &Result<Vec<Given>, PlantFault>) -> bool
-    ensures { result ≡ is_closed ran.now }
+/// The refusal by which a session ended, where it did since the taker is gone.
+fn gone_in(ran: &Result<Vec<Given>, HostCause>) -> Option<Gone>
+    ensures { is_some result ≡ is_closed ran.now }
 {
     match ran {
-        Ok(_) => false,
-        Err(PlantFault::Closed) => true,
-        Err(_) => false,
+        Err(HostCause::Closed(gone)) => Some(*gone),
+        _ => None,
     }
 }
 
@@ -60,7 +60,7 @@ impl Line {
         ingress: &Ingress,
         gate: &G,
         frame: Frame,
-    ) -> Result<(), PlantFault>
+    ) -> Result<(), Gone>
         requires { PutsInto ingress.now self.old.pass }
         ensures pass { PutsInto ingress.now self.new.pass
             × (self.new.pass.sender ≡ self.old.pass.sender) }
@@ -69,35 +69,33 @@ impl Line {
             (frames_put self.new.pass ≡ frames_put self.old.pass ++ frame ∷ []) }
         ensures counted { OnOk result (self.new.puts ≡ min (2 ^ 64 - 1) (self.old.puts + 1)) }
         ensures place { self.new.sender ≡ self.old.sender }
-        ensures fault { IfErr result (λ e. (e ≡ PlantFault.Closed)
-            × (frames_put self.new.pass ≡ frames_put self.old.pass)) }
+        ensures gone { OnErr result (frames_put self.new.pass ≡ frames_put self.old.pass) }
     {
         gate.before_put(self.sender, self.puts);
-        let Ok(()) = ingress.put(rt, &mut self.pass, frame) else {
-            return Err(PlantFault::Closed);
-        };
+        if let Err(closed) = ingress.put(rt, &mut self.pass, frame) {
+            return Err(closed.gone());
+        }
         self.puts = self.puts.saturating_add(1);
         Ok(())
     }
 
-    /// Puts the host's own end, unless the taker is gone by then. Refused with Closed (90) alone, with nothing put.
+    /// Puts the host's own end, unless the taker is gone by then. Refused only so, with nothing put.
     pub(crate) fn end<R: Wait, G: Gate>(
         &mut self,
         rt: &R,
         ingress: &Ingress,
         gate: &G,
-        ran: &Result<Vec<Given>, PlantFault>,
-    ) -> Result<(), PlantFault>
+        ran: &Result<Vec<Given>, HostCause>,
+    ) -> Result<(), Gone>
         requires { PutsInto ingress.now self.old.pass }
         ensures pass { PutsInto ingress.now self.new.pass
             × (self.new.pass.sender ≡ self.old.pass.sender) }
         ensures ok { OnOk result ((is_closed ran.now ≡ false)
             × (frames_put self.new.pass ≡ frames_put self.old.pass ++ Frame.End ∷ [])) }
-        ensures fault { IfErr result (λ e. (e ≡ PlantFault.Closed)
-            × (frames_put self.new.pass ≡ frames_put self.old.pass)) }
+        ensures gone { OnErr result (frames_put self.new.pass ≡ frames_put self.old.pass) }
     {
-        if is_closed(ran) {
-            return Err(PlantFault::Closed);
+        if let Some(gone) = gone_in(ran) {
+            return Err(gone);
         }
         self.put(rt, ingress, gate, Frame::End)
     }
@@ -110,7 +108,7 @@ impl Line {
         ingress: &Ingress,
         gate: &G,
         bytes: Vec<u8>,
-    ) -> Result<(), PlantFault>
+    ) -> Result<(), HostCause>
         requires { PutsInto ingress.now self.old.pass }
         ensures pass { SamePass ingress.now self.old.pass self.new.pass }
         ensures ok { OnOk result
@@ -121,7 +119,10 @@ impl Line {
             Ok(frame) => frame,
             Err(refused) => return Err(unframed(refused.fault)),
         };
-        self.put(rt, ingress, gate, frame)
+        match self.put(rt, ingress, gate, frame) {
+            Ok(()) => Ok(()),
+            Err(gone) => Err(HostCause::Closed(gone)),
+        }
     }
 
     /// Puts packets, in order.
@@ -132,7 +133,7 @@ impl Line {
         ingress: &Ingress,
         gate: &G,
         packets: Vec<Vec<u8>>,
-    ) -> Result<(), PlantFault>
+    ) -> Result<(), HostCause>
         requires { PutsInto ingress.now self.old.pass }
         ensures pass { SamePass ingress.now self.old.pass self.new.pass }
         ensures ok { OnOk result (frames_put self.new.pass

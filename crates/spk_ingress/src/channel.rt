@@ -103,7 +103,7 @@ impl Ingress {
             (λ e. (e.value ≡ frame) × (frames_put pass.new ≡ frames_put pass.old)) }
     {
         if pass.count == u64::MAX {
-            return Err(Closed { value: frame });
+            return Err(Closed::of(frame));
         }
         let sender = pass.sender;
         let message = Message { sender, frame };
@@ -114,9 +114,7 @@ impl Ingress {
             }
             Err(error) => {
                 let message = error.into_inner();
-                Err(Closed {
-                    value: message.frame,
-                })
+                Err(Closed::of(message.frame))
             }
         }
     }
@@ -135,7 +133,7 @@ impl Ingress {
         ensures closed { OnErr result (frames_taken pass.new ≡ frames_taken pass.old) }
     {
         let Ok(message) = pass.end.recv_as::<Takes, R>(rt, &mut pass.seat) else {
-            return Err(Closed { value: () });
+            return Err(Closed::of(()));
         };
         let Message { sender, frame } = message;
         let number = pass.counts[sender];

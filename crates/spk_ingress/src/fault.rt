@@ -56,14 +56,56 @@ impl OpenFault {
     }
 }
 
-/// The other end is gone, or the pass has put the greatest `u64` of frames. What was to be put is handed back.
+/// That an ingress refused: its other end is gone, or the pass has put the greatest `u64` of frames. Nobody but an ingress makes
+/// one, so whoever holds it was refused.
+#[derive(Clone, Copy, Debug, PartialEq, Eq, Error)]
+#[error("Closed")]
+pub struct Gone {
+    /// keeps others from making one
+    pub(crate) refused: (),
+}
+
+impl Gone {
+    /// An ingress refused.
+    pub(crate) fn new() -> Gone {
+        Gone { refused: () }
+    }
+
+    /// The fault's number.
+    pub fn number(self) -> u32
+        ensures { result ≡ 90 }
+    {
+        90
+    }
+}
+
+/// The other end is gone, or the pass has put the greatest `u64` of frames. What was to be put is handed back. Nobody but an ingress
+/// makes one.
 #[derive(Debug, Drop, Error)]
 #[error("Closed")]
 pub struct Closed<T> {
     pub value: T,
+    pub(crate) gone: Gone,
 }
 
 impl<T> Closed<T> {
+    /// What an ingress refused.
+    pub(crate) fn of(value: T) -> Closed<T>
+        ensures { result.value ≡ value }
+    {
+        Closed {
+            value,
+            gone: Gone::new(),
+        }
+    }
+
+    /// The refusal, without what was to be put.
+    pub fn gone(&self) -> Gone
+        ensures { result ≡ self.now.gone }
+    {
+        self.gone
+    }
+
     /// The fault's number.
     pub fn number(&self) -> u32
         ensures { result ≡ 90 }

@@ -8,6 +8,6 @@ mod frame;
 mod rule;
 
 pub use channel::{Ingress, PutPass, TakePass, Taken};
-pub use fault::{Closed, FrameFault, OpenFault, Refused, SettleFault};
+pub use fault::{Closed, FrameFault, Gone, OpenFault, Refused, SettleFault};
 pub use frame::{Frame, Whole};
 pub use rule::Message;

@@ -20,6 +20,9 @@ use Rattle.spk_edge_body.specs.Done.{EdgeFailed}
 use Rattle.spk_edge_body.specs.declared.edge.EdgeStart.{EdgeStart}
 use Rattle.spk_edge_body.specs.declared.edge.EdgeEnd.{EdgeEnd}
 use Rattle.spk_edge_body.specs.declared.edge.EdgeFailure.{EdgeFailure}
+use Rattle.spk_broker_body.specs.Fault.{fault_of}
+use Rattle.spk_broker_body.specs.declared.fault.BrokerFailed.{BrokerFailed}
+use Rattle.spk_broker_body.specs.declared.fault.BrokerFailed.TheVariants as failed
 use Rattle.spk_broker_body.specs.declared.part.BrokerStart.{BrokerStart}
 use Rattle.spk_broker_body.specs.declared.part.BrokerEnd.{BrokerEnd}
 use Rattle.spk_host_session.specs.Data.{Config}
@@ -107,6 +110,10 @@ edges_fault n ss ts s others last r is done failed one why =
 edge_common : (s : EdgeStart) (f : EdgeFailure) → EdgeFailed s f → IsCommon f.fault
 edge_common s f failed = elim failed [ inl closed ↦ inr closed.0 | inr memory ↦ inl memory.0 ]
 
+broker_common : (f : BrokerFailed) → IsCommon (fault_of f)
+broker_common failed.NoMemory = inl refl
+broker_common (failed.Closed gone) = inr refl
+
 edges_common : (n : Ingress) (ss : List EdgeStart) (e : PlantFault) → IsOfEdges n ss e → IsCommon e
 edges_common n ss e of = elim of [
   | inl memory ↦ inl memory
@@ -120,18 +127,18 @@ host_threads c fault.Unsettled fails = inr (refl, fails)
 host_threads c fault.BadPlan fails = absurd fails.2
 
 chosen_of : (n : Ingress) (ss : List EdgeStart) (b : BrokerStart) (h : HostStart) (e : PlantFault)
-    (broker : Result BrokerEnd PlantFault) (edges : Result (Vec EdgeEnd Global) PlantFault) (host : Result HostEnd HostFailed)
-    → IfErr broker IsCommon → IfErr edges (IsOfEdges n ss) → IfErr host (HostBroke n h) → fault_of_all broker edges host ≡ Some e → IsThreads (config_of h) e
-chosen_of n ss b h e (Err x) edges host of_broker of_edges of_host is =
-    let same : x ≡ e = cc in
-    inl (subst IsCommon same of_broker)
-chosen_of n ss b h e (Ok y) (Err x) host of_broker of_edges of_host is =
+    (broker : Result BrokerEnd BrokerFailed) (edges : Result (Vec EdgeEnd Global) PlantFault) (host : Result HostEnd HostFailed)
+    → IfErr edges (IsOfEdges n ss) → IfErr host (HostBroke n h) → fault_of_all broker edges host ≡ Some e → IsThreads (config_of h) e
+chosen_of n ss b h e (Err x) edges host of_edges of_host is =
+    let same : fault_of x ≡ e = cc in
+    inl (subst IsCommon same (broker_common x))
+chosen_of n ss b h e (Ok y) (Err x) host of_edges of_host is =
     let same : x ≡ e = cc in
     inl (subst IsCommon same (edges_common n ss x of_edges))
-chosen_of n ss b h e (Ok y) (Ok z) (Err f) of_broker of_edges of_host is =
+chosen_of n ss b h e (Ok y) (Ok z) (Err f) of_edges of_host is =
     let same : f.fault ≡ e = cc in
     subst (λ x. IsThreads (config_of h) x) same (host_threads (config_of h) f.fault of_host.cause)
-chosen_of n ss b h e (Ok y) (Ok z) (Ok x) of_broker of_edges of_host is = absurd (cc)
+chosen_of n ss b h e (Ok y) (Ok z) (Ok x) of_edges of_host is = absurd (cc)
 
 -- ---- all threads ran to their ends
 
@@ -212,7 +219,7 @@ of_threads p begun e can parts why = elim why [
         why = inl (
           of,
           subst (λ c. IsThreads c e) config
-              (chosen_of begun.ingress begun.edges.items begun.broker begun.host e of.broker of.edges of.host of.broker_failed of.edges_failed of.host_failed of.chosen),
+              (chosen_of begun.ingress begun.edges.items begun.broker begun.host e of.broker of.edges of.host of.edges_failed of.host_failed of.chosen),
         );
       })
 ]

@@ -19,6 +19,8 @@ use Rattle.spk_edge_body.specs.declared.edge.EdgeStart.{EdgeStart}
 use Rattle.spk_edge_body.specs.declared.edge.EdgeEnd.{EdgeEnd}
 use Rattle.spk_edge_body.specs.declared.edge.EdgeFailure.{EdgeFailure}
 use Rattle.spk_broker_body.specs.Done.{BrokerDone}
+use Rattle.spk_broker_body.specs.Fault.{fault_of}
+use Rattle.spk_broker_body.specs.declared.fault.BrokerFailed.{BrokerFailed}
 use Rattle.spk_broker_body.specs.declared.part.BrokerStart.{BrokerStart}
 use Rattle.spk_broker_body.specs.declared.part.BrokerEnd.{BrokerEnd}
 use Rattle.spk_host_session.specs.Data.{Config}
@@ -46,14 +48,14 @@ AreJoined (Ok es) (Err f) all = ⊥
 AreJoined (Ok es) (Ok e) all = all ≡ es.items ++ e ∷ []
 
 -- the broker's fault, else the edge nodes', else the host's
-abbrev pub fault_of_all : Result BrokerEnd PlantFault → Result (Vec EdgeEnd Global) PlantFault → Result HostEnd HostFailed → Option PlantFault
-fault_of_all (Err e) edges host = Some e
+abbrev pub fault_of_all : Result BrokerEnd BrokerFailed → Result (Vec EdgeEnd Global) PlantFault → Result HostEnd HostFailed → Option PlantFault
+fault_of_all (Err e) edges host = Some (fault_of e)
 fault_of_all (Ok b) (Err e) host = Some e
 fault_of_all (Ok b) (Ok es) (Err f) = Some f.fault
 fault_of_all (Ok b) (Ok es) (Ok h) = None
 
 -- all ran to their ends, which are these
-pub record AreAll (b : Result BrokerEnd PlantFault) (es : Result (Vec EdgeEnd Global) PlantFault) (h : Result HostEnd HostFailed) (ends : Ends) : Type 0 where
+pub record AreAll (b : Result BrokerEnd BrokerFailed) (es : Result (Vec EdgeEnd Global) PlantFault) (h : Result HostEnd HostFailed) (ends : Ends) : Type 0 where
   pub broker : b ≡ Ok ends.broker
   pub edges : es ≡ Ok ends.edges
   pub host : h ≡ Ok ends.host
@@ -84,13 +86,13 @@ pub record IsFirst (n : Ingress) (ss : List EdgeStart) (e : PlantFault) : Type 0
 abbrev pub IsOfEdges : Ingress → List EdgeStart → PlantFault → Type 0
 IsOfEdges n ss e = (e ≡ fault.NoMemory) ⊎ IsFirst n ss e
 
--- The fault is the one that is due of what the threads came to, each of them by its own promise.
+-- The fault is the one that is due of what the threads came to, each of them by its own promise. A broker says Closed only by what an
+-- ingress refused it with.
 pub record IsChosen (n : Ingress) (ss : List EdgeStart) (b : BrokerStart) (h : HostStart) (e : PlantFault) : Type 0 where
-  pub broker : Result BrokerEnd PlantFault
+  pub broker : Result BrokerEnd BrokerFailed
   pub edges : Result (Vec EdgeEnd Global) PlantFault
   pub host : Result HostEnd HostFailed
   pub broker_done : IfOk broker (λ r. BrokerDone n b r)
-  pub broker_failed : IfErr broker IsCommon
   pub edges_done : IfOk edges (λ es. AreDone n ss es.items)
   pub edges_failed : IfErr edges (IsOfEdges n ss)
   pub host_done : IfOk host (λ r. HostDone n h r)

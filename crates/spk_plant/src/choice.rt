@@ -2,7 +2,7 @@
 ghost use Rattle.std.specs.Prelude.{◌≡◌, ◌⊎◌, IfOk, IfErr, Some, None};
 ghost use Rattle.spk_plant.specs.Choice.{AreAll, AreJoined, fault_of_all, fault_of_edges};
 
-use spk_broker_body::BrokerEnd;
+use spk_broker_body::{BrokerEnd, BrokerFailed};
 use spk_edge_body::{EdgeEnd, EdgeFailure};
 use spk_host_body::{HostEnd, HostFailed};
 use spk_plan::PlantFault;
@@ -38,7 +38,7 @@ pub(crate) fn edges_of(
 
 /// The ends of all threads. Of several faults the broker's, else the edge nodes', else the host's.
 pub(crate) fn ends_of(
-    broker: Result<BrokerEnd, PlantFault>,
+    broker: Result<BrokerEnd, BrokerFailed>,
     edges: Result<Vec<EdgeEnd>, PlantFault>,
     host: Result<HostEnd, HostFailed>,
 ) -> Result<Ends, PlantFault>
@@ -47,7 +47,7 @@ pub(crate) fn ends_of(
 {
     let broker = match broker {
         Ok(broker) => broker,
-        Err(fault) => return Err(fault),
+        Err(failed) => return Err(failed.fault()),
     };
     let edges = match edges {
         Ok(edges) => edges,

@@ -5,11 +5,11 @@ ghost use Rattle.spk_ingress.specs.Passes.{PutsInto};
 ghost use Rattle.spk_broker_body.specs.Done.{BrokerDone, BrokerReady};
 ghost use Rattle.spk_edge_body.specs.Done.{EdgeFailed};
 ghost use Rattle.spk_host_body.specs.Ends.{HostBroke, HostDone, HostReady};
-ghost use Rattle.spk_plant.specs.Choice.{IsChosen, IsCommon, IsOfEdges};
+ghost use Rattle.spk_plant.specs.Choice.{IsChosen, IsOfEdges};
 ghost use Rattle.spk_plant.specs.Done.{AllDone, AreDone, AreReady, IsEdgeDone};
 
 use crate::choice::{Ends, edges_of, ends_of};
-use spk_broker_body::{BrokerEnd, BrokerStart, run_broker};
+use spk_broker_body::{Bells, BrokerEnd, BrokerFailed, BrokerStart, run_broker};
 use spk_edge_body::{EdgeEnd, EdgeFailure, EdgeStart, run_edge};
 use spk_host_body::{HostEnd, HostFailed, HostStart, run_host};
 use spk_ingress::Ingress;
@@ -122,12 +122,11 @@ pub(crate) fn run_all<R: Threads + Wait + Sync, G: Gate + Sync>(
             ensures done { IfOk result (λ es. AreDone ingress.entry.now edges.items es.items) }
             ensures fault { IfErr result (IsOfEdges ingress.entry.now edges.items) }
         { run_edges(rt, alloc, ingress, gate, bells, edges) },
-        move || -> (Result<BrokerEnd, PlantFault>, Result<HostEnd, HostFailed>)
+        move || -> (Result<BrokerEnd, BrokerFailed>, Result<HostEnd, HostFailed>)
             requires { IsSync R.row × IsSync G.row × BrokerReady ingress.now broker
                 × HostReady ingress.now host }
             ensures broker { IfOk result.0 (λ e. BrokerDone ingress.entry.now broker e) }
             ensures host { IfOk result.1 (λ e. HostDone ingress.entry.now host e) }
-            ensures broker_fault { IfErr result.0 IsCommon }
             ensures host_fault { IfErr result.1 (HostBroke ingress.entry.now host) }
         { run_two(rt, alloc, ingress, gate, bells, bell, broker, host) },
     );
@@ -144,21 +143,22 @@ fn run_two<R: Threads + Wait + Sync, G: Gate + Sync>(
     bell: &Parker,
     broker: BrokerStart,
     host: HostStart,
-) -> (Result<BrokerEnd, PlantFault>, Result<HostEnd, HostFailed>)
+) -> (Result<BrokerEnd, BrokerFailed>, Result<HostEnd, HostFailed>)
     requires broker { BrokerReady ingress.now broker }
     requires host { HostReady ingress.now host }
     ensures broker { IfOk result.0 (λ e. BrokerDone ingress.now broker e) }
     ensures host { IfOk result.1 (λ e. HostDone ingress.now host e) }
-    ensures broker_fault { IfErr result.0 IsCommon }
     ensures host_fault { IfErr result.1 (HostBroke ingress.now host) }
 {
     join(
         rt,
-        move || -> Result<BrokerEnd, PlantFault>
+        move || -> Result<BrokerEnd, BrokerFailed>
             requires { BrokerReady ingress.now broker }
             ensures done { IfOk result (λ e. BrokerDone ingress.entry.now broker e) }
-            ensures fault { IfErr result IsCommon }
-        { run_broker(rt, alloc, ingress, gate, bells, broker) },
+        {
+            let mut bells = Bells::new(bells);
+            run_broker(rt, alloc, ingress, gate, &mut bells, broker)
+        },
         move || -> Result<HostEnd, HostFailed>
             requires { HostReady ingress.now host }
             ensures done { IfOk result (λ e. HostDone ingress.entry.now host e) }

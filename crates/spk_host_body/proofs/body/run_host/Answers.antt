@@ -12,22 +12,22 @@ use Rattle.spk_host_body.proofs.Ending.{ended_badly}
 use Rattle.spk_host_body.proofs.Running.{closed}
 use Rattle.spk_host_body.proofs.body.run_host.Goals as goal
 
-pub returns-in_default-clause-broke : goal.returns-in_default-clause-broke
-returns-in_default-clause-broke g c =
+pub returns-in-Err-clause-broke : goal.returns-in-Err-clause-broke
+returns-in-Err-clause-broke g c =
     let same : frames_put c.end-ended.new.self.pass ≡ frames_put c.run-ran.new.desk.line.pass = search rules in
     record {
       puts_into = c.end-ended.ensures.pass.0;
       sender = c.end-ended.ensures.pass.1 ∙ c.run-ran.ensures.pass.sender ∙ ap (λ (p : PutPass). p.sender) c.new-line.ensures.0;
       last = ap (λ (fs : List Frame). count_by is_end fs) same ∙ c.run-ran.ensures.pass.ends ∙ ap ends_put c.new-line.ensures.0;
-      cause = closed c.args.start.host.session.config;
+      cause = closed c.args.start.host.session.config c.in-Err.gone;
     }
 
-pub returns-in-Err-clause-broke : goal.returns-in-Err-clause-broke
-returns-in-Err-clause-broke g c =
-    ended_badly (Vec Given Global) c.args.ingress.now c.args.start (record { fault = c.in-Err.fault; pass = c.end-ended.new.self.pass }) c.run-ran.new.desk.line.pass
+pub returns-in-Err-ran-clause-broke : goal.returns-in-Err-ran-clause-broke
+returns-in-Err-ran-clause-broke g c =
+    ended_badly (Vec Given Global) c.args.ingress.now c.args.start (record { cause = c.in-Err-ran.cause; pass = c.end-ended.new.self.pass }) c.run-ran.new.desk.line.pass
     c.end-ended.ensures.pass.0
     (c.end-ended.ensures.pass.1 ∙ c.run-ran.ensures.pass.sender ∙ ap (λ (p : PutPass). p.sender) c.new-line.ensures.0)
-    (subst (λ r. is_closed r ≡ false) c.in-Err.is c.in-Ok.ensures.ok.0)
-    (IfErr-at_err (Fails c.args.start.host.session.config) c.in-Err.is c.run-ran.ensures.cause)
+    (subst (λ r. is_closed r ≡ false) c.in-Err-ran.is c.in_default.ensures.ok.0)
+    (IfErr-at_err (Fails c.args.start.host.session.config) c.in-Err-ran.is c.run-ran.ensures.cause)
     (c.run-ran.ensures.pass.ends ∙ ap ends_put c.new-line.ensures.0)
-    c.in-Ok.ensures.ok.1
+    c.in_default.ensures.ok.1

@@ -1,0 +1,42 @@
+//! Why a host's thread failed.
+ghost use Rattle.std.specs.Prelude.{◌≡◌};
+ghost use Rattle.spk_plan.specs.Fault.{number_of};
+ghost use Rattle.spk_host_body.specs.Fault.{fault_of};
+
+use spk_ingress::Gone;
+use spk_plan::PlantFault;
+use thiserror::Error;
+
+/// Why a host's thread failed.
+#[derive(Clone, Copy, Debug, PartialEq, Eq, Error)]
+pub enum HostCause {
+    /// A growth was refused.
+    #[error("NoMemory")]
+    NoMemory,
+    /// The frames' taker is gone. Nobody but an ingress makes what stands in it.
+    #[error("Closed")]
+    Closed(Gone),
+    /// The host answered bytes that aren't one packet.
+    #[error("Unsettled")]
+    Unsettled,
+}
+
+impl HostCause {
+    /// The fault of a plant: NoMemory (1), Closed (90) or Unsettled (93).
+    pub fn fault(&self) -> PlantFault
+        ensures { result ≡ fault_of self.now }
+    {
+        match self {
+            HostCause::NoMemory => PlantFault::NoMemory,
+            HostCause::Closed(_) => PlantFault::Closed,
+            HostCause::Unsettled => PlantFault::Unsettled,
+        }
+    }
+
+    /// The fault's number.
+    pub fn number(&self) -> u32
+        ensures { result ≡ number_of (fault_of self.now) }
+    {
+        self.fault().number()
+    }
+}
