@@ -21,10 +21,6 @@ use spk_topics::laws::{granted, matching};
 use spk_topics::{Filter, Topic, Tree};
 use std::alloc::{AllocError, Global};
 
-/// How many publishes go without an index before it is made: making it costs about as much as they do, so a client that
-/// changes its grants again and again costs no more than without it.
-const SLOW: u8 = 16;
-
 /// The most sessions among which each one's number is looked for.
 const MOST_FOUND: usize = 128;
 
@@ -131,32 +127,17 @@ impl Seat {
     }
 }
 
-/// The index for what this packet does: none where it may change grants, else the one that there is, and a new one where
-/// enough publishes went without.
-pub(crate) fn next_index(
-    tree: Option<Tree>,
-    desk: &Desk,
-    slow: &mut u8,
-    packet: &Packet,
-) -> Option<Tree>
+/// The index for what this packet does: none where it may change grants, else the one that there is, and for a publish a new
+/// one where there is none.
+pub(crate) fn next_index(tree: Option<Tree>, desk: &Desk, packet: &Packet) -> Option<Tree>
     requires { IsIndex tree (desk_now desk.now).seats }
     ensures index { IsIndex result (desk_now desk.now).seats }
     ensures dropped { regrants (view packet.now) ≡ true → result ≡ None }
     ensures kept { regrants (view packet.now) ≡ false → is_some tree ≡ true → result ≡ tree }
 {
     match packet {
-        Packet::Subscribe { .. } | Packet::Unsubscribe { .. } => {
-            *slow = 0;
-            None
-        }
-        Packet::Publish { .. } if tree.is_none() => {
-            if *slow < SLOW {
-                *slow += 1;
-                return None;
-            }
-            *slow = 0;
-            index(desk.alloc, &desk.seats)
-        }
+        Packet::Subscribe { .. } | Packet::Unsubscribe { .. } => None,
+        Packet::Publish { .. } if tree.is_none() => index(desk.alloc, &desk.seats),
         _ => tree,
     }
 }
