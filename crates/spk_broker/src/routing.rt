@@ -79,7 +79,7 @@ fn round(
         (draft_view draft.old)) }
     ensures visited { IfOk result (λ o. IfSome o (λ ps. AreVisited ps.items seats.old seats.new)) }
 {
-    let found = reach(tree, post.topic.as_str());
+    let found = reach(tree, post.topic.as_str()).unwrap_or(None);
     if tree.is_none() {
         visit(seats, draft, post, &found)?;
         return Ok(None);
