@@ -1,11 +1,17 @@
 -- Grants by filter.
-use Rattle.std.proofs.Common.{◌≡◌, ℕ, Bool, true, false, not, cond, List, [], ◌∷◌, map, refl, sym, ap, ◌∙◌, string_bytes, Option, Some, None}
-use Rattle.std.specs.List.{filter, fold, list_any}
-use Rattle.std.specs.Option.{IfSome, option_map}
+use Rattle.std.proofs.Common.{◌≡◌, ℕ, suc, zero, ◌<◌, Bool, true, false, not, ◌&&◌, ◌||◌, cond, List, [], ◌∷◌, length, get_or, map, refl, sym, ap, ◌∙◌, string_bytes, Option, Some, None, arith, true≢false}
+use denote.Struct.Props.{props}
+use Rattle.std.specs.List.{filter, fold, list_all, list_any}
+use Rattle.std.specs.Option.{IfSome, is_none, is_some, option_map}
+use Rattle.spk_packets.specs.View.{request_view}
+use Rattle.spk_packets.specs.declared.packet.Request.{Request}
+use Rattle.spk_topics.specs.Text.{filter_refusal}
+use Rattle.spk_topics.specs.declared.fault.TopicFault.{TopicFault}
 use Rattle.spk_broker_rules.specs.Data as plain
 use Rattle.std.specs.Str.{bytes_eq}
 use Rattle.spk_broker_rules.specs.Table.{Table, has, remove, replaced}
 use Rattle.spk_broker_rules.proofs.Lists.{any-map, filter-map}
+use Rattle.spk_broker.specs.Filters.{AreFilters, is_filter}
 use Rattle.spk_broker.specs.Granting.{regranted, renewed, taken_from, without_grants}
 use Rattle.spk_broker.specs.Parts.{grant_view}
 use Rattle.spk_broker.specs.declared.seat.Grant.{Grant}
@@ -30,3 +36,38 @@ pub regranted-is : (o : Option plain.Seat) (new old : Table ℕ) (names : List (
     → option_map (regranted new) o ≡ option_map (without_grants names) o
 regranted-is None new old names e f = refl
 regranted-is (Some s) new old names e f = ap (λ g. Some (record s { grants = g })) (e ∙ ap (λ g. fold taken_from g names) f)
+
+-- another QoS, whatever is said of its filter
+pub renewed-is : (name : List ℕ) (qos : ℕ) (g : Grant) (h : is_filter (string_bytes g.filter) ≡ true) → bytes_eq (string_bytes g.filter) name ≡ true
+    → record g { qos = qos; read = h } ≡ renewed name qos g
+renewed-is name qos g h e =
+    let once : IsProp (is_filter (string_bytes g.filter) ≡ true) = hlevel props in
+    ap (λ k. record g { qos = qos; read = k }) (once h g.read) ∙ sym (ap (λ b. cond b (record g { qos = qos }) g) e)
+
+-- ---- entries of a SUBSCRIBE
+
+both : (a b : Bool) → a && b ≡ true → (a ≡ true) × (b ≡ true)
+both true b e = (refl, e)
+both false b e = absurd (true≢false (sym e))
+
+-- each of these has a topic filter
+pub filter-at : (es : List Request) (i : ℕ) (d : Request) → i < length es → AreFilters (map request_view es) → is_filter (request_view (get_or es i d)).0 ≡ true
+filter-at [] i d low h = absurd (omega (arith, low))
+filter-at (e ∷ es) zero d low h = (both (is_filter (request_view e).0) (list_all (λ e. is_filter e.0) (map request_view es)) h).0
+filter-at (e ∷ es) (suc i) d low h = filter-at es i d (omega (arith, low)) (both (is_filter (request_view e).0) (list_all (λ e. is_filter e.0) (map request_view es)) h).1
+
+-- where no entry is refused each has one
+pub are-filters : (es : List (List ℕ × ℕ)) → list_any (λ e. is_some (filter_refusal e.0)) es ≡ false → AreFilters es
+unfolding is_filter
+are-filters [] h = refl
+are-filters (e ∷ es) h = by (filter_refusal e.0) h (are-filters es)
+  where
+    by : {X : Type 0} (o : Option X) → is_some o || list_any (λ e. is_some (filter_refusal e.0)) es ≡ false → (list_any (λ e. is_some (filter_refusal e.0)) es ≡ false → AreFilters es)
+        → is_none o && list_all (λ e. is_none (filter_refusal e.0)) es ≡ true
+    by None h rest = rest h
+    by (Some x) h rest = absurd (true≢false h)
+
+-- a topic filter is not refused
+pub never-refused : (name : List ℕ) (e : TopicFault) → is_filter name ≡ true → filter_refusal name ≡ Some e → ⊥
+unfolding is_filter
+never-refused name e h is = true≢false (sym h ∙ ap is_none is)

@@ -1,67 +1,88 @@
 -- The index is made session by session and grant by grant.
-use Rattle.std.proofs.Common.{◌≡◌, ℕ, suc, zero, ◌+◌, ◌<◌, Bool, true, false, ◌||◌, List, [], ◌∷◌, ◌++◌, length, map, take, get_or, refl, sym, ap, ◌∙◌, subst, arith, string_bytes, Option, Some, None}
+use Rattle.std.proofs.Common.{◌≡◌, ℕ, suc, zero, ◌+◌, ◌<◌, Bool, true, false, ◌||◌, List, [], ◌∷◌, ◌++◌, length, map, take, get_or, refl, sym, ap, ◌∙◌, subst, arith, string_bytes, Option, Some, None, true≢false}
 use Rattle.std.specs.Option.{IfSome, is_some}
-use Rattle.std.specs.List.{flat_map}
+use Rattle.std.specs.List.{flat_map, fold}
 use Rattle.std.specs.FinMap as tree
 use Rattle.std.specs.Str.{bytes_eq}
+use Rattle.std.proofs.lemmas.List.{append-nil, take_more}
+use Rattle.std.proofs.lemmas.List.Sums.{fold-append}
+use Rattle.std.proofs.lemmas.Grind.{flat_map-append}
 use Rattle.spk_topics.specs.Grants.{Grants}
 use Rattle.spk_broker_rules.specs.Data as plain
 use Rattle.spk_broker_rules.specs.Table.{Table, has}
 use Rattle.spk_broker_rules.specs.Words.{option_list}
-use Rattle.spk_broker_rules.proofs.Lists.{all-append}
 use Rattle.spk_broker.specs.Both.{Both}
-use Rattle.spk_broker.specs.Filing.{AreFiled, Grown, IsFiled}
+use Rattle.spk_broker.specs.Filing.{AreFiled, Entry, IsFiled, entries_of, index_of, with_entry}
+use Rattle.spk_broker.specs.Granting.{standing_grants}
 use Rattle.spk_broker.specs.Parts.{grant_view}
 use Rattle.spk_broker.specs.View.{seat_now}
 use Rattle.spk_broker.specs.declared.seat.Grant.{Grant}
 use Rattle.spk_broker.proofs.Retained.{same-bytes}
 
-or-false : (b : Bool) → b || false ≡ true → b ≡ true
-or-false true e = refl
-or-false false e = e
+-- ---- what is made
+
+abbrev pub entry : ℕ → List ℕ × ℕ → Entry
+entry key g = ((g.0, key), g.1)
 
 -- one more grant
-pub filed_step : (index more : Grants) (key : ℕ) (gs : List Grant) (i : ℕ) (d : Grant) → i < length gs → Grown index more
-    → is_some (tree.get more (string_bytes (get_or gs i d).filter, key)) ≡ true → IsFiled index key (map grant_view (take i gs)) → IsFiled more key (map grant_view (take (i + 1) gs))
-filed_step index more key [] i d low grown one filed f there = absurd (omega (arith, low))
-filed_step index more key (g ∷ gs) zero d low grown one filed f there =
-    subst (λ t. is_some (tree.get more (t, key)) ≡ true) (same-bytes (string_bytes g.filter) f (or-false (bytes_eq (string_bytes g.filter) f) there)) one
-filed_step index more key (g ∷ gs) (suc i) d low grown one filed f there =
+pub entries-step : (index : Grants) (key : ℕ) (gs : List Grant) (i : ℕ) (d : Grant) → i < length gs
+    → fold with_entry index (map (entry key) (map grant_view (take (i + 1) gs)))
+    ≡ with_entry (fold with_entry index (map (entry key) (map grant_view (take i gs)))) ((string_bytes (get_or gs i d).filter, key), (get_or gs i d).qos)
+entries-step index key [] i d low = absurd (omega (arith, low))
+entries-step index key (g ∷ gs) zero d low = refl
+entries-step index key (g ∷ gs) (suc i) d low =
     let z : suc i + 1 ≡ suc (i + 1) = omega arith in
-    by (bytes_eq (string_bytes g.filter) f) refl (ap (λ k. has f (map grant_view (take k (g ∷ gs)))) (sym z) ∙ there)
-    (λ h. filed_step index more key gs i d (omega (arith, low)) grown one (λ e h. filed e (ap (λ b. bytes_eq (string_bytes g.filter) e || b) h ∙ either (bytes_eq (string_bytes g.filter) e))) f h)
-  where
-    either : (b : Bool) → b || true ≡ true
-    either true = refl
-    either false = refl
+    ap (λ k. fold with_entry index (map (entry key) (map grant_view (take k (g ∷ gs))))) z
+    ∙ entries-step (with_entry index (entry key (grant_view g))) key gs i d (omega (arith, low))
 
-    by : (b : Bool) → bytes_eq (string_bytes g.filter) f ≡ b → bytes_eq (string_bytes g.filter) f || has f (map grant_view (take (i + 1) gs)) ≡ true
-        → (has f (map grant_view (take (i + 1) gs)) ≡ true → is_some (tree.get more (f, key)) ≡ true) → is_some (tree.get more (f, key)) ≡ true
-    by true e h rest = grown f key (filed f (ap (λ b. b || has f (map grant_view (take i gs))) e))
-    by false e h rest = rest (sym (ap (λ b. b || has f (map grant_view (take (i + 1) gs))) e) ∙ h)
-
-pub grown_on : (a b c : Grants) → Grown a b → Grown b c → Grown a c
-grown_on a b c x y f k there = y f k (x f k there)
-
--- the grants of one session are filed, if it is there
-pub seat_filed : (index : Grants) (o : Option plain.Seat) (key : ℕ) (gs : Table ℕ) → IfSome o (λ s. key ≡ s.key) → IfSome o (λ s. gs ≡ s.grants) → IsFiled index key gs → AreFiled index (option_list o)
-seat_filed index None key gs k g filed = tt
-seat_filed index (Some s) key gs k g filed = (subst (λ (n : ℕ). IsFiled index n s.grants) k (subst (λ (t : Table ℕ). IsFiled index key t) g filed), tt)
+-- all grants of one session, if it is there
+pub seat-entries : (o : Option plain.Seat) (key : ℕ) (gs : Table ℕ) → IfSome o (λ s. key ≡ s.key) → gs ≡ standing_grants o → map (entry key) gs ≡ flat_map entries_of (option_list o)
+seat-entries None key gs k e = ap (map (entry key)) e
+seat-entries (Some s) key gs k e = ap (map (entry key)) e ∙ ap (λ n. map (entry n) s.grants) k ∙ sym (append-nil (entries_of s))
 
 -- one more session
-pub seats_filed : (index : Grants) (bs : List Both) (i : ℕ) (d : Both) → i < length bs → AreFiled index (flat_map seat_now (take i bs)) → AreFiled index (seat_now (get_or bs i d)) → AreFiled index (flat_map seat_now (take (i + 1) bs))
-seats_filed index [] i d low all one = absurd (omega (arith, low))
-seats_filed index (b ∷ bs) zero d low all one = all-append (λ (s : plain.Seat). IsFiled index s.key s.grants) (seat_now b) [] one tt
-seats_filed index (b ∷ bs) (suc i) d low all one =
-    let z : suc i + 1 ≡ suc (i + 1) = omega arith in
-    subst (λ k. AreFiled index (flat_map seat_now (take k (b ∷ bs)))) (sym z)
-    (all-append (λ (s : plain.Seat). IsFiled index s.key s.grants) (seat_now b) (flat_map seat_now (take (i + 1) bs)) (first (seat_now b) (flat_map seat_now (take i bs)) all)
-    (seats_filed index bs i d (omega (arith, low)) (rest (seat_now b) (flat_map seat_now (take i bs)) all) one))
-  where
-    first : (xs ys : List plain.Seat) → AreFiled index (xs ++ ys) → AreFiled index xs
-    first [] ys h = tt
-    first (x ∷ xs) ys h = (h.0, first xs ys h.1)
+pub index-step : (bs : List Both) (i : ℕ) (d : Both) → i < length bs
+    → index_of (flat_map seat_now (take (i + 1) bs)) ≡ fold with_entry (index_of (flat_map seat_now (take i bs))) (flat_map entries_of (seat_now (get_or bs i d)))
+index-step bs i d low =
+    let x = get_or bs i d in
+    let before = flat_map seat_now (take i bs) in
+    ap (λ l. index_of (flat_map seat_now l)) (take_more bs i d low)
+    ∙ ap index_of (flat_map-append seat_now (take i bs) (x ∷ []))
+    ∙ ap (λ l. index_of (before ++ l)) (append-nil (seat_now x))
+    ∙ ap (fold with_entry tree.empty) (flat_map-append entries_of before (seat_now x))
+    ∙ fold-append with_entry tree.empty (flat_map entries_of before) (flat_map entries_of (seat_now x))
 
-    rest : (xs ys : List plain.Seat) → AreFiled index (xs ++ ys) → AreFiled index ys
-    rest [] ys h = h
-    rest (x ∷ xs) ys h = rest xs ys h.1
+-- ---- it has them all
+
+-- what was granted is there, and what else was there stays
+pub record Inserts : Type 0 where
+  pub one : (grants : Grants) (filter : List ℕ) (key qos : ℕ) → tree.get (tree.insert grants (filter, key) qos) (filter, key) ≡ Some qos
+  pub others : (grants : Grants) (filter other : List ℕ) (key qos at : ℕ) → is_some (tree.get grants (other, at)) ≡ true → is_some (tree.get (tree.insert grants (filter, key) qos) (other, at)) ≡ true
+
+still : Inserts → (index : Grants) (es : List Entry) (f : List ℕ) (k : ℕ) → is_some (tree.get index (f, k)) ≡ true → is_some (tree.get (fold with_entry index es) (f, k)) ≡ true
+still law index [] f k there = there
+still law index (e ∷ es) f k there = still law (with_entry index e) es f k (law.others index e.0.0 f e.0.1 e.1 k there)
+
+session-filed : Inserts → (index : Grants) (key : ℕ) (gs : Table ℕ) → IsFiled (fold with_entry index (map (entry key) gs)) key gs
+session-filed law index key [] f there = absurd (true≢false (sym there))
+session-filed law index key (g ∷ gs) f there = by (bytes_eq g.0 f) refl there (session-filed law (with_entry index (entry key g)) key gs f)
+  where
+    by : (b : Bool) → bytes_eq g.0 f ≡ b → b || has f gs ≡ true
+        → (has f gs ≡ true → is_some (tree.get (fold with_entry (with_entry index (entry key g)) (map (entry key) gs)) (f, key)) ≡ true)
+        → is_some (tree.get (fold with_entry (with_entry index (entry key g)) (map (entry key) gs)) (f, key)) ≡ true
+    by true e h rest =
+        still law (with_entry index (entry key g)) (map (entry key) gs) f key
+        (subst (λ t. is_some (tree.get (with_entry index (entry key g)) (t, key)) ≡ true) (same-bytes g.0 f e) (ap is_some (law.one index g.0 key g.1)))
+    by false e h rest = rest h
+
+all-filed : Inserts → (index : Grants) (ss : List plain.Seat) → AreFiled (fold with_entry index (flat_map entries_of ss)) ss
+all-filed law index [] = tt
+all-filed law index (s ∷ ss) =
+    let split = fold-append with_entry index (entries_of s) (flat_map entries_of ss) in (
+      λ f there. subst (λ (t : Grants). is_some (tree.get t (f, s.key)) ≡ true) (sym split)
+          (still law (fold with_entry index (entries_of s)) (flat_map entries_of ss) f s.key (session-filed law index s.key s.grants f there)),
+      subst (λ (t : Grants). AreFiled t ss) (sym split) (all-filed law (fold with_entry index (entries_of s)) ss),
+    )
+
+pub index-filed : Inserts → (ss : List plain.Seat) → AreFiled (index_of ss) ss
+index-filed law ss = all-filed law tree.empty ss

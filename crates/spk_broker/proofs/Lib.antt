@@ -16,6 +16,7 @@ pub mod Keeping
 pub mod Near
 pub mod Offers
 pub mod Opening
+pub mod Ordered
 pub mod Packeted
 pub mod Passing
 pub mod Places

@@ -1,20 +1,18 @@
 -- How many levels a filter has, and what the filters of several sessions take.
 use Rattle.std.proofs.Common.{◌≡◌, ℕ, ◌+◌, ◌<◌, ◌≤◌, Bool, true, false, ◌==◌, cond, count_by, List, [], ◌∷◌, length, get_or, map, take, refl, sym, ap, ◌∙◌, Option, Some, None, arith}
 use Rattle.std.proofs.lemmas.List.Sums.{length-filter, sum_by-append, sum_by_more, sum_by_more_le}
-use Rattle.std.proofs.lemmas.Option.{none-some}
 use Rattle.std.specs.List.{filter, flat_map, fold, sum_by}
-use Rattle.std.specs.Option.{IfSome, option_map_or}
+use Rattle.std.specs.Option.{option_map_or}
 use Rattle.spk_topics.specs.Levels.{levels, widened}
 use Rattle.spk_broker_rules.specs.Data as plain
-use Rattle.spk_broker_rules.specs.Table.{Table}
 use Rattle.spk_broker_rules.specs.Words.{option_list}
 use Rattle.spk_broker.specs.Asking.{seats_now}
 use Rattle.spk_broker.specs.Both.{Both}
+use Rattle.spk_broker.specs.Granting.{standing_grants}
 use Rattle.spk_broker.specs.Parts.{grant_view}
 use Rattle.spk_broker.specs.Sizes.{size_of, size_of_all, size_of_grants}
-use Rattle.spk_broker.specs.View.{seat_now, seat_was}
+use Rattle.spk_broker.specs.View.{seat_now}
 use Rattle.spk_broker.specs.declared.seat.Grant.{Grant}
-use Rattle.spk_broker.proofs.Changes.{whole-at}
 
 abbrev pub is_slash : ℕ → Bool
 is_slash b = b == 47
@@ -85,15 +83,7 @@ size-within bs i d low =
     let step = sum_by_more_le size_at bs i d low in
     omega (arith, all, before, step)
 
--- no more than its grants take, and as much where it is as before the call
-pub size-below : (o : Option plain.Seat) (grants : Table ℕ) → IfSome o (λ (s : plain.Seat). grants ≡ s.grants) → option_map_or (λ (s : plain.Seat). size_of_grants s.grants) o 0 ≤ size_of_grants grants
-size-below None grants h = omega arith
-size-below (Some s) grants h = let same = ap size_of_grants h in omega (arith, same)
-
-size-there : (o : Option plain.Seat) (s : plain.Seat) (grants : Table ℕ) → o ≡ Some s → IfSome o (λ (x : plain.Seat). grants ≡ x.grants) → size_of_grants grants ≡ option_map_or (λ (x : plain.Seat). size_of_grants x.grants) o 0
-size-there None s grants is h = absurd (none-some s is)
-size-there (Some x) s grants is h = ap size_of_grants h
-
-pub size-settled : (bs : List Both) (i : ℕ) (d : Both) (grants : Table ℕ) → seats_now bs ≡ map seat_was bs → i < length bs → IfSome (get_or bs i d).now (λ (s : plain.Seat). grants ≡ s.grants)
-    → size_of_grants grants ≡ size_at (get_or bs i d)
-size-settled bs i d grants e low h = size-there (get_or bs i d).now (get_or bs i d).was grants (ap (λ (b : Both). b.now) (whole-at bs i d e low)) h
+-- as much as the grants that stand
+pub size-standing : (o : Option plain.Seat) → option_map_or (λ (s : plain.Seat). size_of_grants s.grants) o 0 ≡ size_of_grants (standing_grants o)
+size-standing None = refl
+size-standing (Some s) = refl

@@ -19,7 +19,7 @@ use Rattle.spk_broker.specs.declared.desk.Desk.{Desk}
 use Rattle.spk_broker.specs.declared.guest.Guest.{Guest}
 use Rattle.spk_broker.specs.declared.seat.Seat.{Seat}
 use Rattle.spk_broker.proofs.Changes.{whole-at}
-use Rattle.spk_broker.proofs.Near.{found-sits}
+use Rattle.spk_broker.proofs.Near.{any-at, found-sits}
 use Rattle.spk_broker.proofs.Visits.{calling-length, place-is, push-long, push-new, push-old}
 
 -- ---- places
@@ -154,6 +154,7 @@ pub record Settling (ps : List ℕ) (j : ℕ) (start cur : List Both) (ended : B
   pub left : (k : ℕ) (d : Both) → k < j → k < length ps → seat_left (get_or cur (get_or ps k 0) d) ≡ option_list (get_or start (get_or ps k 0) d).now
   pub apart : IsApart ps start cur
   pub there : ended ≡ false → (k : ℕ) (d : Both) → k < j → k < length ps → is_some (get_or cur (get_or ps k 0) d).now ≡ true
+  pub gone : ended ≡ true → (k : ℕ) × (k < j) × (k < length ps) × ((d : Both) → has_ended (get_or start (get_or ps k 0) d) ≡ true)
 
 pub settling-start : (ps : List ℕ) (start : List Both) → Settling ps 0 start start false
 settling-start ps start = record {
@@ -162,7 +163,12 @@ settling-start ps start = record {
   left = λ k d lt low. absurd (omega (arith, lt));
   apart = apart-start ps start;
   there = λ e k d lt low. absurd (omega (arith, lt));
+  gone = λ e. absurd (true≢false (sym e));
 }
+
+either-true : (a b : Bool) (P : Type 0) → a || b ≡ true → (a ≡ true → P) → (b ≡ true → P) → P
+either-true true b P e left right = left refl
+either-true false b P e left right = right e
 
 either-false : (a b : Bool) → a || b ≡ false → (a ≡ false) × (b ≡ false)
 either-false true b e = absurd (true≢false e)
@@ -202,6 +208,9 @@ settling-step ps j start cur ended gone e new c t low now left is =
           set-cases cur p new (get_or ps k 0) d below (λ b. is_some b.now ≡ true)
           (λ same. stays-there new.now (sym is ∙ parts.1))
           (λ ne. ⊎_elim (λ old. c.there parts.0 k d old klow) (λ ge. let last : k ≡ j = omega (arith, ge, lt) in absurd (ne (ap (λ q. get_or ps q 0) last))) (cases_lt k j));
+      gone = λ f. either-true ended gone _ f
+          (λ old. let at = c.gone old in let before = at.1 in (at.0, omega (arith, before), at.2, at.3))
+          (λ last. (j, omega arith, low, λ d. ap (λ o. not (is_some o)) (sym (one d)) ∙ sym is ∙ last));
     }
 
 -- the same at a place that is written otherwise
@@ -284,7 +293,7 @@ settled-left ps j start cur ended c t whole-list =
     (λ out. let rest = t.rest i d (omega (arith, lt, long)) out in
     ap seat_left (c.apart i d out ∙ rest) ∙ sym (ap (λ (b : Both). option_list b.now) rest)))
 
-pub settled-there : (ps : List ℕ) (j : ℕ) (start cur : List Both) (ended : Bool) → Settling ps j start cur ended → AreTouched ps start → length ps ≤ j → ended ≡ false → list_any has_ended cur ≡ false
+settled-there : (ps : List ℕ) (j : ℕ) (start cur : List Both) (ended : Bool) → Settling ps j start cur ended → AreTouched ps start → length ps ≤ j → ended ≡ false → list_any has_ended cur ≡ false
 settled-there ps j start cur ended c t whole-list none =
     let long = c.long in
     any-none has_ended cur
@@ -292,3 +301,19 @@ settled-there ps j start cur ended c t whole-list none =
     (λ in-it. let at = place-at i ps in-it in let low = at.1 in
     subst (λ n. has_ended (get_or cur n d) ≡ false) at.2 (ap not (c.there none at.0 d (omega (arith, low, whole-list)) low)))
     (λ out. ap has_ended (c.apart i d out ∙ t.rest i d (omega (arith, lt, long)) out)))
+
+-- whether one of them ended
+pub settled-ended : (ps : List ℕ) (j : ℕ) (start cur : List Both) (ended : Bool) → Settling ps j start cur ended → AreTouched ps start → length ps ≤ j → ended ≡ list_any has_ended cur
+settled-ended ps j start cur ended c t whole-list = by ended refl
+  where
+    some : (bs : List Both) (p : ℕ) → p < length bs → ((d : Both) → has_ended (get_or bs p d) ≡ true) → list_any has_ended bs ≡ true
+    some [] p low at = absurd (omega (arith, low))
+    some (b ∷ bs) p low at = any-at has_ended (b ∷ bs) p b low (at b)
+
+    by : (b : Bool) → ended ≡ b → b ≡ list_any has_ended cur
+    by false e = sym (settled-there ps j start cur ended c t whole-list e)
+    by true e =
+        let at = c.gone e in
+        let long = c.long in
+        let plow = t.low at.0 at.2 in
+        sym (some cur (get_or ps at.0 0) (omega (arith, long, plow)) (λ d. ap (λ o. not (is_some o)) (c.now (get_or ps at.0 0) d plow) ∙ at.3 d))

@@ -1,7 +1,9 @@
 -- A message calls at some places alone: to the sessions in between it does nothing.
-use Rattle.std.proofs.Common.{◌≡◌, ℕ, zero, suc, ◌+◌, ◌<◌, ◌≤◌, Bool, true, false, not, ◌||◌, cond, eqb, List, [], ◌∷◌, ◌++◌, length, map, take, drop, get_or, set, refl, sym, ap, ◌∙◌, subst, append_assoc, Option, Some, None, arith, true≢false, eq-eqb, Vec, Global}
+use Rattle.std.proofs.Common.{◌≡◌, ℕ, zero, suc, ◌+◌, ◌<◌, ◌≤◌, Bool, true, false, not, ◌||◌, cond, eqb, List, [], ◌∷◌, ◌++◌, length, map, take, drop, get_or, set, refl, sym, ap, ◌∙◌, subst, append_assoc, Option, Some, None, arith, true≢false, eq-eqb, Vec, Global, Result, Ok, Err}
 use Rattle.std.specs.List.{flat_map}
 use Rattle.std.specs.Option.{IfSome, is_some, option_map_or}
+use Rattle.std.specs.Result.{IfOk}
+use Rattle.std.specs.declared.alloc.AllocError.{AllocError}
 use Rattle.spk_session.specs.PacketIds.{next_id}
 use Rattle.spk_session.specs.Step.{has_room}
 use Rattle.spk_topics.specs.Grants.{Grants}
@@ -113,13 +115,19 @@ pass-at Q (b ∷ bs) (suc i) d s low is all = by b.now all (λ rest. pass-at Q b
     by (Some x) h rest = rest h.1
 
 -- who stands elsewhere has no grant that fits
-pub found-called : (o : Option (Vec ℕ Global)) (f : Option (Vec (ℕ × ℕ) Global)) (found : Vec (ℕ × ℕ) Global) (l : List (ℕ × ℕ)) (seats : List Both) → f ≡ Some found → l ≡ found.items
+found-called : (o : Option (Vec ℕ Global)) (f : Option (Vec (ℕ × ℕ) Global)) (found : Vec (ℕ × ℕ) Global) (l : List (ℕ × ℕ)) (seats : List Both) → f ≡ Some found → l ≡ found.items
     → IfSome o (λ ps. (low top : ℕ) → Rises low top (flat_map seat_now seats) → AreAllFound l ps.items seats)
     → IfSome o (λ ps. (low top : ℕ) (topic : List ℕ) → Rises low top (flat_map seat_now seats) → ArePassed f topic (flat_map seat_now seats) → AreCalled topic ps.items seats)
 found-called None f found l seats is same h = tt
 found-called (Some ps) f found l seats is same h = λ low top topic r passed i d s ilow here out.
     let none : has_key s.key found.items ≡ false = ap (has_key s.key) (sym same) ∙ h low top r i d s ilow here out in
     pass-at (λ key grants. is_passed f key ≡ true → best topic grants ≡ None) seats i d s ilow here passed (ap (λ q. is_passed q s.key) is ∙ ap (λ b. not b) none)
+
+pub found-called-ok : (r : Result (Option (Vec ℕ Global)) AllocError) (f : Option (Vec (ℕ × ℕ) Global)) (found : Vec (ℕ × ℕ) Global) (l : List (ℕ × ℕ)) (seats : List Both) → f ≡ Some found → l ≡ found.items
+    → IfOk r (λ o. IfSome o (λ ps. (low top : ℕ) → Rises low top (flat_map seat_now seats) → AreAllFound l ps.items seats))
+    → IfOk r (λ o. IfSome o (λ ps. (low top : ℕ) (topic : List ℕ) → Rises low top (flat_map seat_now seats) → ArePassed f topic (flat_map seat_now seats) → AreCalled topic ps.items seats))
+found-called-ok (Err x) f found l seats is same h = tt
+found-called-ok (Ok o) f found l seats is same h = found-called o f found l seats is same h
 
 -- ---- the places of the numbers that were found, one after the other
 

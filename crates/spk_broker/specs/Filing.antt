@@ -1,15 +1,40 @@
 -- The index of grants: for each standing grant it has an entry of its filter and the session's number.
-use Rattle.std.specs.Prelude.{◌≡◌, ◌==◌, ℕ, Bool, true, false, ◌&&◌, not, List, [], ◌∷◌, Option, Some, None, is_some, Vec}
+use Rattle.std.specs.Prelude.{◌≡◌, ◌==◌, ◌<◌, ◌≤◌, nat_lt, ℕ, Bool, true, false, ◌&&◌, not, List, [], ◌∷◌, length, map, if◌then◌else◌, Option, Some, None, is_some, Vec}
 use Rattle.std.specs.declared.alloc.Global.{Global}
-use Rattle.std.specs.List.{AllByRecursion, list_any}
+use Rattle.std.specs.List.{AllByRecursion, flat_map, fold, list_any}
 use Rattle.std.specs.FinMap as tree
 use Rattle.spk_packets.specs.Message.{Message, Connect, ConnAck, Publish, PubAck, Subscribe, SubAck, Unsubscribe, UnsubAck, PingReq, PingResp, Disconnect}
-use Rattle.spk_topics.specs.Grants.{Grants}
+use Rattle.spk_topics.specs.Grants.{Finds, Grants}
+use Rattle.spk_topics.specs.Text.{topic_refusal}
 use Rattle.spk_broker_rules.specs.Data.{Seat}
 use Rattle.spk_broker_rules.specs.Plan.{Act, Opens, At, Hear, Drop, Say, Leave, Tell, Queue, Route, Forget, Accept, Give, Take, Ack, Event, Open, Packet, Fault, Closed, Tick, Refused}
 use Rattle.spk_broker_rules.specs.Lawful.{Rises}
 use Rattle.spk_broker_rules.specs.Table.{Table, has}
 use Rattle.spk_broker_rules.specs.Words.{best}
+use Rattle.spk_broker.specs.Sizes.{size_of_all}
+
+-- ---- what an index is
+
+-- a grant in an index: its QoS by its filter and the number of its session
+abbrev pub Entry : Type 0
+Entry = (List ℕ × ℕ) × ℕ
+
+-- the grants of a session
+abbrev pub entries_of : Seat → List Entry
+entries_of s = map (λ g. ((g.0, s.key), g.1)) s.grants
+
+abbrev pub with_entry : Grants → Entry → Grants
+with_entry index e = tree.insert index e.0 e.1
+
+-- the grants of these sessions, and no others
+abbrev pub index_of : List Seat → Grants
+index_of seats = fold with_entry tree.empty (flat_map entries_of seats)
+
+-- the index that is made for these sessions: none where the filters of their grants are too many (own rule)
+abbrev pub made_index : List Seat → Option Grants
+made_index seats = if nat_lt 100000 (size_of_all seats) then None else Some (index_of seats)
+
+-- ---- what it has
 
 -- something holds of the key and the grants of each session
 abbrev pub AllOf : (ℕ → Table ℕ → Type 0) → List Seat → Type 0
@@ -21,6 +46,8 @@ IsFiled index key grants = (filter : List ℕ) → has filter grants ≡ true �
 
 abbrev pub AreFiled : Grants → List Seat → Type 0
 AreFiled index seats = AllOf (IsFiled index) seats
+
+-- ---- what changes it
 
 -- acts that change no grants
 abbrev pub is_quiet : Act → Bool
@@ -57,6 +84,20 @@ regrants PingReq = false
 regrants PingResp = false
 regrants Disconnect = false
 
+-- a message, for which an index is made where there is none
+abbrev pub is_publish : Message → Bool
+is_publish (Connect client clean keep will) = false
+is_publish (ConnAck present code) = false
+is_publish (Publish dup qos retain topic id payload) = true
+is_publish (PubAck id) = false
+is_publish (Subscribe id filters) = false
+is_publish (SubAck id codes) = false
+is_publish (Unsubscribe id filters) = false
+is_publish (UnsubAck id) = false
+is_publish PingReq = false
+is_publish PingResp = false
+is_publish Disconnect = false
+
 -- events that may change grants
 abbrev pub takes_grants : Event → Bool
 takes_grants (Open moment) = false
@@ -65,6 +106,15 @@ takes_grants (Fault conn fault moment) = false
 takes_grants (Closed conn moment) = false
 takes_grants (Tick moment) = false
 takes_grants (Refused conn sort moment) = false
+
+-- ---- what it finds
+
+-- What is found for a topic: none where there is no index, where the text is no topic name, or where more than 128 sessions
+-- have a filter that matches (own rule).
+abbrev pub IsReached : Option Grants → List ℕ → Option (Vec (ℕ × ℕ) Global) → Type 0
+IsReached None topic found = found ≡ None
+IsReached (Some index) topic None = topic_refusal topic ≡ None → (found : List (ℕ × ℕ)) × Finds index topic found × (128 < length found)
+IsReached (Some index) topic (Some found) = (topic_refusal topic ≡ None) × Finds index topic found.items × (length found.items ≤ 128)
 
 -- whether a session of this number was found
 abbrev pub has_key : ℕ → List (ℕ × ℕ) → Bool
@@ -83,10 +133,6 @@ ArePassed found topic seats = AllOf (λ key grants. is_passed found key ≡ true
 abbrev pub IsIndex : Option Grants → List Seat → Type 0
 IsIndex None seats = Unit {0}
 IsIndex (Some index) seats = AreFiled index seats
-
--- an index has all that another one has
-abbrev pub Grown : Grants → Grants → Type 0
-Grown index more = (filter : List ℕ) (key : ℕ) → is_some (tree.get index (filter, key)) ≡ true → is_some (tree.get more (filter, key)) ≡ true
 
 -- where there is an index, the sessions stand in the order of their numbers
 abbrev pub AreInOrder : Option Grants → List Seat → Type 0

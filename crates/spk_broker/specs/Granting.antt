@@ -1,5 +1,5 @@
 -- Grants in the midst of a SUBSCRIBE.
-use Rattle.std.specs.Prelude.{ℕ, ◌+◌, nat_lt, Bool, ◌||◌, List, [], ◌∷◌, ◌++◌, length, map, if◌then◌else◌, min}
+use Rattle.std.specs.Prelude.{ℕ, ◌+◌, nat_lt, Bool, ◌||◌, List, [], ◌∷◌, ◌++◌, length, map, if◌then◌else◌, min, Option, Some, None}
 use Rattle.std.specs.List.{fold}
 use Rattle.std.specs.String.{string_bytes}
 use Rattle.std.specs.Str.{bytes_eq}
@@ -37,6 +37,11 @@ taken_from grants name = remove name grants
 -- a session with other grants
 abbrev pub regranted : Table ℕ → plain.Seat → plain.Seat
 regranted grants s = record s { grants = grants }
+
+-- the grants of a session, none where it ended
+abbrev pub standing_grants : Option plain.Seat → Table ℕ
+standing_grants None = []
+standing_grants (Some s) = s.grants
 
 -- a grant with another QoS, where it is of this filter
 abbrev pub renewed : List ℕ → ℕ → Grant → Grant

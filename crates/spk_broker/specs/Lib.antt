@@ -9,6 +9,7 @@ pub mod Endings
 pub mod Entering
 pub mod Fault
 pub mod Filing
+pub mod Filters
 pub mod Granting
 pub mod Letters
 pub mod Offering

@@ -26,8 +26,6 @@ pub struct Broker {
     pub(crate) desk: Desk,
     /// The index of grants, where there is one.
     pub(crate) tree: Option<Tree>,
-    /// How many publishes went without an index.
-    pub(crate) slow: u8,
     /// Where connections sat.
     pub(crate) hints: Hints,
 }
@@ -69,7 +67,6 @@ impl Broker {
                 retained: IndexMap::new(alloc),
             },
             tree: None,
-            slow: 0,
             hints: Hints::new(alloc),
         }
     }

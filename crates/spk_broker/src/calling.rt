@@ -1,10 +1,12 @@
 //! Which sessions a message calls at: those that the index found, each by its number.
-ghost use Rattle.std.specs.Prelude.{ℕ, ◌≡◌, ◌+◌, ◌<◌, IfSome, OnOk, length, map};
-ghost use Rattle.std.specs.List.{flat_map};
+ghost use Rattle.std.specs.Prelude.{ℕ, ◌≡◌, ◌+◌, ◌<◌, IfOk, IfSome, None, OnOk, get_or, is_none, length, map, true};
+ghost use Rattle.std.specs.List.{flat_map, list_any};
+ghost use Rattle.std.specs.List.Sorted.{IsStrictlyIncreasing};
 ghost use Rattle.spk_broker_rules.specs.Lawful.{Rises};
 ghost use Rattle.spk_broker_rules.specs.Step.{serve};
 ghost use Rattle.spk_broker.specs.Asking.{passes};
-ghost use Rattle.spk_broker.specs.Called.{AreAllFound, AreCalled, ArePlaces, StandsAt, has_number};
+ghost use Rattle.spk_broker.specs.Both.{Both};
+ghost use Rattle.spk_broker.specs.Called.{AreAllFound, AreCalled, AreOrdered, ArePlaces, IsPast, StandsAt, has_number, is_lost, is_there};
 ghost use Rattle.spk_broker.specs.Drafts.{draft_view};
 ghost use Rattle.spk_broker.specs.Parts.{post_view};
 ghost use Rattle.spk_broker.specs.Rounds.{left_of_round, with_round};
@@ -20,14 +22,19 @@ use std::alloc::{AllocError, Global};
 impl Seat {
     /// Whether it has this number and didn't end.
     fn has_number(&self, key: u64) -> bool
-        ensures { result ≡ passes (has_number key) self.now }
+        ensures now { result ≡ passes (has_number key) self.now }
+        ensures was { result ≡ is_there key self.now }
     {
         !self.ended && self.key == key
     }
 }
 
 /// Where a session of this number may stand: sessions stand in the order of their numbers.
-fn guess(seats: &[Seat], key: u64) -> usize {
+fn guess(seats: &[Seat], key: u64) -> usize
+    ensures { AreOrdered seats.now
+        → (i : ℕ) (d : Both) → i < length seats.now
+        → (get_or seats.now i d).was.key ≡ key → i ≡ result }
+{
     match seats.binary_search_by_key(&key, |seat| seat.key()) {
         Ok(place) => place,
         Err(place) => place,
@@ -39,6 +46,9 @@ fn place_from(seats: &[Seat], from: usize, key: u64) -> Option<usize>
     ensures low { IfSome result (λ p. p < length seats.now) }
     ensures behind { IfSome result (λ p. from < p + 1) }
     ensures here { IfSome result (λ p. StandsAt key p seats.now) }
+    ensures there { IfSome result
+        (λ p. (d : Both) → is_there key (get_or seats.now p d) ≡ true) }
+    ensures none { result ≡ None → AreOrdered seats.now → IsPast key from seats.now }
 {
     let place = guess(seats, key);
     if place < from || place >= seats.len() || !seats[place].has_number(key) {
@@ -47,23 +57,31 @@ fn place_from(seats: &[Seat], from: usize, key: u64) -> Option<usize>
     Some(place)
 }
 
-/// The places of the sessions that were found; none where one of them isn't there any more, or memory was refused.
-pub(crate) fn places(alloc: Global, seats: &[Seat], found: &[(u64, u8)]) -> Option<Vec<usize>>
-    ensures places { IfSome result (λ ps. ArePlaces ps.items seats.now) }
-    ensures others { IfSome result
+/// The places of the sessions that were found, in the order of their numbers; none exactly where one of them isn't there any
+/// more.
+pub(crate) fn places(
+    alloc: Global,
+    seats: &[Seat],
+    found: &[(u64, u8)],
+) -> Result<Option<Vec<usize>>, AllocError>
+    ensures places { IfOk result (λ o. IfSome o (λ ps. ArePlaces ps.items seats.now)) }
+    ensures others { IfOk result (λ o. IfSome o
         (λ ps. (low top : ℕ) → Rises low top (flat_map seat_now seats.now)
-        → AreAllFound found.now ps.items seats.now) }
+        → AreAllFound found.now ps.items seats.now)) }
+    ensures lost { IfOk result
+        (λ o. AreOrdered seats.now → IsStrictlyIncreasing (map (λ g. g.0) found.now)
+        → is_none o ≡ list_any (λ g. is_lost g.0 seats.now) found.now) }
 {
     let mut places = Vec::new(alloc);
     let mut from = 0;
     for entry in found {
-        let place = place_from(seats, from, entry.0)?;
-        if places.push(place).is_err() {
-            return None;
-        }
+        let Some(place) = place_from(seats, from, entry.0) else {
+            return Ok(None);
+        };
+        places.push(place)?;
         from = place + 1;
     }
-    Some(places)
+    Ok(Some(places))
 }
 
 /// What a routed message does to the sessions at these places, where it does nothing to any other.

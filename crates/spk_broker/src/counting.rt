@@ -8,6 +8,7 @@ ghost use Rattle.spk_broker_rules.specs.Words.{codes_of, granted_of, with_entry}
 ghost use Rattle.spk_broker.specs.Asking.{seats_now};
 ghost use Rattle.spk_broker.specs.Both.{Both};
 ghost use Rattle.spk_broker.specs.Counting.{grants_in};
+ghost use Rattle.spk_broker.specs.Filters.{AreFilters};
 ghost use Rattle.spk_broker.specs.Granting.{granting_view};
 
 use crate::granting::{Granting, copied};
@@ -62,7 +63,8 @@ pub(crate) fn granted(
     place: usize,
     entries: &[Request],
 ) -> Result<Granting, AllocError>
-    requires { place < length seats.now }
+    requires place { place < length seats.now }
+    requires filters { AreFilters (map request_view entries.now) }
     ensures codes { IfOk result (λ g. length g.codes.items ≡ length entries.now) }
     ensures granted { IfOk result (λ g. list_all is_grant g.codes.items ≡ true) }
     ensures view { IfOk result

@@ -10,6 +10,7 @@ ghost use Rattle.spk_broker_rules.specs.Step.{Turn, act, acts, other_grants, sea
 ghost use Rattle.spk_broker.specs.Asking.{place_in};
 ghost use Rattle.spk_broker.specs.Drafts.{draft_view};
 ghost use Rattle.spk_broker.specs.Endings.{IsReady, Leads};
+ghost use Rattle.spk_broker.specs.Filters.{AreFilters};
 ghost use Rattle.spk_broker.specs.Granting.{granting_view, grown_by};
 ghost use Rattle.spk_broker.specs.Sendable.{IsWritable};
 ghost use Rattle.spk_broker.specs.Touched.{OnlyAt};
@@ -83,6 +84,7 @@ impl Desk {
         entries: &[Request],
     ) -> Result<(), AllocError>
         requires writable { IsWritable (Subscribe id (map request_view entries.now)) }
+        requires filters { AreFilters (map request_view entries.now) }
         requires place { place_in conn self.old.seats.items ≡ Some place }
         requires keeps { (draft_view draft.old).keeps ≡ [] }
         ensures done { OnOk result ((t : Turn) → Stands self.old draft.old t

@@ -1,11 +1,12 @@
 //! Grants as a SUBSCRIBE or UNSUBSCRIBE changes them (sections 3.8 to 3.11).
-ghost use Rattle.std.specs.Prelude.{◌≡◌, ◌+◌, nat_lt, not, IfOk, IfSome, OnOk, length, map, string_bytes};
+ghost use Rattle.std.specs.Prelude.{◌≡◌, ◌+◌, nat_lt, not, IfOk, IfSome, OnOk, length, map, string_bytes, true};
 ghost use Rattle.std.specs.List.{filter, fold, list_any};
 ghost use Rattle.std.specs.Option.{option_map};
 ghost use Rattle.std.specs.Str.{bytes_eq};
 ghost use Rattle.spk_packets.specs.View.{request_view};
 ghost use Rattle.spk_broker_rules.specs.Table.{has, put, remove, replaced};
-ghost use Rattle.spk_broker.specs.Granting.{granting_view, may_grant, regranted, renewed, taken_from, with_request};
+ghost use Rattle.spk_broker.specs.Filters.{AreFilters, is_filter};
+ghost use Rattle.spk_broker.specs.Granting.{granting_view, may_grant, regranted, renewed, standing_grants, taken_from, with_request};
 ghost use Rattle.spk_broker.specs.Parts.{grant_view};
 
 use crate::seat::{Grant, Seat};
@@ -84,6 +85,7 @@ fn replace(grants: &mut [Grant], name: &str, qos: u8)
 
 /// A filter that is granted keeps its place, a new one goes last.
 fn put(grants: &mut Vec<Grant>, name: &String, qos: u8) -> Result<(), AllocError>
+    requires { is_filter (string_bytes name.now) ≡ true }
     ensures { OnOk result
         (map grant_view grants.new.items
         ≡ put (string_bytes name.now) qos (map grant_view grants.old.items)) }
@@ -109,6 +111,7 @@ fn may_grant(grants: &[Grant], others: usize, name: &str) -> bool
 impl Granting {
     /// One more entry.
     fn request(&mut self, others: usize, entry: &Request) -> Result<(), AllocError>
+        requires { is_filter (request_view entry.now).0 ≡ true }
         ensures { OnOk result
             (granting_view self.new
             ≡ with_request others (granting_view self.old) (request_view entry.now)) }
@@ -133,6 +136,7 @@ impl Granting {
         others: usize,
         entries: &[Request],
     ) -> Result<(), AllocError>
+        requires { AreFilters (map request_view entries.now) }
         ensures { OnOk result (granting_view self.new
             ≡ fold (with_request others) (granting_view self.old) (map request_view entries.now)) }
     {
@@ -177,6 +181,16 @@ impl Seat {
             Some(grants) => grants,
             None => &self.grants,
         }
+    }
+
+    /// The grants by now, none of a session that ended.
+    pub(crate) fn standing(&self) -> &[Grant]
+        ensures { map grant_view result.now ≡ standing_grants self.now.now }
+    {
+        if self.ended {
+            return &[];
+        }
+        self.grants()
     }
 
     /// Other grants.

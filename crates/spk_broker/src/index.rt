@@ -1,14 +1,12 @@
 //! The index of grants: whom a message may concern.
-ghost use Rattle.std.specs.Prelude.{◌≡◌, ◌≤◌, ℕ, List, IfSome, OnOk, None, Some, false, is_some, true, string_bytes};
-ghost use Rattle.std.specs.List.{flat_map};
-ghost use Rattle.std.specs.FinMap as finite;
+ghost use Rattle.std.specs.Prelude.{◌≡◌, ℕ, List, IfOk, IfSome, Ok, OnOk, None, Some, false, is_some, true, string_bytes};
+ghost use Rattle.std.specs.List.{flat_map, fold};
 ghost use Rattle.spk_packets.specs.View.{view};
 ghost use Rattle.spk_broker_rules.specs.Data as plain;
 ghost use Rattle.spk_broker_rules.specs.Step.{serve};
 ghost use Rattle.spk_broker_rules.specs.Words.{best, option_list};
 ghost use Rattle.spk_broker.specs.Drafts.{draft_view, left_by, served_by};
-ghost use Rattle.spk_broker.specs.Filing.{AreFiled, ArePassed, Grown, IsIndex, has_key, is_passed, regrants};
-ghost use Rattle.spk_broker.specs.Sizes.{size_of_all};
+ghost use Rattle.spk_broker.specs.Filing.{ArePassed, IsIndex, IsReached, entries_of, has_key, index_of, is_passed, is_publish, made_index, regrants, with_entry};
 ghost use Rattle.spk_broker.specs.View.{desk_now, seat_now};
 
 use crate::desk::Desk;
@@ -21,80 +19,80 @@ use spk_topics::laws::{granted, matching};
 use spk_topics::{Filter, Topic, Tree};
 use std::alloc::{AllocError, Global};
 
-/// How many publishes go without an index before it is made: making it costs about as much as they do, so a client that
-/// changes its grants again and again costs no more than without it.
-const SLOW: u8 = 16;
-
 /// The most sessions among which each one's number is looked for.
 const MOST_FOUND: usize = 128;
 
-/// The numbers of the sessions that the index finds for a topic; none where there is no index, where memory was
-/// refused, or where they are more than pay.
-pub(crate) fn reach(tree: &Option<Tree>, topic: &str) -> Option<Vec<(u64, u8)>>
-    ensures { (ss : List plain.Seat) → IsIndex tree.now ss → ArePassed result topic.now ss }
+/// The numbers of the sessions that the index finds for a topic; none where there is no index, where the text is no topic, or
+/// where they are more than pay.
+pub(crate) fn reach(
+    tree: &Option<Tree>,
+    topic: &str,
+) -> Result<Option<Vec<(u64, u8)>>, AllocError>
+    ensures reached { IfOk result (λ o. IsReached tree.now topic.now o) }
+    ensures passed { IfOk result (λ o. (ss : List plain.Seat)
+        → IsIndex tree.now ss → ArePassed o topic.now ss) }
 {
     matching();
     let Some(tree) = tree else {
-        return None;
+        return Ok(None);
     };
     let Ok(name) = Topic::read(topic) else {
-        return None;
+        return Ok(None);
     };
     match tree.find(&name) {
-        Ok(found) if found.len() <= MOST_FOUND => Some(found),
-        _ => None,
+        Ok(found) if found.len() <= MOST_FOUND => Ok(Some(found)),
+        Ok(_) => Ok(None),
+        Err(_) => Err(AllocError),
     }
 }
 
-/// One more grant of a session in the index. False where memory was refused.
-fn file_one(tree: &mut Tree, key: u64, grant: &Grant) -> bool
-    ensures filed { result ≡ true
-        → is_some (finite.get tree.new (string_bytes grant.now.filter, key)) ≡ true }
-    ensures more { Grown tree.old tree.new }
+/// One more grant of a session in the index.
+fn file_one(tree: &mut Tree, key: u64, grant: &Grant) -> Result<(), AllocError>
+    ensures { OnOk result
+        (tree.new ≡ with_entry tree.old ((string_bytes grant.now.filter, key), grant.now.qos)) }
 {
-    granted();
     let Ok(filter) = Filter::read(grant.filter.as_str()) else {
-        return false;
+        unreachable!()
     };
-    tree.grant(&filter, key, grant.qos).is_ok()
+    match tree.grant(&filter, key, grant.qos) {
+        Ok(_) => Ok(()),
+        Err(_) => Err(AllocError),
+    }
 }
 
-/// The grants of a session in the index. False where memory was refused.
-fn file_seat(tree: &mut Tree, seat: &Seat) -> bool
-    ensures filed { result ≡ true → AreFiled tree.new (seat_now seat.now) }
-    ensures more { Grown tree.old tree.new }
+/// The grants of a session in the index.
+fn file_seat(tree: &mut Tree, seat: &Seat) -> Result<(), AllocError>
+    ensures { OnOk result
+        (tree.new ≡ fold with_entry tree.old (flat_map entries_of (seat_now seat.now))) }
 {
     let key = seat.key();
-    for grant in seat.grants() {
-        if !file_one(tree, key, grant) {
-            return false;
-        }
+    for grant in seat.standing() {
+        file_one(tree, key, grant)?;
     }
-    true
+    Ok(())
 }
 
-/// An index of the grants of all sessions; none where they are too many, or where memory was refused.
-pub(crate) fn index(alloc: Global, seats: &[Seat]) -> Option<Tree>
-    ensures index { IsIndex result (flat_map seat_now seats.now) }
-    ensures small { IfSome result (λ tree. size_of_all (flat_map seat_now seats.now) ≤ 100000) }
+/// An index of the grants of all sessions; none where they are too many.
+fn index(alloc: Global, seats: &[Seat]) -> Result<Option<Tree>, AllocError>
+    ensures made { IfOk result (λ o. o ≡ made_index (flat_map seat_now seats.now)) }
+    ensures index { IfOk result (λ o. IsIndex o (flat_map seat_now seats.now)) }
 {
+    granted();
     if !is_small(seats) {
-        return None;
+        return Ok(None);
     }
-    filed(alloc, seats)
+    Ok(Some(filed(alloc, seats)?))
 }
 
-/// An index of the grants of all sessions; none where memory was refused.
-fn filed(alloc: Global, seats: &[Seat]) -> Option<Tree>
-    ensures { IsIndex result (flat_map seat_now seats.now) }
+/// An index of the grants of all sessions.
+fn filed(alloc: Global, seats: &[Seat]) -> Result<Tree, AllocError>
+    ensures { IfOk result (λ tree. tree ≡ index_of (flat_map seat_now seats.now)) }
 {
     let mut tree = Tree::new(alloc);
     for seat in seats {
-        if !file_seat(&mut tree, seat) {
-            return None;
-        }
+        file_seat(&mut tree, seat)?;
     }
-    Some(tree)
+    Ok(tree)
 }
 
 impl Seat {
@@ -131,33 +129,25 @@ impl Seat {
     }
 }
 
-/// The index for what this packet does: none where it may change grants, else the one that there is, and a new one where
-/// enough publishes went without.
+/// The index for what this packet does: none where it may change grants, else the one that there is, and for a publish a new
+/// one where there is none.
 pub(crate) fn next_index(
     tree: Option<Tree>,
     desk: &Desk,
-    slow: &mut u8,
     packet: &Packet,
-) -> Option<Tree>
+) -> Result<Option<Tree>, AllocError>
     requires { IsIndex tree (desk_now desk.now).seats }
-    ensures index { IsIndex result (desk_now desk.now).seats }
-    ensures dropped { regrants (view packet.now) ≡ true → result ≡ None }
-    ensures kept { regrants (view packet.now) ≡ false → is_some tree ≡ true → result ≡ tree }
+    ensures index { IfOk result (λ o. IsIndex o (desk_now desk.now).seats) }
+    ensures dropped { regrants (view packet.now) ≡ true → result ≡ Ok None }
+    ensures kept { regrants (view packet.now) ≡ false → is_some tree ≡ true → result ≡ Ok tree }
+    ensures none { is_publish (view packet.now) ≡ false → tree ≡ None → result ≡ Ok None }
+    ensures made { is_publish (view packet.now) ≡ true → tree ≡ None
+        → IfOk result (λ o. o ≡ made_index (desk_now desk.now).seats) }
 {
     match packet {
-        Packet::Subscribe { .. } | Packet::Unsubscribe { .. } => {
-            *slow = 0;
-            None
-        }
-        Packet::Publish { .. } if tree.is_none() => {
-            if *slow < SLOW {
-                *slow += 1;
-                return None;
-            }
-            *slow = 0;
-            index(desk.alloc, &desk.seats)
-        }
-        _ => tree,
+        Packet::Subscribe { .. } | Packet::Unsubscribe { .. } => Ok(None),
+        Packet::Publish { .. } if tree.is_none() => index(desk.alloc, &desk.seats),
+        _ => Ok(tree),
     }
 }
 

@@ -32,7 +32,7 @@ impl Broker {
         }
         let mut draft = Draft::new(self.desk.alloc);
         let tree = self.tree.take();
-        self.tree = next_index(tree, &self.desk, &mut self.slow, packet);
+        self.tree = next_index(tree, &self.desk, packet).unwrap_or(None);
         let drafted = self
             .desk
             .draft_packet(&mut draft, &self.tree, conn, place, packet, now);

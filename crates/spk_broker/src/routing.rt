@@ -1,11 +1,11 @@
 //! Routing: each message that waits goes to all sessions before the next.
-ghost use Rattle.std.specs.Prelude.{ℕ, ◌≡◌, ◌+◌, ◌≤◌, [], List, length, IfOk, IfSome, OnOk, map};
+ghost use Rattle.std.specs.Prelude.{ℕ, ◌≡◌, ◌+◌, ◌≤◌, [], List, length, IfOk, IfSome, OnOk, is_none, map};
 ghost use Rattle.std.specs.List.{flat_map};
 ghost use Rattle.indexmap.specs.IndexMap.{spare};
 ghost use Rattle.spk_broker_rules.specs.Lawful.{Rises};
 ghost use Rattle.spk_broker_rules.specs.Plan.{Route};
 ghost use Rattle.spk_broker_rules.specs.Step.{Turn, act, route_one, serve};
-ghost use Rattle.spk_broker.specs.Called.{AreCalled, ArePlaces};
+ghost use Rattle.spk_broker.specs.Called.{AreAscending, AreCalled, AreOrdered, ArePlaces, are_lost};
 ghost use Rattle.spk_broker.specs.Drafts.{draft_view};
 ghost use Rattle.spk_broker.specs.Endings.{IsReady, Leads, alone_at};
 ghost use Rattle.spk_broker.specs.Filing.{AreInOrder, ArePassed, IsIndex};
@@ -48,17 +48,23 @@ fn visit(
     Ok(())
 }
 
-/// Where those stand that the index found; none where it isn't known, or one of them isn't there any more.
-fn found_places(alloc: Global, seats: &[Seat], found: &Option<Vec<(u64, u8)>>) -> Option<Vec<usize>>
-    ensures places { IfSome result (λ ps. ArePlaces ps.items seats.now) }
-    ensures others { IfSome result
+/// Where those stand that the index found; none exactly where it isn't known who they are, or one of them isn't there any more.
+fn found_places(
+    alloc: Global,
+    seats: &[Seat],
+    found: &Option<Vec<(u64, u8)>>,
+) -> Result<Option<Vec<usize>>, AllocError>
+    ensures places { IfOk result (λ o. IfSome o (λ ps. ArePlaces ps.items seats.now)) }
+    ensures others { IfOk result (λ o. IfSome o
         (λ ps. (low top : ℕ) (topic : List ℕ) → Rises low top (flat_map seat_now seats.now)
         → ArePassed found.now topic (flat_map seat_now seats.now)
-        → AreCalled topic ps.items seats.now) }
+        → AreCalled topic ps.items seats.now)) }
+    ensures lost { IfOk result (λ o. AreOrdered seats.now → AreAscending found.now
+        → is_none o ≡ are_lost found.now seats.now) }
 {
     match found {
         Some(found) => places(alloc, seats, found),
-        None => None,
+        None => Ok(None),
     }
 }
 
@@ -79,12 +85,12 @@ fn round(
         (draft_view draft.old)) }
     ensures visited { IfOk result (λ o. IfSome o (λ ps. AreVisited ps.items seats.old seats.new)) }
 {
-    let found = reach(tree, post.topic.as_str());
+    let found = reach(tree, post.topic.as_str()).unwrap_or(None);
     if tree.is_none() {
         visit(seats, draft, post, &found)?;
         return Ok(None);
     }
-    let Some(places) = found_places(draft.alloc, seats, &found) else {
+    let Some(places) = found_places(draft.alloc, seats, &found).unwrap_or(None) else {
         visit(seats, draft, post, &found)?;
         return Ok(None);
     };

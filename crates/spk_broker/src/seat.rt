@@ -1,6 +1,7 @@
 //! Sessions (section 3.1.2.4) and their connections.
 
-ghost use Rattle.std.specs.Prelude.{◌≡◌, is_some, true};
+ghost use Rattle.std.specs.Prelude.{◌≡◌, is_some, string_bytes, true};
+ghost use Rattle.spk_broker.specs.Filters.{is_filter};
 ghost use Rattle.spk_broker.specs.Sendable.{is_numbered};
 
 use crate::post::Post;
@@ -30,6 +31,8 @@ pub(crate) struct Grant {
     pub(crate) filter: String,
     /// 0 or 1.
     pub(crate) qos: u8,
+    /// The filter is a topic filter (section 4.7).
+    ghost read: { is_filter (string_bytes filter) ≡ true },
 }
 
 /// A QoS 1 message that a kept session hasn't acknowledged.

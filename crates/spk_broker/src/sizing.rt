@@ -1,10 +1,9 @@
 //! Whether the grants are few enough for an index of them (own rule).
-ghost use Rattle.std.specs.Prelude.{◌≡◌, ◌+◌, ◌<◌, ◌≤◌, MatchOption, false, length, map, true};
+ghost use Rattle.std.specs.Prelude.{◌≡◌, ◌+◌, ◌<◌, ◌≤◌, nat_lt, MatchOption, length, map, not};
 ghost use Rattle.spk_topics.specs.Levels.{levels};
 ghost use Rattle.spk_broker.specs.Parts.{grant_view};
 ghost use Rattle.spk_broker.specs.Sizes.{size_of, size_of_all, size_of_grants};
 ghost use Rattle.spk_broker.specs.Asking.{seats_now};
-ghost use Rattle.spk_broker.specs.View.{seat_was};
 
 use crate::seat::{Grant, Seat};
 
@@ -47,15 +46,13 @@ fn left_by(grants: &[Grant], left: usize) -> Option<usize>
     Some(rest)
 }
 
-/// Whether the grants of these sessions are few enough. In the midst of a call those of one that ended count too.
+/// Whether the grants of these sessions are few enough.
 pub(crate) fn is_small(seats: &[Seat]) -> bool
-    ensures small { result ≡ true → size_of_all (seats_now seats.now) ≤ 100000 }
-    ensures large { seats_now seats.now ≡ map seat_was seats.now → result ≡ false
-        → 100000 < size_of_all (seats_now seats.now) }
+    ensures { result ≡ not (nat_lt 100000 (size_of_all (seats_now seats.now))) }
 {
     let mut left = MOST_LEVELS;
     for seat in seats {
-        match left_by(seat.grants(), left) {
+        match left_by(seat.standing(), left) {
             Some(rest) => left = rest,
             None => return false,
         }

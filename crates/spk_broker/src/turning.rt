@@ -172,7 +172,7 @@ pub(crate) fn undo(seats: &mut [Seat])
 /// What was drafted of those at these places and at that one stands. Whether one of them ended.
 fn settle_places(seats: &mut [Seat], places: &[usize], last: usize) -> bool
     requires { AreTouched (places.now ++ last ∷ []) seats.old }
-    ensures ended { result ≡ false → list_any has_ended seats.new ≡ false }
+    ensures ended { result ≡ list_any has_ended seats.new }
     ensures now { flat_map seat_now seats.new ≡ flat_map seat_now seats.old }
     ensures left { flat_map seat_left seats.new ≡ flat_map seat_now seats.old }
 {

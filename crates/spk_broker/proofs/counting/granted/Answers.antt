@@ -22,7 +22,7 @@ returns-clause-view c d =
     let others = c.count_others-others.result in
     let es = map request_view c.args.entries.now in
     let copy = map grant_view c.in_ok-copied.field-0.items in
-    let here = c.index-seats-place.is ∙ any-default c.args.seats.now c.args.place c.index-seats-place.result d c.requires in
+    let here = c.index-seats-place.is ∙ any-default c.args.seats.now c.args.place c.index-seats-place.result d c.requires.place in
     grown-is (get_or c.args.seats.now c.args.place d).now (seats_now c.args.seats.now) others copy (granting_view c.request_all.new.self)
     es (c.count_others-others.ensures d)
     (subst (λ (b : Both). IfSome b.now (λ s. copy ≡ s.grants)) here

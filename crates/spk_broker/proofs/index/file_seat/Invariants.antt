@@ -1,10 +1,9 @@
-use Rattle.std.proofs.Common.{map, take}
-use Rattle.spk_broker.specs.Filing.{Grown, IsFiled}
+use Rattle.std.proofs.Common.{◌≡◌, map, take}
+use Rattle.std.specs.List.{fold}
+use Rattle.spk_broker.specs.Filing.{with_entry}
 use Rattle.spk_broker.specs.Parts.{grant_view}
+use Rattle.spk_broker.proofs.Indexing.{entry}
 use Rattle.spk_broker.proofs.index.file_seat.Given as goal
 
 abbrev pub invariant-loop-grant : goal.invariant-loop-grant
-invariant-loop-grant l = record {
-  more : Grown l.initial.tree l.tree;
-  filed : IsFiled l.tree l.key (map grant_view (take l.grant-index l.grant-items));
-}
+invariant-loop-grant l = l.tree ≡ fold with_entry l.initial.tree (map (entry l.key) (map grant_view (take l.grant-index l.grant-items)))

@@ -4,10 +4,10 @@ use Rattle.spk_broker.specs.Filing.{IsIndex}
 use Rattle.spk_broker.proofs.Passing.{passed-all, passed-none}
 use Rattle.spk_broker.proofs.index.reach.Goals as goal
 
-pub returns-in_default-find : goal.returns-in_default-find
-returns-in_default-find c ss i = passed-none c.args.topic.now ss
-
-pub returns-in-Ok-find : goal.returns-in-Ok-find
-returns-in-Ok-find c ss i =
+pub returns-in-Ok-find-clause-passed : goal.returns-in-Ok-find-clause-passed
+returns-in-Ok-find-clause-passed c ss i =
     passed-all c.in-Some.tree c.args.topic.now c.in-Ok-find.found (subst (λ t. Finds c.in-Some.tree t c.in-Ok-find.found.items) c.in-Ok.ensures.0 c.in-Ok-find.ensures.ok) c.matching.ensures ss
     (subst (λ t. IsIndex t ss) c.in-Some.is i)
+
+pub returns-in-Ok-2-clause-passed : goal.returns-in-Ok-2-clause-passed
+returns-in-Ok-2-clause-passed c ss i = passed-none c.args.topic.now ss

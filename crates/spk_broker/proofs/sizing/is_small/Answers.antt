@@ -1,36 +1,39 @@
-use Rattle.std.proofs.Common.{◌≡◌, arith, get_or, map, subst}
-use Rattle.std.specs.Option.{IfSome}
-use Rattle.spk_broker_rules.specs.Data as plain
+use Rattle.std.proofs.Common.{◌≡◌, ◌∙◌, ◌<◌, ap, arith, get_or, not, sym}
+use Rattle.std.proofs.lemmas.Bool.{le-ltb, lt-ltb}
+use Rattle.std.proofs.lemmas.List.{take_all}
+use Rattle.spk_broker.specs.Asking.{seats_now}
 use Rattle.spk_broker.specs.Both.{Both}
-use Rattle.spk_broker.specs.Parts.{grant_view}
-use Rattle.spk_broker.proofs.Sizes.{size-below, size-more, size-settled, size-within}
+use Rattle.spk_broker.specs.Granting.{standing_grants}
+use Rattle.spk_broker.specs.Sizes.{size_of_all, size_of_grants}
+use Rattle.spk_broker.proofs.Sizes.{size-more, size-standing, size-within}
 use Rattle.spk_broker.proofs.sizing.is_small.Goals as goal
 
-pub returns-in-None-clause-large : goal.returns-in-None-clause-large
-returns-in-None-clause-large c settled fails =
+pub returns-in-None : goal.returns-in-None
+returns-in-None c =
     let bs = c.args.seats.now in
     let i = c.loop-seat.seat-index in
-    let test = c.loop-seat-test.true in
-    let there = subst (λ (b : Both). IfSome b.now (λ (s : plain.Seat). map grant_view c.grants.result.now ≡ s.grants)) c.seat-item.is c.grants.ensures in
-    let within = size-within bs i c.seat-item.result test in
-    let whole = c.loop-seat.invariant.1 settled in
-    let here = size-settled bs i c.seat-item.result (map grant_view c.grants.result.now) settled test there in
+    let within = size-within bs i c.seat-item.result c.loop-seat-test.true in
+    let here = size-standing (get_or bs i c.seat-item.result).now in
+    let there = ap size_of_grants c.standing.ensures ∙ ap (λ (b : Both). size_of_grants (standing_grants b.now)) c.seat-item.is in
     let over = c.in-None.ensures in
-    omega (arith, within, whole, here, over)
+    let before = c.loop-seat.invariant in
+    let all : 100000 < size_of_all (seats_now bs) = omega (arith, within, here, there, over, before) in
+    ap not (sym (lt-ltb 100000 (size_of_all (seats_now bs)) all))
 
 pub loop-seat-preserved : goal.loop-seat-preserved
 loop-seat-preserved c =
     let bs = c.args.seats.now in
     let i = c.loop-seat.seat-index in
-    let test = c.loop-seat-test.true in
-    let there = subst (λ (b : Both). IfSome b.now (λ (s : plain.Seat). map grant_view c.grants.result.now ≡ s.grants)) c.seat-item.is c.grants.ensures in
-    let more = size-more bs i c.seat-item.result test in
-    let taken = c.in-Some.ensures in (
-      let most = c.loop-seat.invariant.0 in
-          let below = size-below (get_or bs i c.seat-item.result).now (map grant_view c.grants.result.now) there in
-          omega (arith, more, taken, most, below),
-      λ settled.
-          let whole = c.loop-seat.invariant.1 settled in
-          let here = size-settled bs i c.seat-item.result (map grant_view c.grants.result.now) settled test there in
-          omega (arith, more, taken, whole, here),
-    )
+    let more = size-more bs i c.seat-item.result c.loop-seat-test.true in
+    let here = size-standing (get_or bs i c.seat-item.result).now in
+    let there = ap size_of_grants c.standing.ensures ∙ ap (λ (b : Both). size_of_grants (standing_grants b.now)) c.seat-item.is in
+    let taken = c.in-Some.ensures in
+    let before = c.loop-seat.invariant in
+    omega (arith, more, here, there, taken, before)
+
+pub returns : goal.returns
+returns c =
+    let bs = c.args.seats.now in
+    let whole = ap (λ l. size_of_all (seats_now l)) (take_all c.loop-seat.seat-index bs (omega arith)) in
+    let before = c.loop-seat.invariant in
+    ap not (sym (le-ltb 100000 (size_of_all (seats_now bs)) (omega (arith, whole, before))))

@@ -27,7 +27,7 @@ returns-then-settle_places-clause-now c =
 pub returns-else-settle_places-clause-was : goal.returns-else-settle_places-clause-was
 returns-else-settle_places-clause-was c =
     let back = refilled (vec_len c.args.seats.now) c.settle_places.new.seats c.args.seats.now.items (omega arith) (omega arith) in
-    let none : list_any has_ended c.settle_places.new.seats ≡ false = c.settle_places.ensures.ended c.if-settle_places.false in
+    let none : list_any has_ended c.settle_places.new.seats ≡ false = sym c.settle_places.ensures.ended ∙ c.if-settle_places.false in
     ap (map seat_was) back ∙ ap (map seat_was) (sym (all-stay c.settle_places.new.seats none))
     ∙ filter-map stays seat_was seat_left here-left gone-left c.settle_places.new.seats
     ∙ c.settle_places.ensures.left ∙ ap (flat_map seat_now) c.deref_mut.ensures.value

@@ -1,5 +1,5 @@
 use Rattle.std.proofs.Common.{◌+◌, ◌++◌, ◌∷◌, [], ◌||◌, set}
-use Rattle.spk_broker.proofs.Touched.{Settling, all-places, front-low, last-low, settled-left, settled-now, settled-there, settling-front, settling-last, settling-start}
+use Rattle.spk_broker.proofs.Touched.{Settling, all-places, front-low, last-low, settled-ended, settled-left, settled-now, settling-front, settling-last, settling-start}
 use Rattle.spk_broker.proofs.turning.settle_places.Goals as goal
 
 pub bounds-seats-place : goal.bounds-seats-place
@@ -35,5 +35,5 @@ returns-clause-left c =
 
 pub returns-clause-ended : goal.returns-clause-ended
 returns-clause-ended c =
-    settled-there (c.args.places.now ++ c.args.last ∷ []) (c.loop-place.place-index + 1) c.args.seats.now (set c.loop-place.seats c.args.last c.settle_ended-other.new.self)
+    settled-ended (c.args.places.now ++ c.args.last ∷ []) (c.loop-place.place-index + 1) c.args.seats.now (set c.loop-place.seats c.args.last c.settle_ended-other.new.self)
     (c.loop-place.ended || c.settle_ended-other.result) (all-settled c) c.requires (all-places c.args.places.now c.args.last c.loop-place.place-index c.loop-place-test.false)

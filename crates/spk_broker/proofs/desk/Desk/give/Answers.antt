@@ -18,8 +18,8 @@ use Rattle.spk_broker.proofs.desk.Desk.give.Goals as goal
 nobody : Both
 nobody = record { was = record { key = 0; client = []; kept = false; here = None; grants = []; used = []; last = 0; copies = [] }; now = None }
 
-pub granted-requires : goal.granted-requires
-granted-requires c =
+pub granted-requires-clause-place : goal.granted-requires-clause-place
+granted-requires-clause-place c =
     subst (λ (l : List Both). c.args.place < length l) (sym c.deref.ensures.value) (found-sits c.args.conn c.args.self.now.seats.items c.args.place c.requires.place).0
 
 pub give_at-requires-clause-writable : goal.give_at-requires-clause-writable
