@@ -1,6 +1,6 @@
 -- A call as a whole: what it drafted stands for the rules' step, and is settled or taken back.
 use Rattle.std.proofs.Common.{◌≡◌, ◌≤◌, Bool, true, false, List, Option, None, length, map, refl, sym, ap, subst, ◌∙◌, Result, Ok, Err}
-use Rattle.std.specs.Result.{IfOk, OnErr, OnOk, is_ok}
+use Rattle.std.specs.Result.{IfOk, OnErr, OnOk, is_ok, result_unwrap_or}
 use Rattle.std.specs.declared.alloc.AllocError.{AllocError}
 use Rattle.indexmap.specs.IndexMap.{spare}
 use Rattle.spk_broker_rules.specs.Data as plain
@@ -158,6 +158,14 @@ index-to i e b d0 d1 d2 x0 x1 drafted (Ok out) gone k f h = by (takes_grants e) 
     by : (q : Bool) → takes_grants e ≡ q → IsIndex i (desk_was d2).seats
     by true is = subst (λ j. IsIndex j (desk_was d2).seats) (sym (gone is)) tt
     by false is = on-step i e b (desk_was d0) (desk_was d2) is k.is (done-to e b d0 d1 d2 x0 x1 drafted (Ok out) k f) h
+
+-- where the memory for it is refused there is none
+pub index-or : (r : Result (Option Grants) AllocError) (i : Option Grants) (ss : List plain.Seat) → i ≡ result_unwrap_or r None → IfOk r (λ o. IsIndex o ss) → IsIndex i ss
+index-or (Ok o) i ss is h = subst (λ x. IsIndex x ss) (sym is) h
+index-or (Err x) i ss is h = subst (λ x. IsIndex x ss) (sym is) tt
+
+pub dropped-or : (r : Result (Option Grants) AllocError) (i : Option Grants) (b : Bool) → i ≡ result_unwrap_or r None → (b ≡ true → r ≡ Ok None) → b ≡ true → i ≡ None
+dropped-or r i b is h e = is ∙ ap (λ x. result_unwrap_or x None) (h e)
 
 -- what stands for turns has the index of its turn
 pub index-on : (i : Option Grants) (d d2 : Desk) (x x2 : Draft) (t t2 : Turn) → Stands d x t → Stands d2 x2 t2 → (IsIndex i t.broker.seats → IsIndex i t2.broker.seats)

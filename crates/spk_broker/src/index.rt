@@ -24,10 +24,7 @@ const MOST_FOUND: usize = 128;
 
 /// The numbers of the sessions that the index finds for a topic; none where there is no index, where the text is no topic, or
 /// where they are more than pay.
-pub(crate) fn reach(
-    tree: &Option<Tree>,
-    topic: &str,
-) -> Result<Option<Vec<(u64, u8)>>, AllocError>
+pub(crate) fn reach(tree: &Option<Tree>, topic: &str) -> Result<Option<Vec<(u64, u8)>>, AllocError>
     ensures reached { IfOk result (λ o. IsReached tree.now topic.now o) }
     ensures passed { IfOk result (λ o. (ss : List plain.Seat)
         → IsIndex tree.now ss → ArePassed o topic.now ss) }

@@ -1,4 +1,4 @@
-use Rattle.std.proofs.Common.{◌≡◌, ◌∙◌, ◌+◌, ◌<◌, ℕ, ap, arith, get_or, length, refl, subst, sym, true}
+use Rattle.std.proofs.Common.{◌≡◌, ◌∙◌, ◌+◌, ℕ, ap, arith, get_or, length, subst, sym, true}
 use Rattle.spk_broker.specs.Both.{Both}
 use Rattle.spk_broker.specs.Called.{is_there}
 use Rattle.spk_broker.proofs.Counts.{any-default}

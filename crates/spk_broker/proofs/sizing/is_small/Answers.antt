@@ -1,4 +1,4 @@
-use Rattle.std.proofs.Common.{◌≡◌, ◌∙◌, ◌<◌, ap, arith, get_or, not, sym}
+use Rattle.std.proofs.Common.{◌∙◌, ◌<◌, ap, arith, get_or, not, sym}
 use Rattle.std.proofs.lemmas.Bool.{le-ltb, lt-ltb}
 use Rattle.std.proofs.lemmas.List.{take_all}
 use Rattle.spk_broker.specs.Asking.{seats_now}

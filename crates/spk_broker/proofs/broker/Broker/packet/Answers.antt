@@ -3,7 +3,7 @@ use Rattle.spk_packets.specs.View.{view}
 use Rattle.spk_broker_rules.specs.Plan.{Packet}
 use Rattle.spk_broker.specs.Filing.{IsIndex}
 use Rattle.spk_broker.specs.View.{desk_now}
-use Rattle.spk_broker.proofs.Finishing.{closes-to, begun-for, done-to, index-to, kept-to, now-index, was-index, sends-to, stands-to}
+use Rattle.spk_broker.proofs.Finishing.{closes-to, begun-for, done-to, dropped-or, index-or, index-to, kept-to, now-index, was-index, sends-to, stands-to}
 use Rattle.spk_broker.proofs.broker.Broker.packet.Goals as goal
 
 pub conclude-requires-clause-stands : goal.conclude-requires-clause-stands
@@ -19,10 +19,10 @@ invariant_of-self-2 c = record {
   sound = kept-to (Packet c.args.conn (view c.args.packet.now) c.args.now) c.args.self.now c.self.inside.desk c.draft_packet-drafted.new.self c.conclude.new.self c.new-draft.result c.draft_packet-drafted.new.draft c.draft_packet-drafted.result c.conclude.result
       (record { is = c.self.view_is; kept = c.self.invariant.sound; empty = c.new-draft.ensures; done = c.draft_packet-drafted.ensures.done; same = c.draft_packet-drafted.ensures.same })
       (record { done = c.conclude.ensures.done; sends = c.conclude.ensures.sends; closes = c.conclude.ensures.closes; variant = c.conclude.ensures.variant; same = c.conclude.ensures.same; settled = c.conclude.ensures.settled });
-  index = index-to c.next_index.result (Packet c.args.conn (view c.args.packet.now) c.args.now) c.args.self.now c.self.inside.desk c.draft_packet-drafted.new.self c.conclude.new.self c.new-draft.result c.draft_packet-drafted.new.draft c.draft_packet-drafted.result c.conclude.result c.next_index.ensures.dropped
+  index = index-to c.unwrap_or.result (Packet c.args.conn (view c.args.packet.now) c.args.now) c.args.self.now c.self.inside.desk c.draft_packet-drafted.new.self c.conclude.new.self c.new-draft.result c.draft_packet-drafted.new.draft c.draft_packet-drafted.result c.conclude.result (dropped-or c.next_index.result c.unwrap_or.result _ c.unwrap_or.ensures c.next_index.ensures.dropped)
       (record { is = c.self.view_is; kept = c.self.invariant.sound; empty = c.new-draft.ensures; done = c.draft_packet-drafted.ensures.done; same = c.draft_packet-drafted.ensures.same })
       (record { done = c.conclude.ensures.done; sends = c.conclude.ensures.sends; closes = c.conclude.ensures.closes; variant = c.conclude.ensures.variant; same = c.conclude.ensures.same; settled = c.conclude.ensures.settled })
-      (was-index c.next_index.result c.self.inside.desk c.self.invariant.sound c.next_index.ensures.index);
+      (was-index c.unwrap_or.result c.self.inside.desk c.self.invariant.sound (index-or c.next_index.result c.unwrap_or.result _ c.unwrap_or.ensures c.next_index.ensures.index));
 }
 
 pub returns-clause-sends : goal.returns-clause-sends
