@@ -1,18 +1,26 @@
 -- The index is made session by session and grant by grant.
-use Rattle.std.proofs.Common.{◌≡◌, ℕ, suc, zero, ◌+◌, ◌<◌, Bool, true, false, ◌||◌, List, [], ◌∷◌, ◌++◌, length, map, take, get_or, refl, sym, ap, ◌∙◌, subst, arith, string_bytes, Option, Some, None, true≢false}
+use Rattle.std.proofs.Common.{◌≡◌, ℕ, suc, zero, ◌+◌, ◌<◌, Bool, true, false, ◌==◌, ◌&&◌, ◌||◌, ◌⊎◌, cond, List, [], ◌∷◌, ◌++◌, length, map, take, get_or, refl, sym, ap, ◌∙◌, subst, arith, string_bytes, Option, Some, None, true≢false, eq-eqb, inl, inr}
 use Rattle.std.specs.Option.{IfSome, is_some}
-use Rattle.std.specs.List.{flat_map, fold}
+use Rattle.std.specs.List.{flat_map, fold, list_any}
 use Rattle.std.specs.FinMap as tree
+use Rattle.std.specs.FinMap.{get-empty, get-insert}
+use Rattle.std.specs.Ordering.{is_eq}
+use Rattle.std.specs.declared.cmp.Ordering.{Ordering}
+use Rattle.std.specs.declared.cmp.Ordering.TheVariants.{Less, Equal, Greater}
+use mathlib.Core.Logic.{⊎_elim}
 use Rattle.std.specs.Str.{bytes_eq}
 use Rattle.std.proofs.lemmas.List.{append-nil, take_more}
+use Rattle.std.proofs.lemmas.List.Folds.{list_any-append}
 use Rattle.std.proofs.lemmas.List.Sums.{fold-append}
 use Rattle.std.proofs.lemmas.Grind.{flat_map-append}
-use Rattle.spk_topics.specs.Grants.{Grants}
+use Rattle.spk_topics.specs.Grants.{Grants, grant_cmp}
+use Rattle.spk_topics.proofs.RowLemmas.{grants_exact, grants_total}
 use Rattle.spk_broker_rules.specs.Data as plain
 use Rattle.spk_broker_rules.specs.Table.{Table, has}
 use Rattle.spk_broker_rules.specs.Words.{option_list}
+use Rattle.spk_broker_rules.proofs.Tables.{bytes_self}
 use Rattle.spk_broker.specs.Both.{Both}
-use Rattle.spk_broker.specs.Filing.{AreFiled, Entry, IsFiled, entries_of, index_of, with_entry}
+use Rattle.spk_broker.specs.Filing.{AreFiled, Entry, HasNoOther, IsFiled, entries_of, index_of, is_granted, with_entry}
 use Rattle.spk_broker.specs.Granting.{standing_grants}
 use Rattle.spk_broker.specs.Parts.{grant_view}
 use Rattle.spk_broker.specs.View.{seat_now}
@@ -86,3 +94,56 @@ all-filed law index (s ∷ ss) =
 
 pub index-filed : Inserts → (ss : List plain.Seat) → AreFiled (index_of ss) ss
 index-filed law ss = all-filed law tree.empty ss
+
+-- ---- it has no others
+
+-- what stands after an insert was inserted, or stood before
+read-insert : (index : Grants) (e : Entry) (f : List ℕ) (k : ℕ) → is_some (tree.get (with_entry index e) (f, k)) ≡ true → ((e.0.0 ≡ f) × (e.0.1 ≡ k)) ⊎ (is_some (tree.get index (f, k)) ≡ true)
+read-insert index e f k there = by (grant_cmp (f, k) e.0) refl (ap is_some (sym (get-insert grants_total index e.0 e.1 (f, k))) ∙ there)
+  where
+    by : (r : Ordering) → grant_cmp (f, k) e.0 ≡ r → is_some (cond (is_eq r) (Some e.1) (tree.get index (f, k))) ≡ true → ((e.0.0 ≡ f) × (e.0.1 ≡ k)) ⊎ (is_some (tree.get index (f, k)) ≡ true)
+    by Less is h = inr h
+    by Equal is h = let same = sym (grants_exact (f, k) e.0 is) in inl (ap (λ (q : List ℕ × ℕ). q.0) same, ap (λ (q : List ℕ × ℕ). q.1) same)
+    by Greater is h = inr h
+
+either-true : (a : Bool) → a || true ≡ true
+either-true true = refl
+either-true false = refl
+
+fold-only : (index : Grants) (es : List Entry) (f : List ℕ) (k : ℕ) → is_some (tree.get (fold with_entry index es) (f, k)) ≡ true
+    → (list_any (λ (e : Entry). (e.0.1 == k) && bytes_eq e.0.0 f) es ≡ true) ⊎ (is_some (tree.get index (f, k)) ≡ true)
+fold-only index [] f k there = inr there
+fold-only index (e ∷ es) f k there =
+    let rest = list_any (λ (e : Entry). (e.0.1 == k) && bytes_eq e.0.0 f) es in
+    ⊎_elim
+    (λ later. inl (ap (λ b. ((e.0.1 == k) && bytes_eq e.0.0 f) || b) later ∙ either-true ((e.0.1 == k) && bytes_eq e.0.0 f)))
+    (λ before. ⊎_elim
+    (λ now. inl (ap (λ b. (b && bytes_eq e.0.0 f) || rest) (eq-eqb e.0.1 k now.1) ∙ ap (λ b. b || rest) (ap (λ t. bytes_eq e.0.0 t) (sym now.0) ∙ bytes_self e.0.0)))
+    (λ old. inr old)
+    (read-insert index e f k before))
+    (fold-only (with_entry index e) es f k there)
+
+-- those of one session
+of-session : (s : plain.Seat) (gs : Table ℕ) (f : List ℕ) (k : ℕ) → list_any (λ (e : Entry). (e.0.1 == k) && bytes_eq e.0.0 f) (map (entry s.key) gs) ≡ ((s.key == k) && has f gs)
+of-session s [] f k = sym (and-none (s.key == k))
+  where
+    and-none : (b : Bool) → b && false ≡ false
+    and-none true = refl
+    and-none false = refl
+of-session s (g ∷ gs) f k = ap (λ b. ((s.key == k) && bytes_eq g.0 f) || b) (of-session s gs f k) ∙ joined (s.key == k) (bytes_eq g.0 f) (has f gs)
+  where
+    joined : (a b c : Bool) → (a && b) || (a && c) ≡ a && (b || c)
+    joined true b c = refl
+    joined false b c = refl
+
+of-sessions : (ss : List plain.Seat) (f : List ℕ) (k : ℕ) → list_any (λ (e : Entry). (e.0.1 == k) && bytes_eq e.0.0 f) (flat_map entries_of ss) ≡ is_granted f k ss
+of-sessions [] f k = refl
+of-sessions (s ∷ ss) f k =
+    list_any-append (λ (e : Entry). (e.0.1 == k) && bytes_eq e.0.0 f) (entries_of s) (flat_map entries_of ss)
+    ∙ ap (λ b. b || list_any (λ (e : Entry). (e.0.1 == k) && bytes_eq e.0.0 f) (flat_map entries_of ss)) (of-session s s.grants f k)
+    ∙ ap (λ b. ((s.key == k) && has f s.grants) || b) (of-sessions ss f k)
+
+pub index-only : (ss : List plain.Seat) → HasNoOther (index_of ss) ss
+index-only ss f k there =
+    ⊎_elim (λ among. sym (of-sessions ss f k) ∙ among) (λ none. absurd (true≢false (sym none ∙ ap is_some (get-empty grant_cmp (f, k)))))
+    (fold-only tree.empty (flat_map entries_of ss) f k there)

@@ -47,6 +47,14 @@ IsFiled index key grants = (filter : List ℕ) → has filter grants ≡ true �
 abbrev pub AreFiled : Grants → List Seat → Type 0
 AreFiled index seats = AllOf (IsFiled index) seats
 
+-- whether a session of this number has a grant of this filter
+abbrev pub is_granted : List ℕ → ℕ → List Seat → Bool
+is_granted filter key seats = list_any (λ (s : Seat). s.key == key && has filter s.grants) seats
+
+-- each entry of an index is a grant of one of these sessions
+abbrev pub HasNoOther : Grants → List Seat → Type 0
+HasNoOther index seats = (filter : List ℕ) (key : ℕ) → is_some (tree.get index (filter, key)) ≡ true → is_granted filter key seats ≡ true
+
 -- ---- what changes it
 
 -- acts that change no grants

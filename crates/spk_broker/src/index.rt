@@ -6,7 +6,7 @@ ghost use Rattle.spk_broker_rules.specs.Data as plain;
 ghost use Rattle.spk_broker_rules.specs.Step.{serve};
 ghost use Rattle.spk_broker_rules.specs.Words.{best, option_list};
 ghost use Rattle.spk_broker.specs.Drafts.{draft_view, left_by, served_by};
-ghost use Rattle.spk_broker.specs.Filing.{ArePassed, IsIndex, IsReached, entries_of, has_key, index_of, is_passed, is_publish, made_index, regrants, with_entry};
+ghost use Rattle.spk_broker.specs.Filing.{ArePassed, HasNoOther, IsIndex, IsReached, entries_of, has_key, index_of, is_passed, is_publish, made_index, regrants, with_entry};
 ghost use Rattle.spk_broker.specs.View.{desk_now, seat_now};
 
 use crate::desk::Desk;
@@ -73,6 +73,8 @@ fn file_seat(tree: &mut Tree, seat: &Seat) -> Result<(), AllocError>
 fn index(alloc: Global, seats: &[Seat]) -> Result<Option<Tree>, AllocError>
     ensures made { IfOk result (λ o. o ≡ made_index (flat_map seat_now seats.now)) }
     ensures index { IfOk result (λ o. IsIndex o (flat_map seat_now seats.now)) }
+    ensures only { IfOk result
+        (λ o. IfSome o (λ tree. HasNoOther tree (flat_map seat_now seats.now))) }
 {
     granted();
     if !is_small(seats) {
