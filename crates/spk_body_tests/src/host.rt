@@ -5,9 +5,9 @@ ghost use Rattle.spk_ingress.specs.Passes.{AllPutInto, PutsInto, TakesFrom};
 ghost use Rattle.spk_host.specs.Inputs.{new_host};
 
 use spk_host::{Host, HostConfig};
-use spk_host_body::{HostEnd, HostStart, run_host};
+use spk_host_body::{HostEnd, HostFailed, HostStart, run_host};
 use spk_ingress::{Frame, Ingress, PutPass, TakePass};
-use spk_plan::Gate;
+use spk_plan::{Gate, PlantFault};
 use spk_rings::{Bytes, Inlet, Item, ring};
 use spk_sequence::Width;
 use std::alloc::{AllocGlobal, Global};
@@ -122,6 +122,24 @@ fn played<R: AllocGlobal + Wait>(
     Some((end, packets))
 }
 
+/// How a host's run ends whose frames nobody takes; None for want of memory.
+fn played_to_nobody<R: AllocGlobal + Wait>(rt: &R, gate: &Counts) -> Option<HostFailed> {
+    let alloc = rt.alloc();
+    let (ingress, pass, taker) = opened(rt)?;
+    drop(taker);
+    let start = HostStart {
+        host: host_of(alloc)?,
+        nodes: Vec::new(alloc),
+        pass,
+        inlet: ring_of(alloc, &[])?,
+    };
+    let failed = run_host(rt, alloc, &ingress, gate, &Parker::new(), start).err()?;
+    if failed.fault() == PlantFault::NoMemory {
+        return None;
+    }
+    Some(failed)
+}
+
 fn new_gate() -> Counts {
     Counts {
         puts: AtomicU64::new(0),
@@ -193,5 +211,17 @@ fn a_host_that_is_turned_away_asks_for_nothing(rt: HostRuntime) -> Result<(), Fa
     };
     assert_eq!(rt; end.given.len(), 2);
     assert_eq!(rt; packets.len(), 1);
+    Ok(())
+}
+
+#[test]
+fn a_host_whose_frames_nobody_takes_is_closed(rt: HostRuntime) -> Result<(), Fail> {
+    let gate = new_gate();
+    let failed = match played_to_nobody(&rt, &gate) {
+        Some(failed) => failed,
+        None => played_to_nobody(&rt, &gate).ok_or("no run")?,
+    };
+    assert_eq!(rt; failed.fault(), PlantFault::Closed);
+    assert_eq!(rt; failed.cause.number(), 90);
     Ok(())
 }

@@ -8,11 +8,11 @@ use Rattle.spk_ingress.specs.declared.channel.Ingress.{Ingress}
 use Rattle.spk_ingress.specs.declared.channel.PutPass.{PutPass}
 use Rattle.spk_ingress.specs.declared.frame.Frame.{Frame}
 use Rattle.spk_ingress.specs.declared.frame.Frame.TheVariants as frame
-use Rattle.spk_plan.specs.declared.fault.PlantFault.{PlantFault}
-use Rattle.spk_plan.specs.declared.fault.PlantFault.TheVariants as fault
-use Rattle.spk_edge_body.specs.Done.{is_closed}
+use Rattle.spk_edge_body.specs.declared.fault.EdgeCause.{EdgeCause}
+use Rattle.spk_edge_body.specs.declared.fault.EdgeCause.TheVariants as why
+use Rattle.spk_edge_body.specs.Done.{IsLast, is_closed}
 use Rattle.spk_edge_body.specs.At.{HasPut, PutsOn}
-use Rattle.spk_edge_body.specs.Frames.{cuts_in, is_end}
+use Rattle.spk_edge_body.specs.Frames.{cuts_in, ends_put, is_end}
 use Rattle.spk_edge_body.specs.declared.sending.Sender.{Sender}
 
 pub cuts-append : (a b : List Frame) → cuts_in (a ++ b) ≡ cuts_in a + cuts_in b
@@ -31,9 +31,11 @@ pub ends-more : (fs : List Frame) → count_by is_end (fs ++ frame.End ∷ []) �
 ends-more fs =
     let all : count_by is_end (fs ++ frame.End ∷ []) ≡ count_by is_end fs + (0 + 1) = sum_by-append (λ x. cond (is_end x) 1 0) fs (frame.End ∷ []) in omega arith
 
--- a run that ended since the taker is gone isn't told as another
-pub open-not : (e : PlantFault) → is_closed (Err e) ≡ false → e ≡ fault.Closed → ⊥
-open-not e still is = let yes : is_closed (Err e) ≡ true = ap (λ f. is_closed (Err f)) is in cc
+-- a run that failed, with the taker there: the end was put behind what was put before
+pub failed-is : (start q p : PutPass) (e : EdgeCause) → is_closed (Err e) ≡ false → ends_put q ≡ ends_put start → frames_put p ≡ frames_put q ++ frame.End ∷ [] → IsLast e start p
+failed-is start q p why.NoMemory still same put =
+    ((frames_put q, put), ap (λ (fs : List Frame). count_by is_end fs) put ∙ ends-more (frames_put q) ∙ ap (λ n. n + 1) same)
+failed-is start q p (why.Closed gone) still same put = cc
 
 pub puts-then : (n : Ingress) (a b c : PutPass) → PutsOn n a b → PutsOn n b c → PutsOn n a c
 puts-then n a b c f g = record { into = g.into; sender = g.sender ∙ f.sender; ends = g.ends ∙ f.ends }

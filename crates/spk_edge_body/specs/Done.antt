@@ -4,18 +4,18 @@ use Rattle.spk_edge.specs.Along.{AllWhole, messages_from, node_of}
 use Rattle.spk_edge.specs.View.{message_view}
 use Rattle.spk_edge_rules.specs.Config.{Setup}
 use Rattle.spk_edge_rules.specs.Run.{published, run_of}
-use Rattle.spk_ingress.specs.declared.channel.Ingress.{Ingress}
+use Rattle.spk_ingress.specs.declared.channel.PutPass.{PutPass}
 use Rattle.spk_ingress.specs.declared.frame.Frame.{Frame}
 use Rattle.spk_ingress.specs.declared.frame.Frame.TheVariants.{End}
 use Rattle.spk_ingress.specs.Passes.{PutsInto, frames_put}
-use Rattle.spk_plan.specs.declared.fault.PlantFault.{PlantFault}
-use Rattle.spk_plan.specs.declared.fault.PlantFault.TheVariants.{NoMemory, Closed, BadPlan, Unsettled}
 use Rattle.spk_plan.specs.declared.script.Step.TheVariants.{Stop}
 use Rattle.spk_rings.specs.Ring.{SameInlet, ahead, popped}
 use Rattle.spk_edge_body.specs.Frames.{ends_put, frames_of}
 use Rattle.spk_edge_body.specs.Log.{Move, IsLog, inputs_of, items_of}
 use Rattle.spk_edge_body.specs.Script.{Leads}
 use Rattle.spk_edge_body.specs.Told.{newest_first}
+use Rattle.spk_edge_body.specs.declared.fault.EdgeCause.{EdgeCause}
+use Rattle.spk_edge_body.specs.declared.fault.EdgeCause.TheVariants.{NoMemory, Closed}
 use Rattle.spk_edge_body.specs.declared.edge.EdgeStart.{EdgeStart}
 use Rattle.spk_edge_body.specs.declared.edge.EdgeEnd.{EdgeEnd}
 use Rattle.spk_edge_body.specs.declared.edge.EdgeFailure.{EdgeFailure}
@@ -42,14 +42,16 @@ abbrev pub IsEnded : List Frame → Type 0
 IsEnded put = (frames : List Frame) × (put ≡ frames ++ End ∷ [])
 
 -- the frames' taker is gone
-abbrev pub is_closed : Result (Unit {0}) PlantFault → Bool
+abbrev pub is_closed : Result (Unit {0}) EdgeCause → Bool
 is_closed (Ok done) = false
 is_closed (Err NoMemory) = false
-is_closed (Err Closed) = true
-is_closed (Err BadPlan) = false
-is_closed (Err Unsettled) = false
+is_closed (Err (Closed gone)) = true
 
--- An edge failed: for memory, and then its end is put all the same, once and last; or the frames' taker is gone, and then no end is put.
+-- For memory the end is put all the same, once and last; where the frames' taker is gone no end is put.
+abbrev pub IsLast : EdgeCause → PutPass → PutPass → Type 0
+IsLast NoMemory start p = IsEnded (frames_put p) × (ends_put p ≡ ends_put start + 1)
+IsLast (Closed gone) start p = ends_put p ≡ ends_put start
+
+-- an edge failed
 abbrev pub EdgeFailed : EdgeStart → EdgeFailure → Type 0
-EdgeFailed start f = ((f.fault ≡ Closed) × (ends_put f.pass ≡ ends_put start.pass))
-    ⊎ ((f.fault ≡ NoMemory) × IsEnded (frames_put f.pass) × (ends_put f.pass ≡ ends_put start.pass + 1))
+EdgeFailed start f = IsLast f.cause start.pass f.pass

@@ -3,6 +3,7 @@ pub mod Frames
 pub mod Log
 pub mod Script
 pub mod Done
+pub mod Fault
 pub mod Taking
 pub mod At
 pub mod Vain

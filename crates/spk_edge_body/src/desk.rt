@@ -1,5 +1,5 @@
 //! An edge node with what it was told and what it gave.
-ghost use Rattle.std.specs.Prelude.{◌≡◌, ◌⊎◌, ◌+◌, List, [], ◌∷◌, length, ◌&&◌, ◌||◌, nat_lt, is_err, Ok, false, Some, None, if◌then◌else◌, OnOk, IfOk, IfErr};
+ghost use Rattle.std.specs.Prelude.{◌≡◌, ◌+◌, List, [], ◌∷◌, length, ◌&&◌, ◌||◌, nat_lt, is_err, Ok, false, Some, None, if◌then◌else◌, OnOk, IfOk};
 ghost use Rattle.spk_edge.specs.Patch.{IsPlan};
 ghost use Rattle.spk_edge.specs.View.{act_view, input_view};
 ghost use Rattle.spk_edge.specs.Along.{node_of};
@@ -16,16 +16,17 @@ ghost use Rattle.spk_edge_body.specs.Script.{Asked, is_refused};
 ghost use Rattle.spk_edge_body.specs.Told.{told_act, told_view};
 ghost use Rattle.spk_edge_body.specs.Vain as vain;
 
+use crate::fault::EdgeCause;
 use crate::laws::stepping;
 use crate::sending::Sender;
 use crate::told::{Told, ToldAct};
 use spk_edge::{Act, EdgeFault, EdgeNode, Input, Out, Phase, Plan, Published, Taken};
 use spk_ingress::{Ingress, PutPass};
 use spk_packets::{Packet, PacketFault, decode};
-use spk_plan::{Gate, PlantFault};
+use spk_plan::Gate;
 use spk_rings::{Inlet, Item};
 use spk_state::{State, StateFault};
-use std::alloc::Global;
+use std::alloc::{AllocError, Global};
 use std::sync::Wait;
 
 /// The moment of the first input.
@@ -72,31 +73,28 @@ fn is_over(act: &ToldAct, out: &Out) -> bool
 }
 
 /// No packet, unless memory was refused.
-fn unread(fault: PacketFault) -> Result<Option<Packet>, PlantFault>
+fn unread(fault: PacketFault) -> Result<Option<Packet>, AllocError>
     ensures none { IfOk result (λ p. (p ≡ None) × (fault ≡ PacketFault.NoMemory → ⊥)) }
-    ensures fault { IfErr result (λ e. e ≡ PlantFault.NoMemory) }
 {
     match fault {
-        PacketFault::NoMemory => Err(PlantFault::NoMemory),
+        PacketFault::NoMemory => Err(AllocError),
         _ => Ok(None),
     }
 }
 
 /// Want of memory is a fault; any other refusal of a node is not.
-fn unless_memory(fault: EdgeFault) -> Result<(), PlantFault>
+fn unless_memory(fault: EdgeFault) -> Result<(), AllocError>
     ensures other { OnOk result (fault ≡ EdgeFault.NoMemory → ⊥) }
-    ensures fault { IfErr result (λ e. e ≡ PlantFault.NoMemory) }
 {
     match fault {
-        EdgeFault::NoMemory => Err(PlantFault::NoMemory),
+        EdgeFault::NoMemory => Err(AllocError),
         _ => Ok(()),
     }
 }
 
 /// The packet that these bytes are, if they are one.
-fn packet_of(alloc: Global, bytes: &[u8]) -> Result<Option<Packet>, PlantFault>
+fn packet_of(alloc: Global, bytes: &[u8]) -> Result<Option<Packet>, AllocError>
     ensures read { IfOk result (λ p. IsReadAs bytes.now p) }
-    ensures fault { IfErr result (λ e. e ≡ PlantFault.NoMemory) }
 {
     let (packet, count) = match decode(alloc, bytes) {
         Ok(front) => front,
@@ -109,13 +107,12 @@ fn packet_of(alloc: Global, bytes: &[u8]) -> Result<Option<Packet>, PlantFault>
 }
 
 /// Whether a STATE says that its host is offline, or can't be read.
-fn is_offline(alloc: Global, payload: &[u8]) -> Result<bool, PlantFault>
+fn is_offline(alloc: Global, payload: &[u8]) -> Result<bool, AllocError>
     ensures offline { IfOk result (λ b. b ≡ vain.is_offline payload.now) }
-    ensures fault { IfErr result (λ e. e ≡ PlantFault.NoMemory) }
 {
     match State::decode(alloc, payload) {
         Ok(state) => Ok(!state.online),
-        Err(StateFault::NoMemory) => Err(PlantFault::NoMemory),
+        Err(StateFault::NoMemory) => Err(AllocError),
         Err(StateFault::BadState) => Ok(true),
     }
 }
@@ -182,10 +179,9 @@ impl Desk {
     }
 
     /// Whether a node that was told this would wait for its births in vain.
-    fn waits_in_vain(&self, act: &ToldAct, refused: bool) -> Result<bool, PlantFault>
+    fn waits_in_vain(&self, act: &ToldAct, refused: bool) -> Result<bool, AllocError>
         ensures vain { IfOk result
             (λ b. b ≡ vain.vain_after (told_act act.now) refused self.now.in_vain) }
-        ensures fault { IfErr result (λ e. e ≡ PlantFault.NoMemory) }
     {
         match act {
             ToldAct::Open => Ok(refused && self.in_vain),
@@ -202,14 +198,13 @@ impl Desk {
         ingress: &Ingress,
         told: Told,
         plan: Plan,
-    ) -> Result<(), PlantFault>
+    ) -> Result<(), EdgeCause>
         requires { PutsInto ingress.now self.old.sender.pass }
         ensures pass { PutsOn ingress.now self.old.sender.pass self.new.sender.pass }
         ensures taken { OnOk result ((o : Origin) (is : List inputs.Input) → Stands o is self.old
             → IsPlan self.old.node (told_view told) plan
             → Stands o (told_view told ∷ is) self.new) }
         ensures inlet { self.new.inlet ≡ self.old.inlet }
-        ensures fault { IfErr result (λ e. (e ≡ PlantFault.NoMemory) ⊎ (e ≡ PlantFault.Closed)) }
     {
         stepping();
         let in_vain = self.waits_in_vain(&told.act, false)?;
@@ -230,7 +225,7 @@ impl Desk {
         gate: &G,
         ingress: &Ingress,
         input: Input<'_>,
-    ) -> Result<bool, PlantFault>
+    ) -> Result<bool, EdgeCause>
         requires { PutsInto ingress.now self.old.sender.pass }
         ensures pass { PutsOn ingress.now self.old.sender.pass self.new.sender.pass }
         ensures told { IfOk result
@@ -238,7 +233,6 @@ impl Desk {
             → Stands o (input_view input.entry ∷ is) self.new
             × (refused ≡ is_err (right_at o.setup (run_of o.setup is) (input_view input.entry)))) }
         ensures inlet { self.new.inlet ≡ self.old.inlet }
-        ensures fault { IfErr result (λ e. (e ≡ PlantFault.NoMemory) ⊎ (e ≡ PlantFault.Closed)) }
     {
         stepping();
         let told = Told::of(self.alloc, input)?;
@@ -263,7 +257,7 @@ impl Desk {
         gate: &G,
         ingress: &Ingress,
         act: Act<'_>,
-    ) -> Result<bool, PlantFault>
+    ) -> Result<bool, EdgeCause>
         requires { PutsInto ingress.now self.old.sender.pass }
         ensures pass { PutsOn ingress.now self.old.sender.pass self.new.sender.pass }
         ensures asked { IfOk result (λ refused. Goes (λ s before after.
@@ -271,7 +265,6 @@ impl Desk {
             × (refused ≡ is_refused s before (asked_at before (act_view act.entry)))) self.old
             self.new) }
         ensures inlet { self.new.inlet ≡ self.old.inlet }
-        ensures fault { IfErr result (λ e. (e ≡ PlantFault.NoMemory) ⊎ (e ≡ PlantFault.Closed)) }
     {
         let now = self.moment_of(&act);
         let input = Input {
@@ -290,13 +283,12 @@ impl Desk {
         gate: &G,
         ingress: &Ingress,
         packet: &Option<Packet>,
-    ) -> Result<(), PlantFault>
+    ) -> Result<(), EdgeCause>
         requires { PutsInto ingress.now self.old.sender.pass }
         ensures pass { PutsOn ingress.now self.old.sender.pass self.new.sender.pass }
         ensures heard { OnOk result ((o : Origin) (is : List inputs.Input) → Stands o is self.old
             → Stands o (input_in o.setup.config (1000000 + length is) packet.now ∷ is) self.new) }
         ensures inlet { self.new.inlet ≡ self.old.inlet }
-        ensures fault { IfErr result (λ e. (e ≡ PlantFault.NoMemory) ⊎ (e ≡ PlantFault.Closed)) }
     {
         let input = self.input_for(self.now(), packet);
         self.tell(rt, gate, ingress, input)?;
@@ -310,7 +302,7 @@ impl Desk {
         gate: &G,
         ingress: &Ingress,
         item: Item,
-    ) -> Result<(), PlantFault>
+    ) -> Result<(), EdgeCause>
         requires { PutsInto ingress.now self.old.sender.pass }
         ensures pass { PutsOn ingress.now self.old.sender.pass self.new.sender.pass }
         ensures heard { OnOk result
@@ -318,7 +310,6 @@ impl Desk {
             → (move : Move) × Stands o (inputs_of (move ∷ log)) self.new × MayMove o.setup log move
             × IsOf item move) }
         ensures inlet { self.new.inlet ≡ self.old.inlet }
-        ensures fault { IfErr result (λ e. (e ≡ PlantFault.NoMemory) ⊎ (e ≡ PlantFault.Closed)) }
     {
         if item.cuts < self.sender.cuts {
             return Ok(());
@@ -334,13 +325,12 @@ impl Desk {
         rt: &R,
         gate: &G,
         ingress: &Ingress,
-    ) -> Result<bool, PlantFault>
+    ) -> Result<bool, EdgeCause>
         requires { PutsInto ingress.now self.old.sender.pass }
         ensures pass { PutsOn ingress.now self.old.sender.pass self.new.sender.pass }
         ensures read { OnOk result
             (Goes (λ s before after. Asked [] before after) self.old self.new) }
         ensures none { result ≡ Ok false → ahead self.new.inlet ≡ [] }
-        ensures fault { IfErr result (λ e. (e ≡ PlantFault.NoMemory) ⊎ (e ≡ PlantFault.Closed)) }
     {
         let Some(item) = self.inlet.next() else {
             return Ok(false);
@@ -355,13 +345,12 @@ impl Desk {
         rt: &R,
         gate: &G,
         ingress: &Ingress,
-    ) -> Result<(), PlantFault>
+    ) -> Result<(), EdgeCause>
         requires { PutsInto ingress.now self.old.sender.pass }
         ensures pass { PutsOn ingress.now self.old.sender.pass self.new.sender.pass }
         ensures read { OnOk result
             (Goes (λ s before after. Asked [] before after) self.old self.new) }
         ensures emptied { OnOk result (ahead self.new.inlet ≡ []) }
-        ensures fault { IfErr result (λ e. (e ≡ PlantFault.NoMemory) ⊎ (e ≡ PlantFault.Closed)) }
     {
         for _ in rt.forever() {
             if !self.read_one(rt, gate, ingress)? {

@@ -4,8 +4,10 @@ ghost use Rattle.spk_edge.specs.Along.{node_of};
 ghost use Rattle.spk_edge_rules.specs.Config.{Setup};
 ghost use Rattle.spk_ingress.specs.Passes.{PutsInto};
 ghost use Rattle.spk_edge_body.specs.Done.{EdgeDone, EdgeFailed};
+ghost use Rattle.spk_edge_body.specs.Fault.{fault_of};
 
 use crate::desk::Desk;
+use crate::fault::EdgeCause;
 use crate::told::Told;
 use spk_edge::{EdgeNode, Published};
 use spk_ingress::{Ingress, PutPass};
@@ -58,8 +60,17 @@ impl fmt::Debug for EdgeEnd {
 /// Why it couldn't go on.
 #[derive(Drop)]
 pub struct EdgeFailure {
-    pub fault: PlantFault,
+    pub cause: EdgeCause,
     pub pass: PutPass,
+}
+
+impl EdgeFailure {
+    /// The fault of a plant: NoMemory (1) or Closed (90).
+    pub fn fault(&self) -> PlantFault
+        ensures { result ≡ fault_of self.now.cause }
+    {
+        self.cause.fault()
+    }
 }
 
 impl fmt::Debug for EdgeFailure {
@@ -112,14 +123,14 @@ pub fn run_edge<R: Wait, G: Gate>(
         ..
     } = desk;
     let pass = sender.pass;
-    let Ok(()) = put else {
+    if let Err(gone) = put {
         return Err(EdgeFailure {
-            fault: PlantFault::Closed,
+            cause: EdgeCause::Closed(gone),
             pass,
         });
-    };
-    if let Err(fault) = ran {
-        return Err(EdgeFailure { fault, pass });
+    }
+    if let Err(cause) = ran {
+        return Err(EdgeFailure { cause, pass });
     }
     Ok(EdgeEnd {
         inputs,

@@ -4,10 +4,12 @@
 
 mod desk;
 mod edge;
+mod fault;
 mod laws;
 mod sending;
 mod steps;
 mod told;
 
 pub use edge::{EdgeEnd, EdgeFailure, EdgeStart, run_edge};
+pub use fault::EdgeCause;
 pub use told::{Told, ToldAct};

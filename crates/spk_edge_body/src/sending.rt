@@ -1,14 +1,15 @@
 //! What an edge node's thread puts.
-ghost use Rattle.std.specs.Prelude.{◌≡◌, ◌+◌, ◌-◌, ◌^◌, [], ◌∷◌, ◌++◌, map, min, false, OnOk, IfOk, IfErr, ◌⊎◌};
+ghost use Rattle.std.specs.Prelude.{◌≡◌, ◌+◌, ◌-◌, ◌^◌, [], ◌∷◌, ◌++◌, map, min, false, is_some, OnOk, OnErr, IfOk};
 ghost use Rattle.spk_edge.specs.Sealing.{bytes_of};
 ghost use Rattle.spk_ingress.specs.Passes.{PutsInto, frames_put};
 ghost use Rattle.spk_edge_body.specs.At.{HasPut, PutsOn};
 ghost use Rattle.spk_edge_body.specs.Done as done;
 ghost use Rattle.spk_edge_body.specs.Frames.{cut_if, is_end};
 
-use spk_ingress::{Frame, Ingress, PutPass};
-use spk_plan::{Gate, PlantFault};
-use std::alloc::Global;
+use crate::fault::EdgeCause;
+use spk_ingress::{Frame, Gone, Ingress, PutPass};
+use spk_plan::Gate;
+use std::alloc::{AllocError, Global};
 use std::sync::Wait;
 
 /// One sender: its pass, its place among the senders, and how many frames and ends of connections it put.
@@ -21,25 +22,23 @@ pub(crate) struct Sender {
 }
 
 /// These bytes, which are one packet, as a frame.
-fn frame_of(alloc: Global, bytes: Vec<u8>) -> Result<Frame, PlantFault>
+fn frame_of(alloc: Global, bytes: Vec<u8>) -> Result<Frame, AllocError>
     ensures ok { IfOk result (λ f. f ≡ Frame.Packet bytes.items) }
-    ensures fault { IfErr result (λ e. e ≡ PlantFault.NoMemory) }
 {
     // What a node answers is one packet each, so that memory alone can be wanting.
     let Ok(frame) = Frame::packet(alloc, bytes) else {
-        return Err(PlantFault::NoMemory);
+        return Err(AllocError);
     };
     Ok(frame)
 }
 
-/// Whether a run ended since the frames' taker is gone.
-fn is_closed(ran: &Result<(), PlantFault>) -> bool
-    ensures { result ≡ done.is_closed ran.now }
+/// The refusal by which a run ended, where it did since the frames' taker is gone.
+fn gone_in(ran: &Result<(), EdgeCause>) -> Option<Gone>
+    ensures { is_some result ≡ done.is_closed ran.now }
 {
     match ran {
-        Ok(()) => false,
-        Err(PlantFault::Closed) => true,
-        Err(_) => false,
+        Err(EdgeCause::Closed(gone)) => Some(*gone),
+        _ => None,
     }
 }
 
@@ -51,7 +50,7 @@ impl Sender {
         gate: &G,
         ingress: &Ingress,
         frame: Frame,
-    ) -> Result<(), PlantFault>
+    ) -> Result<(), Gone>
         requires { PutsInto ingress.now self.old.pass }
         ensures pass { PutsInto ingress.now self.new.pass
             × (self.new.pass.sender ≡ self.old.pass.sender) }
@@ -60,13 +59,12 @@ impl Sender {
             (frames_put self.new.pass ≡ frames_put self.old.pass ++ frame ∷ []) }
         ensures cuts { (self.new.cuts ≡ self.old.cuts) × (self.new.place ≡ self.old.place) }
         ensures counted { OnOk result (self.new.count ≡ min (2 ^ 64 - 1) (self.old.count + 1)) }
-        ensures fault { IfErr result (λ e. (e ≡ PlantFault.Closed)
-            × (frames_put self.new.pass ≡ frames_put self.old.pass)) }
+        ensures gone { OnErr result (frames_put self.new.pass ≡ frames_put self.old.pass) }
     {
         gate.before_put(self.place, self.count);
-        let Ok(()) = ingress.put(rt, &mut self.pass, frame) else {
-            return Err(PlantFault::Closed);
-        };
+        if let Err(closed) = ingress.put(rt, &mut self.pass, frame) {
+            return Err(closed.gone());
+        }
         self.count = self.count.saturating_add(1);
         Ok(())
     }
@@ -77,36 +75,34 @@ impl Sender {
         rt: &R,
         gate: &G,
         ingress: &Ingress,
-        ran: &Result<(), PlantFault>,
-    ) -> Result<(), PlantFault>
+        ran: &Result<(), EdgeCause>,
+    ) -> Result<(), Gone>
         requires { PutsInto ingress.now self.old.pass }
         ensures pass { PutsInto ingress.now self.new.pass
             × (self.new.pass.sender ≡ self.old.pass.sender) }
         ensures ok { OnOk result ((done.is_closed ran.now ≡ false)
             × (frames_put self.new.pass ≡ frames_put self.old.pass ++ Frame.End ∷ [])) }
-        ensures fault { IfErr result (λ e. (e ≡ PlantFault.Closed)
-            × (frames_put self.new.pass ≡ frames_put self.old.pass)) }
+        ensures gone { OnErr result (frames_put self.new.pass ≡ frames_put self.old.pass) }
     {
-        if is_closed(ran) {
-            return Err(PlantFault::Closed);
+        if let Some(gone) = gone_in(ran) {
+            return Err(gone);
         }
         self.put(rt, gate, ingress, Frame::End)
     }
 
-    /// Puts the end of a connection. A pass that put so many of them that a `u64` can't count them is Closed anyway.
+    /// Puts the end of a connection. Where a `u64` can't count them further it is NoMemory.
     fn put_cut<R: Wait, G: Gate>(
         &mut self,
         rt: &R,
         gate: &G,
         ingress: &Ingress,
-    ) -> Result<(), PlantFault>
+    ) -> Result<(), EdgeCause>
         requires { PutsInto ingress.now self.old.pass }
         ensures pass { PutsOn ingress.now self.old.pass self.new.pass }
         ensures ok { OnOk result (HasPut self.old self.new (Frame.Cut ∷ [])) }
-        ensures fault { IfErr result (λ e. e ≡ PlantFault.Closed) }
     {
         let Some(cuts) = self.cuts.checked_add(1) else {
-            return Err(PlantFault::Closed);
+            return Err(EdgeCause::NoMemory);
         };
         self.put(rt, gate, ingress, Frame::Cut)?;
         self.cuts = cuts;
@@ -122,12 +118,11 @@ impl Sender {
         alloc: Global,
         packets: Vec<Vec<u8>>,
         is_over: bool,
-    ) -> Result<(), PlantFault>
+    ) -> Result<(), EdgeCause>
         requires { PutsInto ingress.now self.old.pass }
         ensures pass { PutsOn ingress.now self.old.pass self.new.pass }
         ensures ok { OnOk result (HasPut self.old self.new
             (map Frame.Packet (map bytes_of packets.items) ++ cut_if is_over)) }
-        ensures fault { IfErr result (λ e. (e ≡ PlantFault.NoMemory) ⊎ (e ≡ PlantFault.Closed)) }
     {
         self.put_packets(rt, gate, ingress, alloc, packets)?;
         if !is_over {
@@ -145,12 +140,11 @@ impl Sender {
         ingress: &Ingress,
         alloc: Global,
         packets: Vec<Vec<u8>>,
-    ) -> Result<(), PlantFault>
+    ) -> Result<(), EdgeCause>
         requires { PutsInto ingress.now self.old.pass }
         ensures pass { PutsOn ingress.now self.old.pass self.new.pass }
         ensures ok { OnOk result
             (HasPut self.old self.new (map Frame.Packet (map bytes_of packets.items))) }
-        ensures fault { IfErr result (λ e. (e ≡ PlantFault.NoMemory) ⊎ (e ≡ PlantFault.Closed)) }
     {
         for bytes in packets {
             let frame = frame_of(alloc, bytes)?;

@@ -1,5 +1,5 @@
 //! The steps of a script.
-ghost use Rattle.std.specs.Prelude.{◌≡◌, ◌⊎◌, ◌++◌, [], ◌∷◌, OnOk, IfErr};
+ghost use Rattle.std.specs.Prelude.{◌≡◌, ◌++◌, [], ◌∷◌, OnOk};
 ghost use Rattle.spk_payload.specs.Typing.{typed_view};
 ghost use Rattle.spk_edge.specs.View.{act_view};
 ghost use Rattle.spk_edge_rules.specs.Inputs as inputs;
@@ -10,11 +10,12 @@ ghost use Rattle.spk_edge_body.specs.At.{Goes, PutsOn};
 ghost use Rattle.spk_edge_body.specs.Script.{Asked, Drained, Leads, StepLeads, ramp, number_of};
 
 use crate::desk::Desk;
+use crate::fault::EdgeCause;
 use spk_device::Alias;
 use spk_edge::Act;
 use spk_ingress::Ingress;
 use spk_payload::Value;
-use spk_plan::{Gate, PlantFault, Sort, Step};
+use spk_plan::{Gate, Sort, Step};
 use std::sync::Wait;
 use std::thread::Parker;
 
@@ -36,13 +37,12 @@ impl Desk {
         gate: &G,
         ingress: &Ingress,
         act: Act<'_>,
-    ) -> Result<bool, PlantFault>
+    ) -> Result<bool, EdgeCause>
         requires { PutsInto ingress.now self.old.sender.pass }
         ensures pass { PutsOn ingress.now self.old.sender.pass self.new.sender.pass }
         ensures asked { OnOk result (Goes (λ s before after.
             Asked (act_view act.entry ∷ []) before after) self.old self.new) }
         ensures emptied { OnOk result (ahead self.new.inlet ≡ []) }
-        ensures fault { IfErr result (λ e. (e ≡ PlantFault.NoMemory) ⊎ (e ≡ PlantFault.Closed)) }
     {
         self.read(rt, gate, ingress)?;
         let refused = self.ask(rt, gate, ingress, act)?;
@@ -55,12 +55,11 @@ impl Desk {
         rt: &R,
         gate: &G,
         ingress: &Ingress,
-    ) -> Result<(), PlantFault>
+    ) -> Result<(), EdgeCause>
         requires { PutsInto ingress.now self.old.sender.pass }
         ensures pass { PutsOn ingress.now self.old.sender.pass self.new.sender.pass }
         ensures asked { OnOk result (Goes (λ s before after.
             Asked (inputs.Open ∷ []) before after) self.old self.new) }
-        ensures fault { IfErr result (λ e. (e ≡ PlantFault.NoMemory) ⊎ (e ≡ PlantFault.Closed)) }
     {
         self.once(rt, gate, ingress, Act::Open)?;
         Ok(())
@@ -73,12 +72,11 @@ impl Desk {
         gate: &G,
         ingress: &Ingress,
         bell: &Parker,
-    ) -> Result<(), PlantFault>
+    ) -> Result<(), EdgeCause>
         requires { PutsInto ingress.now self.old.sender.pass }
         ensures pass { PutsOn ingress.now self.old.sender.pass self.new.sender.pass }
         ensures asked { OnOk result
             (Goes (λ s before after. Asked [] before after) self.old self.new) }
-        ensures fault { IfErr result (λ e. (e ≡ PlantFault.NoMemory) ⊎ (e ≡ PlantFault.Closed)) }
     {
         for _ in rt.forever() {
             let is_gone = self.is_ring_gone();
@@ -100,12 +98,11 @@ impl Desk {
         alias: Alias,
         sort: Sort,
         changes: u32,
-    ) -> Result<(), PlantFault>
+    ) -> Result<(), EdgeCause>
         requires { PutsInto ingress.now self.old.sender.pass }
         ensures pass { PutsOn ingress.now self.old.sender.pass self.new.sender.pass }
         ensures asked { OnOk result (Goes (λ s before after.
             Asked (ramp alias sort changes) before after) self.old self.new) }
-        ensures fault { IfErr result (λ e. (e ≡ PlantFault.NoMemory) ⊎ (e ≡ PlantFault.Closed)) }
     {
         for before in 0..changes {
             let value = Some(value_of(sort, before + 1));
@@ -120,12 +117,11 @@ impl Desk {
         rt: &R,
         gate: &G,
         ingress: &Ingress,
-    ) -> Result<(), PlantFault>
+    ) -> Result<(), EdgeCause>
         requires { PutsInto ingress.now self.old.sender.pass }
         ensures pass { PutsOn ingress.now self.old.sender.pass self.new.sender.pass }
         ensures drained { OnOk result
             (Goes (λ s before after. Drained s before after) self.old self.new) }
-        ensures fault { IfErr result (λ e. (e ≡ PlantFault.NoMemory) ⊎ (e ≡ PlantFault.Closed)) }
     {
         for _ in rt.forever() {
             if !self.may_drain() {
@@ -145,12 +141,11 @@ impl Desk {
         rt: &R,
         gate: &G,
         ingress: &Ingress,
-    ) -> Result<(), PlantFault>
+    ) -> Result<(), EdgeCause>
         requires { PutsInto ingress.now self.old.sender.pass }
         ensures pass { PutsOn ingress.now self.old.sender.pass self.new.sender.pass }
         ensures drained { OnOk result (Goes (λ s before after. StepLeads s step.Drain before after)
             self.old self.new) }
-        ensures fault { IfErr result (λ e. (e ≡ PlantFault.NoMemory) ⊎ (e ≡ PlantFault.Closed)) }
     {
         self.read(rt, gate, ingress)?;
         self.drain(rt, gate, ingress)?;
@@ -165,12 +160,11 @@ impl Desk {
         ingress: &Ingress,
         bell: &Parker,
         step: &Step,
-    ) -> Result<(), PlantFault>
+    ) -> Result<(), EdgeCause>
         requires { PutsInto ingress.now self.old.sender.pass }
         ensures pass { PutsOn ingress.now self.old.sender.pass self.new.sender.pass }
         ensures led { OnOk result (Goes (λ s before after. StepLeads s step.now before after)
             self.old self.new) }
-        ensures fault { IfErr result (λ e. (e ≡ PlantFault.NoMemory) ⊎ (e ≡ PlantFault.Closed)) }
     {
         let act = match step {
             Step::Open => return self.open(rt, gate, ingress),
@@ -198,13 +192,12 @@ impl Desk {
         ingress: &Ingress,
         bell: &Parker,
         script: &[Step],
-    ) -> Result<(), PlantFault>
+    ) -> Result<(), EdgeCause>
         requires { PutsInto ingress.now self.old.sender.pass }
         ensures pass { PutsOn ingress.now self.old.sender.pass self.new.sender.pass }
         ensures led { OnOk result (Goes (λ s before after.
             Leads s (script.now ++ step.Stop ∷ []) before after) self.old self.new) }
         ensures emptied { OnOk result (ahead self.new.inlet ≡ []) }
-        ensures fault { IfErr result (λ e. (e ≡ PlantFault.NoMemory) ⊎ (e ≡ PlantFault.Closed)) }
     {
         for step in script {
             self.run_step(rt, gate, ingress, bell, step)?;

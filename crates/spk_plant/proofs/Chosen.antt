@@ -17,10 +17,13 @@ use Rattle.spk_plan.specs.declared.fault.PlantFault.TheVariants as fault
 use Rattle.spk_plan.specs.declared.plan.Plan.{Plan}
 use Rattle.spk_plan_rules.specs.Plan.{CanRun, host_in}
 use Rattle.spk_edge_body.specs.Done.{EdgeFailed}
+use Rattle.spk_edge_body.specs.Fault.{fault_of as edge_fault}
+use Rattle.spk_edge_body.specs.declared.fault.EdgeCause.{EdgeCause}
+use Rattle.spk_edge_body.specs.declared.fault.EdgeCause.TheVariants as edge_why
 use Rattle.spk_edge_body.specs.declared.edge.EdgeStart.{EdgeStart}
 use Rattle.spk_edge_body.specs.declared.edge.EdgeEnd.{EdgeEnd}
 use Rattle.spk_edge_body.specs.declared.edge.EdgeFailure.{EdgeFailure}
-use Rattle.spk_broker_body.specs.Fault.{fault_of}
+use Rattle.spk_broker_body.specs.Fault.{fault_of as broker_fault}
 use Rattle.spk_broker_body.specs.declared.fault.BrokerFailed.{BrokerFailed}
 use Rattle.spk_broker_body.specs.declared.fault.BrokerFailed.TheVariants as failed
 use Rattle.spk_broker_body.specs.declared.part.BrokerStart.{BrokerStart}
@@ -28,6 +31,9 @@ use Rattle.spk_broker_body.specs.declared.part.BrokerEnd.{BrokerEnd}
 use Rattle.spk_host_session.specs.Data.{Config}
 use Rattle.spk_host.specs.Data.{HostData}
 use Rattle.spk_host_body.specs.Ends.{Fails, HostBroke, config_of}
+use Rattle.spk_host_body.specs.Fault.{fault_of as host_fault}
+use Rattle.spk_host_body.specs.declared.fault.HostCause.{HostCause}
+use Rattle.spk_host_body.specs.declared.fault.HostCause.TheVariants as why
 use Rattle.spk_host_body.specs.declared.ends.HostStart.{HostStart}
 use Rattle.spk_host_body.specs.declared.ends.HostEnd.{HostEnd}
 use Rattle.spk_host_body.specs.declared.ends.HostFailed.{HostFailed}
@@ -56,7 +62,7 @@ first_more n ss ts s e is f = record {
 }
 
 first_last : (n : Ingress) (ss ts : List EdgeStart) (s : EdgeStart) (es : List EdgeEnd) (f : EdgeFailure) (e : PlantFault)
-    → ts ≡ ss ++ s ∷ [] → AreDone n ss es → EdgeFailed s f → f.fault ≡ e → IsFirst n ts e
+    → ts ≡ ss ++ s ∷ [] → AreDone n ss es → EdgeFailed s f → edge_fault f.cause ≡ e → IsFirst n ts e
 first_last n ss ts s es f e is all failed of = record {
   before = ss;
   start = s;
@@ -85,7 +91,7 @@ joined_fault n ss ts s (Err f) last e is done failed one chosen =
     let same : f ≡ e = cc in
     edges_more n ss ts s e is (subst (λ x. IsOfEdges n ss x) same failed)
 joined_fault n ss ts s (Ok v) (Err f) e is done failed one chosen =
-    let same : f.fault ≡ e = cc in
+    let same : edge_fault f.cause ≡ e = cc in
     inr (first_last n ss ts s v.items f e is done one same)
 joined_fault n ss ts s (Ok v) (Ok x) e is done failed one chosen = absurd (cc)
 
@@ -107,37 +113,37 @@ edges_fault n ss ts s others last r is done failed one why =
 
 -- ---- what a thread may fail with
 
-edge_common : (s : EdgeStart) (f : EdgeFailure) → EdgeFailed s f → IsCommon f.fault
-edge_common s f failed = elim failed [ inl closed ↦ inr closed.0 | inr memory ↦ inl memory.0 ]
+edge_common : (c : EdgeCause) → IsCommon (edge_fault c)
+edge_common edge_why.NoMemory = inl refl
+edge_common (edge_why.Closed gone) = inr refl
 
-broker_common : (f : BrokerFailed) → IsCommon (fault_of f)
+broker_common : (f : BrokerFailed) → IsCommon (broker_fault f)
 broker_common failed.NoMemory = inl refl
 broker_common (failed.Closed gone) = inr refl
 
 edges_common : (n : Ingress) (ss : List EdgeStart) (e : PlantFault) → IsOfEdges n ss e → IsCommon e
 edges_common n ss e of = elim of [
   | inl memory ↦ inl memory
-  | inr first ↦ subst IsCommon first.is (edge_common first.start first.failure first.failed)
+  | inr first ↦ subst IsCommon first.is (edge_common first.failure.cause)
 ]
 
-host_threads : (c : Config) (e : PlantFault) → Fails c e → IsThreads c e
-host_threads c fault.NoMemory fails = inl (inl refl)
-host_threads c fault.Closed fails = inl (inr refl)
-host_threads c fault.Unsettled fails = inr (refl, fails)
-host_threads c fault.BadPlan fails = absurd fails.2
+host_threads : (c : Config) (e : HostCause) → Fails c e → IsThreads c (host_fault e)
+host_threads c why.NoMemory fails = inl (inl refl)
+host_threads c (why.Closed gone) fails = inl (inr refl)
+host_threads c why.Unsettled fails = inr (refl, fails)
 
 chosen_of : (n : Ingress) (ss : List EdgeStart) (b : BrokerStart) (h : HostStart) (e : PlantFault)
     (broker : Result BrokerEnd BrokerFailed) (edges : Result (Vec EdgeEnd Global) PlantFault) (host : Result HostEnd HostFailed)
     → IfErr edges (IsOfEdges n ss) → IfErr host (HostBroke n h) → fault_of_all broker edges host ≡ Some e → IsThreads (config_of h) e
 chosen_of n ss b h e (Err x) edges host of_edges of_host is =
-    let same : fault_of x ≡ e = cc in
+    let same : broker_fault x ≡ e = cc in
     inl (subst IsCommon same (broker_common x))
 chosen_of n ss b h e (Ok y) (Err x) host of_edges of_host is =
     let same : x ≡ e = cc in
     inl (subst IsCommon same (edges_common n ss x of_edges))
 chosen_of n ss b h e (Ok y) (Ok z) (Err f) of_edges of_host is =
-    let same : f.fault ≡ e = cc in
-    subst (λ x. IsThreads (config_of h) x) same (host_threads (config_of h) f.fault of_host.cause)
+    let same : host_fault f.cause ≡ e = cc in
+    subst (λ x. IsThreads (config_of h) x) same (host_threads (config_of h) f.cause of_host.cause)
 chosen_of n ss b h e (Ok y) (Ok z) (Ok x) of_edges of_host is = absurd (cc)
 
 -- ---- all threads ran to their ends

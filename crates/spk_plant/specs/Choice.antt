@@ -15,16 +15,19 @@ use Rattle.spk_plan.specs.declared.fault.PlantFault.TheVariants as fault
 use Rattle.spk_plan.specs.declared.plan.Plan.{Plan}
 use Rattle.spk_plan_rules.specs.Plan.{CanRun, host_in}
 use Rattle.spk_edge_body.specs.Done.{EdgeFailed}
+use Rattle.spk_edge_body.specs.Fault.{fault_of as edge_fault}
 use Rattle.spk_edge_body.specs.declared.edge.EdgeStart.{EdgeStart}
 use Rattle.spk_edge_body.specs.declared.edge.EdgeEnd.{EdgeEnd}
 use Rattle.spk_edge_body.specs.declared.edge.EdgeFailure.{EdgeFailure}
 use Rattle.spk_broker_body.specs.Done.{BrokerDone}
-use Rattle.spk_broker_body.specs.Fault.{fault_of}
+use Rattle.spk_broker_body.specs.Fault.{fault_of as broker_fault}
 use Rattle.spk_broker_body.specs.declared.fault.BrokerFailed.{BrokerFailed}
 use Rattle.spk_broker_body.specs.declared.part.BrokerStart.{BrokerStart}
 use Rattle.spk_broker_body.specs.declared.part.BrokerEnd.{BrokerEnd}
 use Rattle.spk_host_session.specs.Data.{Config}
 use Rattle.spk_host_body.specs.Ends.{Fails, HostBroke, HostDone}
+use Rattle.spk_host_body.specs.Fault.{fault_of as host_fault}
+use Rattle.spk_host_body.specs.declared.fault.HostCause.TheVariants as why
 use Rattle.spk_host_body.specs.declared.ends.HostStart.{HostStart}
 use Rattle.spk_host_body.specs.declared.ends.HostEnd.{HostEnd}
 use Rattle.spk_host_body.specs.declared.ends.HostFailed.{HostFailed}
@@ -38,7 +41,7 @@ use Rattle.spk_plant.specs.declared.start.Parts.{Parts}
 -- the fault of edge nodes, and of one more that stands last in the plan: the one that stands first
 abbrev pub fault_of_edges : Result (Vec EdgeEnd Global) PlantFault → Result EdgeEnd EdgeFailure → Option PlantFault
 fault_of_edges (Err e) last = Some e
-fault_of_edges (Ok es) (Err f) = Some f.fault
+fault_of_edges (Ok es) (Err f) = Some (edge_fault f.cause)
 fault_of_edges (Ok es) (Ok e) = None
 
 -- edge nodes that all ran to their ends, and one more that did, last
@@ -49,9 +52,9 @@ AreJoined (Ok es) (Ok e) all = all ≡ es.items ++ e ∷ []
 
 -- the broker's fault, else the edge nodes', else the host's
 abbrev pub fault_of_all : Result BrokerEnd BrokerFailed → Result (Vec EdgeEnd Global) PlantFault → Result HostEnd HostFailed → Option PlantFault
-fault_of_all (Err e) edges host = Some (fault_of e)
+fault_of_all (Err e) edges host = Some (broker_fault e)
 fault_of_all (Ok b) (Err e) host = Some e
-fault_of_all (Ok b) (Ok es) (Err f) = Some f.fault
+fault_of_all (Ok b) (Ok es) (Err f) = Some (host_fault f.cause)
 fault_of_all (Ok b) (Ok es) (Ok h) = None
 
 -- all ran to their ends, which are these
@@ -68,7 +71,7 @@ IsCommon e = (e ≡ fault.NoMemory) ⊎ (e ≡ fault.Closed)
 
 -- What a thread of a host that is made so may fail with: Unsettled only where one of its packets is none.
 abbrev pub IsThreads : Config → PlantFault → Type 0
-IsThreads c e = IsCommon e ⊎ ((e ≡ fault.Unsettled) × Fails c fault.Unsettled)
+IsThreads c e = IsCommon e ⊎ ((e ≡ fault.Unsettled) × Fails c why.Unsettled)
 
 -- an edge node failed with this fault, and all those before it ran to their ends
 pub record IsFirst (n : Ingress) (ss : List EdgeStart) (e : PlantFault) : Type 0 where
@@ -80,14 +83,14 @@ pub record IsFirst (n : Ingress) (ss : List EdgeStart) (e : PlantFault) : Type 0
   pub done : AreDone n before ends
   pub failure : EdgeFailure
   pub failed : EdgeFailed start failure
-  pub is : failure.fault ≡ e
+  pub is : edge_fault failure.cause ≡ e
 
 -- why not all edge nodes ran to their ends: the fault of the first one that failed, unless memory was refused for the list of their ends
 abbrev pub IsOfEdges : Ingress → List EdgeStart → PlantFault → Type 0
 IsOfEdges n ss e = (e ≡ fault.NoMemory) ⊎ IsFirst n ss e
 
--- The fault is the one that is due of what the threads came to, each of them by its own promise. A broker says Closed only by what an
--- ingress refused it with.
+-- The fault is the one that is due of what the threads came to, each of them by its own promise. A thread says Closed only by what
+-- an ingress refused it with.
 pub record IsChosen (n : Ingress) (ss : List EdgeStart) (b : BrokerStart) (h : HostStart) (e : PlantFault) : Type 0 where
   pub broker : Result BrokerEnd BrokerFailed
   pub edges : Result (Vec EdgeEnd Global) PlantFault

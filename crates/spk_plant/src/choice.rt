@@ -30,7 +30,7 @@ pub(crate) fn edges_of(
     };
     let last = match last {
         Ok(last) => last,
-        Err(failure) => return Err(failure.fault),
+        Err(failure) => return Err(failure.fault()),
     };
     ends.push(last)?;
     Ok(ends)
@@ -47,7 +47,7 @@ pub(crate) fn ends_of(
 {
     let broker = match broker {
         Ok(broker) => broker,
-        Err(failed) => return Err(failed.fault()),
+        Err(cause) => return Err(cause.fault()),
     };
     let edges = match edges {
         Ok(edges) => edges,
@@ -55,7 +55,7 @@ pub(crate) fn ends_of(
     };
     let host = match host {
         Ok(host) => host,
-        Err(failed) => return Err(failed.fault),
+        Err(failed) => return Err(failed.fault()),
     };
     Ok(Ends {
         edges,

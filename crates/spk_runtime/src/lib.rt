@@ -14,7 +14,7 @@ pub use fault::ServeFault;
 pub use server::serve;
 pub use spk_engines::{Counted, EngineFault, Failures, read_frames, write_items};
 pub use spk_ingress::{
-    Closed, Frame, FrameFault, Ingress, Message, OpenFault, PutPass, Refused, SettleFault,
+    Closed, Frame, FrameFault, Gone, Ingress, Message, OpenFault, PutPass, Refused, SettleFault,
     TakePass, Taken, Whole,
 };
 pub use spk_rings::{Bytes, Full, Inlet, Item, Outlet, RingFault, Token, ring};

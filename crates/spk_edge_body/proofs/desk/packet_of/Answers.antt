@@ -6,10 +6,11 @@ use Rattle.spk_edge_body.specs.At.{IsReadAs}
 use Rattle.spk_edge_body.proofs.Hearing.{not-whole, unread-is}
 use Rattle.spk_edge_body.proofs.desk.packet_of.Goals as goal
 
-pub returns-in-Err-clause-read : goal.returns-in-Err-clause-read
-returns-in-Err-clause-read c =
-    IfOk-weaker c.unread.result (λ (p : Option Packet). (p ≡ None) × (c.in-Err.fault ≡ NoMemory → ⊥)) (λ (p : Option Packet). IsReadAs c.args.bytes.now p)
-    (λ p h. unread-is c.args.bytes.now c.in-Err.fault p h.0 h.1 c.in-Err.ensures.only) c.unread.ensures.none
+pub returns-in-Err : goal.returns-in-Err
+returns-in-Err c = record {
+  read = IfOk-weaker c.unread.result (λ (p : Option Packet). (p ≡ None) × (c.in-Err.fault ≡ NoMemory → ⊥)) (λ (p : Option Packet). IsReadAs c.args.bytes.now p)
+      (λ p h. unread-is c.args.bytes.now c.in-Err.fault p h.0 h.1 c.in-Err.ensures.only) c.unread.ensures.none;
+}
 
-pub returns-then-count-bytes-clause-read : goal.returns-then-count-bytes-clause-read
-returns-then-count-bytes-clause-read c = not-whole c.args.bytes.now c.in-Ok.front c.if-count-bytes.true c.in-Ok.ensures.only
+pub returns-then-count-bytes : goal.returns-then-count-bytes
+returns-then-count-bytes c = record { read = not-whole c.args.bytes.now c.in-Ok.front c.if-count-bytes.true c.in-Ok.ensures.only }

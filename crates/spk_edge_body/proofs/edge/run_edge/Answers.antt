@@ -1,32 +1,24 @@
-use Rattle.std.proofs.Common.{◌≡◌, ◌⊎◌, inl, inr, ◌∙◌, ◌+◌, ap, subst, Err, false, List, [], ◌∷◌, ◌++◌}
-use Rattle.std.specs.List.{count_by}
-use Rattle.std.proofs.lemmas.Result.{IfErr-at_err, IfOk-at_ok}
+use Rattle.std.proofs.Common.{◌≡◌, ◌∙◌, ap, subst, false, List, [], ◌∷◌, ◌++◌}
+use Rattle.std.proofs.lemmas.Result.{IfOk-at_ok}
 use Rattle.spk_ingress.specs.Passes.{frames_put}
 use Rattle.spk_ingress.specs.declared.frame.Frame.{Frame}
 use Rattle.spk_ingress.specs.declared.frame.Frame.TheVariants.{End}
 use Rattle.spk_plan.specs.declared.script.Step.{Step}
 use Rattle.spk_plan.specs.declared.script.Step.TheVariants.{Stop}
-use Rattle.spk_plan.specs.declared.fault.PlantFault.TheVariants.{NoMemory, Closed}
 use Rattle.spk_rings.specs.Ring.{ahead}
 use Rattle.spk_edge_body.specs.At.{Goes, Origin}
 use Rattle.spk_edge_body.specs.Done.{is_closed}
-use Rattle.spk_edge_body.specs.Frames.{ends_put, is_end}
+use Rattle.spk_edge_body.specs.Frames.{ends_put}
 use Rattle.spk_edge_body.specs.Script.{Leads}
-use Rattle.spk_edge_body.proofs.Putting.{ends-more, open-not}
+use Rattle.spk_edge_body.proofs.Putting.{failed-is}
 use Rattle.spk_edge_body.proofs.edge.run_edge.Goals as goal
 
-pub returns-in-Err-clause-failed : goal.returns-in-Err-clause-failed
-returns-in-Err-clause-failed g c =
-    let before = c.run-ran.ensures.pass.ends ∙ ap ends_put c.new-desk.ensures.pass in
-    let still : is_closed (Err c.in-Err.fault) ≡ false = subst (λ r. is_closed r ≡ false) c.in-Err.is c.in-Ok.ensures.ok.0 in
-    elim (IfErr-at_err (λ e. (e ≡ NoMemory) ⊎ (e ≡ Closed)) c.in-Err.is c.run-ran.ensures.fault) [
-      | inl memory ↦ inr (
-        memory,
-        (frames_put c.run-ran.new.self.sender.pass, c.in-Ok.ensures.ok.1),
-        ap (λ (fs : List Frame). count_by is_end fs) c.in-Ok.ensures.ok.1 ∙ ends-more (frames_put c.run-ran.new.self.sender.pass) ∙ ap (λ n. n + 1) before,
-      )
-      | inr closed ↦ absurd (open-not c.in-Err.fault still closed)
-    ]
+pub returns-in-Err-ran-clause-failed : goal.returns-in-Err-ran-clause-failed
+returns-in-Err-ran-clause-failed g c =
+    failed-is c.args.start.pass c.run-ran.new.self.sender.pass c.end-put.new.self.pass c.in-Err-ran.cause
+    (subst (λ r. is_closed r ≡ false) c.in-Err-ran.is c.in_default.ensures.ok.0)
+    (c.run-ran.ensures.pass.ends ∙ ap ends_put c.new-desk.ensures.pass)
+    c.in_default.ensures.ok.1
 
 pub returns-clause-done : goal.returns-clause-done
 returns-clause-done g c = λ s fresh.
@@ -42,7 +34,7 @@ returns-clause-done g c = λ s fresh.
       node = led.1.stands.node;
       messages = led.1.stands.messages;
       whole = led.1.stands.whole;
-      frames = c.in-Ok.ensures.ok.1 ∙ ap (λ (l : List Frame). l ++ End ∷ []) led.1.stands.frames;
+      frames = c.in_default.ensures.ok.1 ∙ ap (λ (l : List Frame). l ++ End ∷ []) led.1.stands.frames;
       items = led.1.items;
       inlet = led.1.inlet;
       emptied = IfOk-at_ok (λ _. ahead c.run-ran.new.self.inlet ≡ []) c.in_default-ran.is c.run-ran.ensures.emptied;
