@@ -22,7 +22,8 @@ impl fmt::Debug for Bells<'_> {
 impl<'a> Bells<'a> {
     /// These bells, which weren't rung yet.
     pub fn new(parkers: &'a [Parker]) -> Bells<'a>
-        ensures { result.rung ≡ 0 }
+        ensures parkers { result.parkers ≡ parkers.entry }
+        ensures rung { result.rung ≡ 0 }
     {
         Bells { parkers, rung: 0 }
     }
