@@ -1,6 +1,6 @@
 -- What a host does at each call: what it hands out, and its data after it, by the steps of its session (`spk_host_session`) and of the
 -- node concerned (`spk_host_node`).
-use Rattle.std.specs.Prelude.{ℕ, ◌==◌, Bool, List, [], ◌∷◌, ◌++◌, map, replicate, Option, Some, None, Result, Ok, Err, if◌then◌else◌}
+use Rattle.std.specs.Prelude.{ℕ, ◌<◌, ◌==◌, Bool, List, [], ◌∷◌, ◌++◌, map, replicate, Option, Some, None, Result, Ok, Err, if◌then◌else◌}
 use Rattle.spk_packets.specs.Message.{Message, PubAck}
 use Rattle.spk_packets.specs.Spelling.{spelling}
 use Rattle.spk_sequence.specs.declared.answer.Step.{Step}
@@ -29,6 +29,17 @@ spelled packets = map spelling packets
 abbrev pub acks : Option ℕ → List Message
 acks None = []
 acks (Some id) = PubAck id ∷ []
+
+-- No identifier is 0 (MQTT 3.1.1, section 2.3.1).
+abbrev pub IsIdentified : Option ℕ → Type 0
+IsIdentified None = Unit {0}
+IsIdentified (Some id) = 0 < id
+
+abbrev pub HasIdentifier : HeardData → Type 0
+HasIdentifier (said.Published ack content) = IsIdentified ack
+HasIdentifier (said.Answered code) = Unit {0}
+HasIdentifier said.Granted = Unit {0}
+HasIdentifier said.Other = Unit {0}
 
 -- So many rebirth requests to a node. A node whose NCMD topic can't be written is asked for none.
 abbrev pub topics_to : List ℕ → List ℕ → ℕ → List Named

@@ -1,9 +1,10 @@
 -- What contracts see of the crate's types.
-use Rattle.std.specs.Prelude.{map}
+use Rattle.std.specs.Prelude.{All, map}
 use Rattle.spk_reading.specs.View.{numbered_view}
 use Rattle.spk_topics.specs.Spark.{named}
 use Rattle.spk_reading.specs.declared.fault.ReadFault.{ReadFault}
 use Rattle.spk_reading.specs.declared.fault.ReadFault.TheVariants as read
+use Rattle.spk_host_session.specs.Packets.{IsPacket}
 use Rattle.spk_host_session.specs.declared.fault.HostFault.{HostFault}
 use Rattle.spk_host_session.specs.declared.fault.HostFault.TheVariants as host
 use Rattle.spk_host.specs.declared.out.Out.{Out}
@@ -16,6 +17,10 @@ out_view o = record {
   rebirths = map named o.rebirths.items;
   packets = map (λ b. b.items) o.packets.items;
 }
+
+-- each of its packets is one packet, whole and alone
+abbrev pub AreWhole : Out → Type 0
+AreWhole o = All (λ b. IsPacket b.items) o.packets.items
 
 -- a fault in reading is the host's fault of the same name
 abbrev pub fault_of : ReadFault → HostFault

@@ -1,7 +1,8 @@
 //! Rebirth requests to a node.
-ghost use Rattle.std.specs.Prelude.{◌≡◌, ◌++◌, map, IfOk, OnOk};
+ghost use Rattle.std.specs.Prelude.{◌≡◌, ◌++◌, All, map, IfOk, OnOk};
 ghost use Rattle.spk_topics.specs.Spark.{named};
 ghost use Rattle.spk_topics.specs.Spark.Named.{of_node};
+ghost use Rattle.spk_host_session.specs.Packets.{IsPacket};
 ghost use Rattle.spk_host.specs.Step.{requests_to, spelled, topics_to};
 
 use spk_host_session::{HostFault, rebirth};
@@ -32,6 +33,8 @@ pub(crate) fn ask(
         ≡ map named rebirths.old.items ++ topics_to group.now node.now 1) }
     ensures packets { OnOk result (map (λ b. b.items) packets.new.items
         ≡ map (λ b. b.items) packets.old.items ++ spelled (requests_to group.now node.now now 1)) }
+    ensures whole { All (λ b. IsPacket b.items) packets.old.items
+        → OnOk result (All (λ b. IsPacket b.items) packets.new.items) }
 {
     match rebirth(alloc, group, node, now) {
         Ok(bytes) => {
@@ -59,6 +62,8 @@ pub(crate) fn ask_all(
     ensures packets { OnOk result (map (λ b. b.items) packets.new.items
         ≡ map (λ b. b.items) packets.old.items
         ++ spelled (requests_to group.now node.now now count)) }
+    ensures whole { All (λ b. IsPacket b.items) packets.old.items
+        → OnOk result (All (λ b. IsPacket b.items) packets.new.items) }
 {
     for _request in 0..count {
         ask(alloc, group, node, now, rebirths, packets)?;

@@ -1,5 +1,5 @@
 //! A host application.
-ghost use Rattle.std.specs.Prelude.{◌≡◌, ◌⊎◌, ℕ, [], ◌∷◌, true, false, map, is_some, IfOk, IfErr, OnOk, OnErr, Ok, Err, None, Some, if◌then◌else◌, ◌==◌};
+ghost use Rattle.std.specs.Prelude.{◌≡◌, ◌⊎◌, ℕ, [], ◌∷◌, true, false, All, map, is_some, IfOk, IfErr, OnOk, OnErr, Ok, Err, None, Some, if◌then◌else◌, ◌==◌};
 ghost use Rattle.std.specs.List.{find};
 ghost use Rattle.std.specs.Option.{option_copied, option_map};
 ghost use Rattle.spk_reading.specs.Data.{HeardData};
@@ -8,13 +8,14 @@ ghost use Rattle.spk_reading.specs.View.{content_view, heard_view};
 ghost use Rattle.spk_reading.specs.declared.fault.ReadFault.{ReadFault};
 ghost use Rattle.spk_host_session.specs.Answer.{Gives, spelled};
 ghost use Rattle.spk_host_session.specs.Data.{is_good};
+ghost use Rattle.spk_host_session.specs.Packets.{IsPacket};
 ghost use Rattle.spk_host_session.specs.Step as session;
 ghost use Rattle.spk_host_session.specs.View.{config_view};
 ghost use Rattle.spk_host.specs.Data as plain;
 ghost use Rattle.spk_host.specs.Inputs as calls;
 ghost use Rattle.spk_host.specs.Nodes.{is_of, node_or};
 ghost use Rattle.spk_host.specs.Step as step;
-ghost use Rattle.spk_host.specs.View.{fault_of, out_view};
+ghost use Rattle.spk_host.specs.View.{AreWhole, fault_of, out_view};
 
 use crate::entry::Entry;
 use crate::messages::acknowledged;
@@ -67,7 +68,9 @@ fn fault_of(fault: ReadFault) -> HostFault
 
 /// Packets alone.
 fn sent(alloc: Global, packets: Vec<Vec<u8>>) -> Out
-    ensures { out_view result ≡ record step.nothing { packets = map (λ b. b.items) packets.items } }
+    ensures said { out_view result
+        ≡ record step.nothing { packets = map (λ b. b.items) packets.items } }
+    ensures whole { All (λ b. IsPacket b.items) packets.items → AreWhole result }
 {
     Out {
         consumed: Vec::new(alloc),
@@ -108,6 +111,7 @@ impl Host {
             (spelled (session.says self.old.session (session.Connected now))) }
         ensures alone { IfOk result
             (λ o. out_view o ≡ record step.nothing { packets = (out_view o).packets }) }
+        ensures whole { IfOk result (λ o. AreWhole o) }
         ensures data { OnOk result (self.new ≡ calls.host_with self.old (calls.Connected now)) }
         ensures unchanged { OnErr result (self.new ≡ self.old) }
     {
@@ -123,6 +127,7 @@ impl Host {
     fn hear(&mut self, heard: Heard, now: u64) -> Result<Out, HostFault>
         requires open { is_some self.old.session.began ≡ true }
         ensures out { Gives out_view result (Ok (step.packet_out self.old (heard_view heard) now)) }
+        ensures whole { step.HasIdentifier (heard_view heard) → IfOk result (λ o. AreWhole o) }
         ensures data { OnOk result (self.new ≡ step.after_packet self.old (heard_view heard) now) }
         ensures unchanged { OnErr result (self.new ≡ self.old) }
     {
@@ -143,6 +148,7 @@ impl Host {
     ) -> Result<Out, AllocError>
         ensures out { IfOk result
             (λ o. out_view o ≡ step.published_out self.old ack (content_view content) now) }
+        ensures whole { step.IsIdentified ack → IfOk result (λ o. AreWhole o) }
         ensures data { OnOk result
             (self.new ≡ record self.old
             { nodes = step.nodes_after self.old (content_view content) now }) }
@@ -169,6 +175,7 @@ impl Host {
         ensures out { Gives out_view result
             (Ok (step.sends
             (step.said_by (session.says self.old.session (session.Answered code))))) }
+        ensures whole { IfOk result (λ o. AreWhole o) }
         ensures data { OnOk result (self.new ≡ record {
           session = session.after self.old.session (session.Answered code);
           nodes = if code == 0 then self.old.nodes else map step.over_entry self.old.nodes;
@@ -185,8 +192,9 @@ impl Host {
     /// SUBACK came.
     fn granted(&self) -> Result<Out, HostFault>
         requires open { is_some self.now.session.began ≡ true }
-        ensures { Gives out_view result
+        ensures out { Gives out_view result
             (Ok (step.sends (step.said_by (session.says self.now.session session.Granted)))) }
+        ensures whole { IfOk result (λ o. AreWhole o) }
     {
         let mut packets = Vec::with_capacity(self.alloc, 1)?;
         packets.push_reserved(self.session.granted()?);
@@ -211,6 +219,7 @@ impl Host {
             × (self.old.session.began ≡ None))
             ⊎ ((f : ReadFault) × IsReadFault bytes.now f × (e ≡ fault_of f))) }
         ensures said { OnOk result ((h : HeardData) × Says bytes.now h) }
+        ensures whole { IfOk result (λ o. AreWhole o) }
         ensures data { (h : HeardData) → Says bytes.now h
             → OnOk result (self.new ≡ calls.host_with self.old (calls.Heard h now)) }
         ensures unchanged { OnErr result (self.new ≡ self.old) }
@@ -231,6 +240,7 @@ impl Host {
         ensures outside { self.old.session.began ≡ None → result ≡ Err HostFault.WrongPhase }
         ensures answer { is_some self.old.session.began ≡ true
             → Gives out_view result (Ok (step.tick_out self.old.nodes now)) }
+        ensures whole { IfOk result (λ o. AreWhole o) }
         ensures data { OnOk result (self.new ≡ calls.host_with self.old (calls.Ticked now)) }
         ensures unchanged { OnErr result (self.new ≡ self.old) }
     {
@@ -249,6 +259,7 @@ impl Host {
             (spelled (session.says self.old.session (session.Stopped now))) }
         ensures alone { IfOk result
             (λ o. out_view o ≡ record step.nothing { packets = (out_view o).packets }) }
+        ensures whole { IfOk result (λ o. AreWhole o) }
         ensures data { OnOk result (self.new ≡ calls.host_with self.old (calls.Stopped now)) }
         ensures unchanged { OnErr result (self.new ≡ self.old) }
     {
@@ -273,6 +284,7 @@ impl Host {
             ≡ Ok (out_view o).packets) }
         ensures alone { IfOk result
             (λ o. out_view o ≡ record step.nothing { packets = (out_view o).packets }) }
+        ensures whole { IfOk result (λ o. AreWhole o) }
         ensures data { OnOk result (self.new ≡ calls.host_with self.old (calls.Renewed now)) }
         ensures unchanged { OnErr result (self.new ≡ self.old) }
     {

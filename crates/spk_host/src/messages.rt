@@ -1,10 +1,11 @@
 //! A message of a node.
-ghost use Rattle.std.specs.Prelude.{◌≡◌, map, IfOk, OnOk, OnErr};
+ghost use Rattle.std.specs.Prelude.{◌≡◌, All, map, IfOk, OnOk, OnErr};
 ghost use Rattle.spk_reading.specs.View.{numbered_view};
+ghost use Rattle.spk_host_session.specs.Packets.{IsPacket};
 ghost use Rattle.spk_host_node.specs.Step as node;
 ghost use Rattle.spk_host.specs.Index.{names_of};
-ghost use Rattle.spk_host.specs.Step.{acks, message_out, spelled};
-ghost use Rattle.spk_host.specs.View.{out_view};
+ghost use Rattle.spk_host.specs.Step.{IsIdentified, acks, message_out, spelled};
+ghost use Rattle.spk_host.specs.View.{AreWhole, out_view};
 
 use crate::asking::ask_all;
 use crate::entry::Entry;
@@ -15,7 +16,8 @@ use std::alloc::{AllocError, Global};
 
 /// The acknowledgement of a PUBLISH, if it asks for one.
 pub(crate) fn acknowledged(alloc: Global, ack: Option<u16>) -> Result<Vec<Vec<u8>>, AllocError>
-    ensures { IfOk result (λ v. map (λ b. b.items) v.items ≡ spelled (acks ack)) }
+    ensures said { IfOk result (λ v. map (λ b. b.items) v.items ≡ spelled (acks ack)) }
+    ensures whole { IsIdentified ack → IfOk result (λ v. All (λ b. IsPacket b.items) v.items) }
 {
     let mut packets = Vec::new(alloc);
     if let Some(id) = ack {
@@ -34,6 +36,7 @@ pub(crate) fn hear_message(
 ) -> Result<Out, AllocError>
     ensures out { IfOk result
         (λ o. out_view o ≡ message_out entry.old.kept ack (numbered_view message) now) }
+    ensures whole { IsIdentified ack → IfOk result (λ o. AreWhole o) }
     ensures entry { OnOk result
         (entry.new ≡ record entry.old
         { kept = node.hand entry.old.kept (numbered_view message) now }) }

@@ -8,7 +8,7 @@ ghost use Rattle.spk_host.specs.Index.{place_in};
 ghost use Rattle.spk_host.specs.Inputs.{is_same};
 ghost use Rattle.spk_host.specs.Nodes as spec;
 ghost use Rattle.spk_host.specs.Step as step;
-ghost use Rattle.spk_host.specs.View.{out_view};
+ghost use Rattle.spk_host.specs.View.{AreWhole, out_view};
 
 use crate::asking::ask;
 use crate::entry::Entry;
@@ -55,6 +55,7 @@ fn hear_first(
         ≡ None }
     ensures out { IfOk result (λ o.
         out_view o ≡ step.message_out (fresh_node wait width) ack (numbered_view message) now) }
+    ensures whole { step.IsIdentified ack → IfOk result (λ o. AreWhole o) }
     ensures nodes { OnOk result (entries.new.items ≡ entries.old.items ++ (record {
       group = (numbered_view message).group;
       node = (numbered_view message).node;
@@ -115,6 +116,7 @@ impl Nodes {
             IfOk result (λ o. out_view o
             ≡ step.message_out
             (spec.node_or (fresh_node wait width) self.old m.group m.node) ack m now) }
+        ensures whole { step.IsIdentified ack → IfOk result (λ o. AreWhole o) }
         ensures nodes { let m = numbered_view message in
             OnOk result (self.new ≡ spec.put_node m.group m.node
             (one_node.hand (spec.node_or (fresh_node wait width) self.old m.group m.node) m now)
@@ -164,7 +166,8 @@ impl Nodes {
 
 /// What a moment hands out: the gaps, and the requests to the nodes that had one, in their order.
 pub(crate) fn ask_at(alloc: Global, nodes: &[Entry], now: u64) -> Result<Out, AllocError>
-    ensures { IfOk result (λ o. out_view o ≡ step.tick_out nodes.now now) }
+    ensures out { IfOk result (λ o. out_view o ≡ step.tick_out nodes.now now) }
+    ensures whole { IfOk result (λ o. AreWhole o) }
 {
     let mut steps = Vec::new(alloc);
     let mut rebirths = Vec::new(alloc);

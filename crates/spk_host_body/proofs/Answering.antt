@@ -1,5 +1,6 @@
 -- What a host's answer says of the call that it was asked to do.
-use Rattle.std.proofs.Common.{◌≡◌, ◌∙◌, ap, sym, subst, refl, ℕ, Bool, true, false, not, is_some, List, [], ◌∷◌, map, Option, Some, None, Result, Ok, Err, OnOk, OnErr, IfOk, IfErr}
+use Rattle.std.proofs.Common.{◌≡◌, ◌∙◌, ap, sym, refl, ℕ, Bool, true, false, not, is_some, List, [], ◌∷◌, map, Option, Some, None, Result, Ok, Err, OnOk, OnErr, IfOk, IfErr}
+use Rattle.std.specs.Prelude.{IfSome}
 use Rattle.spk_packets.specs.Message.{Message}
 use Rattle.spk_packets.specs.Spelling.{spelling}
 use Rattle.spk_host_session.specs.Answer.{Fails, Gives, spelled}
@@ -11,13 +12,11 @@ use Rattle.spk_host_session.specs.declared.fault.HostFault.TheVariants.{NoMemory
 use Rattle.spk_host.specs.Data.{HostData, OutData}
 use Rattle.spk_host.specs.Inputs.{Call, Connected, host_with}
 use Rattle.spk_host.specs.Step.{nothing, said_by}
-use Rattle.spk_host.specs.View.{out_view}
+use Rattle.spk_host.specs.View.{AreWhole, out_view}
 use Rattle.spk_host.specs.declared.out.Out.{Out}
-use Rattle.spk_host_body.specs.declared.fault.HostCause.{HostCause}
 use Rattle.spk_host_body.specs.declared.fault.HostCause.TheVariants as why
 use Rattle.spk_host_body.specs.Calls.{answer_at, host_asked, is_done, out_at}
-use Rattle.spk_host_body.specs.Ends.{IsCause}
-use Rattle.spk_host_body.specs.Steps.{FailsAt, Answers, answered, handed}
+use Rattle.spk_host_body.specs.Steps.{Answers, answered}
 
 abbrev due : OutData → Result OutData HostFault
 due out = Ok out
@@ -132,8 +131,14 @@ memory_alone (Err NoStamp) = tt
 memory_alone (Err NoBdSeq) = tt
 memory_alone (Err WrongPhase) = tt
 
--- why its packets weren't put
-pub fails : {X : Type 0} (call : Call) (h new : HostData) (out : Option Out) (r : Result X HostCause) → Answers call h new out →
-    IfErr r (λ e. IsCause (handed out).packets e) → IfErr r (λ e. FailsAt h e)
-fails call h new out (Ok x) a c = tt
-fails call h new out (Err e) a c = (call, subst (λ (o : OutData). IsCause o.packets e) a.hands_out c)
+-- ---- what is answered is handed on
+
+pub still_whole : (r : Result Out HostFault) → IfOk r (λ o. AreWhole o) → IfOk (answered r) (λ out. IfSome out (λ o. AreWhole o))
+still_whole (Ok out) w = w
+still_whole (Err NoMemory) w = tt
+still_whole (Err NotSparkplug) w = tt
+still_whole (Err BadPayload) w = tt
+still_whole (Err NoSeq) w = tt
+still_whole (Err NoStamp) w = tt
+still_whole (Err NoBdSeq) w = tt
+still_whole (Err WrongPhase) w = tt

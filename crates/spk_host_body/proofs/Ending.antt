@@ -1,5 +1,5 @@
 -- How the host's thread ends.
-use Rattle.std.proofs.Common.{◌≡◌, ◌∙◌, ap, ℕ, ◌+◌, arith, Bool, true, false, cond, Err, List, [], ◌∷◌, ◌++◌}
+use Rattle.std.proofs.Common.{◌≡◌, ◌∙◌, ap, ◌+◌, arith, false, cond, Err, List, [], ◌∷◌, ◌++◌}
 use Rattle.std.specs.List.{count_by}
 use Rattle.std.proofs.lemmas.List.Sums.{sum_by-append}
 use Rattle.spk_ingress.specs.Passes.{PutsInto, frames_put}
@@ -9,8 +9,7 @@ use Rattle.spk_ingress.specs.declared.frame.Frame.{Frame}
 use Rattle.spk_ingress.specs.declared.frame.Frame.TheVariants as frame
 use Rattle.spk_host_body.specs.declared.fault.HostCause.{HostCause}
 use Rattle.spk_host_body.specs.declared.fault.HostCause.TheVariants as why
-use Rattle.spk_host_session.specs.Data.{Config}
-use Rattle.spk_host_body.specs.Ends.{Fails, HostBroke, IsEnded, IsLast, config_of, ends_put, is_closed, is_end}
+use Rattle.spk_host_body.specs.Ends.{HostBroke, IsEnded, IsLast, ends_put, is_closed, is_end}
 use Rattle.spk_host_body.specs.declared.ends.HostStart.{HostStart}
 use Rattle.spk_host_body.specs.declared.ends.HostFailed.{HostFailed}
 
@@ -25,18 +24,16 @@ ended start q p same put = record {
   once = ap (λ (fs : List Frame). count_by is_end fs) put ∙ ends_more (frames_put q) ∙ ap (λ n. n + 1) same;
 }
 
-last_is : (A : Type 0) (config : Config) (start q p : PutPass) (f : HostCause) → is_closed {A = A} (Err f) ≡ false → Fails config f → ends_put q ≡ ends_put start
+last_is : (A : Type 0) (start q p : PutPass) (f : HostCause) → is_closed {A = A} (Err f) ≡ false → ends_put q ≡ ends_put start
     → frames_put p ≡ frames_put q ++ frame.End ∷ [] → IsLast f start p
-last_is A config start q p why.NoMemory still fails same put = ended start q p same put
-last_is A config start q p why.Unsettled still fails same put = ended start q p same put
-last_is A config start q p (why.Closed gone) still fails same put = cc
+last_is A start q p why.NoMemory still same put = ended start q p same put
+last_is A start q p (why.Closed gone) still same put = cc
 
 pub ended_badly : (A : Type 0) (n : Ingress) (s : HostStart) (f : HostFailed) (q : PutPass) → PutsInto n f.pass → f.pass.sender ≡ s.pass.sender
-    → is_closed {A = A} (Err f.cause) ≡ false → Fails (config_of s) f.cause → ends_put q ≡ ends_put s.pass → frames_put f.pass ≡ frames_put q ++ frame.End ∷ []
+    → is_closed {A = A} (Err f.cause) ≡ false → ends_put q ≡ ends_put s.pass → frames_put f.pass ≡ frames_put q ++ frame.End ∷ []
     → HostBroke n s f
-ended_badly A n s f q into sender still fails same put = record {
+ended_badly A n s f q into sender still same put = record {
   puts_into = into;
   sender = sender;
-  last = last_is A (config_of s) s.pass q f.pass f.cause still fails same put;
-  cause = fails;
+  last = last_is A s.pass q f.pass f.cause still same put;
 }

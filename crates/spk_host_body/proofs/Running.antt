@@ -1,24 +1,17 @@
 -- Calls that a new host is asked to do, one after the other, and items that come one after the other.
 use Rattle.std.proofs.Common.{◌≡◌, ◌∙◌, ap, sym, subst, refl, ℕ, ◌+◌, Bool, true, false, List, [], ◌∷◌, ◌++◌, map, length, reverse, Option, Some, None}
 use Rattle.std.proofs.lemmas.List.{append_assoc, append-nil, length-map, length-reverse, map-append, reverse-append}
-use Rattle.spk_ingress.specs.Passes.{AllPutInto, PutsInto}
-use Rattle.spk_ingress.specs.declared.channel.Ingress.{Ingress}
-use Rattle.spk_ingress.specs.declared.channel.PutPass.{PutPass}
-use Rattle.spk_ingress.specs.declared.fault.Gone.{Gone}
 use Rattle.spk_ingress.specs.declared.frame.Frame.{Frame}
 use Rattle.spk_ingress.specs.declared.frame.Frame.TheVariants as frame
 use Rattle.spk_rings.specs.Ring.{SameInlet, popped}
 use Rattle.spk_rings.specs.declared.inlet.Inlet.{Inlet}
 use Rattle.spk_rings.specs.declared.item.Item.{Item}
-use Rattle.spk_host_body.specs.declared.fault.HostCause.{HostCause}
-use Rattle.spk_host_body.specs.declared.fault.HostCause.TheVariants as why
 use Rattle.spk_reading.specs.Data.{HeardData, NumberedData}
 use Rattle.spk_host_session.specs.Data.{Config}
 use Rattle.spk_host.specs.Data.{HostData}
-use Rattle.spk_host.specs.Inputs.{Call, Heard, Ticked, Connected, Ended, host_after, new_host}
+use Rattle.spk_host.specs.Inputs.{Call, Heard, Ticked, Connected, host_after, new_host}
 use Rattle.spk_host_body.specs.Calls.{answer_at, done, is_done, out_at, packets_of}
-use Rattle.spk_host_body.specs.Ends.{Fails, IsCause}
-use Rattle.spk_host_body.specs.Steps.{FailsAt, HasRun, IsAfter, IsAlong, Took, TookTold}
+use Rattle.spk_host_body.specs.Steps.{HasRun, IsAfter, IsAlong, Took, TookTold}
 use Rattle.spk_host_body.specs.Told.{AreToldBy, IsToldBy, asked, consumed_at, consumed_by, consumed_in, consumptions, heard_in, told_in}
 use Rattle.spk_host_body.specs.declared.ends.Given.{Given}
 use Rattle.spk_host_body.proofs.Answering.{answer_no, answer_yes, asked_no, asked_yes}
@@ -159,30 +152,6 @@ along_more config p items given item g now h mid new q r s nothing_taken e a tol
           ∙ ap (λ l. consumed_at config (told_in given) (heard_in g) ∷ l) a.consumed
           ∙ ap (consumptions config) (sym more);
     }
-
--- ---- where it fails
-
-pub fails_after : (config : Config) (p : List Frame) (calls : List Call) (h : HostData) (q : List Frame) (f : HostCause) →
-    IsAfter config p calls h q → FailsAt h f → Fails config f
-fails_after config p calls h q f a x =
-    (done config calls, x.0, subst (λ g. IsCause (answer_at g x.0).packets f) a.state x.1)
-
-pub fails_mid : (config : Config) (p : List Frame) (items : List Item) (given : List Given) (g : Given) (now : ℕ)
-    (h mid : HostData) (q r : List Frame) (f : HostCause) →
-    now ≡ length given + 1 → IsAlong config p items given h q → TookTold (heard_in g) now h mid q r (consumed_in g) → FailsAt mid f → Fails config f
-fails_mid config p items given g now h mid q r f e a t x =
-    let m = mid_after config p (told_in given) (heard_in g) now h mid q r (consumed_in g)
-    (e ∙ ap (λ n. n + 1) (sym (told_length given))) a.after t in
-    fails_after config p m.0 mid r f m.1 x
-
-pub fails_begin : (config : Config) (h : HostData) (f : HostCause) → h ≡ new_host config → FailsAt h f → Fails config f
-fails_begin config h f e x = ([], x.0, subst (λ g. IsCause (answer_at g x.0).packets f) e x.1)
-
-pub no_memory : (config : Config) → Fails config why.NoMemory
-no_memory config = ([], Ended, tt)
-
-pub closed : (config : Config) (gone : Gone) → Fails config (why.Closed gone)
-closed config gone = ([], Ended, tt)
 
 -- ---- items of a ring
 

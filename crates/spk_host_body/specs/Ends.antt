@@ -1,6 +1,5 @@
 -- What the host's thread begins with, and what its end hands on: facts about its own lists alone.
 use Rattle.std.specs.Prelude.{◌≡◌, ℕ, ◌+◌, Bool, true, false, List, [], ◌∷◌, ◌++◌, count_by, map, Result, Ok, Err}
-use Rattle.spk_ingress.specs.Frame.{IsOnePacket}
 use Rattle.spk_ingress.specs.Passes.{PutsInto, frames_put}
 use Rattle.spk_ingress.specs.declared.channel.Ingress.{Ingress}
 use Rattle.spk_ingress.specs.declared.channel.PutPass.{PutPass}
@@ -12,7 +11,7 @@ use Rattle.spk_host_body.specs.declared.fault.HostCause.{HostCause}
 use Rattle.spk_host_body.specs.declared.fault.HostCause.TheVariants as why
 use Rattle.spk_host_session.specs.Data.{Config}
 use Rattle.spk_host.specs.Inputs.{Call, host_after, new_host}
-use Rattle.spk_host_body.specs.Calls.{answer_at, packets_of}
+use Rattle.spk_host_body.specs.Calls.{packets_of}
 use Rattle.spk_host_body.specs.Told.{AreToldBy, calls_of, consumed_by, consumptions, heard_in, told_in}
 use Rattle.spk_host_body.specs.declared.ends.HostStart.{HostStart}
 use Rattle.spk_host_body.specs.declared.ends.HostEnd.{HostEnd}
@@ -47,24 +46,6 @@ pub record HostDone (n : Ingress) (s : HostStart) (e : HostEnd) : Type 0 where
 
 -- ---- a run that failed
 
--- some of these bytes aren't one packet
-pub record HasNoPacket (packets : List (List ℕ)) : Type 0 where
-  pub before : List (List ℕ)
-  pub bytes : List ℕ
-  pub after : List (List ℕ)
-  pub parts : packets ≡ before ++ bytes ∷ after
-  pub none : IsOnePacket bytes → ⊥
-
--- Why packets aren't put: a growth was refused, the taker is gone, or one of them isn't a packet.
-abbrev pub IsCause : List (List ℕ) → HostCause → Type 0
-IsCause packets why.NoMemory = Unit {0}
-IsCause packets (why.Closed gone) = Unit {0}
-IsCause packets why.Unsettled = HasNoPacket packets
-
--- why a host fails: for the packets of a call, after some calls that were done
-abbrev pub Fails : Config → HostCause → Type 0
-Fails config f = (before : List Call) × (call : Call) × IsCause (answer_at (host_after config before) call).packets f
-
 abbrev pub is_end : Frame → Bool
 is_end (frame.Packet bytes) = false
 is_end (frame.Fault f) = false
@@ -80,7 +61,6 @@ abbrev pub is_closed : {A : Type 0} → Result A HostCause → Bool
 is_closed (Ok done) = false
 is_closed (Err (why.Closed gone)) = true
 is_closed (Err why.NoMemory) = false
-is_closed (Err why.Unsettled) = false
 
 -- the end was put once since the start, and last
 pub record IsEnded (start p : PutPass) : Type 0 where
@@ -92,10 +72,8 @@ pub record IsEnded (start p : PutPass) : Type 0 where
 abbrev pub IsLast : HostCause → PutPass → PutPass → Type 0
 IsLast (why.Closed gone) start p = ends_put p ≡ ends_put start
 IsLast why.NoMemory start p = IsEnded start p
-IsLast why.Unsettled start p = IsEnded start p
 
 pub record HostBroke (n : Ingress) (s : HostStart) (f : HostFailed) : Type 0 where
   pub puts_into : PutsInto n f.pass
   pub sender : f.pass.sender ≡ s.pass.sender
   pub last : IsLast f.cause s.pass f.pass
-  pub cause : Fails (config_of s) f.cause

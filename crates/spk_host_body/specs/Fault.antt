@@ -7,4 +7,3 @@ use Rattle.spk_host_body.specs.declared.fault.HostCause.TheVariants as why
 abbrev pub fault_of : HostCause → PlantFault
 fault_of why.NoMemory = plant.NoMemory
 fault_of (why.Closed gone) = plant.Closed
-fault_of why.Unsettled = plant.Unsettled

@@ -1,12 +1,8 @@
 -- What the parts of the host's thread promise one another.
 use Rattle.std.specs.Prelude.{◌≡◌, ℕ, List, [], ◌++◌, map, Option, Some, None, Result, Ok, Err}
-use Rattle.spk_packets.specs.declared.fault.PacketFault.TheVariants as packet
-use Rattle.spk_ingress.specs.Frame.{IsOnePacket}
 use Rattle.spk_ingress.specs.Passes.{PutsInto}
 use Rattle.spk_ingress.specs.declared.channel.Ingress.{Ingress}
 use Rattle.spk_ingress.specs.declared.channel.PutPass.{PutPass}
-use Rattle.spk_ingress.specs.declared.fault.FrameFault.{FrameFault}
-use Rattle.spk_ingress.specs.declared.fault.FrameFault.TheVariants as framed
 use Rattle.spk_ingress.specs.declared.frame.Frame.{Frame}
 use Rattle.spk_ingress.specs.declared.frame.Frame.TheVariants as frame
 use Rattle.spk_rings.specs.Ring.{popped}
@@ -24,7 +20,7 @@ use Rattle.spk_host.specs.Step.{nothing}
 use Rattle.spk_host.specs.View.{out_view}
 use Rattle.spk_host.specs.declared.out.Out.{Out}
 use Rattle.spk_host_body.specs.Calls.{answer_at, done, host_asked, packets_of}
-use Rattle.spk_host_body.specs.Ends.{IsCause, ends_put}
+use Rattle.spk_host_body.specs.Ends.{ends_put}
 use Rattle.spk_host_body.specs.Told.{AreToldBy, asked, consumed_by, consumptions, heard_in, told_in}
 use Rattle.spk_host_body.specs.declared.ends.Given.{Given}
 
@@ -35,26 +31,6 @@ pub record SamePass (n : Ingress) (a b : PutPass) : Type 0 where
   pub puts_into : PutsInto n b
   pub sender : b.sender ≡ a.sender
   pub ends : ends_put b ≡ ends_put a
-
--- why bytes aren't put
-abbrev pub IsCauseOf : List ℕ → HostCause → Type 0
-IsCauseOf bytes why.NoMemory = Unit {0}
-IsCauseOf bytes (why.Closed gone) = Unit {0}
-IsCauseOf bytes why.Unsettled = IsOnePacket bytes → ⊥
-
--- bytes that make no frame: for want of memory, or since they aren't one packet
-abbrev pub unframed : FrameFault → HostCause
-unframed (framed.Packet packet.NoMemory) = why.NoMemory
-unframed (framed.Packet packet.More) = why.Unsettled
-unframed (framed.Packet packet.BadLength) = why.Unsettled
-unframed (framed.Packet packet.BadFlags) = why.Unsettled
-unframed (framed.Packet packet.BadType) = why.Unsettled
-unframed (framed.Packet packet.BadText) = why.Unsettled
-unframed (framed.Packet packet.BadBody) = why.Unsettled
-unframed (framed.Packet packet.TooLarge) = why.Unsettled
-unframed (framed.Packet packet.QosTwo) = why.Unsettled
-unframed (framed.Packet packet.BadLevel) = why.Unsettled
-unframed framed.NotOne = why.Unsettled
 
 -- of these packets all but what is left were put, in order
 pub record Puts (packets left : List (List ℕ)) (put_before put : List Frame) : Type 0 where
@@ -94,10 +70,6 @@ pub record Took (call : Call) (h new : HostData) (put_before put : List Frame) (
 abbrev pub TookTold : Option HeardData → ℕ → HostData → HostData → List Frame → List Frame → List NumberedData → Type 0
 TookTold (Some heard) now h new put_before put consumed = Took (Heard heard now) h new put_before put consumed
 TookTold None now h new put_before put consumed = (new ≡ h) × (put ≡ put_before) × (consumed ≡ [])
-
--- why that failed
-abbrev pub FailsAt : HostData → HostCause → Type 0
-FailsAt h f = (call : Call) × IsCause (answer_at h call).packets f
 
 -- ---- many calls
 

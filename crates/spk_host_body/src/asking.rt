@@ -1,8 +1,9 @@
 //! What a host answers.
-ghost use Rattle.std.specs.Prelude.{◌≡◌, IfOk, IfErr, OnOk};
+ghost use Rattle.std.specs.Prelude.{◌≡◌, IfErr, IfOk, IfSome, OnOk};
 ghost use Rattle.spk_reading.specs.Data.{HeardData};
 ghost use Rattle.spk_reading.specs.Meaning.{Says};
 ghost use Rattle.spk_host.specs.Inputs as calls;
+ghost use Rattle.spk_host.specs.View.{AreWhole};
 ghost use Rattle.spk_host_body.specs.Steps as step;
 
 use crate::fault::HostCause;
@@ -23,6 +24,7 @@ fn answered(answer: Result<Out, HostFault>) -> Result<Option<Out>, HostCause>
 pub(crate) fn begin(host: &mut Host, now: u64) -> Result<Option<Out>, HostCause>
     ensures answers { IfOk result
         (λ out. step.Answers (calls.Connected now) host.old host.new out) }
+    ensures whole { IfOk result (λ out. IfSome out (λ o. AreWhole o)) }
     ensures memory { IfErr result (λ e. e ≡ HostCause.NoMemory) }
 {
     answered(host.connected(now))
@@ -32,6 +34,7 @@ pub(crate) fn begin(host: &mut Host, now: u64) -> Result<Option<Out>, HostCause>
 pub(crate) fn hear(host: &mut Host, bytes: &[u8], now: u64) -> Result<Option<Out>, HostCause>
     ensures answers { (h : HeardData) → Says bytes.now h
         → IfOk result (λ out. step.Answers (calls.Heard h now) host.old host.new out) }
+    ensures whole { IfOk result (λ out. IfSome out (λ o. AreWhole o)) }
     ensures memory { IfErr result (λ e. e ≡ HostCause.NoMemory) }
 {
     answered(host.packet(bytes, now))
@@ -40,6 +43,7 @@ pub(crate) fn hear(host: &mut Host, bytes: &[u8], now: u64) -> Result<Option<Out
 /// A moment passed.
 pub(crate) fn tick(host: &mut Host, now: u64) -> Result<Option<Out>, HostCause>
     ensures answers { IfOk result (λ out. step.Answers (calls.Ticked now) host.old host.new out) }
+    ensures whole { IfOk result (λ out. IfSome out (λ o. AreWhole o)) }
     ensures memory { IfErr result (λ e. e ≡ HostCause.NoMemory) }
 {
     answered(host.tick(now))

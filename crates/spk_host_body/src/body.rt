@@ -6,8 +6,8 @@ ghost use Rattle.spk_rings.specs.Ring.{SameInlet, ahead, popped};
 ghost use Rattle.spk_rings.specs.declared.item.Item as plain;
 ghost use Rattle.spk_host_session.specs.Data.{Config};
 ghost use Rattle.spk_host.specs.Inputs.{new_host};
-ghost use Rattle.spk_host_body.specs.Ends.{Fails, HostBroke, HostDone, HostReady};
-ghost use Rattle.spk_host_body.specs.Steps.{FailsAt, HasRun, IsAlong, SamePass, TookTold};
+ghost use Rattle.spk_host_body.specs.Ends.{HostBroke, HostDone, HostReady};
+ghost use Rattle.spk_host_body.specs.Steps.{HasRun, IsAlong, SamePass, TookTold};
 ghost use Rattle.spk_host_body.specs.Told.{IsToldBy, consumed_in, heard_in};
 
 use crate::desk::Desk;
@@ -40,7 +40,6 @@ fn tell<R: Wait, G: Gate>(
     ensures told { IfOk result (λ g. IsToldBy item.now (heard_in g)) }
     ensures took { IfOk result (λ g. TookTold (heard_in g) now desk.old.host desk.new.host
         (frames_put desk.old.line.pass) (frames_put desk.new.line.pass) (consumed_in g)) }
-    ensures cause { IfErr result (λ e. FailsAt desk.old.host e) }
 {
     let bytes = item.bytes.as_slice();
     let heard = match read(desk.alloc, bytes) {
@@ -78,9 +77,6 @@ fn take_in<R: Wait, G: Gate>(
         → IsAlong config put items given.old.items desk.old.host (frames_put desk.old.line.pass)
         → OnOk result (IsAlong config put (items ++ item.now ∷ []) given.new.items desk.new.host
         (frames_put desk.new.line.pass)) }
-    ensures cause { (config : Config) (put : List Frame) (items : List plain.Item)
-        → IsAlong config put items given.old.items desk.old.host (frames_put desk.old.line.pass)
-        → IfErr result (λ e. Fails config e) }
 {
     let Ok(()) = given.reserve(1) else {
         return Err(HostCause::NoMemory);
@@ -117,7 +113,6 @@ fn run<R: Wait, G: Gate>(
     ensures ran { IfOk result
         (λ v. HasRun desk.old.host.session.config (frames_put desk.old.line.pass)
         inlet.old inlet.new v.items desk.new.host (frames_put desk.new.line.pass)) }
-    ensures cause { IfErr result (λ e. Fails desk.old.host.session.config e) }
 {
     let Ok(()) = desk.watch.start() else {
         return Err(HostCause::NoMemory);
@@ -157,8 +152,8 @@ fn run<R: Wait, G: Gate>(
 /// and puts End last. While the ring is empty the thread is parked at this bell: who offers to the ring, or drops it, unparks the bell
 /// afterwards. The pass must be of this ingress, and the host new.
 ///
-/// It fails with NoMemory (1) where a growth was refused, with Closed (90) where the taker is gone, and with Unsettled (93) where the
-/// host answers bytes that aren't one packet. End is put all the same, unless the taker is gone: with Closed it isn't put.
+/// It fails with NoMemory (1) where a growth was refused, and with Closed (90) where the taker is gone. End is put all the same, unless
+/// the taker is gone: with Closed it isn't put.
 pub fn run_host<R: Wait, G: Gate>(
     rt: &R,
     alloc: Global,

@@ -1,13 +1,12 @@
 //! The host at work.
-ghost use Rattle.std.specs.Prelude.{◌≡◌, ◌∷◌, [], ◌++◌, map, IfErr, IfOk, OnOk};
+ghost use Rattle.std.specs.Prelude.{◌≡◌, ◌∷◌, [], ◌++◌, map, IfOk, IfSome, OnOk};
 ghost use Rattle.spk_ingress.specs.Passes.{PutsInto, frames_put};
 ghost use Rattle.spk_reading.specs.Data.{HeardData};
 ghost use Rattle.spk_reading.specs.Meaning.{Says};
 ghost use Rattle.spk_reading.specs.View.{numbered_view};
 ghost use Rattle.spk_host.specs.Inputs as calls;
-ghost use Rattle.spk_host_body.specs.Calls.{answer_at};
-ghost use Rattle.spk_host_body.specs.Ends.{IsCause};
-ghost use Rattle.spk_host_body.specs.Steps.{FailsAt, SamePass, Took, handed};
+ghost use Rattle.spk_host.specs.View.{AreWhole};
+ghost use Rattle.spk_host_body.specs.Steps.{SamePass, Took, handed};
 
 use crate::asking;
 use crate::fault::HostCause;
@@ -38,12 +37,12 @@ fn hand_out<R: Wait, G: Gate>(
     watch: &mut Watch,
     out: Option<Out>,
 ) -> Result<Vec<Taken>, HostCause>
-    requires { PutsInto ingress.now line.old.pass }
+    requires pass { PutsInto ingress.now line.old.pass }
+    requires whole { IfSome out (λ o. AreWhole o) }
     ensures pass { SamePass ingress.now line.old.pass line.new.pass }
     ensures consumed { IfOk result (λ v. map numbered_view v.items ≡ (handed out).consumed) }
     ensures ok { OnOk result (frames_put line.new.pass
         ≡ frames_put line.old.pass ++ map Frame.Packet (handed out).packets) }
-    ensures cause { IfErr result (λ e. IsCause (handed out).packets e) }
 {
     let Some(out) = out else {
         return Ok(Vec::new(alloc));
@@ -75,7 +74,6 @@ impl Desk {
         ensures took { IfOk result (λ v. Took (calls.Connected now) self.old.host self.new.host
             (frames_put self.old.line.pass) (frames_put self.new.line.pass)
             (map numbered_view v.items)) }
-        ensures cause { IfErr result (λ e. FailsAt self.old.host e) }
     {
         let out = match asking::begin(&mut self.host, now) {
             Ok(out) => out,
@@ -107,8 +105,6 @@ impl Desk {
             → IfOk result (λ v. Took (calls.Heard h now) self.old.host self.new.host
             (frames_put self.old.line.pass) (frames_put self.new.line.pass)
             (map numbered_view v.items)) }
-        ensures cause { (h : HeardData) → Says bytes.now h
-            → IfErr result (λ e. FailsAt self.old.host e) }
     {
         let out = match asking::hear(&mut self.host, bytes, now) {
             Ok(out) => out,
@@ -138,7 +134,6 @@ impl Desk {
         ensures took { IfOk result (λ v. Took (calls.Ticked now) self.old.host self.new.host
             (frames_put self.old.line.pass) (frames_put self.new.line.pass)
             (map numbered_view v.items)) }
-        ensures cause { IfErr result (λ e. FailsAt self.old.host e) }
     {
         let out = match asking::tick(&mut self.host, now) {
             Ok(out) => out,

@@ -67,7 +67,7 @@ pub struct HostFailed {
 }
 
 impl HostFailed {
-    /// The fault of a plant: NoMemory (1), Closed (90) or Unsettled (93).
+    /// The fault of a plant: NoMemory (1) or Closed (90).
     pub fn fault(&self) -> PlantFault
         ensures { result ≡ fault_of self.now.cause }
     {

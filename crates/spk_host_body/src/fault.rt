@@ -16,20 +16,16 @@ pub enum HostCause {
     /// The frames' taker is gone. Nobody but an ingress makes what stands in it.
     #[error("Closed")]
     Closed(Gone),
-    /// The host answered bytes that aren't one packet.
-    #[error("Unsettled")]
-    Unsettled,
 }
 
 impl HostCause {
-    /// The fault of a plant: NoMemory (1), Closed (90) or Unsettled (93).
+    /// The fault of a plant: NoMemory (1) or Closed (90).
     pub fn fault(&self) -> PlantFault
         ensures { result ≡ fault_of self.now }
     {
         match self {
             HostCause::NoMemory => PlantFault::NoMemory,
             HostCause::Closed(_) => PlantFault::Closed,
-            HostCause::Unsettled => PlantFault::Unsettled,
         }
     }
 

@@ -1,13 +1,13 @@
 //! What the host's thread puts.
-ghost use Rattle.std.specs.Prelude.{◌≡◌, ◌+◌, ◌-◌, ◌^◌, ◌∷◌, [], ◌++◌, map, min, false, IfErr, OnErr, OnOk, is_some};
+ghost use Rattle.std.specs.Prelude.{◌≡◌, ◌+◌, ◌-◌, ◌^◌, ◌∷◌, [], ◌++◌, All, map, min, false, OnErr, OnOk, is_some};
+ghost use Rattle.spk_ingress.specs.Frame.{IsOnePacket};
 ghost use Rattle.spk_ingress.specs.Passes.{PutsInto, frames_put};
-ghost use Rattle.spk_host_body.specs.Ends.{IsCause, is_closed, is_end};
-ghost use Rattle.spk_host_body.specs.Steps as step;
-ghost use Rattle.spk_host_body.specs.Steps.{IsCauseOf, SamePass};
+ghost use Rattle.spk_host_body.specs.Ends.{is_closed, is_end};
+ghost use Rattle.spk_host_body.specs.Steps.{SamePass};
 
 use crate::ends::Given;
 use crate::fault::HostCause;
-use spk_ingress::{Frame, FrameFault, Gone, Ingress, PutPass};
+use spk_ingress::{Frame, FrameFault, Gone, Ingress, PutPass, Refused};
 use spk_packets::PacketFault;
 use spk_plan::Gate;
 use std::alloc::Global;
@@ -20,16 +20,6 @@ pub(crate) struct Line {
     /// The host's place among the senders, and how many frames it put: for the gate alone.
     sender: usize,
     puts: u64,
-}
-
-/// Why bytes make no frame.
-fn unframed(fault: FrameFault) -> HostCause
-    ensures { result ≡ step.unframed fault }
-{
-    match fault {
-        FrameFault::Packet(PacketFault::NoMemory) => HostCause::NoMemory,
-        _ => HostCause::Unsettled,
-    }
 }
 
 /// The refusal by which a session ended, where it did since the taker is gone.
@@ -100,7 +90,7 @@ impl Line {
         self.put(rt, ingress, gate, Frame::End)
     }
 
-    /// Puts a packet.
+    /// Puts a packet. Refused where memory is, or where the taker is gone.
     fn put_packet<R: Wait, G: Gate>(
         &mut self,
         rt: &R,
@@ -109,15 +99,21 @@ impl Line {
         gate: &G,
         bytes: Vec<u8>,
     ) -> Result<(), HostCause>
-        requires { PutsInto ingress.now self.old.pass }
+        requires pass { PutsInto ingress.now self.old.pass }
+        requires one { IsOnePacket bytes.items }
         ensures pass { SamePass ingress.now self.old.pass self.new.pass }
         ensures ok { OnOk result
             (frames_put self.new.pass ≡ frames_put self.old.pass ++ Frame.Packet bytes.items ∷ []) }
-        ensures fault { IfErr result (λ e. IsCauseOf bytes.items e) }
     {
         let frame = match Frame::packet(alloc, bytes) {
             Ok(frame) => frame,
-            Err(refused) => return Err(unframed(refused.fault)),
+            Err(
+                Refused {
+                    fault: FrameFault::Packet(PacketFault::NoMemory),
+                    ..
+                },
+            ) => return Err(HostCause::NoMemory),
+            Err(_) => unreachable!(),
         };
         match self.put(rt, ingress, gate, frame) {
             Ok(()) => Ok(()),
@@ -134,11 +130,11 @@ impl Line {
         gate: &G,
         packets: Vec<Vec<u8>>,
     ) -> Result<(), HostCause>
-        requires { PutsInto ingress.now self.old.pass }
+        requires pass { PutsInto ingress.now self.old.pass }
+        requires whole { All (λ b. IsOnePacket b.items) packets.items }
         ensures pass { SamePass ingress.now self.old.pass self.new.pass }
         ensures ok { OnOk result (frames_put self.new.pass
             ≡ frames_put self.old.pass ++ map Frame.Packet (map (λ b. b.items) packets.items)) }
-        ensures fault { IfErr result (λ e. IsCause (map (λ b. b.items) packets.items) e) }
     {
         for bytes in packets {
             match self.put_packet(rt, alloc, ingress, gate, bytes) {

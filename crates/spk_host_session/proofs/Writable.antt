@@ -5,7 +5,7 @@ use Rattle.std.proofs.lemmas.Fmt.{length-decimal-le}
 use Rattle.std.proofs.lemmas.Bool.Decides.{nat_tests}
 use Rattle.std.proofs.lemmas.Bool.{leb-true, le-ltb}
 use Rattle.std.specs.List.{list_any}
-use Rattle.spk_packets.specs.Grammar.{has_zero, largest}
+use Rattle.spk_packets.specs.Grammar.{Spells, has_zero, largest}
 use Rattle.spk_packets.specs.Message.{Message, Connect, Publish, Subscribe, Disconnect, PubAck}
 use Rattle.spk_packets.specs.Spelling.{body, shortest, spelling, has_bad_text, has_bad_body, is_qos_two, is_bad_text}
 use Rattle.spk_state.specs.Text.{state_text}
@@ -157,6 +157,19 @@ subscribe_writable c e =
 pub disconnect_writable : IsWritable Disconnect
 unfolding has_bad_text has_bad_body is_qos_two body
 disconnect_writable = writable Disconnect refl refl refl (omega arith)
+
+low_part : (id : ℕ) → id < 65536 → id ≡ 256 * (id / 256 % 256) + id % 256
+low_part id lt = omega arith
+
+pub puback_spells : (id : ℕ) → id < 65536 → 0 < id → Spells (64 ∷ 2 ∷ id / 256 % 256 ∷ id % 256 ∷ []) (PubAck id)
+puback_spells id lt above = record {
+  size = 2 ∷ [];
+  body = id / 256 % 256 ∷ id % 256 ∷ [];
+  is_size = (omega arith, (omega arith, refl));
+  is_body = ((id / 256 % 256, id % 256, refl, low_part id lt), above);
+  parts = refl;
+  small = omega arith;
+}
 
 pub puback_spelling : (id : ℕ) → spelling (PubAck id) ≡ 64 ∷ 2 ∷ id / 256 % 256 ∷ id % 256 ∷ []
 unfolding spelling shortest body

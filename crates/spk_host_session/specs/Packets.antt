@@ -4,6 +4,7 @@ use Rattle.std.specs.Prelude.{◌≡◌, ℕ, true, false, List, [], ◌∷◌, 
 use Rattle.spk_payload.specs.Meaning.{MetricData, PayloadData, Flag}
 use Rattle.spk_payload.specs.Spelling as payload
 use Rattle.spk_packets.specs.Fault.{first_of}
+use Rattle.spk_packets.specs.Grammar.{Spells}
 use Rattle.spk_packets.specs.Spelling.{unwritable}
 use Rattle.spk_packets.specs.Message.{Message, WillData, Connect, Publish, Subscribe, Disconnect}
 use Rattle.spk_state.specs.Text.{state_text}
@@ -69,3 +70,7 @@ rebirth_of group node time =
 -- a packet that the writer doesn't refuse
 unfoldable pub IsWritable : Message → Type 0
 IsWritable p = first_of (unwritable p) ≡ None
+
+-- bytes that are one packet, whole and alone (MQTT 3.1.1, chapters 2 and 3)
+abbrev pub IsPacket : List ℕ → Type 0
+IsPacket bytes = (p : Message) × Spells bytes p

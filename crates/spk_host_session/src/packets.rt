@@ -20,7 +20,8 @@ use std::alloc::{AllocError, Global};
 #[tactic(auto, unfolding(crate::specs::Packets::IsWritable))]
 pub(crate) fn written(alloc: Global, packet: &Packet) -> Result<Vec<u8>, AllocError>
     requires { spec.IsWritable (view packet.now) }
-    ensures { IfOk result (λ v. v.items ≡ spelling (view packet.now)) }
+    ensures said { IfOk result (λ v. v.items ≡ spelling (view packet.now)) }
+    ensures whole { IfOk result (λ v. spec.IsPacket v.items) }
 {
     match encode(alloc, packet) {
         Ok(bytes) => Ok(bytes),
@@ -103,10 +104,12 @@ pub(crate) fn state_packet(
     })
 }
 
-/// The bytes of the PUBACK of an identifier (MQTT 3.1.1, section 3.4). Refused only where memory is.
+/// The bytes of the PUBACK of an identifier (MQTT 3.1.1, section 3.4). Of identifier 0, which no packet has, they are none (section
+/// 2.3.1). Refused only where memory is.
 #[tactic(auto, using(crate::proofs::Writable::puback_spelling))]
 pub fn acknowledgement(alloc: Global, id: u16) -> Result<Vec<u8>, AllocError>
-    ensures { IfOk result (λ v. v.items ≡ spelling (PubAck id)) }
+    ensures said { IfOk result (λ v. v.items ≡ spelling (PubAck id)) }
+    ensures whole { 0 < id → IfOk result (λ v. spec.IsPacket v.items) }
 {
     let mut bytes = Vec::with_capacity(alloc, 4)?;
     bytes.extend_from_slice(&[0x40, 2, (id / 256 % 256) as u8, (id % 256) as u8])?;

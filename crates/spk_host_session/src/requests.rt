@@ -85,6 +85,7 @@ fn request(alloc: Global, group: &str, node: &str, now: u64) -> Result<Packet, A
 /// `Node Control/Rebirth`, true. Refused with NotSparkplug (70) where the names can't stand in its topic.
 pub fn rebirth(alloc: Global, group: &str, node: &str, now: u64) -> Result<Vec<u8>, HostFault>
     ensures said { IfOk result (λ v. v.items ≡ spelling (spec.rebirth_of group.now node.now now)) }
+    ensures whole { IfOk result (λ v. spec.IsPacket v.items) }
     ensures addressed { OnOk result (is_address group.now node.now ≡ true) }
     ensures fault { IfErr result (λ e. (e ≡ HostFault.NoMemory)
         ⊎ ((e ≡ HostFault.NotSparkplug) × (is_address group.now node.now ≡ false))) }

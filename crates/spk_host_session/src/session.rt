@@ -1,5 +1,5 @@
 //! A host's session with the server.
-ghost use Rattle.std.specs.Prelude.{◌≡◌, ◌==◌, ◌∷◌, [], IfOk, IfErr, OnOk, OnErr, Ok, map, true, false, None, Some, is_some, nat_le, length};
+ghost use Rattle.std.specs.Prelude.{◌≡◌, ◌==◌, ◌∷◌, [], IfOk, IfErr, OnOk, OnErr, Ok, All, map, true, false, None, Some, is_some, nat_le, length};
 ghost use Rattle.spk_host_session.specs.Answer.{Gives, spelled};
 ghost use Rattle.spk_host_session.specs.Data as plain;
 ghost use Rattle.spk_host_session.specs.Packets as spec;
@@ -87,7 +87,8 @@ impl HostSession {
 
     /// CONNECT's bytes.
     fn connect(&self, now: u64) -> Result<Vec<u8>, AllocError>
-        ensures { IfOk result (λ v. v.items ≡ spelling (spec.connect_of self.now.config now)) }
+        ensures said { IfOk result (λ v. v.items ≡ spelling (spec.connect_of self.now.config now)) }
+        ensures whole { IfOk result (λ v. spec.IsPacket v.items) }
     {
         let packet = connect(self.alloc, &self.config, now)?;
         written(self.alloc, &packet)
@@ -96,8 +97,9 @@ impl HostSession {
     /// A STATE's bytes.
     fn state(&self, id: u16, online: bool, timestamp: u64) -> Result<Vec<u8>, AllocError>
         requires { (id == 0) ≡ false }
-        ensures { IfOk result (λ v. v.items ≡ spelling (spec.state_of self.now.config id
+        ensures said { IfOk result (λ v. v.items ≡ spelling (spec.state_of self.now.config id
             (state_text (record { online = online; timestamp = timestamp })))) }
+        ensures whole { IfOk result (λ v. spec.IsPacket v.items) }
     {
         let state = State { online, timestamp };
         let packet = state_packet(self.alloc, &self.config, id, state)?;
@@ -106,7 +108,8 @@ impl HostSession {
 
     /// SUBSCRIBE's bytes.
     fn subscribe(&self) -> Result<Vec<u8>, AllocError>
-        ensures { IfOk result (λ v. v.items ≡ spelling (spec.subscribe_of self.now.config)) }
+        ensures said { IfOk result (λ v. v.items ≡ spelling (spec.subscribe_of self.now.config)) }
+        ensures whole { IfOk result (λ v. spec.IsPacket v.items) }
     {
         let packet = subscribe(self.alloc, &self.config)?;
         written(self.alloc, &packet)
@@ -114,9 +117,10 @@ impl HostSession {
 
     /// SUBSCRIBE's bytes, alone.
     fn subscription(&self) -> Result<Vec<Vec<u8>>, AllocError>
-        ensures { IfOk result
+        ensures said { IfOk result
             (λ v. map (λ b. b.items) v.items
             ≡ map spelling (spec.subscribe_of self.now.config ∷ [])) }
+        ensures whole { IfOk result (λ v. All (λ b. spec.IsPacket b.items) v.items) }
     {
         let mut packets = Vec::with_capacity(self.alloc, 1)?;
         packets.push(self.subscribe()?)?;
@@ -125,8 +129,9 @@ impl HostSession {
 
     /// The bytes of a session's end: STATE offline, and DISCONNECT.
     fn farewell(&self, now: u64) -> Result<Vec<Vec<u8>>, AllocError>
-        ensures { IfOk result
+        ensures said { IfOk result
             (λ v. map (λ b. b.items) v.items ≡ map spelling (spec.farewell self.now.config now)) }
+        ensures whole { IfOk result (λ v. All (λ b. spec.IsPacket b.items) v.items) }
     {
         let mut packets = Vec::with_capacity(self.alloc, 2)?;
         packets.push(self.state(3, false, now)?)?;
@@ -138,6 +143,7 @@ impl HostSession {
     fn begin(&mut self, now: u64) -> Result<Vec<u8>, AllocError>
         ensures packet { IfOk result
             (λ v. v.items ≡ spelling (spec.connect_of self.old.config now)) }
+        ensures whole { IfOk result (λ v. spec.IsPacket v.items) }
         ensures ok { OnOk result (self.new ≡ record self.old { began = Some now }) }
         ensures err { OnErr result (self.new ≡ self.old) }
     {
@@ -158,6 +164,7 @@ impl HostSession {
     pub fn connected(&mut self, now: u64) -> Result<Vec<u8>, HostFault>
         ensures said { Gives (λ v. v.items ∷ []) result
             (spelled (step.says self.old (step.Connected now))) }
+        ensures whole { IfOk result (λ v. spec.IsPacket v.items) }
         ensures ok { OnOk result (self.new ≡ step.after self.old (step.Connected now)) }
         ensures err { OnErr result (self.new ≡ self.old) }
     {
@@ -172,6 +179,7 @@ impl HostSession {
     pub fn answered(&mut self, code: u8) -> Result<Vec<Vec<u8>>, HostFault>
         ensures said { Gives (λ v. map (λ b. b.items) v.items) result
             (spelled (step.says self.old (step.Answered code))) }
+        ensures whole { IfOk result (λ v. All (λ b. spec.IsPacket b.items) v.items) }
         ensures ok { OnOk result (self.new ≡ step.after self.old (step.Answered code)) }
         ensures err { OnErr result (self.new ≡ self.old) }
     {
@@ -188,7 +196,8 @@ impl HostSession {
     /// SUBACK came: STATE online, with the moment that the will says, at QoS 1, retained. Refused with WrongPhase (75) outside a
     /// session.
     pub fn granted(&self) -> Result<Vec<u8>, HostFault>
-        ensures { Gives (λ v. v.items ∷ []) result (spelled (step.says self.now step.Granted)) }
+        ensures said { Gives (λ v. v.items ∷ []) result (spelled (step.says self.now step.Granted)) }
+        ensures whole { IfOk result (λ v. spec.IsPacket v.items) }
     {
         let Some(began) = self.began else {
             return Err(HostFault::WrongPhase);
@@ -201,6 +210,7 @@ impl HostSession {
     pub fn stop(&mut self, now: u64) -> Result<Vec<Vec<u8>>, HostFault>
         ensures said { Gives (λ v. map (λ b. b.items) v.items) result
             (spelled (step.says self.old (step.Stopped now))) }
+        ensures whole { IfOk result (λ v. All (λ b. spec.IsPacket b.items) v.items) }
         ensures ok { OnOk result (self.new ≡ step.after self.old (step.Stopped now)) }
         ensures err { OnErr result (self.new ≡ self.old) }
     {
@@ -223,6 +233,7 @@ impl HostSession {
     pub fn renew(&mut self, now: u64) -> Result<Vec<u8>, AllocError>
         ensures said { IfOk result
             (λ v. spelled (step.says self.old (step.Renewed now)) ≡ Ok (v.items ∷ [])) }
+        ensures whole { IfOk result (λ v. spec.IsPacket v.items) }
         ensures ok { OnOk result (self.new ≡ step.after self.old (step.Renewed now)) }
         ensures err { OnErr result (self.new ≡ self.old) }
     {

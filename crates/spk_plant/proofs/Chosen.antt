@@ -15,7 +15,7 @@ use Rattle.spk_rings.specs.declared.token.Token.{Token}
 use Rattle.spk_plan.specs.declared.fault.PlantFault.{PlantFault}
 use Rattle.spk_plan.specs.declared.fault.PlantFault.TheVariants as fault
 use Rattle.spk_plan.specs.declared.plan.Plan.{Plan}
-use Rattle.spk_plan_rules.specs.Plan.{CanRun, host_in}
+use Rattle.spk_plan_rules.specs.Plan.{CanRun}
 use Rattle.spk_edge_body.specs.Done.{EdgeFailed}
 use Rattle.spk_edge_body.specs.Fault.{fault_of as edge_fault}
 use Rattle.spk_edge_body.specs.declared.fault.EdgeCause.{EdgeCause}
@@ -28,16 +28,13 @@ use Rattle.spk_broker_body.specs.declared.fault.BrokerFailed.{BrokerFailed}
 use Rattle.spk_broker_body.specs.declared.fault.BrokerFailed.TheVariants as failed
 use Rattle.spk_broker_body.specs.declared.part.BrokerStart.{BrokerStart}
 use Rattle.spk_broker_body.specs.declared.part.BrokerEnd.{BrokerEnd}
-use Rattle.spk_host_session.specs.Data.{Config}
-use Rattle.spk_host.specs.Data.{HostData}
-use Rattle.spk_host_body.specs.Ends.{Fails, HostBroke, config_of}
 use Rattle.spk_host_body.specs.Fault.{fault_of as host_fault}
 use Rattle.spk_host_body.specs.declared.fault.HostCause.{HostCause}
 use Rattle.spk_host_body.specs.declared.fault.HostCause.TheVariants as why
 use Rattle.spk_host_body.specs.declared.ends.HostStart.{HostStart}
 use Rattle.spk_host_body.specs.declared.ends.HostEnd.{HostEnd}
 use Rattle.spk_host_body.specs.declared.ends.HostFailed.{HostFailed}
-use Rattle.spk_plant.specs.Choice.{AreJoined, HasFramesLeft, IsChosen, IsCommon, IsFault, IsFirst, IsLeft, IsMissing, IsOfEdges, IsThreads, IsUnsettled, fault_of_all, fault_of_edges, passes_of}
+use Rattle.spk_plant.specs.Choice.{AreJoined, HasFramesLeft, IsChosen, IsFault, IsFirst, IsLeft, IsMissing, IsOfEdges, IsThreads, IsUnsettled, fault_of_all, fault_of_edges, passes_of}
 use Rattle.spk_plant.specs.Done.{AllDone, AreApart, AreDone, AreTied, IsEdgeDone}
 use Rattle.spk_plant.specs.Start.{AreParts, HasAt}
 use Rattle.spk_plant.specs.declared.choice.Ends.{Ends}
@@ -113,38 +110,37 @@ edges_fault n ss ts s others last r is done failed one why =
 
 -- ---- what a thread may fail with
 
-edge_common : (c : EdgeCause) → IsCommon (edge_fault c)
-edge_common edge_why.NoMemory = inl refl
-edge_common (edge_why.Closed gone) = inr refl
+edge_threads : (c : EdgeCause) → IsThreads (edge_fault c)
+edge_threads edge_why.NoMemory = inl refl
+edge_threads (edge_why.Closed gone) = inr refl
 
-broker_common : (f : BrokerFailed) → IsCommon (broker_fault f)
-broker_common failed.NoMemory = inl refl
-broker_common (failed.Closed gone) = inr refl
+broker_threads : (f : BrokerFailed) → IsThreads (broker_fault f)
+broker_threads failed.NoMemory = inl refl
+broker_threads (failed.Closed gone) = inr refl
 
-edges_common : (n : Ingress) (ss : List EdgeStart) (e : PlantFault) → IsOfEdges n ss e → IsCommon e
-edges_common n ss e of = elim of [
+edges_threads : (n : Ingress) (ss : List EdgeStart) (e : PlantFault) → IsOfEdges n ss e → IsThreads e
+edges_threads n ss e of = elim of [
   | inl memory ↦ inl memory
-  | inr first ↦ subst IsCommon first.is (edge_common first.failure.cause)
+  | inr first ↦ subst IsThreads first.is (edge_threads first.failure.cause)
 ]
 
-host_threads : (c : Config) (e : HostCause) → Fails c e → IsThreads c (host_fault e)
-host_threads c why.NoMemory fails = inl (inl refl)
-host_threads c (why.Closed gone) fails = inl (inr refl)
-host_threads c why.Unsettled fails = inr (refl, fails)
+host_threads : (e : HostCause) → IsThreads (host_fault e)
+host_threads why.NoMemory = inl refl
+host_threads (why.Closed gone) = inr refl
 
-chosen_of : (n : Ingress) (ss : List EdgeStart) (b : BrokerStart) (h : HostStart) (e : PlantFault)
+chosen_of : (n : Ingress) (ss : List EdgeStart) (e : PlantFault)
     (broker : Result BrokerEnd BrokerFailed) (edges : Result (Vec EdgeEnd Global) PlantFault) (host : Result HostEnd HostFailed)
-    → IfErr edges (IsOfEdges n ss) → IfErr host (HostBroke n h) → fault_of_all broker edges host ≡ Some e → IsThreads (config_of h) e
-chosen_of n ss b h e (Err x) edges host of_edges of_host is =
+    → IfErr edges (IsOfEdges n ss) → fault_of_all broker edges host ≡ Some e → IsThreads e
+chosen_of n ss e (Err x) edges host of_edges is =
     let same : broker_fault x ≡ e = cc in
-    inl (subst IsCommon same (broker_common x))
-chosen_of n ss b h e (Ok y) (Err x) host of_edges of_host is =
+    subst IsThreads same (broker_threads x)
+chosen_of n ss e (Ok y) (Err x) host of_edges is =
     let same : x ≡ e = cc in
-    inl (subst IsCommon same (edges_common n ss x of_edges))
-chosen_of n ss b h e (Ok y) (Ok z) (Err f) of_edges of_host is =
+    subst IsThreads same (edges_threads n ss x of_edges)
+chosen_of n ss e (Ok y) (Ok z) (Err f) of_edges is =
     let same : host_fault f.cause ≡ e = cc in
-    subst (λ x. IsThreads (config_of h) x) same (host_threads (config_of h) f.cause of_host.cause)
-chosen_of n ss b h e (Ok y) (Ok z) (Ok x) of_edges of_host is = absurd (cc)
+    subst IsThreads same (host_threads f.cause)
+chosen_of n ss e (Ok y) (Ok z) (Ok x) of_edges is = absurd (cc)
 
 -- ---- all threads ran to their ends
 
@@ -216,18 +212,12 @@ pub of_threads : (p : Plan) (begun : Parts) (e : PlantFault) → CanRun p → Ar
     → (e ≡ fault.NoMemory) ⊎ IsChosen begun.ingress begun.edges.items begun.broker begun.host e → IsFault p e
 of_threads p begun e can parts why = elim why [
   | inl memory ↦ inl (inl memory)
-  | inr of ↦
-      let config : config_of begun.host ≡ host_in p = ap (λ (x : HostData). x.session.config) parts.host in
-      inr (record {
-        can = can;
-        begun = begun;
-        parts = parts;
-        why = inl (
-          of,
-          subst (λ c. IsThreads c e) config
-              (chosen_of begun.ingress begun.edges.items begun.broker begun.host e of.broker of.edges of.host of.edges_failed of.host_failed of.chosen),
-        );
-      })
+  | inr of ↦ inr (record {
+    can = can;
+    begun = begun;
+    parts = parts;
+    why = inl (of, chosen_of begun.ingress begun.edges.items e of.broker of.edges of.host of.edges_failed of.chosen);
+  })
 ]
 
 pub of_left : (p : Plan) (begun : Parts) (ends : Ends) (e : PlantFault) → CanRun p → AreParts p begun.ingress begun.edges.items begun.broker begun.host

@@ -13,7 +13,7 @@ use Rattle.spk_rings.specs.declared.token.Token.{Token}
 use Rattle.spk_plan.specs.declared.fault.PlantFault.{PlantFault}
 use Rattle.spk_plan.specs.declared.fault.PlantFault.TheVariants as fault
 use Rattle.spk_plan.specs.declared.plan.Plan.{Plan}
-use Rattle.spk_plan_rules.specs.Plan.{CanRun, host_in}
+use Rattle.spk_plan_rules.specs.Plan.{CanRun}
 use Rattle.spk_edge_body.specs.Done.{EdgeFailed}
 use Rattle.spk_edge_body.specs.Fault.{fault_of as edge_fault}
 use Rattle.spk_edge_body.specs.declared.edge.EdgeStart.{EdgeStart}
@@ -24,10 +24,8 @@ use Rattle.spk_broker_body.specs.Fault.{fault_of as broker_fault}
 use Rattle.spk_broker_body.specs.declared.fault.BrokerFailed.{BrokerFailed}
 use Rattle.spk_broker_body.specs.declared.part.BrokerStart.{BrokerStart}
 use Rattle.spk_broker_body.specs.declared.part.BrokerEnd.{BrokerEnd}
-use Rattle.spk_host_session.specs.Data.{Config}
-use Rattle.spk_host_body.specs.Ends.{Fails, HostBroke, HostDone}
+use Rattle.spk_host_body.specs.Ends.{HostBroke, HostDone}
 use Rattle.spk_host_body.specs.Fault.{fault_of as host_fault}
-use Rattle.spk_host_body.specs.declared.fault.HostCause.TheVariants as why
 use Rattle.spk_host_body.specs.declared.ends.HostStart.{HostStart}
 use Rattle.spk_host_body.specs.declared.ends.HostEnd.{HostEnd}
 use Rattle.spk_host_body.specs.declared.ends.HostFailed.{HostFailed}
@@ -65,13 +63,9 @@ pub record AreAll (b : Result BrokerEnd BrokerFailed) (es : Result (Vec EdgeEnd 
 
 -- ---- the threads
 
--- a growth was refused, or the other end of the ingress is gone
-abbrev pub IsCommon : PlantFault → Type 0
-IsCommon e = (e ≡ fault.NoMemory) ⊎ (e ≡ fault.Closed)
-
--- What a thread of a host that is made so may fail with: Unsettled only where one of its packets is none.
-abbrev pub IsThreads : Config → PlantFault → Type 0
-IsThreads c e = IsCommon e ⊎ ((e ≡ fault.Unsettled) × Fails c why.Unsettled)
+-- what a thread may fail with: a growth was refused, or the other end of the ingress is gone
+abbrev pub IsThreads : PlantFault → Type 0
+IsThreads e = (e ≡ fault.NoMemory) ⊎ (e ≡ fault.Closed)
 
 -- an edge node failed with this fault, and all those before it ran to their ends
 pub record IsFirst (n : Ingress) (ss : List EdgeStart) (e : PlantFault) : Type 0 where
@@ -146,7 +140,7 @@ pub record HasRun (p : Plan) (e : PlantFault) : Type 0 where
   pub can : CanRun p
   pub begun : Parts
   pub parts : AreParts p begun.ingress begun.edges.items begun.broker begun.host
-  pub why : (IsChosen begun.ingress begun.edges.items begun.broker begun.host e × IsThreads (host_in p) e)
+  pub why : (IsChosen begun.ingress begun.edges.items begun.broker begun.host e × IsThreads e)
       ⊎ HasLeft begun.ingress begun.edges.items begun.broker begun.host e
 
 -- Why there is no report: memory was refused, the plan can't run, or its threads ran and came to this.

@@ -8,4 +8,5 @@ loop-request-preserved c = record {
       c.loop-request._request c.loop-request.invariant.topics c.in_ok-ask.ensures.topics;
   packets = requests_more (λ b. b.items) c.ask.new.packets.items c.loop-request.packets.items c.args.packets.now.items c.args.group.now
       c.args.node.now c.args.now c.loop-request._request c.loop-request.invariant.packets c.in_ok-ask.ensures.packets;
+  whole = λ before. c.in_ok-ask.ensures.whole (c.loop-request.invariant.whole before);
 }

@@ -1,6 +1,10 @@
-use Rattle.std.proofs.Common.{◌≡◌, ◌≤◌, ◌∙◌, ◌++◌, [], ◌∷◌, ap, map, arith}
+use Rattle.std.proofs.Common.{◌≡◌, ◌≤◌, ◌∙◌, ◌+◌, ◌++◌, List, ℕ, [], ◌∷◌, ap, map, arith, sym, subst}
+use Rattle.std.specs.Prelude.{All, Vec}
+use Rattle.std.specs.declared.alloc.Global.{Global}
+use Rattle.std.proofs.lemmas.List.Elements.{All-take}
 use Rattle.spk_reading.specs.View.{numbered_view}
 use Rattle.spk_topics.specs.Spark.{named}
+use Rattle.spk_host_session.specs.Packets.{IsPacket}
 use Rattle.spk_host_node.specs.Step.{requests_of}
 use Rattle.spk_host.specs.Step.{acks, requests_to, spelled, topics_to}
 use Rattle.spk_host.proofs.Requests.{requests_cut, same_out, topics_cut}
@@ -25,7 +29,13 @@ returns-clause-out c =
     ∙ ap (topics_to (numbered_view c.args.message).group (numbered_view c.args.message).node) c.in_ok-handed.ensures.requests)
     (requests_cut (λ b. b.items) c.truncate-2.new.self.items c.ask_all.new.packets.items c.in_ok-packets.packets.items (acks c.args.ack)
     c.as_str-group.result.now c.as_str-name.result.now c.args.now c.in_ok-handed.handed.requests c.most_requests-most.result c.len-first.result
-    c.truncate-2.ensures.items c.in_ok-ask_all.ensures.packets c.in_ok-packets.ensures (c.len-first.ensures ∙ c.in_ok-packets.packets.ok.0) few
+    c.truncate-2.ensures.items c.in_ok-ask_all.ensures.packets c.in_ok-packets.ensures.said (c.len-first.ensures ∙ c.in_ok-packets.packets.ok.0) few
     ∙ ap (λ g. spelled (acks c.args.ack ++ requests_to g c.as_str-name.result.now c.args.now c.in_ok-handed.handed.requests)) c.as_str-group.ensures.value
     ∙ ap (λ n. spelled (acks c.args.ack ++ requests_to (numbered_view c.args.message).group n c.args.now c.in_ok-handed.handed.requests)) c.as_str-name.ensures.value
     ∙ ap (λ k. spelled (acks c.args.ack ++ requests_to (numbered_view c.args.message).group (numbered_view c.args.message).node c.args.now k)) c.in_ok-handed.ensures.requests)
+
+pub returns-clause-whole : goal.returns-clause-whole
+returns-clause-whole c = λ identified.
+    subst (λ (l : List (Vec ℕ Global)). All (λ b. IsPacket b.items) l) (sym c.truncate-2.ensures.items)
+    (All-take (λ b. IsPacket b.items) (c.len-first.result + c.in_ok-handed.handed.requests) c.ask_all.new.packets.items
+    (c.in_ok-ask_all.ensures.whole (c.in_ok-packets.ensures.whole identified)))

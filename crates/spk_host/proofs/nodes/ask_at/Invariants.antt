@@ -1,5 +1,7 @@
 use Rattle.std.proofs.Common.{◌≡◌, ◌++◌, map, drop}
+use Rattle.std.specs.Prelude.{All}
 use Rattle.spk_topics.specs.Spark.{named}
+use Rattle.spk_host_session.specs.Packets.{IsPacket}
 use Rattle.spk_host.specs.Step.{gaps_at, requests_at, spelled, topics_at}
 use Rattle.spk_host.proofs.nodes.ask_at.Given as goal
 
@@ -9,4 +11,5 @@ invariant-loop-entry l = record {
   gaps : l.steps.items ++ gaps_at l.now (drop l.entry-index l.nodes) ≡ gaps_at l.now l.nodes;
   topics : map named l.rebirths.items ++ topics_at l.now (drop l.entry-index l.nodes) ≡ topics_at l.now l.nodes;
   packets : map (λ b. b.items) l.packets.items ++ spelled (requests_at l.now (drop l.entry-index l.nodes)) ≡ spelled (requests_at l.now l.nodes);
+  whole : All (λ b. IsPacket b.items) l.packets.items;
 }

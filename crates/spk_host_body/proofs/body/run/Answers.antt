@@ -4,14 +4,8 @@ use Rattle.spk_ingress.specs.Passes.{frames_put}
 use Rattle.spk_rings.specs.Ring.{popped}
 use Rattle.spk_reading.specs.View.{numbered_view}
 use Rattle.spk_host_body.specs.Steps.{IsAlong}
-use Rattle.spk_host_body.proofs.Running.{after_begin, fails_begin, no_memory, ran_more, same_inlet, same_then}
+use Rattle.spk_host_body.proofs.Running.{after_begin, ran_more, same_inlet, same_then}
 use Rattle.spk_host_body.proofs.body.run.Goals as goal
-
-pub returns-in_default-clause-cause : goal.returns-in_default-clause-cause
-returns-in_default-clause-cause g c = no_memory c.args.desk.now.host.session.config
-
-pub returns-in-Err-clause-cause : goal.returns-in-Err-clause-cause
-returns-in-Err-clause-cause g c = fails_begin c.args.desk.now.host.session.config c.args.desk.now.host c.in-Err.fault c.requires.fresh c.in-Err.ensures.cause
 
 pub loop-init : goal.loop-init
 loop-init g c = record {

@@ -1,15 +1,13 @@
-use Rattle.std.proofs.Common.{◌≡◌, ◌∙◌, ap, subst, rules, Err, false, List}
+use Rattle.std.proofs.Common.{◌≡◌, ◌∙◌, ap, subst, rules, false, List}
 use Rattle.std.specs.List.{count_by}
 use Rattle.std.specs.Prelude.{Vec}
 use Rattle.std.specs.declared.alloc.Global.{Global}
-use Rattle.std.proofs.lemmas.Result.{IfErr-at_err}
 use Rattle.spk_ingress.specs.Passes.{frames_put}
 use Rattle.spk_ingress.specs.declared.channel.PutPass.{PutPass}
 use Rattle.spk_ingress.specs.declared.frame.Frame.{Frame}
-use Rattle.spk_host_body.specs.Ends.{Fails, ends_put, is_closed, is_end}
+use Rattle.spk_host_body.specs.Ends.{ends_put, is_closed, is_end}
 use Rattle.spk_host_body.specs.declared.ends.Given.{Given}
 use Rattle.spk_host_body.proofs.Ending.{ended_badly}
-use Rattle.spk_host_body.proofs.Running.{closed}
 use Rattle.spk_host_body.proofs.body.run_host.Goals as goal
 
 pub returns-in-Err-clause-broke : goal.returns-in-Err-clause-broke
@@ -19,7 +17,6 @@ returns-in-Err-clause-broke g c =
       puts_into = c.end-ended.ensures.pass.0;
       sender = c.end-ended.ensures.pass.1 ∙ c.run-ran.ensures.pass.sender ∙ ap (λ (p : PutPass). p.sender) c.new-line.ensures.0;
       last = ap (λ (fs : List Frame). count_by is_end fs) same ∙ c.run-ran.ensures.pass.ends ∙ ap ends_put c.new-line.ensures.0;
-      cause = closed c.args.start.host.session.config c.in-Err.gone;
     }
 
 pub returns-in-Err-ran-clause-broke : goal.returns-in-Err-ran-clause-broke
@@ -28,6 +25,5 @@ returns-in-Err-ran-clause-broke g c =
     c.end-ended.ensures.pass.0
     (c.end-ended.ensures.pass.1 ∙ c.run-ran.ensures.pass.sender ∙ ap (λ (p : PutPass). p.sender) c.new-line.ensures.0)
     (subst (λ r. is_closed r ≡ false) c.in-Err-ran.is c.in_default.ensures.ok.0)
-    (IfErr-at_err (Fails c.args.start.host.session.config) c.in-Err-ran.is c.run-ran.ensures.cause)
     (c.run-ran.ensures.pass.ends ∙ ap ends_put c.new-line.ensures.0)
     c.in_default.ensures.ok.1

@@ -2,22 +2,8 @@ use Rattle.std.proofs.Common.{◌∙◌, ◌+◌, ◌∷◌, [], ◌++◌, ap, s
 use Rattle.spk_ingress.specs.Passes.{frames_put}
 use Rattle.spk_reading.specs.View.{numbered_view}
 use Rattle.spk_host_body.specs.Steps.{IsAlong}
-use Rattle.spk_host_body.proofs.Running.{along_more, fails_after, fails_mid, no_memory}
+use Rattle.spk_host_body.proofs.Running.{along_more}
 use Rattle.spk_host_body.proofs.body.take_in.Goals as goal
-
-pub returns-in_default-clause-cause : goal.returns-in_default-clause-cause
-returns-in_default-clause-cause g c = λ config put items along. no_memory config
-
-pub returns-in-Err-clause-cause : goal.returns-in-Err-clause-cause
-returns-in-Err-clause-cause g c = λ config put items along.
-    fails_after config put _ c.args.desk.now.host (frames_put c.args.desk.now.line.pass) c.in-Err.fault along.after c.in-Err.ensures.cause
-
-pub returns-in-Err-tick-clause-cause : goal.returns-in-Err-tick-clause-cause
-returns-in-Err-tick-clause-cause g c = λ config put items along.
-    fails_mid config put items c.args.given.now.items c.in-Ok-tell.told (c.len.result + 1) c.args.desk.now.host c.tell.new.desk.host
-    (frames_put c.args.desk.now.line.pass) (frames_put c.tell.new.desk.line.pass) c.in-Err-tick.fault
-    (ap (λ n. n + 1) (c.len.ensures ∙ c.reserve.ensures.len ∙ c.args.given.now.ok.0))
-    along c.in-Ok-tell.ensures.took c.in-Err-tick.ensures.cause
 
 pub returns-clause-along : goal.returns-clause-along
 returns-clause-along g c = λ config put items along.

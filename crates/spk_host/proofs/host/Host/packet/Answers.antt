@@ -1,4 +1,4 @@
-use Rattle.spk_host.proofs.Heard.{after_at, fails_as, gives_at, one_meaning}
+use Rattle.spk_host.proofs.Heard.{after_at, fails_as, gives_at, identified, one_meaning}
 use Rattle.spk_reading.specs.View.{heard_view}
 use Rattle.spk_host.proofs.host.Host.packet.Goals as goal
 
@@ -12,3 +12,6 @@ returns-in-Ok-clause-data c = λ h says.
 
 pub returns-in-Err-clause-answer : goal.returns-in-Err-clause-answer
 returns-in-Err-clause-answer c = λ h inside says. rw (c.fault_of.ensures) (fails_as c.in-Err.fault h _ (c.in-Err.ensures.only h says))
+
+pub returns-in-Ok-clause-whole : goal.returns-in-Ok-clause-whole
+returns-in-Ok-clause-whole c = c.hear.ensures.whole (identified c.args.bytes.now (heard_view c.in-Ok.heard) c.in-Ok.ensures.found)
