@@ -1,5 +1,5 @@
 -- What the threads begin with is of the plan, of one ingress and of new rings.
-use Rattle.std.proofs.Common.{◌≡◌, ◌∙◌, inl, inr, ℕ, zero, suc, ◌+◌, true, List, [], ◌∷◌, ◌++◌, length, Some, sym, ap, subst, arith, length-append, string_bytes, add-zero}
+use Rattle.std.proofs.Common.{◌≡◌, ◌∙◌, inl, inr, ℕ, zero, suc, ◌+◌, true, List, [], ◌∷◌, ◌++◌, length, map, Some, sym, ap, subst, arith, length-append, string_bytes, add-zero}
 use Rattle.std.specs.List.{slice_get}
 use Rattle.spk_host.specs.Inputs.{new_host}
 use Rattle.spk_ingress.specs.Passes.{AllFresh, AllPutInto, ArePasses, TakesFrom, frames_taken}
@@ -14,7 +14,7 @@ use Rattle.spk_edge_body.specs.declared.edge.EdgeStart.{EdgeStart}
 use Rattle.spk_broker_body.specs.declared.part.BrokerStart.{BrokerStart}
 use Rattle.spk_host_body.specs.declared.ends.HostStart.{HostStart}
 use Rattle.spk_plan_rules.specs.Plan.{AreEdges, host_in, is_edge}
-use Rattle.spk_plant.specs.Start.{AreParts, AreRings, AreStarts, HasAt, IsPass, IsRing, IsStart}
+use Rattle.spk_plant.specs.Start.{AreParts, AreRings, AreStarts, HasAt, IsPass, IsRing, IsStart, names_in}
 use Rattle.spk_plant.proofs.Places.{get_last, get_more, get_parts, has_last, has_more}
 
 -- ---- rings
@@ -68,9 +68,9 @@ edges_push group host ns ms n is all one = subst (λ xs. AreEdges group host xs)
 -- ---- what the edges' threads begin with
 
 starts_snoc : (group host : List ℕ) (ns : List PlanNode) (ps : List PutPass) (is : List Inlet) (ss : List EdgeStart) (n : PlanNode) (p : PutPass) (i : Inlet) (s : EdgeStart)
-    → length ps ≡ length ns → length is ≡ length ns → s.pass ≡ p → s.inlet ≡ i → IsStart group host n s → AreStarts group host ns ps is ss
+    → length ps ≡ length ns → length is ≡ length ns → s.pass ≡ p → s.inlet ≡ i → s.place ≡ length ns → IsStart group host n s → AreStarts group host ns ps is ss
     → AreStarts group host (ns ++ n ∷ []) (ps ++ p ∷ []) (is ++ i ∷ []) (ss ++ s ∷ [])
-starts_snoc group host ns ps is ss n p i s passes inlets own ring one all =
+starts_snoc group host ns ps is ss n p i s passes inlets own ring at_end one all =
     let more : length (ss ++ s ∷ []) ≡ length ss + 1 = length-append ss (s ∷ []) in
     let whole : length (ns ++ n ∷ []) ≡ length ns + 1 = length-append ns (n ∷ []) in
     record {
@@ -95,18 +95,22 @@ starts_snoc group host ns ps is ss n p i s passes inlets own ring one all =
             let same : i ≡ x.inlet = sym ring ∙ ap (λ (y : EdgeStart). y.inlet) (sym last.1) in
             subst (λ j. slice_get (is ++ i ∷ []) j ≡ Some x.inlet) place (get_last is i ∙ ap Some same)
       ];
+      places = λ k x at. elim (get_parts ss s k x at) [
+        | inl before ↦ all.places k x before
+        | inr last ↦ ap (λ (y : EdgeStart). y.place) last.1 ∙ (at_end ∙ (sym all.sized ∙ sym last.0))
+      ];
     }
 
 pub starts_push : (group host : List ℕ) (ns ms : List PlanNode) (ps qs : List PutPass) (is js : List Inlet) (ss ts : List EdgeStart) (n : PlanNode) (p : PutPass) (i : Inlet) (s : EdgeStart)
     → ms ≡ ns ++ n ∷ [] → qs ≡ ps ++ p ∷ [] → js ≡ is ++ i ∷ [] → ts ≡ ss ++ s ∷ []
-    → length qs ≡ length ms → length js ≡ length ms → s.pass ≡ p → s.inlet ≡ i → IsStart group host n s → AreStarts group host ns ps is ss
+    → length qs ≡ length ms → length js ≡ length ms → s.pass ≡ p → s.inlet ≡ i → s.place ≡ length ns → IsStart group host n s → AreStarts group host ns ps is ss
     → AreStarts group host ms qs js ts
-starts_push group host ns ms ps qs is js ss ts n p i s nodes passes inlets starts sized same own ring one all =
+starts_push group host ns ms ps qs is js ss ts n p i s nodes passes inlets starts sized same own ring at_end one all =
     let longer : length ms ≡ length ns + 1 = ap length nodes ∙ length-append ns (n ∷ []) in
     let more : length qs ≡ length ps + 1 = ap length passes ∙ length-append ps (p ∷ []) in
     let ends : length js ≡ length is + 1 = ap length inlets ∙ length-append is (i ∷ []) in
     let snoc : AreStarts group host (ns ++ n ∷ []) (ps ++ p ∷ []) (is ++ i ∷ []) (ss ++ s ∷ []) =
-    starts_snoc group host ns ps is ss n p i s (omega arith) (omega arith) own ring one all in
+    starts_snoc group host ns ps is ss n p i s (omega arith) (omega arith) own ring at_end one all in
     subst (λ xs. AreStarts group host xs qs js ts) (sym nodes)
     (subst (λ xs. AreStarts group host (ns ++ n ∷ []) xs js ts) (sym passes)
     (subst (λ xs. AreStarts group host (ns ++ n ∷ []) (ps ++ p ∷ []) xs ts) (sym inlets)
@@ -134,8 +138,9 @@ pub parts_are : (p : Plan) (n : Ingress) (all ps : List PutPass) (js is : List I
     → n.senders ≡ length p.nodes.items + 1 → ArePasses n all → all ≡ ps ++ h.pass ∷ []
     → AreRings p.ring (length p.nodes.items + 1) b.outlets.items js → js ≡ is ++ h.inlet ∷ []
     → AreStarts (string_bytes p.group) (string_bytes p.host) p.nodes.items ps is ss
-    → b.width ≡ p.width → TakesFrom n b.pass → frames_taken b.pass ≡ [] → h.host ≡ new_host (host_in p) → AreParts p n ss b h
-parts_are p n all ps js is ss b h senders passes split rings ends starts width taker none host =
+    → b.width ≡ p.width → TakesFrom n b.pass → frames_taken b.pass ≡ [] → h.host ≡ new_host (host_in p)
+    → map (λ name. string_bytes name) h.nodes.items ≡ names_in p.nodes.items → AreParts p n ss b h
+parts_are p n all ps js is ss b h senders passes split rings ends starts width taker none host names =
     let longer : length all ≡ length ps + 1 = ap length split ∙ length-append ps (h.pass ∷ []) in
     let more : length js ≡ length is + 1 = ap length ends ∙ length-append is (h.inlet ∷ []) in
     let sized : length all ≡ n.senders = passes.sized in
@@ -149,6 +154,8 @@ parts_are p n all ps js is ss b h senders passes split rings ends starts width t
       edges = starts.nodes;
       passes = λ k s at. pass_is k s.pass (subst (λ xs. slice_get xs k ≡ Some s.pass) (sym split) (get_more ps (h.pass ∷ []) k s.pass (starts.passes k s at)));
       rings = λ k s at. rings.each k s.inlet (subst (λ xs. slice_get xs k ≡ Some s.inlet) (sym ends) (get_more is (h.inlet ∷ []) k s.inlet (starts.inlets k s at)));
+      places = starts.places;
+      names = names;
       width = width;
       taker = taker;
       none = none;

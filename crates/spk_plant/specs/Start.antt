@@ -1,5 +1,5 @@
 -- What the threads of a plant begin with.
-use Rattle.std.specs.Prelude.{◌≡◌, ℕ, ◌+◌, List, [], length, Some}
+use Rattle.std.specs.Prelude.{◌≡◌, ℕ, ◌+◌, List, [], length, map, Some}
 use Rattle.std.specs.List.{slice_get}
 use Rattle.std.specs.String.{string_bytes}
 use Rattle.spk_edge.specs.Along.{node_of}
@@ -48,12 +48,17 @@ pub record IsStart (group host : List ℕ) (n : PlanNode) (s : EdgeStart) : Type
   pub node : s.node ≡ node_of (edge_setup group host n) []
   pub script : s.script ≡ n.script
 
+-- the names of nodes, in their order
+abbrev pub names_in : List PlanNode → List (List ℕ)
+names_in ns = map (λ (n : PlanNode). string_bytes n.node) ns
+
 -- those of these nodes, passes and ends, place by place
 pub record AreStarts (group host : List ℕ) (ns : List PlanNode) (ps : List PutPass) (is : List Inlet) (ss : List EdgeStart) : Type 0 where
   pub sized : length ss ≡ length ns
   pub nodes : (k : ℕ) (s : EdgeStart) → slice_get ss k ≡ Some s → HasAt PlanNode (λ n. IsStart group host n s) ns k
   pub passes : (k : ℕ) (s : EdgeStart) → slice_get ss k ≡ Some s → slice_get ps k ≡ Some s.pass
   pub inlets : (k : ℕ) (s : EdgeStart) → slice_get ss k ≡ Some s → slice_get is k ≡ Some s.inlet
+  pub places : (k : ℕ) (s : EdgeStart) → slice_get ss k ≡ Some s → s.place ≡ k
 
 -- what all threads begin with
 pub record AreParts (p : Plan) (n : Ingress) (ss : List EdgeStart) (b : BrokerStart) (h : HostStart) : Type 0 where
@@ -64,6 +69,8 @@ pub record AreParts (p : Plan) (n : Ingress) (ss : List EdgeStart) (b : BrokerSt
   pub passes : (k : ℕ) (s : EdgeStart) → slice_get ss k ≡ Some s → IsPass n k s.pass
   pub rings : (k : ℕ) (s : EdgeStart) → slice_get ss k ≡ Some s
       → HasAt Outlet (λ o. IsRing o s.inlet) b.outlets.items k
+  pub places : (k : ℕ) (s : EdgeStart) → slice_get ss k ≡ Some s → s.place ≡ k
+  pub names : map (λ name. string_bytes name) h.nodes.items ≡ names_in p.nodes.items
   pub width : b.width ≡ p.width
   pub taker : TakesFrom n b.pass
   pub none : frames_taken b.pass ≡ []

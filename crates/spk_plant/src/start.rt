@@ -1,5 +1,5 @@
 //! What the threads of a plant begin with.
-ghost use Rattle.std.specs.Prelude.{◌≡◌, ◌+◌, ◌⊎◌, length, IfOk, IfErr, OnOk, true};
+ghost use Rattle.std.specs.Prelude.{◌≡◌, ◌+◌, ◌⊎◌, length, map, IfOk, IfErr, OnOk, true};
 ghost use Rattle.std.specs.String.{string_bytes};
 ghost use Rattle.spk_device.specs.Book.{Book};
 ghost use Rattle.spk_edge.specs.Along.{node_of};
@@ -8,7 +8,7 @@ ghost use Rattle.spk_host_session.specs.Data as host_names;
 ghost use Rattle.spk_rings.specs.Ring.{IsCapacity, free};
 ghost use Rattle.spk_plan_rules.specs.Plan.{AreEdges, CanRun, edge_setup, host_config, is_edge};
 ghost use Rattle.spk_plant.specs.Choice.{IsRefused};
-ghost use Rattle.spk_plant.specs.Start.{AreParts, AreRings, AreStarts, IsRing, IsStart};
+ghost use Rattle.spk_plant.specs.Start.{AreParts, AreRings, AreStarts, IsRing, IsStart, names_in};
 
 use spk_broker_body::BrokerStart;
 use spk_edge::{EdgeConfig, EdgeFault, EdgeNode, Numbering, Record};
@@ -81,6 +81,7 @@ fn start_of(
 ) -> Result<EdgeStart, PlantFault>
     ensures start { IfOk result (λ s. IsStart group.now host.now node s) }
     ensures ends { IfOk result (λ s. (s.pass ≡ pass) × (s.inlet ≡ inlet)) }
+    ensures place { IfOk result (λ s. s.place ≡ place) }
     ensures good { OnOk result (is_edge group.now host.now node ≡ true) }
     ensures fault { IfErr result (λ e. (e ≡ PlantFault.NoMemory)
         ⊎ ((e ≡ PlantFault.BadPlan) × (is_edge group.now host.now node ≡ true → ⊥))) }
@@ -158,7 +159,9 @@ fn starts_of(
 }
 
 /// The nodes' names.
-fn names_of(alloc: Global, nodes: &[PlanNode]) -> Result<Vec<String>, AllocError> {
+fn names_of(alloc: Global, nodes: &[PlanNode]) -> Result<Vec<String>, AllocError>
+    ensures { IfOk result (λ v. map (λ name. string_bytes name) v.items ≡ names_in nodes.now) }
+{
     let mut names = Vec::new(alloc);
     for node in nodes {
         names.push(String::from_str(alloc, node.node.as_str())?)?;

@@ -1,4 +1,4 @@
-use Rattle.std.proofs.Common.{◌≡◌, ◌∙◌, ◌+◌, length, refl, ap, subst, arith, string_bytes}
+use Rattle.std.proofs.Common.{◌≡◌, ◌∙◌, ◌+◌, length, refl, ap, subst, arith, rules, string_bytes}
 use Rattle.spk_host.specs.Inputs.{new_host}
 use Rattle.spk_plan_rules.specs.Plan.{host_config}
 use Rattle.spk_plant.specs.Start.{AreRings, AreStarts}
@@ -20,6 +20,7 @@ returns-clause-parts g c =
     refl c.in-Ok-open.ensures.taker.0 c.in-Ok-open.ensures.taker.1
     (c.in-Ok.ensures.host ∙ (ap (λ x. new_host (host_config x c.as_str-2.result.now p.wait p.width)) c.as_str.ensures.value
     ∙ ap (λ x. new_host (host_config (string_bytes p.group) x p.wait p.width)) c.as_str-2.ensures.value))
+    (c.in_ok-names.ensures ∙ search rules)
 
 pub returns-in-Err-starts_of-clause-fault : goal.returns-in-Err-starts_of-clause-fault
 returns-in-Err-starts_of-clause-fault g c =
