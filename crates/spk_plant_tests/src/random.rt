@@ -36,11 +36,14 @@ where
     }
 }
 
-/// How many plans are run at each width: one, or as many as the environment's `PLANT_RUNS` says.
+/// How many plans are run at each width, if the environment doesn't say.
+const RUNS: u64 = 50;
+
+/// How many plans are run at each width: `RUNS`, or as many as the environment's `PLANT_RUNS` says.
 fn runs(rt: &(impl Env + AllocGlobal)) -> u64 {
     match env::var(rt, "PLANT_RUNS") {
-        Ok(text) => text.as_str().parse::<u64>().unwrap_or(1),
-        Err(_) => 1,
+        Ok(text) => text.as_str().parse::<u64>().unwrap_or(RUNS),
+        Err(_) => RUNS,
     }
 }
 
