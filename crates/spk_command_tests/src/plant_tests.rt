@@ -64,16 +64,18 @@ fn a_plan_is_handed_on_to_be_run(rt: HostRuntime) {
     assert_eq!(rt; plan.width.get(), 64);
 }
 
+/// A file, and the note.
+const WRONG_PLANS: [(&str, &str); 2] = [
+    ("[]", "the file isn't an object"),
+    (
+        r#"{"group":"G","host":"H","ring":3}"#,
+        "ring isn't a whole number from 4 to 65536",
+    ),
+];
+
 #[test]
 fn what_is_wrong_with_a_plan_is_noted(rt: HostRuntime) {
-    let table = [
-        ("[]", "the file isn't an object"),
-        (
-            r#"{"group":"G","host":"H","ring":3}"#,
-            "ring isn't a whole number from 4 to 65536",
-        ),
-    ];
-    for (text, wanted) in table {
+    for (text, wanted) in WRONG_PLANS {
         let (outcome, held, notes) = ran(&rt, text.as_bytes());
         assert!(rt; matches!(outcome, Outcome::Over(1)), "of {text}");
         assert_eq!(rt;
