@@ -1,37 +1,71 @@
+//! One node's order by its calls. A function that holds it is dear to prove: what the tests ask of one they ask through a trait without
+//! clauses, and the rows are walked over a type parameter.
 use spk_sequence::{Gap, Kind, Match, Phase, Sequence, Step, Width};
-use std::test::Fail;
+use std::process::Abort;
 
-/// A call: a birth's number, stamp and bdSeq, another message's number at a moment, with
-/// a stamp of 100, one with a stamp of its own, a moment, or a bdSeq.
-#[derive(Clone, Copy, Debug)]
+/// A call: a birth's number, stamp and bdSeq, another message's number at a moment, with a stamp of 100, one with a stamp of its own, a moment,
+/// or a bdSeq.
+#[derive(Clone, Copy)]
 enum Call {
     Birth(u8, u64, u8),
     Other(u8, u64),
     Stamped(u8, Option<u64>),
     Tick(u64),
     Death(u8),
+    Reset,
 }
 
-#[derive(Clone, Copy, Debug, PartialEq, Eq)]
+#[derive(Clone, Copy, PartialEq, Eq)]
 enum Reply {
     Stepped(Step),
     Ticked(Option<Gap>),
     Told(Match),
+    Reset,
 }
 
-fn reply_to(sequence: &mut Sequence, call: Call) -> Reply {
-    match call {
-        Call::Birth(number, stamp, bd) => {
-            Reply::Stepped(sequence.hand(number, Kind::Birth { stamp, bd }, 0))
+/// What the tests ask of an order.
+trait Orders {
+    fn reply_to(&mut self, call: Call) -> Reply;
+
+    /// The phase that it is in, and the number that comes next.
+    fn stands(&self) -> (Phase, Option<u8>);
+
+    fn count(&self) -> u8;
+
+    fn holds(&self, number: u8) -> bool;
+}
+
+impl Orders for Sequence {
+    fn reply_to(&mut self, call: Call) -> Reply {
+        match call {
+            Call::Birth(number, stamp, bd) => {
+                Reply::Stepped(self.hand(number, Kind::Birth { stamp, bd }, 0))
+            }
+            Call::Other(number, now) => {
+                Reply::Stepped(self.hand(number, Kind::Other { stamp: Some(100) }, now))
+            }
+            Call::Stamped(number, stamp) => {
+                Reply::Stepped(self.hand(number, Kind::Other { stamp }, 0))
+            }
+            Call::Tick(now) => Reply::Ticked(self.tick(now)),
+            Call::Death(bd) => Reply::Told(self.death(bd)),
+            Call::Reset => {
+                self.reset();
+                Reply::Reset
+            }
         }
-        Call::Other(number, now) => {
-            Reply::Stepped(sequence.hand(number, Kind::Other { stamp: Some(100) }, now))
-        }
-        Call::Stamped(number, stamp) => {
-            Reply::Stepped(sequence.hand(number, Kind::Other { stamp }, 0))
-        }
-        Call::Tick(now) => Reply::Ticked(sequence.tick(now)),
-        Call::Death(bd) => Reply::Told(sequence.death(bd)),
+    }
+
+    fn stands(&self) -> (Phase, Option<u8>) {
+        (self.phase(), self.next())
+    }
+
+    fn count(&self) -> u8 {
+        self.held()
+    }
+
+    fn holds(&self, number: u8) -> bool {
+        self.is_held(number)
     }
 }
 
@@ -48,7 +82,7 @@ const NOT_LIVE: Reply = Reply::Stepped(Step::NotLive);
 /// Each run begins with a birth before the number `next`, of stamp 100 and bdSeq 4, and a wait of
 /// 2000 milliseconds. In the end `then` comes next.
 struct Run {
-    name: &'static str,
+    shows: &'static str,
     width: u8,
     next: u8,
     calls: &'static [(Call, Reply)],
@@ -57,7 +91,7 @@ struct Run {
 
 static RUNS: [Run; 21] = [
     Run {
-        name: "numbers go on from 255 to 0",
+        shows: "numbers go on from 255 to 0",
         width: 64,
         next: 251,
         calls: &[
@@ -72,7 +106,7 @@ static RUNS: [Run; 21] = [
         then: Some(2),
     },
     Run {
-        name: "held ones follow the one before them",
+        shows: "held ones follow the one before them",
         width: 64,
         next: 254,
         calls: &[
@@ -83,21 +117,21 @@ static RUNS: [Run; 21] = [
         then: Some(1),
     },
     Run {
-        name: "63 ahead is held",
+        shows: "63 ahead is held",
         width: 64,
         next: 10,
         calls: &[(Call::Other(73, 0), HELD)],
         then: Some(10),
     },
     Run {
-        name: "64 ahead is a gap",
+        shows: "64 ahead is a gap",
         width: 64,
         next: 10,
         calls: &[(Call::Other(74, 0), GAP)],
         then: None,
     },
     Run {
-        name: "a held one waits 2000 milliseconds",
+        shows: "a held one waits 2000 milliseconds",
         width: 64,
         next: 10,
         calls: &[
@@ -110,7 +144,7 @@ static RUNS: [Run; 21] = [
         then: Some(14),
     },
     Run {
-        name: "the wait starts anew where others stay held",
+        shows: "the wait starts anew where others stay held",
         width: 64,
         next: 10,
         calls: &[
@@ -122,7 +156,7 @@ static RUNS: [Run; 21] = [
         then: None,
     },
     Run {
-        name: "an earlier moment counts as no time",
+        shows: "an earlier moment counts as no time",
         width: 64,
         next: 10,
         calls: &[
@@ -132,35 +166,35 @@ static RUNS: [Run; 21] = [
         then: Some(10),
     },
     Run {
-        name: "what is behind is old",
+        shows: "what is behind is old",
         width: 64,
         next: 10,
         calls: &[(Call::Other(9, 0), OLD), (Call::Other(202, 0), OLD)],
         then: Some(10),
     },
     Run {
-        name: "what is held already is old",
+        shows: "what is held already is old",
         width: 64,
         next: 10,
         calls: &[(Call::Other(12, 0), HELD), (Call::Other(12, 0), OLD)],
         then: Some(10),
     },
     Run {
-        name: "a birth needs a greater stamp",
+        shows: "a birth needs a greater stamp",
         width: 64,
         next: 1,
         calls: &[(Call::Birth(1, 100, 4), Reply::Stepped(Step::OldBirth))],
         then: Some(1),
     },
     Run {
-        name: "a birth may have any number",
+        shows: "a birth may have any number",
         width: 64,
         next: 5,
         calls: &[(Call::Birth(0, 101, 4), ONE)],
         then: Some(1),
     },
     Run {
-        name: "a birth keeps newer held ones alone",
+        shows: "a birth keeps newer held ones alone",
         width: 64,
         next: 10,
         calls: &[
@@ -174,7 +208,7 @@ static RUNS: [Run; 21] = [
         then: Some(17),
     },
     Run {
-        name: "only the death of the last birth taken matches",
+        shows: "only the death of the last birth taken matches",
         width: 64,
         next: 10,
         calls: &[
@@ -187,7 +221,7 @@ static RUNS: [Run; 21] = [
         then: Some(10),
     },
     Run {
-        name: "slots on both sides of 255",
+        shows: "slots on both sides of 255",
         width: 64,
         next: 200,
         calls: &[
@@ -198,49 +232,49 @@ static RUNS: [Run; 21] = [
         then: Some(200),
     },
     Run {
-        name: "64 ahead of 200 is a gap",
+        shows: "64 ahead of 200 is a gap",
         width: 64,
         next: 200,
         calls: &[(Call::Other(8, 0), GAP)],
         then: None,
     },
     Run {
-        name: "width 96 holds 95 ahead",
+        shows: "width 96 holds 95 ahead",
         width: 96,
         next: 10,
         calls: &[(Call::Other(105, 0), HELD)],
         then: Some(10),
     },
     Run {
-        name: "width 96, 96 ahead",
+        shows: "width 96, 96 ahead",
         width: 96,
         next: 10,
         calls: &[(Call::Other(106, 0), GAP)],
         then: None,
     },
     Run {
-        name: "width 96, 159 ahead",
+        shows: "width 96, 159 ahead",
         width: 96,
         next: 10,
         calls: &[(Call::Other(169, 0), GAP)],
         then: None,
     },
     Run {
-        name: "width 96, 160 ahead is old",
+        shows: "width 96, 160 ahead is old",
         width: 96,
         next: 10,
         calls: &[(Call::Other(170, 0), OLD)],
         then: Some(10),
     },
     Run {
-        name: "width 1 holds nothing",
+        shows: "width 1 holds nothing",
         width: 1,
         next: 10,
         calls: &[(Call::Other(9, 0), OLD), (Call::Other(11, 0), GAP)],
         then: None,
     },
     Run {
-        name: "width 1, 254 ahead",
+        shows: "width 1, 254 ahead",
         width: 1,
         next: 10,
         calls: &[(Call::Other(8, 0), GAP)],
@@ -248,62 +282,97 @@ static RUNS: [Run; 21] = [
     },
 ];
 
-#[test]
-fn runs_on_numbers(rt: HostRuntime) -> Result<(), Fail> {
-    for run in &RUNS {
-        let name = run.name;
-        let width = Width::new(run.width).ok_or("width")?;
-        let mut sequence = Sequence::new(2000, width);
-        assert_eq!(rt; sequence.phase(), Phase::Unknown, "{name}");
-        let first = Kind::Birth { stamp: 100, bd: 4 };
-        assert_eq!(rt;
-            sequence.hand(run.next.wrapping_sub(1), first, 0),
-            Step::Consumed(1),
-            "{name}"
-        );
-        assert_eq!(rt; sequence.next(), Some(run.next), "{name}");
-        for (call, wanted) in run.calls {
-            assert_eq!(rt;
-                reply_to(&mut sequence, *call),
-                *wanted,
-                "{name} at {call:?}"
-            );
+/// The first place at which a call isn't answered so.
+fn first_wrong<T: Orders>(order: &mut T, rows: &[(Call, Reply)]) -> Option<usize> {
+    for (place, (call, wanted)) in rows.iter().enumerate() {
+        if order.reply_to(*call) != *wanted {
+            return Some(place);
         }
-        assert_eq!(rt; sequence.next(), run.then, "{name}");
-        sequence.reset();
-        assert_eq!(rt; sequence.phase(), Phase::Unknown, "{name}");
-        assert_eq!(rt; sequence.next(), None, "{name}");
     }
-    Ok(())
+    None
+}
+
+/// Whether nothing is known of the node.
+fn is_unknown<T: Orders>(order: &T) -> bool {
+    order.stands() == (Phase::Unknown, None)
+}
+
+/// Whether each call of a run is answered so, from nothing known on to a reset.
+fn plays<T: Orders>(order: &mut T, run: &Run) -> bool {
+    is_unknown(order)
+        && order.reply_to(Call::Birth(run.next.wrapping_sub(1), 100, 4)) == ONE
+        && order.stands().1 == Some(run.next)
+        && first_wrong(order, run.calls).is_none()
+        && order.stands().1 == run.then
+        && order.reply_to(Call::Reset) == Reply::Reset
+        && is_unknown(order)
+}
+
+/// An order that waits for 2,000 milliseconds, and takes so many numbers at a time.
+fn order_of(rt: &impl Abort, width: u8) -> Sequence {
+    Sequence::new(2000, Width::new(width).expect(rt, "a width"))
+}
+
+fn is_run(rt: &impl Abort, run: &Run) -> bool {
+    plays(&mut order_of(rt, run.width), run)
 }
 
 #[test]
-fn what_is_held_is_counted_and_found(rt: HostRuntime) -> Result<(), Fail> {
-    let mut sequence = Sequence::new(2000, Width::new(64).ok_or("width")?);
-    assert!(rt; sequence.held() == 0 && !sequence.is_held(10));
-    let calls = [
-        Call::Birth(9, 100, 4),
-        Call::Other(12, 0),
-        Call::Other(73, 0),
-    ];
-    for call in calls {
-        let _reply = reply_to(&mut sequence, call);
+fn runs_on_numbers(rt: HostRuntime) {
+    for run in &RUNS {
+        assert!(rt; is_run(&rt, run), "{}", run.shows);
     }
-    assert!(rt; sequence.held() == 2);
-    assert!(rt; sequence.is_held(12) && sequence.is_held(73));
-    assert!(rt; !sequence.is_held(10) && !sequence.is_held(13) && !sequence.is_held(200));
-    Ok(())
+}
+
+static HOLDING: [(Call, Reply); 3] = [
+    (Call::Birth(9, 100, 4), ONE),
+    (Call::Other(12, 0), HELD),
+    (Call::Other(73, 0), HELD),
+];
+
+/// Numbers, and whether a message is held under them.
+static HELD_ONES: [(u8, bool); 5] = [
+    (12, true),
+    (73, true),
+    (10, false),
+    (13, false),
+    (200, false),
+];
+
+fn are_held<T: Orders>(order: &T) -> bool {
+    for (number, is_held) in &HELD_ONES {
+        if order.holds(*number) != *is_held {
+            return false;
+        }
+    }
+    true
+}
+
+fn counts<T: Orders>(order: &mut T) -> bool {
+    order.count() == 0
+        && !order.holds(10)
+        && first_wrong(order, &HOLDING).is_none()
+        && order.count() == 2
+        && are_held(order)
 }
 
 #[test]
-fn widths_are_1_to_96(rt: HostRuntime) -> Result<(), Fail> {
-    for (places, budget) in [(1, 254), (64, 128), (96, 64)] {
-        let width = Width::new(places).ok_or("width")?;
-        assert_eq!(rt; width.get(), places);
-        assert_eq!(rt; width.budget(), budget);
+fn what_is_held_is_counted_and_found(rt: HostRuntime) {
+    assert!(rt; counts(&mut order_of(&rt, 64)));
+}
+
+/// A width, and how many messages in a row may be lost before a byte of number can no longer tell the later ones from old ones.
+static WIDTHS: [(u8, u16); 3] = [(1, 254), (64, 128), (96, 64)];
+
+static NO_WIDTHS: [u8; 4] = [0, 97, 128, 255];
+
+#[test]
+fn widths_are_1_to_96(rt: HostRuntime) {
+    for (places, budget) in &WIDTHS {
+        let width = Width::new(*places).expect(&rt, "a width");
+        assert!(rt; width.get() == *places && width.budget() == *budget);
     }
-    for places in [0, 97, 128, 255] {
-        assert_eq!(rt; Width::new(places), None, "at {places}");
+    for places in &NO_WIDTHS {
+        assert!(rt; Width::new(*places).is_none(), "at {places}");
     }
-    Ok(())
 }
