@@ -1,119 +1,207 @@
 //! Values by datatype, both ways.
-use crate::payloads::decoded;
-use spk_payload::{Metric, PayloadFault, Raw, Value, typed, written};
+use crate::payloads::Spelled;
+use spk_payload::{PayloadFault, Raw, Value, typed, written};
+use std::alloc::{AllocError, Global};
 use std::process::Abort;
 
-#[test]
-fn numbers_are_typed_by_the_table(rt: HostRuntime) {
-    let table = [
-        (1, Raw::Int(127), Ok(Value::Signed(127))),
-        (1, Raw::Int(128), Ok(Value::Signed(-128))),
-        (1, Raw::Int(255), Ok(Value::Signed(-1))),
-        (1, Raw::Int(256), Err(Raw::Int(256))),
-        (1, Raw::Int(300), Err(Raw::Int(300))),
-        (1, Raw::Int(4294967167), Err(Raw::Int(4294967167))),
-        (1, Raw::Int(4294967168), Ok(Value::Signed(-128))),
-        (1, Raw::Int(4294967295), Ok(Value::Signed(-1))),
-        (1, Raw::Long(1), Err(Raw::Long(1))),
-        (2, Raw::Int(32768), Ok(Value::Signed(-32768))),
-        (2, Raw::Int(65536), Err(Raw::Int(65536))),
-        (2, Raw::Int(4294934528), Ok(Value::Signed(-32768))),
-        (3, Raw::Int(2147483648), Ok(Value::Signed(-2147483648))),
-        (3, Raw::Int(7), Ok(Value::Signed(7))),
-        (4, Raw::Long(u64::MAX), Ok(Value::Signed(-1))),
-        (4, Raw::Int(1), Err(Raw::Int(1))),
-        (5, Raw::Int(255), Ok(Value::Unsigned(255))),
-        (5, Raw::Int(256), Err(Raw::Int(256))),
-        (6, Raw::Int(65535), Ok(Value::Unsigned(65535))),
-        (6, Raw::Int(65536), Err(Raw::Int(65536))),
-        (7, Raw::Long(5), Ok(Value::Unsigned(5))),
-        (7, Raw::Int(5), Ok(Value::Unsigned(5))),
-        (7, Raw::Long(4294967296), Err(Raw::Long(4294967296))),
-        (8, Raw::Long(u64::MAX), Ok(Value::Unsigned(u64::MAX))),
-        (11, Raw::Flag(true), Ok(Value::Flag(true))),
-        (11, Raw::Int(1), Err(Raw::Int(1))),
-        (12, Raw::Int(1), Err(Raw::Int(1))),
-        (13, Raw::Int(9), Ok(Value::Unsigned(9))),
-        (13, Raw::Long(9), Ok(Value::Unsigned(9))),
-        (9, Raw::Other, Err(Raw::Other)),
-        (0, Raw::Int(1), Err(Raw::Int(1))),
-    ];
-    for (datatype, raw, value) in table {
-        assert!(rt; typed(datatype, raw) == value, "datatype {datatype}");
+/// A value with its type.
+#[derive(Clone, Copy)]
+enum Typed {
+    Signed(i64),
+    Unsigned(u64),
+    Flag(bool),
+    Words(&'static str),
+    Octets(&'static [u8]),
+}
+
+/// A text. Where memory was refused it is made again.
+fn text(rt: &(impl Abort + AllocGlobal), words: &str) -> String {
+    match String::from_str(rt.alloc(), words) {
+        Ok(text) => text,
+        Err(_) => String::from_str(rt.alloc(), words).expect(rt, "memory is there again"),
     }
 }
 
-/// The value that a datatype makes of a metric's.
-fn typed_as(datatype: u32, mut metric: Metric) -> Option<Value> {
-    typed(datatype, metric.value.take()?).ok()
-}
-
-#[test]
-fn texts_and_bytes_are_typed(rt: HostRuntime) {
-    let mut payload = decoded(&rt, b"\x12\x04\x7a\x02hi\x12\x05\x82\x01\x02\x00\xff");
-    let bytes = payload.metrics.pop().expect(&rt, "two metrics");
-    let text = payload.metrics.pop().expect(&rt, "two metrics");
-    let text = typed_as(12, text);
-    match &text {
-        Some(Value::Words(text)) => assert_eq!(rt; text.as_str(), "hi"),
-        _ => assert!(rt; false, "a text"),
-    }
-    let bytes = typed_as(17, bytes);
-    match &bytes {
-        Some(Value::Octets(bytes)) => assert_eq!(rt; bytes.as_slice(), [0, 255].as_slice()),
-        _ => assert!(rt; false, "bytes"),
+/// Bytes. Where memory was refused they are made again.
+fn octets(rt: &(impl Abort + AllocGlobal), bytes: &[u8]) -> Vec<u8> {
+    match Vec::from_slice(rt.alloc(), bytes) {
+        Ok(bytes) => bytes,
+        Err(_) => Vec::from_slice(rt.alloc(), bytes).expect(rt, "memory is there again"),
     }
 }
 
+fn raw_of(rt: &(impl Abort + AllocGlobal), spelled: Spelled) -> Raw {
+    match spelled {
+        Spelled::Int(number) => Raw::Int(number),
+        Spelled::Long(number) => Raw::Long(number),
+        Spelled::Flag(flag) => Raw::Flag(flag),
+        Spelled::Words(words) => Raw::Words(text(rt, words)),
+        Spelled::Octets(bytes) => Raw::Octets(octets(rt, bytes)),
+        Spelled::Other => Raw::Other,
+    }
+}
+
+fn value_of(rt: &(impl Abort + AllocGlobal), typed: Typed) -> Value {
+    match typed {
+        Typed::Signed(number) => Value::Signed(number),
+        Typed::Unsigned(number) => Value::Unsigned(number),
+        Typed::Flag(flag) => Value::Flag(flag),
+        Typed::Words(words) => Value::Words(text(rt, words)),
+        Typed::Octets(bytes) => Value::Octets(octets(rt, bytes)),
+    }
+}
+
+/// A datatype, a value as it is spelled, and what it is by that type; where it is nothing it is handed back.
+static TYPED: [(u32, Spelled, Option<Typed>); 34] = [
+    (1, Spelled::Int(127), Some(Typed::Signed(127))),
+    (1, Spelled::Int(128), Some(Typed::Signed(-128))),
+    (1, Spelled::Int(255), Some(Typed::Signed(-1))),
+    (1, Spelled::Int(256), None),
+    (1, Spelled::Int(300), None),
+    (1, Spelled::Int(4294967167), None),
+    (1, Spelled::Int(4294967168), Some(Typed::Signed(-128))),
+    (1, Spelled::Int(4294967295), Some(Typed::Signed(-1))),
+    (1, Spelled::Long(1), None),
+    (2, Spelled::Int(32768), Some(Typed::Signed(-32768))),
+    (2, Spelled::Int(65536), None),
+    (2, Spelled::Int(4294934528), Some(Typed::Signed(-32768))),
+    (
+        3,
+        Spelled::Int(2147483648),
+        Some(Typed::Signed(-2147483648)),
+    ),
+    (3, Spelled::Int(7), Some(Typed::Signed(7))),
+    (4, Spelled::Long(u64::MAX), Some(Typed::Signed(-1))),
+    (4, Spelled::Int(1), None),
+    (5, Spelled::Int(255), Some(Typed::Unsigned(255))),
+    (5, Spelled::Int(256), None),
+    (6, Spelled::Int(65535), Some(Typed::Unsigned(65535))),
+    (6, Spelled::Int(65536), None),
+    (7, Spelled::Long(5), Some(Typed::Unsigned(5))),
+    (7, Spelled::Int(5), Some(Typed::Unsigned(5))),
+    (7, Spelled::Long(4294967296), None),
+    (8, Spelled::Long(u64::MAX), Some(Typed::Unsigned(u64::MAX))),
+    (11, Spelled::Flag(true), Some(Typed::Flag(true))),
+    (11, Spelled::Int(1), None),
+    (12, Spelled::Int(1), None),
+    (12, Spelled::Words("hi"), Some(Typed::Words("hi"))),
+    (13, Spelled::Int(9), Some(Typed::Unsigned(9))),
+    (13, Spelled::Long(9), Some(Typed::Unsigned(9))),
+    (14, Spelled::Words("hi"), Some(Typed::Words("hi"))),
+    (
+        17,
+        Spelled::Octets(b"\x00\xff"),
+        Some(Typed::Octets(b"\x00\xff")),
+    ),
+    (9, Spelled::Other, None),
+    (0, Spelled::Int(1), None),
+];
+
+fn is_typed(
+    rt: &(impl Abort + AllocGlobal),
+    datatype: u32,
+    spelled: Spelled,
+    want: Option<Typed>,
+) -> bool {
+    match (typed(datatype, raw_of(rt, spelled)), want) {
+        (Ok(value), Some(want)) => value == value_of(rt, want),
+        (Err(raw), None) => raw == raw_of(rt, spelled),
+        _ => false,
+    }
+}
+
 #[test]
-fn values_are_written_by_their_datatype(rt: HostRuntime) {
-    let table = [
-        (1, Value::Signed(-1), Ok(Raw::Int(4294967295))),
-        (1, Value::Signed(-128), Ok(Raw::Int(4294967168))),
-        (1, Value::Signed(-129), Err(PayloadFault::Mistyped)),
-        (1, Value::Signed(128), Err(PayloadFault::Mistyped)),
-        (2, Value::Signed(32767), Ok(Raw::Int(32767))),
-        (2, Value::Signed(32768), Err(PayloadFault::Mistyped)),
-        (3, Value::Signed(-2147483648), Ok(Raw::Int(2147483648))),
-        (3, Value::Signed(2147483648), Err(PayloadFault::Mistyped)),
-        (4, Value::Signed(-1), Ok(Raw::Long(u64::MAX))),
-        (5, Value::Unsigned(255), Ok(Raw::Int(255))),
-        (5, Value::Unsigned(256), Err(PayloadFault::Mistyped)),
-        (6, Value::Unsigned(65535), Ok(Raw::Int(65535))),
-        (7, Value::Unsigned(4294967295), Ok(Raw::Int(4294967295))),
-        (7, Value::Unsigned(4294967296), Err(PayloadFault::Mistyped)),
-        (8, Value::Unsigned(u64::MAX), Ok(Raw::Long(u64::MAX))),
-        (13, Value::Unsigned(9), Ok(Raw::Long(9))),
-        (11, Value::Flag(true), Ok(Raw::Flag(true))),
-        (11, Value::Unsigned(1), Err(PayloadFault::Mistyped)),
-        (9, Value::Unsigned(1), Err(PayloadFault::Mistyped)),
-        (0, Value::Signed(1), Err(PayloadFault::Mistyped)),
-    ];
-    for (datatype, value, raw) in table {
+fn values_are_typed_by_the_table(rt: HostRuntime) {
+    for (datatype, spelled, want) in &TYPED {
         assert!(rt;
-            written(rt.alloc(), datatype, &value) == raw,
+            is_typed(&rt, *datatype, *spelled, *want),
             "datatype {datatype}"
         );
     }
-    assert_eq!(rt; PayloadFault::Mistyped.number(), 9);
+}
+
+/// A datatype, a value, and how it is spelled; where it is mistyped, nothing.
+static WRITTEN: [(u32, Typed, Option<Spelled>); 21] = [
+    (1, Typed::Signed(-1), Some(Spelled::Int(4294967295))),
+    (1, Typed::Signed(-128), Some(Spelled::Int(4294967168))),
+    (1, Typed::Signed(-129), None),
+    (1, Typed::Signed(128), None),
+    (2, Typed::Signed(32767), Some(Spelled::Int(32767))),
+    (2, Typed::Signed(32768), None),
+    (
+        3,
+        Typed::Signed(-2147483648),
+        Some(Spelled::Int(2147483648)),
+    ),
+    (3, Typed::Signed(2147483648), None),
+    (4, Typed::Signed(-1), Some(Spelled::Long(u64::MAX))),
+    (5, Typed::Unsigned(255), Some(Spelled::Int(255))),
+    (5, Typed::Unsigned(256), None),
+    (6, Typed::Unsigned(65535), Some(Spelled::Int(65535))),
+    (
+        7,
+        Typed::Unsigned(4294967295),
+        Some(Spelled::Int(4294967295)),
+    ),
+    (7, Typed::Unsigned(4294967296), None),
+    (8, Typed::Unsigned(u64::MAX), Some(Spelled::Long(u64::MAX))),
+    (13, Typed::Unsigned(9), Some(Spelled::Long(9))),
+    (14, Typed::Words("hi"), Some(Spelled::Words("hi"))),
+    (11, Typed::Flag(true), Some(Spelled::Flag(true))),
+    (11, Typed::Unsigned(1), None),
+    (9, Typed::Unsigned(1), None),
+    (0, Typed::Signed(1), None),
+];
+
+/// The spelling of a value. Where memory was refused the call is made again.
+fn written_again(alloc: Global, datatype: u32, value: &Value) -> Result<Raw, PayloadFault> {
+    match written(alloc, datatype, value) {
+        Err(PayloadFault::NoMemory) => written(alloc, datatype, value),
+        answer => answer,
+    }
+}
+
+fn is_written(
+    rt: &(impl Abort + AllocGlobal),
+    datatype: u32,
+    value: &Value,
+    want: Option<Spelled>,
+) -> bool {
+    match (written_again(rt.alloc(), datatype, value), want) {
+        (Ok(raw), Some(want)) => raw == raw_of(rt, want),
+        (Err(fault), None) => fault == PayloadFault::Mistyped,
+        _ => false,
+    }
+}
+
+fn copied_again(alloc: Global, value: &Value) -> Result<Value, AllocError> {
+    match value.copy(alloc) {
+        Err(_) => value.copy(alloc),
+        answer => answer,
+    }
+}
+
+fn is_copied(alloc: Global, value: &Value) -> bool {
+    match copied_again(alloc, value) {
+        Ok(copy) => copy == *value,
+        Err(_) => false,
+    }
+}
+
+fn is_written_and_copied(
+    rt: &(impl Abort + AllocGlobal),
+    datatype: u32,
+    typed: Typed,
+    want: Option<Spelled>,
+) -> bool {
+    let value = value_of(rt, typed);
+    is_written(rt, datatype, &value, want) && is_copied(rt.alloc(), &value)
 }
 
 #[test]
-fn texts_are_written_and_copied(rt: HostRuntime) {
-    let mut payload = decoded(&rt, b"\x12\x04\x7a\x02hi");
-    let metric = payload.metrics.pop().expect(&rt, "a metric");
-    let text = typed_as(12, metric).expect(&rt, "a text");
-    let answer = match written(rt.alloc(), 14, &text) {
-        Err(PayloadFault::NoMemory) => written(rt.alloc(), 14, &text),
-        answer => answer,
-    };
-    let raw = answer.expect(&rt, "it is written");
-    assert!(rt; typed(14, raw) == Ok(copied_value(&rt, &text)));
-}
-
-fn copied_value(rt: &(impl Abort + AllocGlobal), value: &Value) -> Value {
-    match value.copy(rt.alloc()) {
-        Err(_) => value.copy(rt.alloc()).expect(rt, "memory is there again"),
-        Ok(copy) => copy,
+fn values_are_written_by_their_datatype_and_copied(rt: HostRuntime) {
+    for (datatype, typed, want) in &WRITTEN {
+        let is_so = is_written_and_copied(&rt, *datatype, *typed, *want);
+        assert!(rt; is_so, "datatype {datatype}");
     }
 }

@@ -1,83 +1,62 @@
 //! Payloads written, and copied.
-use crate::payloads::{BIRTH, DRAINED, FLOAT, NODE_BIRTH, NODE_DATA, REBIRTH, decoded};
-use spk_payload::{Metric, Payload, PayloadFault, Raw, encode, written};
-use std::alloc::AllocError;
+use crate::payloads::{BIRTH, DRAINED, FLOAT, Means, NODE_BIRTH, NODE_DATA, REBIRTH, decoded};
+use spk_payload::{Metric, Payload, PayloadFault, Raw};
+use std::alloc::{AllocError, Global};
 use std::process::Abort;
 use std::test::Fail;
 
-/// The bytes of the payload. Where memory was refused the call is made again.
-pub(crate) fn encoded(rt: &(impl Abort + AllocGlobal), payload: &Payload) -> Vec<u8> {
-    match encode(rt.alloc(), payload) {
-        Err(PayloadFault::NoMemory) => encode(rt.alloc(), payload).expect(
-            rt,
-            "memory is there again",
-        ),
-        answer => answer.expect(rt, "the payload has a spelling"),
-    }
-}
-
-/// A copy of the payload. Where memory was refused the call is made again.
-pub(crate) fn copied(rt: &(impl Abort + AllocGlobal), payload: &Payload) -> Payload {
-    match payload.copy(rt.alloc()) {
-        Err(_) => payload.copy(rt.alloc()).expect(rt, "memory is there again"),
-        Ok(copy) => copy,
-    }
-}
-
-#[test]
-fn payloads_are_written_as_they_were_read(rt: HostRuntime) {
-    for bytes in [&[], BIRTH, DRAINED, REBIRTH, NODE_BIRTH, NODE_DATA] {
-        let payload = decoded(&rt, bytes);
-        let written = encoded(&rt, &payload);
-        assert_eq!(rt; written.as_slice(), bytes);
-        let copy = copied(&rt, &payload);
-        assert!(rt; copy == payload, "of {bytes:?}");
-        assert!(rt; decoded(&rt, &written) == payload, "of {bytes:?}");
-    }
-}
-
-// What any writer may have spelled in another way is written in the canonical one.
-#[test]
-fn other_spellings_are_written_as_the_canonical_one(rt: HostRuntime) {
-    let payload = decoded(
-        &rt,
+/// Bytes, and those that their payload is written as: what any writer may have spelled in another way is written in the canonical one.
+static WRITTEN: [(&[u8], &[u8]); 8] = [
+    (&[], &[]),
+    (BIRTH, BIRTH),
+    (DRAINED, DRAINED),
+    (REBIRTH, REBIRTH),
+    (NODE_BIRTH, NODE_BIRTH),
+    (NODE_DATA, NODE_DATA),
+    (
         b"\x18\x81\x00\x48\x01\x08\x05\x08\x07\x12\x04\x50\x03\x10\x02",
-    );
-    let written = encoded(&rt, &payload);
-    assert_eq!(rt;
-        written.as_slice(),
-        b"\x08\x07\x12\x04\x10\x02\x50\x03\x18\x01".as_slice()
-    );
+        b"\x08\x07\x12\x04\x10\x02\x50\x03\x18\x01",
+    ),
+    // texts, bytes and flags
+    (
+        b"\x12\x0f\x28\x01\x30\x00\x38\x01\x7a\x02hi\x82\x01\x02\x00\xff\x12\x04\x7a\x02hi\x12\x05\x82\x01\x02\x00\xff",
+        b"\x12\x0b\x28\x01\x30\x00\x38\x01\x82\x01\x02\x00\xff\x12\x04\x7a\x02hi\x12\x05\x82\x01\x02\x00\xff",
+    ),
+];
+
+/// Whether a payload is written as these bytes, which mean it, and is the same in a copy.
+pub(crate) fn is_written_and_copied<T: Means>(alloc: Global, payload: &T, bytes: &[u8]) -> bool {
+    payload.is_written_as(alloc, bytes)
+        && payload.is_meant_by(alloc, bytes)
+        && payload.is_copied(alloc)
+}
+
+fn is_canonical(rt: &(impl Abort + AllocGlobal), bytes: &[u8], canonical: &[u8]) -> bool {
+    is_written_and_copied(rt.alloc(), &decoded(rt, bytes), canonical)
 }
 
 #[test]
-fn texts_bytes_and_flags_are_written(rt: HostRuntime) {
-    let bytes =
-        b"\x12\x0f\x28\x01\x30\x00\x38\x01\x7a\x02hi\x82\x01\x02\x00\xff\x12\x04\x7a\x02hi\x12\x05\x82\x01\x02\x00\xff";
-    let payload = decoded(&rt, bytes);
-    let written = encoded(&rt, &payload);
-    let canonical =
-        b"\x12\x0b\x28\x01\x30\x00\x38\x01\x82\x01\x02\x00\xff\x12\x04\x7a\x02hi\x12\x05\x82\x01\x02\x00\xff";
-    assert_eq!(rt; written.as_slice(), canonical.as_slice());
+fn payloads_are_written_canonically_and_read_again(rt: HostRuntime) {
+    for (bytes, canonical) in &WRITTEN {
+        assert!(rt; is_canonical(&rt, bytes, canonical), "of {bytes:?}");
+    }
+}
+
+/// Whether a payload with a value that isn't read is refused, and copied all the same.
+fn is_refused<T: Means>(alloc: Global, payload: &T) -> bool {
+    payload.refusal(alloc) == Some(PayloadFault::HasOther) && payload.is_copied(alloc)
 }
 
 #[test]
 fn a_float_is_not_written(rt: HostRuntime) {
-    let payload = decoded(&rt, FLOAT);
-    let answer = match encode(rt.alloc(), &payload) {
-        Err(PayloadFault::NoMemory) => encode(rt.alloc(), &payload),
-        answer => answer,
-    };
-    assert!(rt; matches!(answer, Err(PayloadFault::HasOther)));
-    assert_eq!(rt; PayloadFault::HasOther.number(), 8);
-    assert!(rt; copied(&rt, &payload) == payload);
+    assert!(rt; is_refused(rt.alloc(), &decoded(&rt, FLOAT)));
 }
 
 /// The NBIRTH's payload without seq, field by field.
-fn built(rt: &impl AllocGlobal) -> Result<Payload, AllocError> {
-    let mut metrics = Vec::new(rt.alloc());
+fn built(alloc: Global) -> Result<Payload, AllocError> {
+    let mut metrics = Vec::new(alloc);
     metrics.push(Metric {
-        name: Some(String::from_str(rt.alloc(), "bdSeq")?),
+        name: Some(String::from_str(alloc, "bdSeq")?),
         alias: None,
         timestamp: None,
         datatype: Some(4),
@@ -93,20 +72,17 @@ fn built(rt: &impl AllocGlobal) -> Result<Payload, AllocError> {
     })
 }
 
+/// Whether a payload is written as that birth, and its metrics are the same in a copy.
+fn is_birth<T: Means>(alloc: Global, payload: &T) -> bool {
+    payload.is_written_as(alloc, BIRTH) && payload.are_metrics_copied(alloc)
+}
+
 #[test]
 fn a_payload_is_written_from_its_fields(rt: HostRuntime) -> Result<(), Fail> {
-    let payload = match built(&rt) {
+    let payload = match built(rt.alloc()) {
         Ok(payload) => payload,
-        Err(_) => built(&rt)?,
+        Err(_) => built(rt.alloc())?,
     };
-    let written = encoded(&rt, &payload);
-    assert_eq!(rt; written.as_slice(), BIRTH);
-    for metric in &payload.metrics {
-        let copy = match metric.copy(rt.alloc()) {
-            Ok(copy) => copy,
-            Err(_) => metric.copy(rt.alloc())?,
-        };
-        assert!(rt; copy == *metric);
-    }
+    assert!(rt; is_birth(rt.alloc(), &payload));
     Ok(())
 }
