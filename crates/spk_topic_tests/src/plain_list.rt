@@ -1,11 +1,10 @@
 //! Three hundred grants beside a plain list of them.
-use crate::tree::{find, grant, take};
+use crate::tree::Grants;
 use spk_topics::{Filter, Topic, Tree, matches};
 use std::alloc::{AllocError, Global};
 use std::process::Abort;
-use std::test::Fail;
 
-// A text of parts, also where memory is refused once.
+/// A text of parts, also where memory is refused once.
 fn text(rt: &(impl Abort + AllocGlobal), parts: [&str; 4]) -> String {
     match joined(rt.alloc(), parts) {
         Ok(text) => text,
@@ -21,14 +20,14 @@ fn joined(alloc: Global, parts: [&str; 4]) -> Result<String, AllocError> {
     Ok(text)
 }
 
-// The same for a list's end.
+/// The same for a list's end.
 fn push(rt: &impl Abort, list: &mut Vec<Given>, given: Given) {
     if let Err(back) = list.push(given) {
         assert!(rt; list.push(back.value).is_ok());
     }
 }
 
-// One grant of the plain list.
+/// One grant of the plain list.
 #[derive(Drop)]
 struct Given {
     filter: String,
@@ -37,7 +36,7 @@ struct Given {
     stands: bool,
 }
 
-// Three hundred grants of 13 keys, two for each of 150 filters.
+/// Three hundred grants of 13 keys, two for each of 150 filters.
 fn three_hundred(rt: &(impl Abort + AllocGlobal)) -> Vec<Given> {
     let mut grants = Vec::new(rt.alloc());
     let mut count = 0u64;
@@ -61,7 +60,7 @@ fn three_hundred(rt: &(impl Abort + AllocGlobal)) -> Vec<Given> {
     grants
 }
 
-// The greatest grant of each key, by a look at each one that stands.
+/// The greatest grant of each key, by a look at each one that stands.
 fn greatest(rt: &impl Abort, grants: &[Given], topic: &str) -> [Option<u8>; 13] {
     let topic = Topic::read(topic).expect(rt, "a topic");
     let mut best = [None; 13];
@@ -80,49 +79,90 @@ static NAMES: [&str; 5] = ["a", "b", "", "$x", "c"];
 
 static ENDS: [&str; 6] = ["", "/b", "/", "/a/c", "/b/c", "//"];
 
-// The tree finds for 150 topics what the plain list says.
-fn compare(rt: &(impl Abort + AllocGlobal), tree: &Tree, grants: &[Given]) {
-    for first in &NAMES {
-        for second in &NAMES {
-            for end in &ENDS {
-                compare_at(rt, tree, grants, &text(rt, [first, "/", second, end]));
+/// The keys of the plain list, each with its greatest grant. Where memory was refused they are looked for again.
+fn listed(alloc: Global, best: &[Option<u8>; 13]) -> Result<Vec<(u64, u8)>, AllocError> {
+    let mut keys = Vec::new(alloc);
+    for (key, best) in best.iter().enumerate() {
+        if let Some(qos) = best {
+            keys.push((key as u64, *qos))?;
+        }
+    }
+    Ok(keys)
+}
+
+fn listed_again(rt: &(impl Abort + AllocGlobal), best: &[Option<u8>; 13]) -> Vec<(u64, u8)> {
+    match listed(rt.alloc(), best) {
+        Ok(keys) => keys,
+        Err(_) => listed(rt.alloc(), best).expect(rt, "memory"),
+    }
+}
+
+fn is_same<T: Grants>(
+    rt: &(impl Abort + AllocGlobal),
+    tree: &T,
+    grants: &[Given],
+    topic: &str,
+) -> bool {
+    tree.is_found(topic, &listed_again(rt, &greatest(rt, grants, topic)))
+}
+
+/// The tree finds for the thirty topics that begin so what the plain list says.
+fn are_same<T: Grants>(
+    rt: &(impl Abort + AllocGlobal),
+    tree: &T,
+    grants: &[Given],
+    first: &str,
+) -> bool {
+    for second in &NAMES {
+        for end in &ENDS {
+            if !is_same(rt, tree, grants, &text(rt, [first, "/", second, end])) {
+                return false;
             }
         }
     }
+    true
 }
 
-fn compare_at(rt: &impl Abort, tree: &Tree, grants: &[Given], topic: &str) {
-    let found = find(rt, tree, topic);
-    let mut rest = found.iter();
-    for (key, best) in greatest(rt, grants, topic).iter().enumerate() {
-        if let Some(qos) = best {
-            assert_eq!(rt; rest.next(), Some(&(key as u64, *qos)), "{topic} {key}");
-        }
+/// The same for 150 topics.
+fn compare<T: Grants>(rt: &(impl Abort + AllocGlobal), tree: &T, grants: &[Given]) {
+    for first in &NAMES {
+        assert!(rt; are_same(rt, tree, grants, first), "{first}");
     }
-    assert!(rt; rest.next().is_none(), "{topic}");
 }
 
-#[test]
-fn the_tree_answers_as_a_look_at_each_grant(rt: HostRuntime) -> Result<(), Fail> {
-    let mut grants = three_hundred(&rt);
-    let mut tree = Tree::new(rt.alloc());
-    for given in &grants {
-        assert!(rt; grant(&rt, &mut tree, &given.filter, given.key, given.qos));
+fn grant_all<T: Grants>(rt: &impl Abort, tree: &mut T, grants: &[Given]) {
+    for given in grants {
+        assert!(rt; tree.grant_to(&given.filter, given.key, given.qos) == Some(true));
     }
-    compare(&rt, &tree, &grants);
+}
+
+/// Takes two of three grants back.
+fn take_most<T: Grants>(rt: &impl Abort, tree: &mut T, grants: &mut [Given]) {
     for (place, given) in grants.iter_mut().enumerate() {
         if place % 3 != 1 {
-            assert!(rt; take(&rt, &mut tree, &given.filter, given.key));
+            assert!(rt; tree.take_from(&given.filter, given.key) == Some(true));
             given.stands = false;
         }
     }
-    compare(&rt, &tree, &grants);
-    for given in &grants {
-        assert_eq!(rt;
-            take(&rt, &mut tree, &given.filter, given.key),
-            given.stands
-        );
+}
+
+fn take_all<T: Grants>(rt: &impl Abort, tree: &mut T, grants: &[Given]) {
+    for given in grants {
+        assert!(rt; tree.take_from(&given.filter, given.key) == Some(given.stands));
     }
-    assert_eq!(rt; find(&rt, &tree, "a/b").len(), 0);
-    Ok(())
+}
+
+fn plays_beside<T: Grants>(rt: &(impl Abort + AllocGlobal), tree: &mut T) {
+    let mut grants = three_hundred(rt);
+    grant_all(rt, tree, &grants);
+    compare(rt, tree, &grants);
+    take_most(rt, tree, &mut grants);
+    compare(rt, tree, &grants);
+    take_all(rt, tree, &grants);
+    assert!(rt; tree.is_found("a/b", &[]));
+}
+
+#[test]
+fn the_tree_answers_as_a_look_at_each_grant(rt: HostRuntime) {
+    plays_beside(&rt, &mut Tree::new(rt.alloc()));
 }

@@ -2,9 +2,8 @@
 use spk_topics::{Filter, Spark, Topic, TopicFault, Verb, matches};
 use std::alloc::{AllocError, Global};
 use std::process::Abort;
-use std::test::Fail;
 
-// Texts that are filters.
+/// Texts that are filters.
 static FILTERS: [&str; 12] = [
     "a",
     "/",
@@ -20,7 +19,7 @@ static FILTERS: [&str; 12] = [
     "\u{e9}/\u{2603}",
 ];
 
-// Texts that are none, and why.
+/// Texts that are none, and why.
 static NO_FILTERS: [(&str, TopicFault); 11] = [
     ("", TopicFault::Empty),
     ("a+", TopicFault::Wildcard),
@@ -35,21 +34,25 @@ static NO_FILTERS: [(&str, TopicFault); 11] = [
     ("a\0", TopicFault::Nul),
 ];
 
-#[test]
-fn filters_are_read_or_refused_for_the_first_reason(rt: HostRuntime) -> Result<(), Fail> {
-    for text in &FILTERS {
-        assert!(rt; Filter::read(text).is_ok(), "{text}");
-    }
-    for (text, want) in &NO_FILTERS {
-        assert_eq!(rt; Filter::read(text).err(), Some(*want), "{text}");
-    }
-    Ok(())
+/// Why a text is no filter, if it is none.
+fn no_filter(text: &str) -> Option<TopicFault> {
+    Filter::read(text).err()
 }
 
-// Texts that are topic names.
+#[test]
+fn filters_are_read_or_refused_for_the_first_reason(rt: HostRuntime) {
+    for text in &FILTERS {
+        assert!(rt; no_filter(text).is_none(), "{text}");
+    }
+    for (text, want) in &NO_FILTERS {
+        assert!(rt; no_filter(text) == Some(*want), "{text}");
+    }
+}
+
+/// Texts that are topic names.
 static TOPICS: [&str; 6] = ["a", "/", "a/b", "$SYS/x", "a//", "spBv1.0/G/DDATA/N/D"];
 
-// Texts that are no topic names, and why.
+/// Texts that are no topic names, and why.
 static NO_TOPICS: [(&str, TopicFault); 5] = [
     ("", TopicFault::Empty),
     ("+", TopicFault::Wildcard),
@@ -58,18 +61,22 @@ static NO_TOPICS: [(&str, TopicFault); 5] = [
     ("\0", TopicFault::Nul),
 ];
 
-#[test]
-fn topics_are_read_or_refused_for_the_first_reason(rt: HostRuntime) -> Result<(), Fail> {
-    for text in &TOPICS {
-        assert!(rt; Topic::read(text).is_ok(), "{text}");
-    }
-    for (text, want) in &NO_TOPICS {
-        assert_eq!(rt; Topic::read(text).err(), Some(*want), "{text}");
-    }
-    Ok(())
+/// Why a text is no topic name, if it is none.
+fn no_topic(text: &str) -> Option<TopicFault> {
+    Topic::read(text).err()
 }
 
-// A count of slashes, what ends them, and why the text is no filter and no topic name.
+#[test]
+fn topics_are_read_or_refused_for_the_first_reason(rt: HostRuntime) {
+    for text in &TOPICS {
+        assert!(rt; no_topic(text).is_none(), "{text}");
+    }
+    for (text, want) in &NO_TOPICS {
+        assert!(rt; no_topic(text) == Some(*want), "{text}");
+    }
+}
+
+/// A count of slashes, what ends them, and why the text is no filter and no topic name.
 static LENGTHS: [(usize, &str, Option<TopicFault>, Option<TopicFault>); 3] = [
     (65_535, "", None, None),
     (
@@ -87,16 +94,15 @@ static LENGTHS: [(usize, &str, Option<TopicFault>, Option<TopicFault>); 3] = [
 ];
 
 #[test]
-fn a_text_may_have_65535_bytes(rt: HostRuntime) -> Result<(), Fail> {
-    for (count, end, no_filter, no_topic) in &LENGTHS {
+fn a_text_may_have_65535_bytes(rt: HostRuntime) {
+    for (count, end, filter, topic) in &LENGTHS {
         let text = slashes(&rt, *count, end);
-        assert_eq!(rt; Filter::read(&text).err(), *no_filter, "{count}");
-        assert_eq!(rt; Topic::read(&text).err(), *no_topic, "{count}");
+        assert!(rt; no_filter(&text) == *filter, "{count}");
+        assert!(rt; no_topic(&text) == *topic, "{count}");
     }
-    Ok(())
 }
 
-// Slashes and what ends them. Where memory is refused once, it is asked for again.
+/// Slashes and what ends them. Where memory is refused once, it is asked for again.
 pub(crate) fn slashes(rt: &(impl Abort + AllocGlobal), count: usize, end: &str) -> String {
     match ended(rt.alloc(), count, end) {
         Ok(text) => text,
@@ -113,7 +119,7 @@ fn ended(alloc: Global, count: usize, end: &str) -> Result<String, AllocError> {
     Ok(text)
 }
 
-// A filter, a topic name, and whether they match.
+/// A filter, a topic name, and whether they match.
 static MATCHES: [(&str, &str, bool); 24] = [
     ("#", "$SYS/x", false),
     ("spBv1.0/#", "spBv1.0", true),
@@ -149,21 +155,22 @@ static MATCHES: [(&str, &str, bool); 24] = [
     ("#", "/", true),
 ];
 
-#[test]
-fn a_filter_matches_by_levels(rt: HostRuntime) -> Result<(), Fail> {
-    for (filter, topic, want) in &MATCHES {
-        assert_eq!(rt; is_match(&rt, filter, topic), *want, "{filter} {topic}");
+/// Whether they match, where they can be read.
+fn is_match(filter: &str, topic: &str) -> Option<bool> {
+    match (Filter::read(filter), Topic::read(topic)) {
+        (Ok(filter), Ok(topic)) => Some(matches(&filter, &topic)),
+        _ => None,
     }
-    Ok(())
 }
 
-fn is_match(rt: &impl Abort, filter: &str, topic: &str) -> bool {
-    let filter = Filter::read(filter).expect(rt, "a filter");
-    let topic = Topic::read(topic).expect(rt, "a topic");
-    matches(&filter, &topic)
+#[test]
+fn a_filter_matches_by_levels(rt: HostRuntime) {
+    for (filter, topic, want) in &MATCHES {
+        assert!(rt; is_match(filter, topic) == Some(*want), "{filter} {topic}");
+    }
 }
 
-// Topics of Sparkplug.
+/// Topics of Sparkplug.
 static SPARKPLUG_TOPICS: [&str; 11] = [
     "spBv1.0/G/NBIRTH/N",
     "spBv1.0/G/NDEATH/N",
@@ -178,7 +185,7 @@ static SPARKPLUG_TOPICS: [&str; 11] = [
     "spBv1.0/a b/NDATA/\u{e9}",
 ];
 
-// Texts that are none.
+/// Texts that are none.
 static OTHER_TOPICS: [&str; 15] = [
     "",
     "spBv1.0",
@@ -197,49 +204,55 @@ static OTHER_TOPICS: [&str; 15] = [
     "spAv1.0/G/NDATA/N",
 ];
 
+/// After one refusal the same call is made again.
+fn read_again(alloc: Global, topic: &str) -> Result<Spark, TopicFault> {
+    match Spark::read(alloc, topic) {
+        Err(TopicFault::NoMemory) => Spark::read(alloc, topic),
+        other => other,
+    }
+}
+
+/// Why a text is no topic of Sparkplug, if it is none.
+fn no_spark(alloc: Global, topic: &str) -> Option<TopicFault> {
+    read_again(alloc, topic).err()
+}
+
+fn text_again(alloc: Global, spark: &Spark) -> Result<String, TopicFault> {
+    match spark.text(alloc) {
+        Err(TopicFault::NoMemory) => spark.text(alloc),
+        other => other,
+    }
+}
+
+fn is_text(alloc: Global, spark: &Spark, want: &str) -> bool {
+    match text_again(alloc, spark) {
+        Ok(text) => text.as_str() == want,
+        Err(_) => false,
+    }
+}
+
+fn is_written_back(alloc: Global, topic: &str) -> bool {
+    match read_again(alloc, topic) {
+        Ok(spark) => is_text(alloc, &spark, topic),
+        Err(_) => false,
+    }
+}
+
 #[test]
-fn sparkplug_topics_are_read_and_written_back(rt: HostRuntime) -> Result<(), Fail> {
+fn sparkplug_topics_are_read_and_written_back(rt: HostRuntime) {
     for topic in &SPARKPLUG_TOPICS {
-        let spark = read_again(&rt, topic)?;
-        let text = text_again(&rt, &spark)?;
-        assert_eq!(rt; text.as_str(), *topic);
+        assert!(rt; is_written_back(rt.alloc(), topic), "{topic}");
     }
     for topic in &OTHER_TOPICS {
-        assert_eq!(rt;
-            Spark::read(rt.alloc(), topic).err(),
-            Some(TopicFault::NotSparkplug),
-            "{topic}"
-        );
+        let refused = no_spark(rt.alloc(), topic);
+        assert!(rt; refused == Some(TopicFault::NotSparkplug), "{topic}");
     }
-    Ok(())
 }
 
-// Texts that may not stand in a topic as a name.
+/// Texts that may not stand in a topic as a name.
 static NO_NAMES: [&str; 5] = ["", "a/b", "+", "a#", "\0"];
 
-#[test]
-fn names_that_may_not_stand_in_a_topic_are_refused(rt: HostRuntime) -> Result<(), Fail> {
-    for name in &NO_NAMES {
-        let spark = Spark::State {
-            host: text(&rt, name),
-        };
-        assert_eq!(rt;
-            spark.text(rt.alloc()).err(),
-            Some(TopicFault::NotSparkplug),
-            "{name}"
-        );
-    }
-    let spark = Spark::Node {
-        group: text(&rt, "STATE"),
-        kind: Verb::Data,
-        node: text(&rt, "N"),
-    };
-    let topic = text_again(&rt, &spark)?;
-    assert_eq!(rt; topic.as_str(), "spBv1.0/STATE/NDATA/N");
-    Ok(())
-}
-
-// A text of its own. Where memory is refused once, it is asked for again.
+/// A text of its own. Where memory is refused once, it is asked for again.
 fn text(rt: &(impl Abort + AllocGlobal), text: &str) -> String {
     match String::from_str(rt.alloc(), text) {
         Ok(own) => own,
@@ -247,22 +260,34 @@ fn text(rt: &(impl Abort + AllocGlobal), text: &str) -> String {
     }
 }
 
-// After one refusal the same call is made again.
-fn read_again(rt: &HostRuntime, topic: &str) -> Result<Spark, TopicFault> {
-    match Spark::read(rt.alloc(), topic) {
-        Err(TopicFault::NoMemory) => Spark::read(rt.alloc(), topic),
-        other => other,
-    }
+/// Why a host of this name has no topic, if it has none.
+fn no_state(rt: &(impl Abort + AllocGlobal), name: &str) -> Option<TopicFault> {
+    let spark = Spark::State {
+        host: text(rt, name),
+    };
+    text_again(rt.alloc(), &spark).err()
 }
 
-fn text_again(rt: &HostRuntime, spark: &Spark) -> Result<String, TopicFault> {
-    match spark.text(rt.alloc()) {
-        Err(TopicFault::NoMemory) => spark.text(rt.alloc()),
-        other => other,
-    }
+/// Whether data of this group and node have that topic.
+fn is_data_topic(rt: &(impl Abort + AllocGlobal), group: &str, node: &str, topic: &str) -> bool {
+    let spark = Spark::Node {
+        group: text(rt, group),
+        kind: Verb::Data,
+        node: text(rt, node),
+    };
+    is_text(rt.alloc(), &spark, topic)
 }
 
-// A fault, its number and its name.
+#[test]
+fn names_that_may_not_stand_in_a_topic_are_refused(rt: HostRuntime) {
+    for name in &NO_NAMES {
+        let refused = no_state(&rt, name);
+        assert!(rt; refused == Some(TopicFault::NotSparkplug), "{name}");
+    }
+    assert!(rt; is_data_topic(&rt, "STATE", "N", "spBv1.0/STATE/NDATA/N"));
+}
+
+/// A fault, its number and its name.
 static NUMBERS: [(TopicFault, u32, &str); 6] = [
     (TopicFault::NoMemory, 1, "NoMemory"),
     (TopicFault::Empty, 20, "Empty"),
@@ -272,15 +297,17 @@ static NUMBERS: [(TopicFault, u32, &str); 6] = [
     (TopicFault::NotSparkplug, 24, "NotSparkplug"),
 ];
 
-#[test]
-fn each_fault_has_its_number(rt: HostRuntime) -> Result<(), Fail> {
-    for (fault, number, name) in &NUMBERS {
-        assert_eq!(rt; fault.number(), *number);
-        let text = match fault.to_string(rt.alloc()) {
-            Ok(text) => text,
-            Err(_) => fault.to_string(rt.alloc())?,
-        };
-        assert_eq!(rt; text.as_str(), *name);
+fn shown(rt: &(impl Abort + AllocGlobal), fault: TopicFault) -> String {
+    match fault.to_string(rt.alloc()) {
+        Ok(text) => text,
+        Err(_) => fault.to_string(rt.alloc()).expect(rt, "memory"),
     }
-    Ok(())
+}
+
+#[test]
+fn each_fault_has_its_number(rt: HostRuntime) {
+    for (fault, number, name) in &NUMBERS {
+        assert!(rt; fault.number() == *number, "{name}");
+        assert!(rt; shown(&rt, *fault).as_str() == *name, "{name}");
+    }
 }
