@@ -12,7 +12,7 @@ use std::process::Abort;
 use std::sync::Wait;
 
 /// What a device does at its end.
-#[derive(Clone, Copy, Debug, PartialEq, Eq)]
+#[derive(Clone, Copy)]
 enum Last {
     Ends,
     Fails,
@@ -84,90 +84,234 @@ fn opened<R: AllocGlobal + Wait>(rt: &R) -> Option<(Ingress, PutPass, TakePass)>
     Some((ingress, pass, taker))
 }
 
-/// What is read of these bytes in so many turns: how many packets of this first byte are put, and what is put last, if
-/// it is no packet.
-fn read_all<R: AllocGlobal + Wait>(
-    rt: &R,
-    reader: &mut Counted<Device>,
-    turns: u64,
-    first: u8,
-) -> Option<(usize, Option<Frame>, Result<(), EngineFault>)> {
-    let (ingress, mut pass, mut taker) = opened(rt)?;
-    let result = read_frames(rt, rt.alloc(), reader, &ingress, &mut pass, turns);
-    ingress.put(rt, &mut pass, Frame::End).ok()?;
-    let mut packets = 0usize;
-    for _ in 0..64 {
-        match ingress.take(rt, &mut taker).ok()?.frame {
-            Frame::Packet(whole) => {
-                if whole.as_slice().first() == Some(&first) {
-                    packets = packets.saturating_add(1);
-                }
+/// What comes behind the packets of a stream.
+#[derive(Clone, Copy, PartialEq, Eq)]
+enum Behind {
+    Nothing,
+    Cut,
+    Fault(PacketFault),
+    /// A packet that isn't PINGREQ.
+    Another,
+}
+
+/// What a frame is, where it isn't a PINGREQ.
+fn behind_of(frame: &Frame) -> Option<Behind> {
+    match frame {
+        Frame::Packet(whole) => {
+            if whole.as_slice() == [0xc0, 0x00].as_slice() {
+                None
+            } else {
+                Some(Behind::Another)
             }
-            Frame::End => return Some((packets, None, result)),
-            last => return Some((packets, Some(last), result)),
+        }
+        Frame::Fault(fault) => Some(Behind::Fault(*fault)),
+        Frame::Cut => Some(Behind::Cut),
+        Frame::End => Some(Behind::Nothing),
+    }
+}
+
+/// Takes a frame: what it is, where it isn't a PINGREQ. An ingress that is closed has another behind them.
+fn next_behind<R: Wait>(rt: &R, ingress: &Ingress, taker: &mut TakePass) -> Option<Behind>
+    requires { TakesFrom ingress.now taker.old }
+    ensures { TakesFrom ingress.now taker.new }
+{
+    match ingress.take(rt, taker) {
+        Ok(taken) => behind_of(&taken.frame),
+        Err(_) => Some(Behind::Another),
+    }
+}
+
+/// How many PINGREQ are taken, and what comes behind them.
+fn taken_of<R: Wait>(rt: &R, ingress: &Ingress, mut taker: TakePass) -> (usize, Behind)
+    requires { TakesFrom ingress.now taker }
+{
+    for packets in 0..64usize {
+        if let Some(last) = next_behind(rt, ingress, &mut taker) {
+            return (packets, last);
         }
     }
-    None
+    (64, Behind::Another)
 }
 
-#[test]
-fn a_stream_is_its_packets_and_then_a_cut(rt: HostRuntime) {
-    for step in [1, 2, 3] {
-        let mut reader = reader_of(&[0xc0, 0x00, 0xc0], step, Last::Ends);
-        let (packets, last, result) = read_all(&rt, &mut reader, 9, 0xc0).expect(&rt, "frames");
-        assert_eq!(rt; packets, 1);
-        assert!(rt; matches!(last, Some(Frame::Cut)) && result.is_ok());
+/// A stream of PINGREQ, how it is read, and what comes of it.
+struct Reading {
+    shows: &'static str,
+    bytes: &'static [u8],
+    step: usize,
+    last: Last,
+    turns: u64,
+    packets: usize,
+    behind: Behind,
+    result: Result<(), EngineFault>,
+    /// How many bytes are left, and how many turns were taken.
+    left: Option<(usize, u64)>,
+}
+
+static READINGS: [Reading; 7] = [
+    Reading {
+        shows: "a stream is its packets and then a cut, a byte at a time",
+        bytes: &[0xc0, 0x00, 0xc0],
+        step: 1,
+        last: Last::Ends,
+        turns: 9,
+        packets: 1,
+        behind: Behind::Cut,
+        result: Ok(()),
+        left: None,
+    },
+    Reading {
+        shows: "a stream is its packets and then a cut, two bytes at a time",
+        bytes: &[0xc0, 0x00, 0xc0],
+        step: 2,
+        last: Last::Ends,
+        turns: 9,
+        packets: 1,
+        behind: Behind::Cut,
+        result: Ok(()),
+        left: None,
+    },
+    Reading {
+        shows: "a stream is its packets and then a cut, at once",
+        bytes: &[0xc0, 0x00, 0xc0],
+        step: 3,
+        last: Last::Ends,
+        turns: 9,
+        packets: 1,
+        behind: Behind::Cut,
+        result: Ok(()),
+        left: None,
+    },
+    Reading {
+        shows: "what is no packet is a fault",
+        bytes: &[0xc0, 0x00, 0x34, 0xc0, 0x00],
+        step: 5,
+        last: Last::Ends,
+        turns: 9,
+        packets: 1,
+        behind: Behind::Fault(PacketFault::QosTwo),
+        result: Ok(()),
+        left: None,
+    },
+    Reading {
+        shows: "a reader that fails ends without a cut",
+        bytes: &[0xc0],
+        step: 1,
+        last: Last::Fails,
+        turns: 9,
+        packets: 0,
+        behind: Behind::Nothing,
+        result: Err(EngineFault::Device),
+        left: None,
+    },
+    Reading {
+        shows: "turns are reads",
+        bytes: &[
+            0xc0, 0x00, 0xc0, 0x00, 0xc0, 0x00, 0xc0, 0x00, 0xc0, 0x00, 0xc0, 0x00,
+        ],
+        step: 1,
+        last: Last::Ends,
+        turns: 10,
+        packets: 5,
+        behind: Behind::Nothing,
+        result: Err(EngineFault::TurnsSpent),
+        left: Some((2, 10)),
+    },
+    Reading {
+        shows: "an interrupt spends a turn and goes on",
+        bytes: &[0xc0, 0x00],
+        step: 2,
+        last: Last::Interrupts,
+        turns: 3,
+        packets: 1,
+        behind: Behind::Nothing,
+        result: Err(EngineFault::TurnsSpent),
+        left: None,
+    },
+];
+
+/// Whether so many bytes are left, and so many turns were taken.
+fn is_left(reader: &Counted<Device<'_>>, left: Option<(usize, u64)>) -> bool {
+    match left {
+        Some((bytes, turns)) => reader.device.bytes.len() == bytes && reader.taken() == turns,
+        None => true,
+    }
+}
+
+/// Whether a reader answers as the row says.
+fn is_through<R: AllocGlobal + Wait>(
+    rt: &R,
+    ingress: &Ingress,
+    pass: &mut PutPass,
+    row: &Reading,
+) -> bool
+    requires { PutsInto ingress.now pass.old }
+    ensures { PutsInto ingress.now pass.new }
+{
+    let mut reader = reader_of(row.bytes, row.step, row.last);
+    let result = read_frames(rt, rt.alloc(), &mut reader, ingress, pass, row.turns);
+    result == row.result && is_left(&reader, row.left)
+}
+
+/// Whether a stream comes through an ingress as the row says.
+fn comes_through<R: AllocGlobal + Wait>(
+    rt: &R,
+    ingress: &Ingress,
+    mut pass: PutPass,
+    taker: TakePass,
+    row: &Reading,
+) -> bool
+    requires { PutsInto ingress.now pass × TakesFrom ingress.now taker }
+{
+    is_through(rt, ingress, &mut pass, row)
+        && ingress.put(rt, &mut pass, Frame::End).is_ok()
+        && taken_of(rt, ingress, taker) == (row.packets, row.behind)
+}
+
+fn is_read<R: AllocGlobal + Wait>(rt: &R, row: &Reading) -> bool {
+    match opened(rt) {
+        Some((ingress, pass, taker)) => comes_through(rt, &ingress, pass, taker, row),
+        None => false,
     }
 }
 
 #[test]
-fn what_is_no_packet_is_a_fault(rt: HostRuntime) {
-    let mut reader = reader_of(&[0xc0, 0x00, 0x34, 0xc0, 0x00], 5, Last::Ends);
-    let (packets, last, result) = read_all(&rt, &mut reader, 9, 0xc0).expect(&rt, "frames");
-    assert_eq!(rt; packets, 1);
-    assert!(rt; matches!(last, Some(Frame::Fault(PacketFault::QosTwo))) && result.is_ok());
+fn streams_are_read_to_their_ends(rt: HostRuntime) {
+    for row in &READINGS {
+        assert!(rt; is_read(&rt, row), "{}", row.shows);
+    }
 }
 
-#[test]
-fn a_reader_that_fails_ends_without_a_cut(rt: HostRuntime) {
-    let mut reader = reader_of(&[0xc0], 1, Last::Fails);
-    let (packets, last, result) = read_all(&rt, &mut reader, 9, 0xc0).expect(&rt, "frames");
-    assert_eq!(rt; packets, 0);
-    assert!(rt; last.is_none());
-    assert_eq!(rt; result, Err(EngineFault::Device));
-    assert_eq!(rt; EngineFault::Device.number(), 96);
-}
-
-#[test]
-fn turns_are_reads(rt: HostRuntime) {
-    let bytes = [0xc0u8, 0, 0xc0, 0, 0xc0, 0, 0xc0, 0, 0xc0, 0, 0xc0, 0];
-    let mut reader = reader_of(&bytes, 1, Last::Ends);
-    let (packets, last, result) = read_all(&rt, &mut reader, 10, 0xc0).expect(&rt, "frames");
-    assert_eq!(rt; packets, 5);
-    assert!(rt; last.is_none());
-    assert_eq!(rt; result, Err(EngineFault::TurnsSpent));
-    assert_eq!(rt; EngineFault::TurnsSpent.number(), 94);
-    assert_eq!(rt; reader.device.bytes.len(), 2);
-    assert_eq!(rt; reader.taken(), 10);
-}
-
-#[test]
-fn an_interrupt_spends_a_turn_and_goes_on(rt: HostRuntime) {
-    let mut reader = reader_of(&[0xc0, 0x00], 2, Last::Interrupts);
-    let (packets, last, result) = read_all(&rt, &mut reader, 3, 0xc0).expect(&rt, "frames");
-    assert_eq!(rt; packets, 1);
-    assert!(rt; last.is_none());
-    assert_eq!(rt; result, Err(EngineFault::TurnsSpent));
+/// What a reader of one packet answers where the taker is gone.
+fn read_alone<R: AllocGlobal + Wait>(
+    rt: &R,
+    ingress: &Ingress,
+    mut pass: PutPass,
+) -> Result<(), EngineFault>
+    requires { PutsInto ingress.now pass }
+{
+    let mut reader = reader_of(&[0xc0, 0x00], 2, Last::Ends);
+    read_frames(rt, rt.alloc(), &mut reader, ingress, &mut pass, 3)
 }
 
 #[test]
 fn a_reader_without_a_taker_is_closed(rt: HostRuntime) {
-    let (ingress, mut pass, taker) = opened(&rt).expect(&rt, "an ingress");
+    let (ingress, pass, taker) = opened(&rt).expect(&rt, "an ingress");
     drop(taker);
-    let mut reader = reader_of(&[0xc0, 0x00], 2, Last::Ends);
-    let result = read_frames(&rt, rt.alloc(), &mut reader, &ingress, &mut pass, 3);
-    assert_eq!(rt; result, Err(EngineFault::Closed));
-    assert_eq!(rt; EngineFault::Closed.number(), 90);
+    let result = read_alone(&rt, &ingress, pass);
+    assert!(rt; result == Err(EngineFault::Closed));
+}
+
+static NUMBERS: [(EngineFault, u32); 3] = [
+    (EngineFault::Closed, 90),
+    (EngineFault::TurnsSpent, 94),
+    (EngineFault::Device, 96),
+];
+
+#[test]
+fn faults_have_their_numbers(rt: HostRuntime) {
+    for (fault, number) in &NUMBERS {
+        assert_eq!(rt; fault.number(), *number);
+    }
 }
 
 /// A writer into an array that takes so many bytes at a time, and fails from so many calls on.
@@ -213,17 +357,19 @@ impl Write for Sink {
     }
 }
 
+fn item(rt: &(impl Abort + AllocGlobal), bytes: &[u8]) -> Item {
+    let copy = Vec::from_slice(rt.alloc(), bytes).expect(rt, "memory");
+    Item {
+        bytes: Bytes::new(copy),
+        cuts: 0,
+    }
+}
+
 /// A ring with two items, of two bytes and of three.
 fn two_items(rt: &(impl Abort + AllocGlobal)) -> (Outlet, Inlet) {
     let (mut outlet, inlet) = ring(rt.alloc(), 4).expect(rt, "a ring");
-    for bytes in [[1u8, 2].as_slice(), [3, 4, 5].as_slice()] {
-        let copy = Vec::from_slice(rt.alloc(), bytes).expect(rt, "memory");
-        let offered = outlet.offer(Item {
-            bytes: Bytes::new(copy),
-            cuts: 0,
-        });
-        assert!(rt; offered.is_ok());
-    }
+    assert!(rt; outlet.offer(item(rt, &[1, 2])).is_ok());
+    assert!(rt; outlet.offer(item(rt, &[3, 4, 5])).is_ok());
     (outlet, inlet)
 }
 
@@ -237,38 +383,110 @@ fn sink_of(step: usize, calls: u64) -> Counted<Sink> {
     })
 }
 
-#[test]
-fn items_are_written_in_order(rt: HostRuntime) {
-    for step in [1, 2, 8] {
-        let (outlet, mut inlet) = two_items(&rt);
-        drop(outlet);
-        let mut writer = sink_of(step, 64);
-        assert!(rt; write_items(&mut writer, &mut inlet, 64).is_ok());
-        assert_eq!(rt;
-            writer.device.got.as_slice(),
-            [1u8, 2, 3, 4, 5, 0, 0, 0].as_slice()
-        );
+/// How a ring of two items, of five bytes together, is written, and what comes of it.
+struct Writing {
+    shows: &'static str,
+    step: usize,
+    calls: u64,
+    /// Whether the ring's offers go on.
+    open: bool,
+    turns: u64,
+    result: Result<(), EngineFault>,
+    written: &'static [u8],
+    taken: Option<u64>,
+}
+
+static WRITINGS: [Writing; 5] = [
+    Writing {
+        shows: "items are written in order, a byte at a time",
+        step: 1,
+        calls: 64,
+        open: false,
+        turns: 64,
+        result: Ok(()),
+        written: &[1, 2, 3, 4, 5],
+        taken: None,
+    },
+    Writing {
+        shows: "items are written in order, two bytes at a time",
+        step: 2,
+        calls: 64,
+        open: false,
+        turns: 64,
+        result: Ok(()),
+        written: &[1, 2, 3, 4, 5],
+        taken: None,
+    },
+    Writing {
+        shows: "items are written in order, at once",
+        step: 8,
+        calls: 64,
+        open: false,
+        turns: 64,
+        result: Ok(()),
+        written: &[1, 2, 3, 4, 5],
+        taken: None,
+    },
+    Writing {
+        shows: "a writer that fails has written a front",
+        step: 2,
+        calls: 2,
+        open: true,
+        turns: 64,
+        result: Err(EngineFault::Device),
+        written: &[1, 2],
+        taken: None,
+    },
+    Writing {
+        shows: "an open ring spends the turns",
+        step: 8,
+        calls: 64,
+        open: true,
+        turns: 16,
+        result: Err(EngineFault::TurnsSpent),
+        written: &[1, 2, 3, 4, 5],
+        taken: Some(16),
+    },
+];
+
+/// Whether these bytes were written and no others.
+fn is_got(sink: &Sink, written: &[u8]) -> bool {
+    &sink.got[..sink.count] == written
+}
+
+/// Whether a ring is written as the row says.
+fn is_written(inlet: &mut Inlet, row: &Writing) -> bool {
+    let mut writer = sink_of(row.step, row.calls);
+    write_items(&mut writer, inlet, row.turns) == row.result
+        && is_got(&writer.device, row.written)
+        && row.taken.is_none_or(|taken| writer.taken() == taken)
+}
+
+/// The same, with a ring whose offers go on.
+fn is_written_beside(outlet: Outlet, mut inlet: Inlet, row: &Writing) -> bool {
+    let is_so = is_written(&mut inlet, row);
+    drop(outlet);
+    is_so
+}
+
+/// The same, with a ring whose offers have ended.
+fn is_written_to_its_end(outlet: Outlet, mut inlet: Inlet, row: &Writing) -> bool {
+    drop(outlet);
+    is_written(&mut inlet, row)
+}
+
+fn is_written_so(rt: &(impl Abort + AllocGlobal), row: &Writing) -> bool {
+    let (outlet, inlet) = two_items(rt);
+    if row.open {
+        is_written_beside(outlet, inlet, row)
+    } else {
+        is_written_to_its_end(outlet, inlet, row)
     }
 }
 
 #[test]
-fn a_writer_that_fails_has_written_a_front(rt: HostRuntime) {
-    let (_outlet, mut inlet) = two_items(&rt);
-    let mut writer = sink_of(2, 2);
-    let result = write_items(&mut writer, &mut inlet, 64);
-    assert_eq!(rt; result, Err(EngineFault::Device));
-    assert_eq!(rt;
-        writer.device.got.as_slice(),
-        [1u8, 2, 0, 0, 0, 0, 0, 0].as_slice()
-    );
-}
-
-#[test]
-fn an_open_ring_spends_the_turns(rt: HostRuntime) {
-    let (_outlet, mut inlet) = two_items(&rt);
-    let mut writer = sink_of(8, 64);
-    let result = write_items(&mut writer, &mut inlet, 16);
-    assert_eq!(rt; result, Err(EngineFault::TurnsSpent));
-    assert_eq!(rt; writer.device.count, 5);
-    assert_eq!(rt; writer.taken(), 16);
+fn items_are_written_as_their_ring_goes_on(rt: HostRuntime) {
+    for row in &WRITINGS {
+        assert!(rt; is_written_so(&rt, row), "{}", row.shows);
+    }
 }

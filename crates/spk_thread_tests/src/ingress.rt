@@ -2,7 +2,9 @@ ghost use Rattle.std.specs.Prelude.{◌≡◌, ◌+◌, length, IfSome, IfOk};
 ghost use Rattle.std.specs.Thread.{IsSync};
 ghost use Rattle.spk_ingress.specs.Passes.{PutsInto, TakesFrom, AllPutInto};
 
-use spk_ingress::{Frame, FrameFault, Ingress, OpenFault, PutPass, SettleFault, TakePass};
+use spk_ingress::{
+    Frame, FrameFault, Ingress, OpenFault, PutPass, SettleFault, TakePass, Taken, Whole,
+};
 use spk_packets::PacketFault;
 use std::alloc::{AllocGlobal, Global};
 use std::process::Abort;
@@ -25,32 +27,51 @@ fn framed(rt: &(impl Abort + AllocGlobal), bytes: &[u8]) -> Result<Frame, FrameF
     }
 }
 
+/// Bytes, and why they aren't a frame, if they aren't one.
+static FRAMES: [(&[u8], Option<FrameFault>); 6] = [
+    (&[0xc0, 0x00], None),
+    (&[0xc0], Some(FrameFault::Packet(PacketFault::More))),
+    (&[], Some(FrameFault::Packet(PacketFault::More))),
+    (&[0xc0, 0x00, 0xe0, 0x00], Some(FrameFault::NotOne)),
+    (&[0x00], Some(FrameFault::Packet(PacketFault::BadType))),
+    (&[0x34], Some(FrameFault::Packet(PacketFault::QosTwo))),
+];
+
+/// Whether a whole packet has these bytes, and can be read.
+fn is_whole(alloc: Global, whole: Whole, bytes: &[u8]) -> bool {
+    whole.as_slice() == bytes
+        && (whole.read(alloc).is_ok() || whole.read(alloc).is_ok())
+        && whole.into_vec().as_slice() == bytes
+}
+
+fn is_frame(rt: &(impl Abort + AllocGlobal), bytes: &[u8], fault: Option<FrameFault>) -> bool {
+    match framed(rt, bytes) {
+        Ok(Frame::Packet(whole)) => fault.is_none() && is_whole(rt.alloc(), whole, bytes),
+        Ok(_) => false,
+        Err(found) => fault == Some(found),
+    }
+}
+
 #[test]
 fn a_frame_is_one_packet(rt: HostRuntime) {
-    let table: [(&[u8], Option<FrameFault>, u32); 6] = [
-        (&[0xc0, 0x00], None, 0),
-        (&[0xc0], Some(FrameFault::Packet(PacketFault::More)), 10),
-        (&[], Some(FrameFault::Packet(PacketFault::More)), 10),
-        (&[0xc0, 0x00, 0xe0, 0x00], Some(FrameFault::NotOne), 95),
-        (&[0x00], Some(FrameFault::Packet(PacketFault::BadType)), 13),
-        (&[0x34], Some(FrameFault::Packet(PacketFault::QosTwo)), 17),
-    ];
-    for (bytes, fault, number) in table {
-        match framed(&rt, bytes) {
-            Ok(frame) => {
-                assert!(rt; fault.is_none(), "of {bytes:?}");
-                if let Frame::Packet(whole) = frame {
-                    assert_eq!(rt; whole.as_slice(), bytes);
-                    assert!(rt; whole.read(rt.alloc()).is_ok() || whole.read(rt.alloc()).is_ok());
-                    assert_eq!(rt; whole.into_vec().as_slice(), bytes);
-                }
-            }
-            Err(found) => {
-                assert_eq!(rt; Some(found), fault, "of {bytes:?}");
-                assert_eq!(rt; found.number(), number);
-            }
-        }
+    for (bytes, fault) in &FRAMES {
+        assert!(rt; is_frame(&rt, bytes, *fault), "of {bytes:?}");
     }
+}
+
+static NUMBERS: [(FrameFault, u32); 4] = [
+    (FrameFault::Packet(PacketFault::More), 10),
+    (FrameFault::Packet(PacketFault::BadType), 13),
+    (FrameFault::Packet(PacketFault::QosTwo), 17),
+    (FrameFault::NotOne, 95),
+];
+
+#[test]
+fn faults_have_their_numbers(rt: HostRuntime) {
+    for (fault, number) in &NUMBERS {
+        assert_eq!(rt; fault.number(), *number);
+    }
+    assert!(rt; SettleFault::Unsettled.number() == 93 && OpenFault::BadPlan.number() == 92);
 }
 
 /// The first two passes.
@@ -76,72 +97,165 @@ pub(crate) fn opened<R: AllocGlobal + Wait>(
     Some((ingress, first, second, taker))
 }
 
+/// Puts a frame that is a cut, or else the end.
+pub(crate) fn put_one<R: Wait>(rt: &R, ingress: &Ingress, pass: &mut PutPass, is_cut: bool) -> bool
+    requires { PutsInto ingress.now pass.old }
+    ensures { PutsInto ingress.now pass.new }
+{
+    let frame = if is_cut { Frame::Cut } else { Frame::End };
+    ingress.put(rt, pass, frame).is_ok()
+}
+
+/// Whether a frame was taken of this sender, with this number, and is a cut, or else the end.
+pub(crate) fn is_taken(taken: &Taken, sender: usize, number: u64, is_cut: bool) -> bool {
+    let is_so = match taken.frame {
+        Frame::Cut => is_cut,
+        Frame::End => !is_cut,
+        _ => false,
+    };
+    is_so && taken.sender == sender && taken.number == number
+}
+
+pub(crate) fn take_one<R: Wait>(
+    rt: &R,
+    ingress: &Ingress,
+    taker: &mut TakePass,
+    sender: usize,
+    is_cut: bool,
+) -> bool
+    requires { TakesFrom ingress.now taker.old }
+    ensures { TakesFrom ingress.now taker.new }
+{
+    match ingress.take(rt, taker) {
+        Ok(taken) => is_taken(&taken, sender, 0, is_cut),
+        Err(_) => false,
+    }
+}
+
+/// What comes of giving these two passes back.
+fn settled<R: AllocGlobal + Abort + Wait>(
+    rt: &R,
+    ingress: Ingress,
+    first: PutPass,
+    second: PutPass,
+    taker: TakePass,
+) -> Result<Vec<u64>, SettleFault>
+    requires { PutsInto ingress first × PutsInto ingress second × TakesFrom ingress taker }
+{
+    let passes = Vec::from_array(rt.alloc(), [first, second]).expect(rt, "memory");
+    ingress.settle(rt, rt.alloc(), passes, taker)
+}
+
+/// A cut by the first sender and an end by the second are put, and taken in that order.
+fn pass_in_order<R: Wait>(
+    rt: &R,
+    ingress: &Ingress,
+    first: &mut PutPass,
+    second: &mut PutPass,
+    taker: &mut TakePass,
+) -> bool
+    requires put { PutsInto ingress.now first.old × PutsInto ingress.now second.old }
+    requires take { TakesFrom ingress.now taker.old }
+    ensures put { PutsInto ingress.now first.new × PutsInto ingress.now second.new }
+    ensures take { TakesFrom ingress.now taker.new }
+{
+    put_one(rt, ingress, first, true)
+        && put_one(rt, ingress, second, false)
+        && take_one(rt, ingress, taker, 0, true)
+        && take_one(rt, ingress, taker, 1, false)
+}
+
 #[test]
 fn frames_come_in_the_order_of_their_putting(rt: HostRuntime) {
-    let (ingress, passes, mut taker) = Ingress::open(&rt, rt.alloc(), 2, 2).expect(
-        &rt,
-        "no ingress",
-    );
-    let (mut first, mut second) = two_of(&ingress, passes).expect(&rt, "two passes");
-    assert!(rt; ingress.put(&rt, &mut first, Frame::Cut).is_ok());
-    assert!(rt; ingress.put(&rt, &mut second, Frame::End).is_ok());
-    let taken = ingress.take(&rt, &mut taker).expect(&rt, "a frame");
-    assert!(rt; taken.sender == 0 && taken.number == 0 && matches!(taken.frame, Frame::Cut));
-    let taken = ingress.take(&rt, &mut taker).expect(&rt, "a frame");
-    assert!(rt; taken.sender == 1 && taken.number == 0 && matches!(taken.frame, Frame::End));
-    let passes = Vec::from_array(rt.alloc(), [first, second]).expect(&rt, "memory");
-    let counts = ingress
-        .settle(&rt, rt.alloc(), passes, taker)
-        .expect(&rt, "settled");
-    assert_eq!(rt; counts.as_slice(), [1u64, 1].as_slice());
+    let (ingress, mut first, mut second, mut taker) = opened(&rt, 2).expect(&rt, "an ingress");
+    assert!(rt; pass_in_order(&rt, &ingress, &mut first, &mut second, &mut taker));
+    let counts = settled(&rt, ingress, first, second, taker).expect(&rt, "settled");
+    assert!(rt; counts.as_slice() == [1u64, 1].as_slice());
 }
 
 #[test]
 fn a_frame_left_is_unsettled(rt: HostRuntime) {
     let (ingress, mut first, second, taker) = opened(&rt, 2).expect(&rt, "an ingress");
-    assert!(rt; ingress.put(&rt, &mut first, Frame::Cut).is_ok());
-    let passes = Vec::from_array(rt.alloc(), [first, second]).expect(&rt, "memory");
-    let fault = ingress.settle(&rt, rt.alloc(), passes, taker).err();
-    assert_eq!(rt; fault, Some(SettleFault::Unsettled));
-    assert_eq!(rt; SettleFault::Unsettled.number(), 93);
+    assert!(rt; put_one(&rt, &ingress, &mut first, true));
+    let fault = settled(&rt, ingress, first, second, taker).err();
+    assert!(rt; fault == Some(SettleFault::Unsettled));
+}
+
+/// Why an ingress is unsettled where its second pass isn't given back.
+fn without_second<R: AllocGlobal + Abort + Wait>(
+    rt: &R,
+    ingress: Ingress,
+    first: PutPass,
+    taker: TakePass,
+) -> Option<SettleFault>
+    requires { PutsInto ingress first × TakesFrom ingress taker }
+{
+    let passes = Vec::from_array(rt.alloc(), [first]).expect(rt, "memory");
+    ingress.settle(rt, rt.alloc(), passes, taker).err()
 }
 
 #[test]
 fn a_missing_pass_is_unsettled(rt: HostRuntime) {
     let (ingress, first, _second, taker) = opened(&rt, 2).expect(&rt, "an ingress");
-    let passes = Vec::from_array(rt.alloc(), [first]).expect(&rt, "memory");
-    let fault = ingress.settle(&rt, rt.alloc(), passes, taker).err();
-    assert_eq!(rt; fault, Some(SettleFault::Unsettled));
+    let fault = without_second(&rt, ingress, first, taker);
+    assert!(rt; fault == Some(SettleFault::Unsettled));
+}
+
+/// Whether a put of an end is closed, and hands it back.
+fn is_closed<R: Wait>(rt: &R, ingress: &Ingress, mut pass: PutPass) -> bool
+    requires { PutsInto ingress.now pass }
+{
+    match ingress.put(rt, &mut pass, Frame::End) {
+        Ok(()) => false,
+        Err(closed) => closed.number() == 90 && matches!(closed.value, Frame::End),
+    }
 }
 
 #[test]
 fn a_put_without_a_taker_is_closed(rt: HostRuntime) {
-    let (ingress, mut first, _second, taker) = opened(&rt, 2).expect(&rt, "an ingress");
+    let (ingress, first, _second, taker) = opened(&rt, 2).expect(&rt, "an ingress");
     drop(taker);
-    let closed = ingress
-        .put(&rt, &mut first, Frame::End)
-        .err()
-        .expect(&rt, "closed");
-    assert!(rt; closed.number() == 90 && matches!(closed.value, Frame::End));
+    assert!(rt; is_closed(&rt, &ingress, first));
+}
+
+/// A capacity and a count of senders, and whether there is no such ingress.
+static PLANS: [(usize, usize, bool); 7] = [
+    (0, 1, true),
+    (65_537, 1, true),
+    (1, 0, true),
+    (1, 1_025, true),
+    (1, 1, false),
+    (65_536, 1, false),
+    (1, 1_024, false),
+];
+
+/// Why an ingress isn't opened, if it isn't.
+fn refusal_of<R: AllocGlobal + Wait>(rt: &R, capacity: usize, senders: usize) -> Option<OpenFault> {
+    Ingress::open(rt, rt.alloc(), capacity, senders).err()
+}
+
+/// The same, where memory that is refused once is asked for again.
+fn refusal_again<R: AllocGlobal + Wait>(
+    rt: &R,
+    capacity: usize,
+    senders: usize,
+) -> Option<OpenFault> {
+    match refusal_of(rt, capacity, senders) {
+        Some(OpenFault::NoMemory) => refusal_of(rt, capacity, senders),
+        answer => answer,
+    }
 }
 
 #[test]
 fn capacities_and_senders_have_bounds(rt: HostRuntime) {
-    for (capacity, senders) in [(0, 1), (65_537, 1), (1, 0), (1, 1_025)] {
-        let fault = Ingress::open(&rt, rt.alloc(), capacity, senders).err();
-        assert_eq!(rt;
-            fault,
-            Some(OpenFault::BadPlan),
-            "of {capacity} and {senders}"
-        );
-        assert_eq!(rt; OpenFault::BadPlan.number(), 92);
-    }
-    for (capacity, senders) in [(1, 1), (65_536, 1), (1, 1_024)] {
-        let mut opened = Ingress::open(&rt, rt.alloc(), capacity, senders);
-        if opened.is_err() {
-            opened = Ingress::open(&rt, rt.alloc(), capacity, senders);
-        }
-        assert!(rt; opened.is_ok(), "of {capacity} and {senders}");
+    for (capacity, senders, is_bad) in &PLANS {
+        let want = if *is_bad {
+            Some(OpenFault::BadPlan)
+        } else {
+            None
+        };
+        let refusal = refusal_again(&rt, *capacity, *senders);
+        assert!(rt; refusal == want, "of {capacity} and {senders}");
     }
 }
 
