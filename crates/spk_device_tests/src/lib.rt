@@ -9,4 +9,6 @@ mod devices;
 #[cfg(test)]
 mod names;
 #[cfg(test)]
+mod registers;
+#[cfg(test)]
 mod store;
