@@ -19,11 +19,7 @@ pub(crate) fn commanded(
 }
 
 /// A topic, a payload, and the values written, by their aliases, and whether a rebirth is asked; none for a BadCommand.
-type Row = (
-    &'static str,
-    &'static [u8],
-    Option<(&'static [(Alias, i64)], bool)>,
-);
+type Row = (&'static str, &'static [u8], Wanted);
 
 const NODE: &str = "spBv1.0/G/NCMD/N";
 
@@ -31,7 +27,7 @@ const DEVICE: &str = "spBv1.0/G/DCMD/N/D";
 
 const NO_REBIRTH: &[u8] = b"\x08\x09\x12\x1c\x0a\x14Node Control/Rebirth\x18\x09\x20\x0b\x70\x00";
 
-const ROWS: [Row; 20] = [
+static ROWS: [Row; 20] = [
     (NODE, REBIRTH, Some((&[], true))),
     (NODE, NO_REBIRTH, Some((&[], false))),
     (DEVICE, REBIRTH, None),
@@ -75,28 +71,42 @@ fn is_write(write: &Write, alias: Alias, number: i64) -> bool {
     is_number && write.alias == alias
 }
 
-/// The writes are these.
-fn assert_writes(rt: &impl Abort, writes: &[Write], want: &[(Alias, i64)]) {
-    assert_eq!(rt; writes.len(), want.len());
+/// Whether the writes are these.
+fn are_writes(writes: &[Write], want: &[(Alias, i64)]) -> bool {
     for (write, (alias, number)) in writes.iter().zip(want) {
-        assert!(rt; is_write(write, *alias, *number));
+        if !is_write(write, *alias, *number) {
+            return false;
+        }
+    }
+    writes.len() == want.len()
+}
+
+/// What a command comes to: the values written, and whether a rebirth is asked; none for a BadCommand.
+type Wanted = Option<(&'static [(Alias, i64)], bool)>;
+
+fn is_done(answer: &Result<Out, EdgeFault>, want: Wanted) -> bool {
+    match (answer, want) {
+        (Ok(out), Some((values, is_born_again))) => {
+            are_writes(&out.writes, values) && out.packets.is_empty() != is_born_again
+        }
+        (Err(fault), None) => *fault == EdgeFault::BadCommand,
+        _ => false,
     }
 }
 
+/// Whether a node opens a session and is accepted.
+pub(crate) fn joins(node: &mut impl Plays) -> bool {
+    refusal_of(node, 5, Call::Open).is_none() && refusal_of(node, 6, Call::Accepted).is_none()
+}
+
+fn is_commanded(node: &mut impl Plays, topic: &str, payload: &[u8], want: Wanted) -> bool {
+    is_done(&commanded(node, topic, payload), want)
+}
+
 pub(crate) fn does_commands(rt: &impl Abort, node: &mut impl Plays) {
-    assert_eq!(rt; refusal_of(node, 5, Call::Open), None);
-    assert_eq!(rt; refusal_of(node, 6, Call::Accepted), None);
-    for (topic, payload, want) in ROWS {
-        match (commanded(node, topic, payload), want) {
-            (Ok(out), Some((values, is_born_again))) => {
-                assert_writes(rt, &out.writes, values);
-                assert_eq!(rt; !out.packets.is_empty(), is_born_again, "{topic:?}");
-            }
-            (answer, want) => {
-                assert_eq!(rt; answer.err(), Some(EdgeFault::BadCommand), "{topic:?}");
-                assert!(rt; want.is_none(), "{topic:?}");
-            }
-        }
+    assert!(rt; joins(node));
+    for (topic, payload, want) in &ROWS {
+        assert!(rt; is_commanded(node, topic, payload, *want), "{topic:?}");
     }
 }
 

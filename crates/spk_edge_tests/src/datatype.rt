@@ -1,6 +1,6 @@
 //! Commands with a value of each datatype, as Sparkplug 3.0.0 (6.4.16) writes it in a payload.
-use crate::command::commanded;
-use crate::node::{Call, FIRST, PLAIN, Plays, config, refusal_of};
+use crate::command::{commanded, joins};
+use crate::node::{FIRST, PLAIN, Plays, config};
 use spk_device::{DeviceFault, Owner, Registry};
 use spk_edge::{EdgeFault, EdgeNode, Out, Write};
 use spk_payload::Value;
@@ -19,7 +19,7 @@ enum Plain {
 /// A datatype, a payload with one metric, the alias 1, and what is written; none for a BadCommand.
 type Row = (u32, &'static [u8], Option<Plain>);
 
-const ROWS: [Row; 34] = [
+static ROWS: [Row; 34] = [
     (
         1,
         b"\x12\x08\x10\x01P\xfb\xff\xff\xff\x0f",
@@ -117,7 +117,7 @@ fn is_plain(value: &Value, plain: Plain) -> bool {
 }
 
 /// Whose metric is written, and by which command.
-const TARGETS: [(Owner, &str); 2] = [
+static TARGETS: [(Owner, &str); 2] = [
     (Owner::Node, "spBv1.0/G/NCMD/N"),
     (Owner::Device(0), "spBv1.0/G/DCMD/N/D"),
 ];
@@ -202,35 +202,21 @@ fn is_answer(answer: Result<Out, EdgeFault>, plain: Option<Plain>) -> bool {
     }
 }
 
-/// A node that waits takes a command.
-fn takes(
-    rt: &impl Abort,
-    node: &mut impl Plays,
-    topic: &str,
-    payload: &[u8],
-) -> Result<Out, EdgeFault> {
-    assert_eq!(rt; refusal_of(node, 5, Call::Open), None);
-    assert_eq!(rt; refusal_of(node, 6, Call::Accepted), None);
-    commanded(node, topic, payload)
+/// Whether a node that waits answers a command so.
+fn takes(node: &mut impl Plays, topic: &str, (_, payload, plain): &Row) -> bool {
+    joins(node) && is_answer(commanded(node, topic, payload), *plain)
 }
 
-/// What a new node of one metric, once it waits, answers to a command.
-fn answer_of(
-    rt: &(impl Abort + AllocGlobal),
-    owner: Owner,
-    datatype: u32,
-    topic: &str,
-    payload: &[u8],
-) -> Result<Out, EdgeFault> {
-    takes(rt, &mut node(rt, owner, datatype), topic, payload)
+/// Whether a new node of one metric does.
+fn is_taken(rt: &(impl Abort + AllocGlobal), owner: Owner, topic: &str, row: &Row) -> bool {
+    takes(&mut node(rt, owner, row.0), topic, row)
 }
 
 #[test]
 fn a_value_of_each_datatype_is_written(rt: HostRuntime) {
-    for (owner, topic) in TARGETS {
-        for (datatype, payload, plain) in ROWS {
-            let answer = answer_of(&rt, owner, datatype, topic, payload);
-            assert!(rt; is_answer(answer, plain), "of {datatype}: {payload:?}");
+    for (owner, topic) in &TARGETS {
+        for row in &ROWS {
+            assert!(rt; is_taken(&rt, *owner, topic, row), "of {}", row.0);
         }
     }
 }

@@ -1,10 +1,11 @@
 //! A node with a primary host: STATE, kept changes, packets of the server, and the phases.
 use crate::node::{
-    CONNECT, Call, Kind, NBIRTH, NDEATH, PLAIN, Plays, Row, assert_answer, lost_by, phase_of, play,
-    play_on, refusal_of, told,
+    CONNECT, Call, Kind, NBIRTH, NDEATH, PLAIN, Plays, Row, is_told, lost_by, phase_of, play,
+    play_on, refusal_of,
 };
 use crate::which::Test;
 use spk_edge::{Act, EdgeFault, Phase, Plan, Published};
+use spk_payload::Metric;
 use spk_state::StateFault;
 use std::process::Abort;
 
@@ -73,7 +74,7 @@ static HISTORY: [Row; 11] = [
 
 pub(crate) fn sends_kept_changes(rt: &impl Abort, node: &mut impl Plays) {
     play(rt, node, &HISTORY);
-    assert_eq!(rt; lost_by(node), 2);
+    assert!(rt; lost_by(node) == 2);
 }
 
 #[test]
@@ -122,17 +123,15 @@ static STATES: [Row; 17] = [
 
 pub(crate) fn hears_its_host(rt: &impl Abort, node: &mut impl Plays) {
     play(rt, node, &STATES);
-    assert_eq!(rt; phase_of(node), Phase::Waiting);
+    assert!(rt; phase_of(node) == Phase::Waiting);
 }
 
 pub(crate) fn hears_no_host(rt: &impl Abort, node: &mut impl Plays) {
-    for (now, call) in [(5, Call::Open), (6, Call::Accepted)] {
-        assert_eq!(rt; refusal_of(node, now, call), None);
-    }
-    for payload in [OFFLINE, b"ONLINE"] {
-        assert_answer(rt, 7, told(node, 7, Call::State(payload)), &Ok(&[]));
-    }
-    assert_eq!(rt; phase_of(node), Phase::Born);
+    assert!(rt; refusal_of(node, 5, Call::Open).is_none());
+    assert!(rt; refusal_of(node, 6, Call::Accepted).is_none());
+    assert!(rt; is_told(node, 7, Call::State(OFFLINE), &Ok(&[])));
+    assert!(rt; is_told(node, 7, Call::State(b"ONLINE"), &Ok(&[])));
+    assert!(rt; phase_of(node) == Phase::Born);
 }
 
 #[test]
@@ -165,26 +164,44 @@ pub(crate) fn published(
     node.taken(plan)
 }
 
+fn are_historical(metrics: &[Metric]) -> bool {
+    for metric in metrics {
+        if metric.historical != Some(true) {
+            return false;
+        }
+    }
+    true
+}
+
+/// Whether a message is of the device, and how many metrics it has. One that isn't historical makes none of them count.
+fn counted(message: &Published) -> (bool, usize) {
+    let metrics = message.payload.metrics.as_slice();
+    let is_device = message.topic.as_str() == "spBv1.0/G/DDATA/N/D";
+    let count = if are_historical(metrics) {
+        metrics.len()
+    } else {
+        0
+    };
+    (is_device, count)
+}
+
 /// The device and how many metrics a message of a drain has. All of them are historical.
 fn drained(rt: &impl Abort, node: &mut impl Plays) -> Option<(bool, usize)> {
-    let messages = published(rt, node, 9, Act::Drain);
-    let message = messages.first()?;
-    for metric in &message.payload.metrics {
-        assert_eq!(rt; metric.historical, Some(true));
+    match published(rt, node, 9, Act::Drain).first() {
+        Some(message) => Some(counted(message)),
+        None => None,
     }
-    let is_device = message.topic.as_str() == "spBv1.0/G/DDATA/N/D";
-    Some((is_device, message.payload.metrics.len()))
 }
 
 /// Does calls that are all taken.
 pub(crate) fn done(rt: &impl Abort, node: &mut impl Plays, calls: &[Call]) {
     for call in calls {
-        assert_eq!(rt; refusal_of(node, 9, *call), None, "of {call:?}");
+        assert!(rt; refusal_of(node, 9, *call).is_none(), "of {call:?}");
     }
 }
 
 /// What five drains send, 32 changes of one owner at the most.
-const DRAINS: [Option<(bool, usize)>; 5] = [
+static DRAINS: [Option<(bool, usize)>; 5] = [
     Some((false, 32)),
     Some((false, 1)),
     Some((true, 2)),
@@ -205,10 +222,10 @@ pub(crate) fn sends_changes_of_one_owner(rt: &impl Abort, node: &mut impl Plays)
         Call::Accepted,
     ];
     done(rt, node, &rest);
-    for wanted in DRAINS {
-        assert_eq!(rt; drained(rt, node), wanted);
+    for wanted in &DRAINS {
+        assert!(rt; drained(rt, node) == *wanted);
     }
-    assert_eq!(rt; lost_by(node), 0);
+    assert!(rt; lost_by(node) == 0);
 }
 
 const STORING: Kind<'static> = Kind {
@@ -221,6 +238,9 @@ fn a_drain_sends_32_changes_of_one_owner(rt: HostRuntime) {
     play_on(&rt, STORING, Test::OneOwner);
 }
 
+/// What three drains send.
+static OF_A_DEVICE_DOWN: [Option<(bool, usize)>; 3] = [None, Some((false, 1)), None];
+
 pub(crate) fn drops_changes_of_a_device_that_is_down(rt: &impl Abort, node: &mut impl Plays) {
     let calls = [
         Call::Device(true),
@@ -232,9 +252,8 @@ pub(crate) fn drops_changes_of_a_device_that_is_down(rt: &impl Abort, node: &mut
         Call::Device(false),
     ];
     done(rt, node, &calls);
-    for (wanted, lost) in [(None, 2), (Some((false, 1)), 2), (None, 2)] {
-        assert_eq!(rt; drained(rt, node), wanted);
-        assert_eq!(rt; lost_by(node), lost);
+    for wanted in &OF_A_DEVICE_DOWN {
+        assert!(rt; drained(rt, node) == *wanted && lost_by(node) == 2);
     }
 }
 
@@ -291,8 +310,8 @@ pub(crate) fn assert_refused(
     fault: Option<EdgeFault>,
     late: EdgeFault,
 ) {
-    assert_eq!(rt; plan_refusal(node, 9, act), fault);
-    assert_eq!(rt; plan_refusal(node, 1 << 63, act), Some(late));
+    assert!(rt; plan_refusal(node, 9, act) == fault);
+    assert!(rt; plan_refusal(node, 1 << 63, act) == Some(late));
 }
 
 pub(crate) fn takes_acts_in_their_phases(rt: &impl Abort, node: &mut impl Plays) {
@@ -307,7 +326,7 @@ pub(crate) fn takes_acts_in_their_phases(rt: &impl Abort, node: &mut impl Plays)
             assert_refused(rt, node, act, fault, late);
         }
     }
-    assert_eq!(rt; phase_of(node), Phase::Born);
+    assert!(rt; phase_of(node) == Phase::Born);
 }
 
 #[test]

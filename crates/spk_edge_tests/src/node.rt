@@ -265,7 +265,7 @@ pub(crate) fn record_of(node: &impl Plays) -> Record {
 }
 
 /// A moment, a call, and the packets that it gives, or its refusal.
-pub(crate) type Row = (u64, Call, Result<&'static [&'static str], EdgeFault>);
+pub(crate) type Row = (u64, Call, Wanted);
 
 pub(crate) const CONNECT: &str =
     "103400044d515454040e003c0003472f4e001273704276312e302f472f4e44454154482f4e000f0805120b0a05626453657120045800";
@@ -328,52 +328,73 @@ static DEVICE: [Row; 10] = [
     (12, Call::Stop, Err(EdgeFault::WrongPhase)),
 ];
 
-/// An answer is this one: its packets, of which a DISCONNECT closes, and no writes; or its refusal.
-pub(crate) fn assert_answer(
-    rt: &impl Abort,
-    now: u64,
-    answer: Result<Out, EdgeFault>,
-    wanted: &Result<&'static [&'static str], EdgeFault>,
-) {
-    match (answer, wanted) {
-        (Ok(out), Ok(packets)) => {
-            assert_eq!(rt; out.packets.len(), packets.len(), "at {now}");
-            for (bytes, digits) in out.packets.iter().zip(*packets) {
-                assert!(rt; is_spelled(bytes, digits), "at {now}: {digits}");
-            }
-            let is_end = packets.last().is_some_and(|digits| *digits == "e000");
-            assert_eq!(rt; out.close, is_end, "at {now}");
-            assert!(rt; out.writes.is_empty(), "at {now}");
+fn are_spelled(packets: &[Vec<u8>], wanted: &[&str]) -> bool {
+    for (bytes, digits) in packets.iter().zip(wanted) {
+        if !is_spelled(bytes, digits) {
+            return false;
         }
-        (Err(fault), Err(named)) => assert_eq!(rt; fault, *named, "at {now}"),
-        _ => assert!(rt; false, "at {now}"),
+    }
+    packets.len() == wanted.len()
+}
+
+/// Whether the last of these packets is a DISCONNECT.
+fn is_end(wanted: &[&str]) -> bool {
+    match wanted.last() {
+        Some(digits) => *digits == "e000",
+        None => false,
+    }
+}
+
+fn is_out(out: &Out, wanted: &[&str]) -> bool {
+    are_spelled(&out.packets, wanted) && out.close == is_end(wanted) && out.writes.is_empty()
+}
+
+/// What a call gives: the digits of its packets, or its refusal.
+pub(crate) type Wanted = Result<&'static [&'static str], EdgeFault>;
+
+/// Whether an answer is this one: its packets, of which a DISCONNECT closes, and no writes; or its refusal.
+pub(crate) fn is_answer(answer: &Result<Out, EdgeFault>, wanted: &Wanted) -> bool {
+    match (answer, wanted) {
+        (Ok(out), Ok(packets)) => is_out(out, packets),
+        (Err(fault), Err(named)) => *fault == *named,
+        _ => false,
+    }
+}
+
+/// Whether a call is answered so.
+pub(crate) fn is_told(node: &mut impl Plays, now: u64, call: Call, wanted: &Wanted) -> bool {
+    is_answer(&told(node, now, call), wanted)
+}
+
+/// Whether a call is taken, and gives no packets.
+pub(crate) fn is_quiet(node: &mut impl Plays, now: u64, call: Call) -> bool {
+    match told(node, now, call) {
+        Ok(out) => out.packets.is_empty(),
+        Err(_) => false,
     }
 }
 
 /// Plays rows on a node.
 pub(crate) fn play(rt: &impl Abort, node: &mut impl Plays, rows: &[Row]) {
     for (now, call, wanted) in rows {
-        assert_answer(rt, *now, told(node, *now, *call), wanted);
+        assert!(rt; is_told(node, *now, *call, wanted), "at {now}");
     }
 }
 
+/// What a node that was born twice, and lost its connection, goes on with.
+const THREE: Record = Record {
+    seq: 3,
+    bd: 1,
+    stamp: Some(8),
+};
+
 pub(crate) fn is_born_twice(rt: &impl Abort, node: &mut impl Plays) {
-    assert_eq!(rt; phase_of(node), Phase::Idle);
+    assert!(rt; phase_of(node) == Phase::Idle);
     play(rt, node, &BORN_AGAIN);
-    assert_eq!(rt; phase_of(node), Phase::Born);
+    assert!(rt; phase_of(node) == Phase::Born);
     node.lose_connection();
-    assert_eq!(rt; phase_of(node), Phase::Idle);
-    let record = Record {
-        seq: 3,
-        bd: 1,
-        stamp: Some(8),
-    };
-    assert_eq!(rt; record_of(node), record);
-    assert_eq!(rt;
-        refusal_of(node, 9, Call::Stop),
-        Some(EdgeFault::WrongPhase)
-    );
-    assert_eq!(rt; lost_by(node), 0);
+    assert!(rt; node.stands() == (Phase::Idle, 0, THREE));
+    assert!(rt; refusal_of(node, 9, Call::Stop) == Some(EdgeFault::WrongPhase));
 }
 
 #[test]
@@ -383,7 +404,7 @@ fn a_node_is_born_twice(rt: HostRuntime) {
 
 pub(crate) fn has_a_device_that_comes_and_goes(rt: &impl Abort, node: &mut impl Plays) {
     play(rt, node, &DEVICE);
-    assert_eq!(rt; phase_of(node), Phase::Idle);
+    assert!(rt; phase_of(node) == Phase::Idle);
 }
 
 #[test]
@@ -393,11 +414,9 @@ fn a_device_comes_and_goes(rt: HostRuntime) {
 
 pub(crate) fn overwrites_kept_changes(rt: &impl Abort, node: &mut impl Plays) {
     for value in 10..15 {
-        let out = told(node, 3, Call::Change(1, value));
-        assert!(rt; out.is_ok_and(|out| out.packets.is_empty()));
+        assert!(rt; is_quiet(node, 3, Call::Change(1, value)));
     }
-    assert_eq!(rt; lost_by(node), 2);
-    assert_eq!(rt; record_of(node).seq, 0);
+    assert!(rt; lost_by(node) == 2 && record_of(node).seq == 0);
 }
 
 #[test]
@@ -409,8 +428,13 @@ fn kept_changes_are_overwritten(rt: HostRuntime) {
     play_on(&rt, kind, Test::Overwrites);
 }
 
+/// Why there is no such node, if there is none.
+fn no_node(rt: &(impl Abort + AllocGlobal), kind: Kind<'_>) -> Option<EdgeFault> {
+    made(rt, kind).err()
+}
+
 /// Groups and counts of changes that no node may have.
-const BAD: [(&str, usize); 7] = [
+static BAD: [(&str, usize); 7] = [
     ("", 3),
     ("a/b", 3),
     ("a+", 3),
@@ -422,15 +446,15 @@ const BAD: [(&str, usize); 7] = [
 
 #[test]
 fn a_bad_configuration_is_refused(rt: HostRuntime) {
-    for (group, capacity) in BAD {
+    for (group, capacity) in &BAD {
         let kind = Kind {
             group,
-            capacity,
+            capacity: *capacity,
             ..PLAIN
         };
-        assert_eq!(rt;
-            made(&rt, kind).err(),
-            Some(EdgeFault::BadConfig),
+        let refusal = no_node(&rt, kind);
+        assert!(rt;
+            refusal == Some(EdgeFault::BadConfig),
             "of {group:?} and {capacity}"
         );
     }

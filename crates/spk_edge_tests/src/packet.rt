@@ -1,8 +1,8 @@
 //! What packets of the server come to, as bytes of MQTT 3.1.1.
 use crate::host::{BAD, HOSTED, SUBSCRIBE, letters};
 use crate::node::{
-    CONNECT, Call, FIRST, Kind, NBIRTH, PLAIN, Plays, assert_answer, phase_of, play_on, record_of,
-    told,
+    CONNECT, Call, FIRST, Kind, NBIRTH, PLAIN, Plays, Wanted, is_answer, is_told, phase_of,
+    play_on, record_of,
 };
 use crate::which::Test;
 use spk_edge::{EdgeFault, Out, Phase};
@@ -36,11 +36,7 @@ fn answered(
 }
 
 /// A moment, a packet, and the packets that it gives, or its refusal.
-type Row = (
-    u64,
-    &'static [u8],
-    Result<&'static [&'static str], EdgeFault>,
-);
+type Row = (u64, &'static [u8], Wanted);
 
 static ROWS: [Row; 11] = [
     // a PUBLISH of QoS 1 before the births
@@ -88,12 +84,22 @@ static ROWS: [Row; 11] = [
     (8, b"\x20\x02\x00\x00", Err(EdgeFault::WrongPhase)),
 ];
 
+fn is_answered(
+    rt: &(impl Abort + AllocGlobal),
+    node: &mut impl Plays,
+    now: u64,
+    bytes: &[u8],
+    wanted: &Wanted,
+) -> bool {
+    is_answer(&answered(rt, node, now, bytes), wanted)
+}
+
 pub(crate) fn takes_packets(rt: &(impl Abort + AllocGlobal), node: &mut impl Plays) {
-    assert_answer(rt, 5, told(node, 5, Call::Open), &Ok(&[CONNECT]));
-    for (now, bytes, wanted) in ROWS {
-        assert_answer(rt, now, answered(rt, node, now, bytes), &wanted);
+    assert!(rt; is_told(node, 5, Call::Open, &Ok(&[CONNECT])));
+    for (now, bytes, wanted) in &ROWS {
+        assert!(rt; is_answered(rt, node, *now, bytes, wanted), "at {now}");
     }
-    assert_eq!(rt; phase_of(node), Phase::Born);
+    assert!(rt; phase_of(node) == Phase::Born);
 }
 
 #[test]
@@ -101,12 +107,18 @@ fn a_packet_is_a_call_and_what_is_done_is_acknowledged_first(rt: HostRuntime) {
     play_on(&rt, HOSTED, Test::Packets);
 }
 
+/// Whether an answer closes, and nothing else.
+fn is_closed(answer: &Result<Out, EdgeFault>) -> bool {
+    match answer {
+        Ok(out) => out.close && out.packets.is_empty() && out.writes.is_empty(),
+        Err(_) => false,
+    }
+}
+
 pub(crate) fn closes_if_not_accepted(rt: &(impl Abort + AllocGlobal), node: &mut impl Plays) {
-    assert_answer(rt, 5, told(node, 5, Call::Open), &Ok(&[CONNECT]));
-    let out = answered(rt, node, 6, b"\x20\x02\x00\x05").expect(rt, "it is taken");
-    assert!(rt; out.close && out.packets.is_empty() && out.writes.is_empty());
-    assert_eq!(rt; phase_of(node), Phase::Idle);
-    assert_eq!(rt; record_of(node).bd, 1);
+    assert!(rt; is_told(node, 5, Call::Open, &Ok(&[CONNECT])));
+    assert!(rt; is_closed(&answered(rt, node, 6, b"\x20\x02\x00\x05")));
+    assert!(rt; phase_of(node) == Phase::Idle && record_of(node).bd == 1);
 }
 
 #[test]
@@ -115,10 +127,8 @@ fn a_node_that_is_not_accepted_closes(rt: HostRuntime) {
 }
 
 pub(crate) fn has_a_name_too_long(rt: &impl Abort, node: &mut impl Plays) {
-    let answer = told(node, 5, Call::Open);
-    assert_answer(rt, 5, answer, &Err(EdgeFault::TooLarge));
-    assert_eq!(rt; phase_of(node), Phase::Idle);
-    assert_eq!(rt; record_of(node), FIRST);
+    assert!(rt; is_told(node, 5, Call::Open, &Err(EdgeFault::TooLarge)));
+    assert!(rt; phase_of(node) == Phase::Idle && record_of(node) == FIRST);
 }
 
 #[test]

@@ -57,7 +57,7 @@ pub(crate) fn refuses_in_each_phase(rt: &impl Abort, node: &mut impl Plays) {
             assert_refused(rt, node, act, Some(fault), late);
         }
     }
-    assert_eq!(rt; phase_of(node), Phase::Born);
+    assert!(rt; phase_of(node) == Phase::Born);
 }
 
 #[test]
@@ -71,16 +71,15 @@ const LAST: u64 = (1 << 63) - 1;
 pub(crate) fn waits_behind_the_last_stamp(rt: &impl Abort, node: &mut impl Plays) {
     done(rt, node, &[Call::Open, Call::Accepted]);
     let online = plan_refusal(node, 9, Act::State(ONLINE));
-    assert_eq!(rt; online, Some(EdgeFault::ClockEnd));
-    assert_eq!(rt; phase_of(node), Phase::Waiting);
+    assert!(rt; online == Some(EdgeFault::ClockEnd) && phase_of(node) == Phase::Waiting);
 }
 
 pub(crate) fn is_not_born_again(rt: &impl Abort, node: &mut impl Plays) {
     done(rt, node, &[Call::Open, Call::Accepted, Call::State(ONLINE)]);
     let again = Act::Command("spBv1.0/G/NCMD/N", crate::node::REBIRTH);
-    assert_eq!(rt; plan_refusal(node, 9, again), Some(EdgeFault::ClockEnd));
+    assert!(rt; plan_refusal(node, 9, again) == Some(EdgeFault::ClockEnd));
     // other messages may repeat the last stamp
-    assert_eq!(rt; plan_refusal(node, 9, Act::Device("D", true)), None);
+    assert!(rt; plan_refusal(node, 9, Act::Device("D", true)).is_none());
 }
 
 #[test]
@@ -106,8 +105,8 @@ fn is_too_large(
     phase: Phase,
 ) {
     done(rt, node, calls);
-    assert_eq!(rt; plan_refusal(node, 9, act), Some(EdgeFault::TooLarge));
-    assert_eq!(rt; phase_of(node), phase);
+    assert!(rt; plan_refusal(node, 9, act) == Some(EdgeFault::TooLarge));
+    assert!(rt; phase_of(node) == phase);
 }
 
 /// A device of a name goes up.

@@ -212,15 +212,12 @@ fn call_of(pick: u64) -> Call {
     }
 }
 
-/// A node's answer is the story's.
-fn assert_told(rt: &impl Abort, told: Result<Out, EdgeFault>, wanted: Answer, call: Call) {
+/// Whether a node's answer is the story's.
+fn is_told(told: &Result<Out, EdgeFault>, wanted: Answer) -> bool {
     match (told, wanted) {
-        (Ok(out), Some((count, close))) => {
-            assert_eq!(rt; out.packets.len(), count, "of {call:?}");
-            assert_eq!(rt; out.close, close, "of {call:?}");
-        }
-        (Err(fault), None) => assert_eq!(rt; fault, EdgeFault::WrongPhase, "of {call:?}"),
-        _ => assert!(rt; false, "of {call:?}"),
+        (Ok(out), Some((count, close))) => out.packets.len() == count && out.close == close,
+        (Err(fault), None) => *fault == EdgeFault::WrongPhase,
+        _ => false,
     }
 }
 
@@ -241,8 +238,8 @@ fn assert_stands(rt: &impl Abort, node: &impl Plays, story: &Story) {
 fn play(rt: &impl Abort, node: &mut impl Plays, story: &mut Story, turn: u64, pick: u64) {
     let now = turn.saturating_sub(pick % 7);
     let call = call_of(pick);
-    let answer = told(node, now, call);
-    assert_told(rt, answer, expected(story, now, call), call);
+    let wanted = expected(story, now, call);
+    assert!(rt; is_told(&told(node, now, call), wanted), "of {call:?}");
     if pick % 41 == 0 {
         node.lose_connection();
         story.phase = Phase::Idle;
