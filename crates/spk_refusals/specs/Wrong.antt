@@ -7,6 +7,8 @@ use Rattle.spk_edge.specs.declared.message.Out.{Out}
 use Rattle.spk_payload.specs.declared.fault.PayloadFault.{PayloadFault}
 use Rattle.spk_payload.specs.declared.payload.Payload.{Payload}
 use Rattle.spk_payload.specs.Meaning.{MetricData}
+use Rattle.spk_world.specs.declared.event.Event.{Event}
+use Rattle.spk_world.specs.declared.event.Event.TheVariants.{Hand, Death, Tick, Session}
 
 -- refused with this, there alone
 abbrev pub refused_where : {A E : Type 0} → Bool → E → Result A E → Result A E
@@ -66,3 +68,18 @@ IsBytesAlone (Ok a) (Ok b) =
 IsBytesAlone (Ok a) (Err e) = ⊥
 IsBytesAlone (Err e) (Ok b) = ⊥
 IsBytesAlone (Err e) (Err f) = e ≡ f
+
+-- ---- the world
+
+-- an event that comes to a node
+abbrev pub is_act : Event → Bool
+is_act (Hand host node position now) = false
+is_act (Death host node session now) = false
+is_act (Tick host now) = false
+is_act (Session host now) = false
+is_act _ = true
+
+-- a message is handed to a host
+abbrev pub is_hand : Event → Bool
+is_hand (Hand host node position now) = true
+is_hand _ = false

@@ -166,18 +166,24 @@ fn kept_change_takes_number(
 }
 
 fn spend_number(alloc: Global, node: &mut EdgeNode) {
-    let Ok(config) = copied(alloc, node.config()) else {
-        return;
-    };
+    if let Ok(other) = further(alloc, node) {
+        take_cut(node, &other);
+    }
+}
+
+/// Another node, without metrics, whose record is one number further.
+fn further(alloc: Global, node: &EdgeNode) -> Result<EdgeNode, EdgeFault> {
     let record = node.record();
     let start = Record {
         seq: record.seq.wrapping_add(1),
         bd: record.bd,
         stamp: record.stamp,
     };
-    let Ok(other) = EdgeNode::new(alloc, config, start, Registry::new(alloc)) else {
-        return;
-    };
+    let config = copied(alloc, node.config())?;
+    EdgeNode::new(alloc, config, start, Registry::new(alloc))
+}
+
+fn take_cut(node: &mut EdgeNode, other: &EdgeNode) {
     if let Ok(plan) = other.plan(Input {
         now: 0,
         ack: None,

@@ -6,3 +6,4 @@ pub mod edge;
 pub mod packets;
 pub mod payload;
 pub mod view;
+pub mod world;
