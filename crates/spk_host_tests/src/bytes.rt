@@ -37,6 +37,29 @@ fn put_two(bytes: &mut Vec<u8>, number: usize) -> Result<(), AllocError> {
     Ok(())
 }
 
+/// What stands behind the length of a PUBLISH.
+fn put_body(
+    body: &mut Vec<u8>,
+    topic: &str,
+    id: Option<u16>,
+    payload: &[u8],
+) -> Result<(), AllocError> {
+    put_two(body, topic.len())?;
+    body.extend_from_slice(topic.as_bytes())?;
+    if let Some(id) = id {
+        put_two(body, usize::from(id))?;
+    }
+    body.extend_from_slice(payload)?;
+    Ok(())
+}
+
+/// These bytes as one part.
+fn part_of(alloc: Global, tag: u8, part: &[u8]) -> Result<Vec<u8>, AllocError> {
+    let mut bytes = Vec::new(alloc);
+    put_part(&mut bytes, tag, part)?;
+    Ok(bytes)
+}
+
 /// A PUBLISH: at QoS 0, or at QoS 1 and retained under an identifier.
 pub(crate) fn publish(
     alloc: Global,
@@ -45,17 +68,10 @@ pub(crate) fn publish(
     payload: &[u8],
 ) -> Result<Vec<u8>, AllocError> {
     let mut body = Vec::new(alloc);
-    put_two(&mut body, topic.len())?;
-    body.extend_from_slice(topic.as_bytes())?;
-    if let Some(id) = id {
-        put_two(&mut body, usize::from(id))?;
-    }
-    body.extend_from_slice(payload)?;
-    let mut packet = Vec::new(alloc);
-    put_part(
-        &mut packet,
+    put_body(&mut body, topic, id, payload)?;
+    part_of(
+        alloc,
         if id.is_some() { 0x33 } else { 0x30 },
         body.as_slice(),
-    )?;
-    Ok(packet)
+    )
 }

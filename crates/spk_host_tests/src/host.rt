@@ -15,7 +15,7 @@ const REQUEST: &[u8] =
 /// A packet, its moment, how many packets answer it, and the first of them.
 type Said = (&'static [u8], u64, usize, &'static [u8]);
 
-const SAID: [Said; 5] = [
+static SAID: [Said; 5] = [
     // CONNACK, SUBACK
     (
         b"\x20\x02\x00\x00",
@@ -41,18 +41,41 @@ const SAID: [Said; 5] = [
     ),
 ];
 
-fn answers_what_it_hears(rt: &impl Abort, host: &mut impl Asks) {
-    for (bytes, now, count, first) in SAID {
-        let out = told(host, bytes, now).expect(rt, "an answer");
-        assert_eq!(rt; out.packets.len(), count);
-        if let Some(packet) = out.packets.get(0) {
-            assert_eq!(rt; packet.as_slice(), first);
+/// Whether so many packets answer, and this is the first of them.
+fn is_said(host: &mut impl Asks, (bytes, now, count, first): &Said) -> bool {
+    match told(host, bytes, *now) {
+        Ok(out) => {
+            out.packets.len() == *count
+                && out
+                    .packets
+                    .first()
+                    .is_none_or(|packet| packet.as_slice() == *first)
         }
+        Err(_) => false,
     }
-    let out = ticked(host, 10).expect(rt, "an answer");
-    assert_eq!(rt; out.packets.len(), 0);
-    let farewell = stopped(host, 11).expect(rt, "an answer");
-    assert_eq!(rt; farewell.packets.len(), 2);
+}
+
+/// How many packets answer a moment.
+fn count_at(host: &mut impl Asks, now: u64) -> Option<usize> {
+    match ticked(host, now) {
+        Ok(out) => Some(out.packets.len()),
+        Err(_) => None,
+    }
+}
+
+/// How many packets end a session.
+fn farewells_at(host: &mut impl Asks, now: u64) -> Option<usize> {
+    match stopped(host, now) {
+        Ok(out) => Some(out.packets.len()),
+        Err(_) => None,
+    }
+}
+
+fn answers_what_it_hears(rt: &impl Abort, host: &mut impl Asks) {
+    for said in &SAID {
+        assert!(rt; is_said(host, said), "at {}", said.1);
+    }
+    assert!(rt; count_at(host, 10) == Some(0) && farewells_at(host, 11) == Some(2));
 }
 
 #[test]
@@ -64,7 +87,7 @@ fn a_session_answers_what_it_hears(rt: HostRuntime) {
 type Row = (&'static [u8], Step, usize);
 
 /// NBIRTH (timestamp 100, seq, bdSeq 0) and NDATA of node N in the groups G and F, one after the other.
-const TWO_NODES: [Row; 6] = [
+static TWO_NODES: [Row; 6] = [
     (
         b"0%\x00\x12spBv1.0/G/NBIRTH/N\x08d\x12\x0b\x0a\x05bdSeq \x08X\x00\x18\x00",
         Step::Consumed(1),
@@ -97,15 +120,26 @@ const TWO_NODES: [Row; 6] = [
     ),
 ];
 
-fn keeps_two_orders(rt: &impl Abort, host: &mut impl Asks) {
-    for (bytes, step, consumed) in TWO_NODES {
-        let out = told(host, bytes, 20).expect(rt, "an answer");
-        assert_eq!(rt; out.steps.as_slice(), [step].as_slice());
-        assert_eq!(rt; out.consumed.len(), consumed);
+fn is_stepped(host: &mut impl Asks, (bytes, step, consumed): &Row) -> bool {
+    match told(host, bytes, 20) {
+        Ok(out) => { out.steps.as_slice() == [*step].as_slice() && out.consumed.len() == *consumed }
+        Err(_) => false,
     }
-    let out = ticked(host, 70).expect(rt, "an answer");
-    assert_eq!(rt; out.steps.as_slice(), [Step::Gap].as_slice());
-    assert_eq!(rt; host.phase_of("F", "N"), Phase::Gap);
+}
+
+/// Whether there is one gap at a moment.
+fn is_gap_at(host: &mut impl Asks, now: u64) -> bool {
+    match ticked(host, now) {
+        Ok(out) => out.steps.as_slice() == [Step::Gap].as_slice(),
+        Err(_) => false,
+    }
+}
+
+fn keeps_two_orders(rt: &impl Abort, host: &mut impl Asks) {
+    for (place, row) in TWO_NODES.iter().enumerate() {
+        assert!(rt; is_stepped(host, row), "{place}");
+    }
+    assert!(rt; is_gap_at(host, 70) && host.phase_of("F", "N") == Phase::Gap);
 }
 
 #[test]
@@ -114,7 +148,7 @@ fn nodes_of_two_groups_have_their_own_orders(rt: HostRuntime) {
 }
 
 /// Bytes that are refused.
-const REFUSED: [(&[u8], HostFault, u32); 6] = [
+static REFUSED: [(&[u8], HostFault, u32); 6] = [
     (b"\xd0\x00\xd0\x00", HostFault::BadPayload, 71),
     (
         b"0\x09\x00\x03a/b\x08\x07\x18\x01",
@@ -143,13 +177,20 @@ const REFUSED: [(&[u8], HostFault, u32); 6] = [
     ),
 ];
 
-fn refuses(rt: &impl Abort, host: &mut impl Asks) {
-    for (bytes, fault, number) in REFUSED {
-        assert_eq!(rt; refusal_of(host, bytes, 1), Some(fault));
-        assert_eq!(rt; fault.number(), number);
+/// Whether a session begins anew with one packet.
+fn begins_anew(host: &mut impl Asks) -> bool {
+    match renewed(host, 2) {
+        Ok(out) => out.packets.len() == 1,
+        Err(_) => false,
     }
-    let out = renewed(host, 2).expect(rt, "an answer");
-    assert_eq!(rt; out.packets.len(), 1);
+}
+
+fn refuses(rt: &impl Abort, host: &mut impl Asks) {
+    for (bytes, fault, number) in &REFUSED {
+        let is_so = refusal_of(host, bytes, 1) == Some(*fault) && fault.number() == *number;
+        assert!(rt; is_so, "{bytes:?}");
+    }
+    assert!(rt; begins_anew(host));
     host.tell_ended();
 }
 

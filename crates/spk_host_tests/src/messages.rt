@@ -21,15 +21,25 @@ fn put_metric(
     number: u64,
 ) -> Result<(), AllocError> {
     let mut metric = Vec::new(alloc);
+    put_fields(&mut metric, name, alias, number)?;
+    put_part(bytes, 0x12, metric.as_slice())
+}
+
+/// The fields of such a metric.
+fn put_fields(
+    metric: &mut Vec<u8>,
+    name: &[u8],
+    alias: Option<u64>,
+    number: u64,
+) -> Result<(), AllocError> {
     if !name.is_empty() {
-        put_part(&mut metric, 0x0a, name)?;
+        put_part(metric, 0x0a, name)?;
     }
     if let Some(alias) = alias {
-        put_field(&mut metric, 0x10, alias)?;
+        put_field(metric, 0x10, alias)?;
     }
-    put_field(&mut metric, 0x20, 7)?;
-    put_field(&mut metric, 0x50, number)?;
-    put_part(bytes, 0x12, metric.as_slice())
+    put_field(metric, 0x20, 7)?;
+    put_field(metric, 0x50, number)
 }
 
 /// What a message's payload has behind its timestamp, and before its position.
@@ -65,13 +75,23 @@ fn payload_of(
     number: u64,
 ) -> Result<Vec<u8>, AllocError> {
     let mut bytes = Vec::new(alloc);
-    if let Some(stamp) = sent.stamp {
-        put_field(&mut bytes, 0x08, stamp)?;
-    }
-    put_metrics(alloc, &mut bytes, sent)?;
-    put_metric(alloc, &mut bytes, b"position", None, position)?;
-    put_field(&mut bytes, 0x18, number)?;
+    put_payload(alloc, &mut bytes, position, sent, number)?;
     Ok(bytes)
+}
+
+fn put_payload(
+    alloc: Global,
+    bytes: &mut Vec<u8>,
+    position: u64,
+    sent: Sent,
+    number: u64,
+) -> Result<(), AllocError> {
+    if let Some(stamp) = sent.stamp {
+        put_field(bytes, 0x08, stamp)?;
+    }
+    put_metrics(alloc, bytes, sent)?;
+    put_metric(alloc, bytes, b"position", None, position)?;
+    put_field(bytes, 0x18, number)
 }
 
 fn topic_of(alloc: Global, node: Node, about: About) -> Result<String, AllocError> {
@@ -111,14 +131,29 @@ pub(crate) fn death_of(alloc: Global, node: Node, session: u64) -> Result<Vec<u8
 /// A rebirth request to a node.
 pub(crate) fn request_to(alloc: Global, node: Node, now: u64) -> Result<Vec<u8>, AllocError> {
     let (group, name, _restarts, _first) = node;
-    let mut metric = Vec::new(alloc);
-    put_part(&mut metric, 0x0a, b"Node Control/Rebirth")?;
-    put_field(&mut metric, 0x18, now)?;
-    put_field(&mut metric, 0x20, 11)?;
-    put_field(&mut metric, 0x70, 1)?;
-    let mut payload = Vec::new(alloc);
-    put_field(&mut payload, 0x08, now)?;
-    put_part(&mut payload, 0x12, metric.as_slice())?;
+    let payload = rebirth(alloc, now)?;
     let topic = format!(in alloc; "spBv1.0/{group}/NCMD/{name}")?;
     publish(alloc, topic.as_str(), None, payload.as_slice())
+}
+
+/// The payload of a rebirth request.
+fn rebirth(alloc: Global, now: u64) -> Result<Vec<u8>, AllocError> {
+    let mut payload = Vec::new(alloc);
+    put_rebirth(alloc, &mut payload, now)?;
+    Ok(payload)
+}
+
+fn put_rebirth(alloc: Global, payload: &mut Vec<u8>, now: u64) -> Result<(), AllocError> {
+    let mut metric = Vec::new(alloc);
+    put_control(&mut metric, now)?;
+    put_field(payload, 0x08, now)?;
+    put_part(payload, 0x12, metric.as_slice())
+}
+
+/// The metric `Node Control/Rebirth`, true.
+fn put_control(metric: &mut Vec<u8>, now: u64) -> Result<(), AllocError> {
+    put_part(metric, 0x0a, b"Node Control/Rebirth")?;
+    put_field(metric, 0x18, now)?;
+    put_field(metric, 0x20, 11)?;
+    put_field(metric, 0x70, 1)
 }

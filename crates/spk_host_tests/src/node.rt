@@ -24,33 +24,62 @@ fn metric(alloc: Global, is_birth: bool, alias: u64, value: u32) -> Result<Metri
     })
 }
 
-/// NBIRTH under a number, with bdSeq 4 and a timestamp; or NDATA.
-fn message(
+/// Puts such a metric into a list.
+fn put(
     alloc: Global,
-    number: u8,
-    birth: Option<u64>,
+    metrics: &mut Vec<Metric>,
+    is_birth: bool,
     alias: u64,
     value: u32,
-) -> Result<Numbered, AllocError> {
+) -> Result<(), AllocError> {
+    metrics.push(metric(alloc, is_birth, alias, value)?)?;
+    Ok(())
+}
+
+/// A list of one such metric.
+fn metrics(
+    alloc: Global,
+    is_birth: bool,
+    alias: u64,
+    value: u32,
+) -> Result<Vec<Metric>, AllocError> {
     let mut metrics = Vec::with_capacity(alloc, 1)?;
-    metrics.push(metric(alloc, birth.is_some(), alias, value)?)?;
-    let (subject, kind) = match birth {
+    put(alloc, &mut metrics, is_birth, alias, value)?;
+    Ok(metrics)
+}
+
+/// What a message is about, and what the order asks of it: NBIRTH with bdSeq 4 and a timestamp, or NDATA.
+fn about(birth: Option<u64>) -> (Subject, Kind) {
+    match birth {
         Some(stamp) => (Subject::NodeBirth, Kind::Birth { stamp, bd: 4 }),
         None => (Subject::NodeData, Kind::Other { stamp: None }),
-    };
-    Ok(Numbered {
-        group: String::from_str(alloc, "G")?,
-        node: String::from_str(alloc, "N")?,
-        subject,
-        number,
-        kind,
-        topic: String::new(alloc),
-        payload: Payload {
-            timestamp: birth,
-            metrics,
-            seq: Some(u64::from(number)),
-        },
-    })
+    }
+}
+
+/// NBIRTH under a number, with bdSeq 4 and a timestamp; or NDATA. None where memory is refused.
+fn message(alloc: Global, told: Told) -> Option<Numbered> {
+    let (number, birth, alias, value) = told;
+    let (subject, kind) = about(birth);
+    match (
+        String::from_str(alloc, "G"),
+        String::from_str(alloc, "N"),
+        metrics(alloc, birth.is_some(), alias, value),
+    ) {
+        (Ok(group), Ok(node), Ok(metrics)) => Some(Numbered {
+            group,
+            node,
+            subject,
+            number,
+            kind,
+            topic: String::new(alloc),
+            payload: Payload {
+                timestamp: birth,
+                metrics,
+                seq: Some(u64::from(number)),
+            },
+        }),
+        _ => None,
+    }
 }
 
 /// What the tests ask of a node. They are written over any that answers it, since a function over a type parameter is proved
@@ -95,35 +124,36 @@ fn fresh(rt: &(impl Abort + AllocGlobal)) -> HostNode {
 /// A number, an NBIRTH's timestamp, an alias and a value.
 type Told = (u8, Option<u64>, u64, u32);
 
-/// A message is made and handed in: its step, how many are consumed, how many rebirths are asked for.
-fn hand_one(
-    alloc: Global,
-    node: &mut impl Follows,
-    told: Told,
-    now: u64,
-) -> Result<(Step, usize, usize), AllocError> {
-    let (number, birth, alias, value) = told;
-    let handed = node.hand_in(message(alloc, number, birth, alias, value)?, now)?;
-    Ok((handed.step, handed.consumed.len(), handed.requests))
+/// What comes of a message: its step, how many are consumed, how many rebirths are asked for.
+type Came = (Step, usize, usize);
+
+fn hand_over(node: &mut impl Follows, message: Numbered, now: u64) -> Option<Came> {
+    match node.hand_in(message, now) {
+        Ok(handed) => Some((handed.step, handed.consumed.len(), handed.requests)),
+        Err(_) => None,
+    }
+}
+
+/// A message is made and handed in. None where memory is refused.
+fn hand_one(alloc: Global, node: &mut impl Follows, told: Told, now: u64) -> Option<Came> {
+    match message(alloc, told) {
+        Some(message) => hand_over(node, message, now),
+        None => None,
+    }
 }
 
 /// The same. Where memory was refused it is handed in again.
-fn hand(
-    rt: &(impl Abort + AllocGlobal),
-    node: &mut impl Follows,
-    told: Told,
-    now: u64,
-) -> (Step, usize, usize) {
+fn hand(rt: &(impl Abort + AllocGlobal), node: &mut impl Follows, told: Told, now: u64) -> Came {
     match hand_one(rt.alloc(), node, told, now) {
-        Ok(handed) => handed,
-        Err(_) => hand_one(rt.alloc(), node, told, now).expect(rt, "memory is there again"),
+        Some(came) => came,
+        None => hand_one(rt.alloc(), node, told, now).expect(rt, "memory is there again"),
     }
 }
 
 /// A number, an NBIRTH's timestamp, an alias, a moment; the step, how many are consumed, how many rebirths are asked for.
 type Row = (u8, Option<u64>, u64, u64, Step, usize, usize);
 
-const ROWS: [Row; 8] = [
+static ROWS: [Row; 8] = [
     // before a birth, and again within the wait
     (3, None, 1, 9, Step::NotLive, 0, 1),
     (4, None, 1, 10, Step::NotLive, 0, 0),
@@ -139,15 +169,12 @@ const ROWS: [Row; 8] = [
 ];
 
 fn is_followed(rt: &(impl Abort + AllocGlobal), node: &mut impl Follows) {
-    for (number, birth, alias, now, step, consumed, requests) in ROWS {
-        let told = (number, birth, alias, u32::from(number));
-        assert_eq!(rt;
-            hand(rt, node, told, now),
-            (step, consumed, requests),
-            "{now}"
-        );
+    for (number, birth, alias, now, step, consumed, requests) in &ROWS {
+        let told = (*number, *birth, *alias, u32::from(*number));
+        let came = hand(rt, node, told, *now);
+        assert!(rt; came == (*step, *consumed, *requests), "{now}");
     }
-    assert_eq!(rt; node.stands(), Phase::Gap);
+    assert!(rt; node.stands() == Phase::Gap);
 }
 
 #[test]
@@ -157,10 +184,9 @@ fn a_node_is_followed_from_its_birth_on(rt: HostRuntime) {
 
 fn dies(rt: &(impl Abort + AllocGlobal), node: &mut impl Follows) {
     let _handed = hand(rt, node, (9, Some(101), 1, 5), 0);
-    assert_eq!(rt; node.die(3), Match::Ignored);
-    assert_eq!(rt; node.die(4), Match::Matched);
+    assert!(rt; node.die(3) == Match::Ignored && node.die(4) == Match::Matched);
     node.end();
-    assert_eq!(rt; node.stands(), Phase::Unknown);
+    assert!(rt; node.stands() == Phase::Unknown);
 }
 
 #[test]

@@ -32,11 +32,28 @@ fn metric(
     })
 }
 
+/// Puts a metric behind others.
+fn put(
+    alloc: Global,
+    metrics: &mut Vec<Metric>,
+    name: Option<&str>,
+    alias: Option<u64>,
+    value: u32,
+) -> Result<(), AllocError> {
+    metrics.push(metric(alloc, name, alias, value)?)?;
+    Ok(())
+}
+
+fn put_all(alloc: Global, metrics: &mut Vec<Metric>, rows: &[Row]) -> Result<(), AllocError> {
+    for (name, alias, value) in rows {
+        put(alloc, metrics, *name, *alias, *value)?;
+    }
+    Ok(())
+}
+
 fn metrics(alloc: Global, rows: &[Row]) -> Result<Vec<Metric>, AllocError> {
     let mut metrics = Vec::new(alloc);
-    for (name, alias, value) in rows {
-        metrics.push(metric(alloc, *name, *alias, *value)?)?;
-    }
+    put_all(alloc, &mut metrics, rows)?;
     Ok(metrics)
 }
 
@@ -52,19 +69,33 @@ enum Heard {
     Over,
 }
 
+/// The metrics of a message, none where it has none.
+fn rows_of(heard: &Heard) -> &'static [Row] {
+    match heard {
+        Heard::NodeBirth(rows) | Heard::NodeData(rows) => rows,
+        Heard::DeviceBirth(_, rows) | Heard::DeviceData(_, rows) => rows,
+        _ => &[],
+    }
+}
+
+/// A message of these metrics made ready, if it is one.
+fn made(alloc: Global, heard: &Heard, metrics: &[Metric]) -> Option<Result<Ready, AllocError>> {
+    match heard {
+        Heard::NodeBirth(_) => Some(Ready::node_birth(alloc, metrics)),
+        Heard::NodeData(_) => Some(Ready::node_data(alloc, metrics)),
+        Heard::DeviceBirth(name, _) => Some(Ready::device_birth(alloc, name, metrics)),
+        Heard::DeviceData(name, _) => Some(Ready::device_data(alloc, name, metrics)),
+        Heard::DeviceDeath(name) => Some(Ready::device_death(alloc, name)),
+        Heard::Gap | Heard::NotLive | Heard::Over => None,
+    }
+}
+
 /// A message made ready, if it is one.
-fn ready(alloc: Global, heard: &Heard) -> Result<Option<Ready>, AllocError> {
-    let ready = match heard {
-        Heard::NodeBirth(rows) => Ready::node_birth(alloc, &metrics(alloc, rows)?)?,
-        Heard::NodeData(rows) => Ready::node_data(alloc, &metrics(alloc, rows)?)?,
-        Heard::DeviceBirth(name, rows) => {
-            Ready::device_birth(alloc, name, &metrics(alloc, rows)?)?
-        }
-        Heard::DeviceData(name, rows) => Ready::device_data(alloc, name, &metrics(alloc, rows)?)?,
-        Heard::DeviceDeath(name) => Ready::device_death(alloc, name)?,
-        Heard::Gap | Heard::NotLive | Heard::Over => return Ok(None),
-    };
-    Ok(Some(ready))
+fn ready(alloc: Global, heard: &Heard) -> Option<Result<Ready, AllocError>> {
+    match metrics(alloc, rows_of(heard)) {
+        Ok(metrics) => made(alloc, heard, &metrics),
+        Err(fault) => Some(Err(fault)),
+    }
 }
 
 /// What the tests ask of a watch. They are written over any that answers it, since a function over a type parameter is proved
@@ -161,8 +192,9 @@ fn hear(
     room: usize,
 ) -> Result<Option<bool>, AllocError> {
     watch.make_room(room)?;
-    match ready(alloc, heard)? {
-        Some(ready) => Ok(watch.take(ready, now)),
+    match ready(alloc, heard) {
+        Some(Ok(ready)) => Ok(watch.take(ready, now)),
+        Some(Err(fault)) => Err(fault),
         None => Ok(turn(watch, heard, now)),
     }
 }
@@ -193,6 +225,15 @@ fn is_seen(watch: &impl Watches, seen: &Seen) -> bool {
     }
 }
 
+fn are_seen(watch: &impl Watches, all: &[Seen]) -> bool {
+    for seen in all {
+        if !is_seen(watch, seen) {
+            return false;
+        }
+    }
+    true
+}
+
 /// A moment, the room asked for before, what is heard, what is answered, and what is seen then.
 type Line = (u64, usize, Heard, Option<bool>, &'static [Seen]);
 
@@ -204,10 +245,7 @@ fn play(
 ) -> Result<(), AllocError> {
     for (now, room, heard, asks, seen) in lines {
         let answer = hear(rt.alloc(), watch, heard, *now, *room)?;
-        assert_eq!(rt; answer, *asks, "at {now}");
-        for (place, seen) in seen.iter().enumerate() {
-            assert!(rt; is_seen(watch, seen), "{place} at {now}");
-        }
+        assert!(rt; answer == *asks && are_seen(watch, seen), "at {now}");
     }
     Ok(())
 }
@@ -444,19 +482,44 @@ fn the_birth_of_a_device_comes_back_where_there_is_no_room(rt: HostRuntime) {
     assert_plays(&rt, Case::Lines(&ROOMS));
 }
 
-/// So many metrics, named by their numbers, each with its number as alias and so much more as value.
-fn many(alloc: Global, count: u32, more: u32) -> Result<Vec<Metric>, AllocError> {
+/// Puts a metric that is named by its number, with it as alias and so much more as value, behind others.
+fn put_named(
+    alloc: Global,
+    metrics: &mut Vec<Metric>,
+    number: u32,
+    more: u32,
+) -> Result<(), AllocError> {
+    let name = format!(in alloc; "{number}")?;
+    let value = number.wrapping_add(more);
+    put(
+        alloc,
+        metrics,
+        Some(name.as_str()),
+        Some(u64::from(number)),
+        value,
+    )
+}
+
+/// 10,000 such metrics.
+fn many(alloc: Global, more: u32) -> Result<Vec<Metric>, AllocError> {
     let mut metrics = Vec::new(alloc);
-    for n in 0..count {
-        let name = format!(in alloc; "{n}")?;
-        let value = n.wrapping_add(more);
-        metrics.push(metric(alloc, Some(name.as_str()), Some(u64::from(n)), value)?)?;
+    for number in 0..10_000 {
+        put_named(alloc, &mut metrics, number, more)?;
     }
     Ok(metrics)
 }
 
+/// A birth of them, or data.
+fn many_ready(alloc: Global, is_birth: bool, more: u32) -> Result<Ready, AllocError> {
+    match many(alloc, more) {
+        Ok(metrics) if is_birth => Ready::node_birth(alloc, &metrics),
+        Ok(metrics) => Ready::node_data(alloc, &metrics),
+        Err(fault) => Err(fault),
+    }
+}
+
 /// Metrics, and what is shown of them then.
-const OF_MANY: [(&str, Option<u64>); 4] = [
+static OF_MANY: [(&str, Option<u64>); 4] = [
     ("0", Some(2)),
     ("5000", Some(5002)),
     ("9999", Some(10_001)),
@@ -465,17 +528,10 @@ const OF_MANY: [(&str, Option<u64>); 4] = [
 
 /// A birth of 10,000 metrics, and data for each of them.
 fn hear_many(rt: &(impl Abort + AllocGlobal), watch: &mut impl Watches) -> Result<(), AllocError> {
-    for (now, more) in [(0, 1), (1, 2)] {
-        let metrics = many(rt.alloc(), 10_000, more)?;
-        let ready = if now == 0 {
-            Ready::node_birth(rt.alloc(), &metrics)?
-        } else {
-            Ready::node_data(rt.alloc(), &metrics)?
-        };
-        let _asks = watch.take(ready, now);
-    }
-    for (name, number) in OF_MANY {
-        assert_eq!(rt; watch.own(name), number, "{name}");
+    let _asks = watch.take(many_ready(rt.alloc(), true, 1)?, 0);
+    let _asks = watch.take(many_ready(rt.alloc(), false, 2)?, 1);
+    for (name, number) in &OF_MANY {
+        assert!(rt; watch.own(name) == *number, "{name}");
     }
     Ok(())
 }
