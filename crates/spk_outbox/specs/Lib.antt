@@ -1,0 +1,5 @@
+pub mod Data
+pub mod Fault
+pub mod Step
+pub mod Calls
+pub mod Waits
