@@ -1,0 +1,57 @@
+-- The clients of a server, by the numbers of their connections (own rules).
+use Rattle.std.specs.Prelude.{◌≡◌, ◌≢◌, ℕ, nat_eq, Bool, true, false, List, [], Option, Some, None, Result, Contains}
+use Rattle.std.specs.Option.{option_map, option_map_or, IfSome}
+use Rattle.std.specs.HashMap.{get, hash_map_len}
+use Rattle.spk_session.specs.declared.answer.Sort.{Sort}
+use Rattle.spk_clients.specs.declared.client.Client.{Client}
+use Rattle.spk_clients.specs.declared.client.Phase.{Phase}
+use Rattle.spk_clients.specs.declared.client.Offered.{Offered}
+use Rattle.spk_clients.specs.declared.client.Offered.TheVariants.{Passed}
+use Rattle.spk_clients.specs.declared.clients.Clients.{Clients}
+use Rattle.spk_outbox.specs.Data.{waiting}
+use Rattle.spk_packets.specs.declared.packet.Packet.{Packet}
+use Rattle.spk_packets.specs.declared.fault.PacketFault.{PacketFault}
+use Rattle.spk_clients.specs.Client.{GivesFront, IsOffered, is_untold}
+
+abbrev pub client_at : Clients → ℕ → Option Client
+client_at cs k = get nat_eq cs.table k
+
+-- no client but this one has changed
+abbrev pub OthersStay : ℕ → Clients → Clients → Type 0
+OthersStay conn old new = (k : ℕ) → k ≢ conn → client_at new k ≡ client_at old k
+
+abbrev pub OfferedTo : Sort → List ℕ → Option Client → Offered → Option Client → Type 0
+OfferedTo sort bytes None r None = r ≡ Passed
+OfferedTo sort bytes (Some c) r (Some d) = IsOffered sort bytes c r d
+OfferedTo sort bytes None r (Some d) = ⊥
+OfferedTo sort bytes (Some c) r None = ⊥
+
+-- whoever was refused a packet of which the broker isn't told is among those that are to be told
+abbrev pub AreNoted : Clients → Type 0
+AreNoted cs = (k : ℕ) → IfSome (client_at cs k) (λ c. is_untold c ≡ true → Contains cs.untold.items k)
+
+abbrev pub client_count : Clients → ℕ
+client_count cs = hash_map_len cs.table
+
+-- one client is made something else, if it is there; no other has changed
+abbrev pub Becomes : (Client → Client) → ℕ → Clients → Clients → Type 0
+Becomes f conn old new = (client_at new conn ≡ option_map f (client_at old conn)) × OthersStay conn old new
+
+-- all clients are as they were
+abbrev pub AllStay : Clients → Clients → Type 0
+AllStay old new = (k : ℕ) → client_at new k ≡ client_at old k
+
+-- how far a client is; none that isn't there
+abbrev pub phase_at : Clients → ℕ → Option Phase
+phase_at cs k = option_map (λ (c : Client). c.phase) (client_at cs k)
+
+-- the bytes that are still to be written to a client
+abbrev pub waiting_at : Clients → ℕ → List ℕ
+waiting_at cs k = option_map_or (λ (c : Client). waiting c.outbox) (client_at cs k) []
+
+-- what stands at the front of what it sent is given
+abbrev pub GivesFrontOf : Option Client → Option (Result Packet PacketFault) → Option Client → Type 0
+GivesFrontOf None r None = r ≡ None
+GivesFrontOf (Some c) r (Some d) = GivesFront c r d
+GivesFrontOf None r (Some d) = ⊥
+GivesFrontOf (Some c) r None = ⊥

@@ -1,0 +1,84 @@
+//! The clients, and how they come.
+ghost use Rattle.std.specs.Prelude.{◌≡◌, ◌≢◌, ℕ, nat_eq, Some, None, OnOk, OnErr, IfSome, IfNone};
+ghost use Rattle.std.specs.Option.{option_map, option_copied};
+ghost use Rattle.std.specs.HashMap.{get, hash_map_len};
+ghost use Rattle.spk_clients.specs.Client.{fresh_client};
+ghost use Rattle.spk_clients.specs.Data.{AreNoted, OthersStay, client_at, client_count};
+
+use crate::client::Client;
+use std::alloc::{AllocError, Global};
+use std::collections::{HashMap, VecDeque};
+use std::fmt;
+
+/// The clients, by the numbers of their connections.
+#[derive(Drop)]
+pub struct Clients {
+    pub(crate) alloc: Global,
+    pub(crate) table: HashMap<u64, Client>,
+    /// To whom something is to be written, each once.
+    pub(crate) touched: VecDeque<u64>,
+    /// Whose refused packets the broker isn't told of.
+    pub(crate) untold: VecDeque<u64>,
+    /// Whose socket is to be shut, each once.
+    pub(crate) done: VecDeque<u64>,
+}
+
+impl fmt::Debug for Clients {
+    fn fmt<W: fmt::Write>(&self, f: &mut fmt::Formatter<W>) -> fmt::Result {
+        f.write_str("Clients { .. }")
+    }
+}
+
+impl Clients {
+    /// No clients.
+    pub fn new(alloc: Global) -> Clients
+        ensures none { (k : ℕ) → client_at result k ≡ None }
+        ensures noted { AreNoted result }
+    {
+        Clients {
+            alloc,
+            table: HashMap::new(alloc),
+            touched: VecDeque::new(alloc),
+            untold: VecDeque::new(alloc),
+            done: VecDeque::new(alloc),
+        }
+    }
+
+    /// How many there are.
+    pub fn len(&self) -> usize
+        ensures { result ≡ client_count self.now }
+    {
+        self.table.len()
+    }
+
+    /// A client.
+    pub fn get(&self, conn: u64) -> Option<&Client>
+        ensures { option_copied result ≡ client_at self.now conn }
+    {
+        self.table.get(&conn)
+    }
+
+    /// Room in each list for one more client, so that none grows in the midst of a call.
+    fn reserve(&mut self) -> Result<(), AllocError>
+        ensures { (self.new.table ≡ self.old.table) × (self.new.untold.items ≡ self.old.untold.items) }
+    {
+        let count = self.table.len().saturating_add(1);
+        self.touched.reserve(count)?;
+        self.untold.reserve(count)?;
+        self.done.reserve(count)?;
+        Ok(())
+    }
+
+    /// A client came. It is to be shut at this moment, in milliseconds, if it sent nothing until then. Where memory is refused
+    /// nobody came.
+    pub fn insert(&mut self, conn: u64, until: u64) -> Result<(), AllocError>
+        ensures here { OnOk result (client_at self.new conn ≡ Some (fresh_client until)) }
+        ensures others { OnOk result (OthersStay conn self.old self.new) }
+        ensures err { OnErr result ((k : ℕ) → client_at self.new k ≡ client_at self.old k) }
+        ensures noted { AreNoted self.old → AreNoted self.new }
+    {
+        self.reserve()?;
+        self.table.insert(conn, Client::new(self.alloc, until))?;
+        Ok(())
+    }
+}

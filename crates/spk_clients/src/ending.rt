@@ -1,0 +1,137 @@
+//! Ends, and whose sockets are to be shut.
+ghost use Rattle.std.specs.Prelude.{◌≡◌, ◌≢◌, ◌≤◌, ℕ, nat_eq, Some, None, OnOk, IfSome, IfNone, true, false};
+ghost use Rattle.std.specs.Option.{option_map, option_map_or};
+ghost use Rattle.std.specs.HashMap.{get};
+ghost use Rattle.spk_clients.specs.declared.client.Phase.TheVariants as Phase;
+ghost use Rattle.spk_clients.specs.Client.{given_up, is_due, leaves};
+ghost use Rattle.spk_clients.specs.Data.{AllStay, AreNoted, Becomes, OthersStay, client_at, phase_at};
+
+use crate::client::{Client, Phase};
+use crate::clients::Clients;
+use std::alloc::AllocError;
+use std::collections::HashMap;
+
+/// A client's end came. Whether its socket is to be shut from now on.
+fn end_at(table: &mut HashMap<u64, Client>, conn: u64, until: u64) -> bool
+    ensures here { get nat_eq table.new conn ≡ option_map (leaves until) (get nat_eq table.old conn) }
+    ensures others { (k : ℕ) → k ≢ conn → get nat_eq table.new k ≡ get nat_eq table.old k }
+{
+    match table.get_mut(&conn) {
+        Some(client) => {
+            client.end(until);
+            client.settle()
+        }
+        None => false,
+    }
+}
+
+/// A client may read no longer. Whether its socket is to be shut from now on.
+fn give_up_at(table: &mut HashMap<u64, Client>, conn: u64) -> bool
+    ensures here { get nat_eq table.new conn ≡ option_map given_up (get nat_eq table.old conn) }
+    ensures others { (k : ℕ) → k ≢ conn → get nat_eq table.new k ≡ get nat_eq table.old k }
+{
+    match table.get_mut(&conn) {
+        Some(client) => client.give_up(),
+        None => false,
+    }
+}
+
+/// How far a client is.
+fn phase_at(table: &HashMap<u64, Client>, conn: u64) -> Option<Phase>
+    ensures { result ≡ option_map (λ c. c.phase) (get nat_eq table.now conn) }
+{
+    match table.get(&conn) {
+        Some(client) => Some(client.phase),
+        None => None,
+    }
+}
+
+impl Clients {
+    /// How far a client is; none that isn't there.
+    pub fn phase(&self, conn: u64) -> Option<Phase>
+        ensures { result ≡ phase_at self.now conn }
+    {
+        phase_at(&self.table, conn)
+    }
+
+    /// A client's end came. Its socket is to be shut at once if nothing is left to be written, else once it is, or when
+    /// `give_up` is called at this moment, in milliseconds.
+    pub fn end(&mut self, conn: u64, until: u64) -> Result<(), AllocError>
+        ensures done { Becomes (leaves until) conn self.old self.new }
+        ensures noted { AreNoted self.old → AreNoted self.new }
+    {
+        if end_at(&mut self.table, conn, until) {
+            self.done.push_back(conn)?;
+        }
+        Ok(())
+    }
+
+    /// The socket of a client whose end came is to be shut, whatever is left.
+    pub fn give_up(&mut self, conn: u64) -> Result<(), AllocError>
+        ensures done { Becomes given_up conn self.old self.new }
+        ensures noted { AreNoted self.old → AreNoted self.new }
+    {
+        if give_up_at(&mut self.table, conn) {
+            self.done.push_back(conn)?;
+        }
+        Ok(())
+    }
+
+    /// Takes a client whose socket is to be shut off the table.
+    fn forget(&mut self, conn: u64) -> bool
+        ensures gone { result ≡ true → (phase_at self.old conn ≡ Some Phase.Done)
+            × (client_at self.new conn ≡ None) × OthersStay conn self.old self.new }
+        ensures stays { result ≡ false → AllStay self.old self.new }
+        ensures noted { AreNoted self.old → AreNoted self.new }
+    {
+        if phase_at(&self.table, conn) != Some(Phase::Done) {
+            return false;
+        }
+        let _ = self.table.remove(&conn);
+        true
+    }
+
+    /// The next client whose socket is to be shut. It is forgotten.
+    pub fn next_to_shut(&mut self) -> Option<u64>
+        ensures some { IfSome result (λ k. (phase_at self.old k ≡ Some Phase.Done)
+            × (client_at self.new k ≡ None) × OthersStay k self.old self.new) }
+        ensures none { IfNone result (AllStay self.old self.new) }
+        ensures noted { AreNoted self.old → AreNoted self.new }
+    {
+        let conn = self.done.pop_front()?;
+        if self.forget(conn) { Some(conn) } else { None }
+    }
+
+    /// A client whose moment has come: it sent nothing, or its end came and something is left.
+    pub fn next_due(&self, now: u64) -> Option<u64>
+        ensures { IfSome result (λ k. option_map_or (is_due now) (client_at self.now k) false ≡ true) }
+    {
+        for (conn, client) in self.table.iter() {
+            if client.is_due(now) && self.is_due(*conn, now) {
+                return Some(*conn);
+            }
+        }
+        None
+    }
+
+    /// Whether this client's moment has come.
+    fn is_due(&self, conn: u64, now: u64) -> bool
+        ensures { result ≡ option_map_or (is_due now) (client_at self.now conn) false }
+    {
+        match self.table.get(&conn) {
+            Some(client) => client.is_due(now),
+            None => false,
+        }
+    }
+
+    /// The first moment of a client; the greatest number where none has one. No contract speaks of it.
+    pub fn soonest(&self) -> u64 {
+        let mut soonest = u64::MAX;
+        for (_, client) in self.table.iter() {
+            if client.has_moment() {
+                soonest = soonest.min(client.until);
+            }
+        }
+        soonest
+    }
+}

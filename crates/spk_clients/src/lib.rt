@@ -1,0 +1,14 @@
+//! The clients of a server, without its broker and its sockets: for each the bytes of a packet that isn't whole, the packets
+//! that wait to be written to it, and how far it is. No standard speaks of it (own rules).
+#![tactic(auto)]
+
+mod client;
+mod clients;
+mod coming;
+mod ending;
+mod offering;
+mod writing;
+
+pub use client::{Client, Offered, Phase};
+pub use clients::Clients;
+pub use spk_bytes::Bytes;
