@@ -5,7 +5,6 @@
 use spk_commands::{Files, NOT_TEXT, Outcome, plant, run_with_notes, serve_clients};
 use std::alloc::{AllocError, Global};
 use std::fs::File;
-use std::net::{TcpListener, TcpStream};
 use std::process::ExitCode;
 use std::{env, io};
 
@@ -62,15 +61,17 @@ fn main(rt: HostRuntime) -> io::Result<ExitCode> {
     let Ok(words) = lent(rt.alloc(), given.as_slice()) else {
         return Ok(ExitCode::from(no_memory(&rt)?));
     };
-    // The check wants the sockets' types named where the machine is handed in.
-    let _sockets: (Option<TcpListener>, Option<TcpStream>) = (None, None);
     let mut files = MachineFiles { rt: &rt };
     let mut writer = io::writer(&rt);
     let mut notes = rt.stderr();
     let words = words.as_slice();
     let status = match run_with_notes(&rt, words, &mut files, &mut writer, &mut notes) {
         Outcome::Over(status) => status,
-        Outcome::Serve { port, clients } => serve_clients(&rt, port, clients, &mut writer),
+        Outcome::Serve {
+            bind,
+            port,
+            clients,
+        } => serve_clients(&rt, bind, port, clients, &mut writer),
         Outcome::Plant(plan) => plant(&rt, plan, &mut writer),
     };
     Ok(ExitCode::from(status))

@@ -191,7 +191,11 @@ pub(crate) fn served(rt: &(impl Abort + AllocGlobal), words: &[&str]) -> Option<
         outcome = run(rt, words, &mut Texts, &mut held);
     }
     match outcome {
-        Outcome::Serve { port, clients } => Some((port, clients)),
-        Outcome::Over(_) | Outcome::Plant(_) => None,
+        Outcome::Serve {
+            port,
+            clients: Some(clients),
+            ..
+        } => Some((port, clients)),
+        Outcome::Serve { .. } | Outcome::Over(_) | Outcome::Plant(_) => None,
     }
 }

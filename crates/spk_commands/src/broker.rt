@@ -1,11 +1,10 @@
 //! `serve`: the broker over TCP.
 
-use spk_runtime::{ServeFault, serve};
+use spk_runtime::{ServeFault, Serving, serve_at};
 use std::io;
 use std::io::Write;
-use std::net::{Net, TcpListener, TcpStream};
+use std::net::{IpAddr, Net};
 use std::sync::Wait;
-use std::thread::Threads;
 use std::time::Clock;
 
 /// Says how serving went, and answers the status: 0, or 1 for a fault.
@@ -25,12 +24,19 @@ pub fn said<W: Write>(out: &mut W, answer: Result<u32, ServeFault>) -> io::Resul
     Ok(status)
 }
 
-/// Serves so many clients on this port, and answers the status. All texts go to the writer.
-pub fn serve_clients<R, W: Write>(rt: &R, port: u16, clients: u16, out: &mut W) -> u8
-where
-    R: AllocGlobal + Threads + Wait + Clock + Sync,
-    R: Net<Listener = TcpListener, Stream = TcpStream>,
-{
-    let answer = serve(rt, rt.alloc(), port, usize::from(clients), out);
+/// Serves clients at this address and port, so many or for ever, and answers the status. All texts go to the writer.
+pub fn serve_clients<R: AllocGlobal + Wait + Clock + Net, W: Write>(
+    rt: &R,
+    bind: IpAddr,
+    port: u16,
+    clients: Option<u16>,
+    out: &mut W,
+) -> u8 {
+    let serving = Serving {
+        bind,
+        port,
+        clients: clients.map(usize::from),
+    };
+    let answer = serve_at(rt, rt.alloc(), &serving, out);
     said(out, answer).unwrap_or(1)
 }

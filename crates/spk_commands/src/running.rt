@@ -12,6 +12,7 @@ use clap::error::ErrorKind;
 use spk_plan::Plan;
 use std::alloc::Global;
 use std::io::{self, BufWriter, Write};
+use std::net::IpAddr;
 
 /// The text of a file without the white space at its end.
 fn trimmed_text<F: Files>(alloc: Global, files: &mut F, name: &str) -> Result<String, Stop> {
@@ -75,6 +76,10 @@ fn refusal(alloc: Global, error: &clap::Error) -> Result<Stop, Stop> {
 /// What is said of words that aren't UTF-8, like what clap says of others that it refuses.
 pub const NOT_TEXT: &str = "error: a word isn't UTF-8\n\nFor more information, try '--help'.\n";
 
+/// What is said of an address that is none, like what clap says of other words that it refuses.
+const NO_ADDRESS: &str =
+    "error: --bind takes an IP address\n\nFor more information, try '--help'.\n";
+
 /// A writer that keeps nothing.
 #[derive(Drop)]
 struct Silence;
@@ -94,8 +99,12 @@ impl Write for Silence {
 pub enum Outcome {
     /// It is over, with this status.
     Over(u8),
-    /// So many clients are to be served on this port.
-    Serve { port: u16, clients: u16 },
+    /// Clients are to be served at this address and port: so many, or for ever.
+    Serve {
+        bind: IpAddr,
+        port: u16,
+        clients: Option<u16>,
+    },
     /// This plan is to be run.
     Plant(Plan),
 }
@@ -153,6 +162,43 @@ fn planned<F: Files, N: Write>(
     Ok(Outcome::Plant(plan))
 }
 
+/// Says what it means to listen beyond the machine.
+fn warn<N: Write>(bind: IpAddr, notes: &mut N) {
+    if !bind.is_loopback() {
+        let what = "whoever reaches it is served, without TLS and without passwords";
+        let _ = writeln!(
+            notes,
+            "sparkplug: {bind} is reached from other machines: {what}"
+        );
+    }
+}
+
+/// `serve`: where clients are to be served, and how many.
+fn serving<N: Write>(
+    alloc: Global,
+    given: &ArgMatches<'_>,
+    notes: &mut N,
+) -> Result<Outcome, Stop> {
+    let Ok(bind) = given
+        .get_str("bind")
+        .unwrap_or("127.0.0.1")
+        .parse::<IpAddr>()
+    else {
+        return Err(Stop::Words(String::from_str(alloc, NO_ADDRESS)?, 2));
+    };
+    warn(bind, notes);
+    let clients = if given.get_flag("stay") {
+        None
+    } else {
+        Some(given.get_one::<u16>("clients").unwrap_or(0))
+    };
+    Ok(Outcome::Serve {
+        bind,
+        port: given.get_one::<u16>("port").unwrap_or(0),
+        clients,
+    })
+}
+
 /// The command that was given. Each has a function of its own, since whoever holds all that was given is dear to prove.
 fn chosen<F: Files, W: Write, N: Write>(
     alloc: Global,
@@ -174,10 +220,7 @@ fn chosen<F: Files, W: Write, N: Write>(
         return planned(alloc, given, files, notes);
     }
     if let Some(given) = matches.subcommand_matches("serve") {
-        return Ok(Outcome::Serve {
-            port: given.get_one::<u16>("port").unwrap_or(0),
-            clients: given.get_one::<u16>("clients").unwrap_or(0),
-        });
+        return serving(alloc, given, notes);
     }
     Ok(Outcome::Over(0))
 }

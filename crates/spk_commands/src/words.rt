@@ -47,8 +47,8 @@ prints
   listening 1883
 and mosquitto_sub prints 1.
 
-It listens on every address of the machine, without TLS and without passwords; what it holds is lost when it
-is ended. It ends by itself once that many clients have come and gone, and prints `served K`.
+It has neither TLS nor passwords; what it holds is lost when it is ended. It ends by itself once that many
+clients have come and gone, and prints `served K`.
 
 Status: 0 is done; 1 is a fault, printed as `fault NAME (number)`, or output that could not be written;
 2 is a command line that isn't one. docs/FAULTS.md tells each fault by its number.";
@@ -170,7 +170,18 @@ fn serve<'a>(alloc: Global) -> Result<Command<'a>, AllocError> {
         .default_value("1000")
         .value_parser(value_parser!(u16).range(1..=1000))
         .action(ArgAction::Set);
+    let stay = Arg::new(alloc, "stay")
+        .long("stay")
+        .help("Serves for ever, 1000 clients at once at most; a signal ends it")
+        .action(ArgAction::SetTrue);
+    let bind = Arg::new(alloc, "bind")
+        .long("bind")
+        .value_name("ADDRESS")
+        .help("The IP address that it listens on")
+        .default_value("127.0.0.1")
+        .action(ArgAction::Set);
     let command = Command::new(alloc, "serve").arg(port)?.arg(clients)?;
+    let command = command.arg(stay)?.arg(bind)?;
     Ok(
         command
             .about("Runs an MQTT 3.1.1 broker (QoS 0 and 1)")

@@ -1,5 +1,5 @@
 -- The numbers of the refusals, and how many clients may be served.
-use Rattle.std.specs.Prelude.{ℕ, ◌≤◌}
+use Rattle.std.specs.Prelude.{ℕ, ◌≤◌, Option, Some, None}
 use Rattle.spk_runtime.specs.declared.fault.ServeFault.{ServeFault}
 use Rattle.spk_runtime.specs.declared.fault.ServeFault.TheVariants.{NoMemory, BadPlan, Device}
 
@@ -11,3 +11,8 @@ number_of Device = 96
 -- as many clients as may be served (own rule)
 abbrev pub IsCount : ℕ → Type 0
 IsCount clients = (1 ≤ clients) × (clients ≤ 1000)
+
+-- so many clients, or as many as come
+abbrev pub IsServing : Option ℕ → Type 0
+IsServing None = Unit {0}
+IsServing (Some clients) = IsCount clients

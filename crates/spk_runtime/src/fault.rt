@@ -2,6 +2,7 @@
 ghost use Rattle.std.specs.Prelude.{◌≡◌};
 ghost use Rattle.spk_runtime.specs.Fault.{number_of};
 
+use spk_server::ServerFault;
 use std::alloc::{AllocError, AllocFailed};
 use thiserror::Error;
 
@@ -46,6 +47,17 @@ impl<T: Drop> From<AllocFailed<T>> for ServeFault {
     ghost from_gives = { λ _ e. e ≡ NoMemory };
 
     fn from(_failed: AllocFailed<T>) -> ServeFault {
+        ServeFault::NoMemory
+    }
+}
+
+impl From<ServerFault> for ServeFault {
+    ghost use Rattle.std.specs.Prelude.{◌≡◌};
+    ghost use Rattle.spk_runtime.specs.declared.fault.ServeFault.TheVariants.{NoMemory};
+
+    ghost from_gives = { λ _ e. e ≡ NoMemory };
+
+    fn from(_failed: ServerFault) -> ServeFault {
         ServeFault::NoMemory
     }
 }

@@ -1,17 +1,17 @@
-//! The broker over TCP: `serve` listens, and each client has a thread that reads and one that writes, about one broker.
-//! What runs on the threads stands in the crates below, which it hands on.
+//! The broker over TCP: `serve` listens and runs `spk_server` on one loop over readiness. The engines, the ingress and the rings
+//! of the crates below are handed on, for those who run threads of their own.
 #![tactic(auto)]
 
-mod accept;
-mod client;
+mod doors;
 mod fault;
-mod hub;
-mod place;
+mod line;
+mod port;
+mod rounds;
 mod server;
-mod socket;
 
 pub use fault::ServeFault;
-pub use server::serve;
+pub use port::Port;
+pub use server::{Serving, serve, serve_at};
 pub use spk_engines::{Counted, EngineFault, Failures, read_frames, write_items};
 pub use spk_ingress::{
     Closed, Frame, FrameFault, Gone, Ingress, Message, OpenFault, PutPass, Refused, SettleFault,

@@ -1,163 +1,201 @@
 //! The server.
 ghost use Rattle.std.specs.Prelude.{◌≡◌, ◌≢◌, ◌≤◌, IfErr, IfOk, OnOk};
-ghost use Rattle.spk_runtime.specs.Fault.{IsCount};
-ghost use Rattle.spk_ingress.specs.Passes.{PutsInto, AllPutInto, TakesFrom};
+ghost use Rattle.spk_runtime.specs.Fault.{IsCount, IsServing};
 
-use crate::accept::{Accepted, accept_all};
+use crate::doors::Doors;
 use crate::fault::ServeFault;
-use crate::hub::{Hub, run_hub};
-use crate::place::Place;
-use spk_ingress::{Ingress, OpenFault, PutPass, TakePass};
-use spk_rings::{Inlet, Outlet, ring};
+use crate::rounds::Rounds;
+use mio::net::{TcpListener, TcpStream};
+use mio::{Events, Interest, Poll, Token};
+use spk_server::ServerFault;
 use std::alloc::Global;
 use std::io::Write;
-use std::net::{Ipv4Addr, Net, TcpListener, TcpStream};
+use std::net::{IpAddr, Ipv4Addr, Net, SocketAddr};
 use std::sync::Wait;
-use std::sync::atomic::{AtomicBool, Ordering};
-use std::thread::{Threads, join};
-use std::time::Clock;
+use std::time::{Clock, Duration, Instant};
 
-/// The most clients that are served (own rule).
+/// The most clients that are served, unless it stays (own rule).
 const MOST: usize = 1_000;
 
-/// How many frames may be on their way, and how many items in each client's ring (own rules).
-const ROOM: usize = 1_024;
+/// How many events are asked for at once.
+const EVENTS: usize = 1_024;
 
-/// Rings for so many clients.
-fn rings(alloc: Global, clients: usize) -> Result<(Vec<Outlet>, Vec<Inlet>), ServeFault>
-    ensures { IfErr result (λ e. e ≢ ServeFault.BadPlan) }
-{
-    let mut outlets = Vec::with_capacity(alloc, clients)?;
-    let mut inlets = Vec::with_capacity(alloc, clients)?;
-    for _ in 0..clients {
-        let Ok((outlet, inlet)) = ring(alloc, ROOM) else {
-            return Err(ServeFault::NoMemory);
-        };
-        outlets.push(outlet)?;
-        inlets.push(inlet)?;
-    }
-    Ok((outlets, inlets))
+/// The token of the listening socket: no connection has this number.
+const LISTENER: usize = 0;
+
+/// Where it listens, and for how many clients.
+#[derive(Clone, Copy, Debug, Drop)]
+pub struct Serving {
+    pub bind: IpAddr,
+    pub port: u16,
+    /// How many clients come before it ends; none where it stays.
+    pub clients: Option<usize>,
 }
 
-/// Places for so many clients.
-fn places_of(alloc: Global, clients: usize) -> Result<Vec<Place>, ServeFault>
-    ensures { IfErr result (λ e. e ≢ ServeFault.BadPlan) }
-{
-    let mut places = Vec::with_capacity(alloc, clients)?;
-    for _ in 0..clients {
-        places.push(Place::new())?;
-    }
-    Ok(places)
-}
-
-/// An ingress, the clients' passes, one more, and the taker's.
-#[tactic(auto, using(crate::proofs::Passes::last_puts_into, crate::proofs::Passes::all_but_last))]
-fn ingress_of<R: Wait>(
-    rt: &R,
-    alloc: Global,
-    clients: usize,
-) -> Result<(Ingress, Vec<PutPass>, PutPass, TakePass), ServeFault>
-    requires { IsCount clients }
-    ensures opened { IfOk result
-        (λ r. AllPutInto r.0 r.1.items × PutsInto r.0 r.2 × TakesFrom r.0 r.3) }
-    ensures fault { IfErr result (λ e. e ≢ ServeFault.BadPlan) }
-{
-    let senders = clients.saturating_add(1);
-    let (ingress, mut passes, taker) = match Ingress::open(rt, alloc, ROOM, senders) {
-        Ok(opened) => opened,
-        Err(OpenFault::NoMemory) => return Err(ServeFault::NoMemory),
-        Err(OpenFault::BadPlan) => unreachable!(),
+/// Milliseconds since the start, or the last ones where the clock can't be read.
+fn moment<R: Clock>(rt: &R, start: &Option<Instant>, last: u64) -> u64 {
+    let Some(start) = start else {
+        return last;
     };
-    let Some(own) = passes.pop() else {
-        return Err(ServeFault::NoMemory);
-    };
-    Ok((ingress, passes, own, taker))
+    match start.elapsed(rt) {
+        Ok(since) => u64::try_from(since.as_millis())
+            .unwrap_or(u64::MAX)
+            .max(last),
+        Err(_) => last,
+    }
 }
 
-/// Runs the broker until all clients have ended. Where it fails everybody is disconnected.
-fn broker<R: Wait + Clock>(
+/// How long may be waited for the sockets. None where nothing is due.
+fn pause(doors: &Doors, rounds: &Rounds<TcpStream>, more: bool, now: u64) -> Option<Duration> {
+    if more || doors.may_accept(rounds, now) {
+        return Some(Duration::ZERO);
+    }
+    let mut due = rounds.server.due();
+    if doors.knocked && now < doors.from {
+        due = Some(due.unwrap_or(u64::MAX).min(doors.from));
+    }
+    let due = due?;
+    Some(Duration::from_millis(due.saturating_sub(now)))
+}
+
+/// Notes what is ready.
+fn note(
+    events: &Events<Global>,
+    doors: &mut Doors,
+    rounds: &mut Rounds<TcpStream>,
+) -> Result<(), ServerFault> {
+    for event in events.iter() {
+        let Token(token) = event.token();
+        if token == LISTENER {
+            doors.knocked = true;
+            continue;
+        }
+        let conn = token as u64;
+        let closing = event.is_read_closed() || event.is_error();
+        if event.is_readable() || closing {
+            rounds.may_read(conn, closing);
+        }
+        if event.is_writable() {
+            rounds.may_write(conn)?;
+        }
+    }
+    Ok(())
+}
+
+/// Runs rounds until no more clients come and all have ended.
+fn run<R: Wait + Clock>(
     rt: &R,
-    ingress: &Ingress,
-    taker: TakePass,
-    mut hub: Hub<'_>,
-    clients: usize,
-    stopped: &AtomicBool,
+    poll: &mut Poll,
+    events: &mut Events<Global>,
+    doors: &mut Doors,
+    rounds: &mut Rounds<TcpStream>,
 ) -> Result<(), ServeFault>
-    requires { TakesFrom ingress.now taker }
-{
-    let answer = run_hub(rt, ingress, taker, &mut hub, clients);
-    stopped.store(true, Ordering::SeqCst);
-    hub.give_up(rt);
-    answer
-}
-
-/// Serves so many clients on a listener.
-fn serve_on<R: Threads + Wait + Clock + Sync>(
-    rt: &R,
-    alloc: Global,
-    listener: &TcpListener,
-    clients: usize,
-) -> Result<u32, ServeFault>
-    requires { IsCount clients }
     ensures { IfErr result (λ e. e ≢ ServeFault.BadPlan) }
 {
-    let (outlets, inlets) = rings(alloc, clients)?;
-    let places = places_of(alloc, clients)?;
-    let lines = places.as_slice();
-    let (ingress, passes, own, taker) = match ingress_of(rt, alloc, clients) {
-        Ok(opened) => opened,
-        Err(fault) => return Err(fault),
-    };
-    let hub = Hub::new(alloc, outlets, lines)?;
-    let stopped = AtomicBool::new(false);
-    let (ingress, stopped) = (&ingress, &stopped);
-    let (accepted, ended) = join(
-        rt,
-        move || -> Accepted
-            requires { AllPutInto ingress.now passes.items × PutsInto ingress.now own }
-        {
-            accept_all(
-                rt, alloc, listener, ingress, passes, own, inlets, lines, stopped,
-            )
-        },
-        move || -> Result<(), ServeFault>
-            requires { TakesFrom ingress.now taker }
-        { broker(rt, ingress, taker, hub, clients, stopped) },
-    );
-    if ended.is_err() {
-        return Err(ServeFault::NoMemory); // the one fault of the broker's thread
+    let start = Instant::now(rt).ok();
+    let mut now = 0;
+    let mut more = false;
+    for _ in rt.forever() {
+        if doors.are_closed() && rounds.server.clients() == 0 {
+            break;
+        }
+        let timeout = pause(doors, rounds, more, now);
+        if poll.poll(events, timeout).is_err() {
+            return Err(ServeFault::Device);
+        }
+        now = moment(rt, &start, now);
+        note(events, doors, rounds)?;
+        doors.accept(rounds, poll, now)?;
+        more = rounds.round(now)?;
     }
-    if accepted.failed {
+    Ok(())
+}
+
+/// Serves on a listening socket.
+fn serve_on<R: Wait + Clock + Net>(
+    rt: &R,
+    alloc: Global,
+    mut listener: TcpListener,
+    clients: Option<u32>,
+) -> Result<u32, ServeFault>
+    ensures { IfErr result (λ e. e ≢ ServeFault.BadPlan) }
+{
+    let Ok(mut poll) = Poll::new(rt) else {
+        return Err(ServeFault::Device);
+    };
+    let registered = poll
+        .registry()
+        .register(&mut listener, Token(LISTENER), Interest::READABLE);
+    if registered.is_err() {
         return Err(ServeFault::Device);
     }
-    Ok(accepted.served)
+    let mut events = Events::with_capacity(alloc, EVENTS)?;
+    let mut doors = Doors::new(listener, clients);
+    let mut rounds = Rounds::new(alloc)?;
+    run(rt, &mut poll, &mut events, &mut doors, &mut rounds)?;
+    if doors.failed {
+        return Err(ServeFault::Device);
+    }
+    Ok(doors.served)
 }
 
-/// An MQTT 3.1.1 server (QoS 0 and 1) on this port of every address of the machine. Once it listens it writes the line
-/// `listening N`, flushed. It ends when so many clients (1 to 1,000) were accepted and all have ended, and answers how
-/// many were served. Each client has a ring of 1,024 sends; drop number 128 of a connection closes it (own rules).
-/// Refused with BadPlan (92) for another number of clients, and with Device (96) where listening, accepting or the
-/// writer failed. No contract says what goes over a socket.
-pub fn serve<R, W: Write>(
+/// How many clients come, if that is 1 to 1,000.
+fn count_of(clients: Option<usize>) -> Result<Option<u32>, ServeFault>
+    ensures ok { OnOk result (IsServing clients) }
+    ensures bad_plan { IfErr result (λ e. ¬ (IsServing clients)) }
+{
+    match clients {
+        None => Ok(None),
+        Some(count) if count == 0 || count > MOST => Err(ServeFault::BadPlan),
+        Some(count) => Ok(Some(count as u32)),
+    }
+}
+
+/// An MQTT 3.1.1 server (QoS 0 and 1). Once it listens it writes the line `listening N`, flushed. Where it is for so many
+/// clients (1 to 1,000) it ends when they were accepted and all have ended, and answers how many were served; else it
+/// stays, and serves 1,000 at once. What it does besides is `spk_server`'s. Refused with BadPlan (92) for another number of
+/// clients, and with Device (96) where listening, waiting, accepting or the writer failed. No contract says what goes over a
+/// socket.
+pub fn serve_at<R: Wait + Clock + Net, W: Write>(
+    rt: &R,
+    alloc: Global,
+    serving: &Serving,
+    writer: &mut W,
+) -> Result<u32, ServeFault>
+    ensures ok { OnOk result (IsServing serving.now.clients) }
+    ensures bad_plan { IfErr result (λ e. e ≡ ServeFault.BadPlan
+        → ¬ (IsServing serving.now.clients)) }
+{
+    let clients = match count_of(serving.clients) {
+        Ok(clients) => clients,
+        Err(fault) => return Err(fault),
+    };
+    let address = SocketAddr::new(serving.bind, serving.port);
+    let Ok(listener) = TcpListener::bind(rt, address) else {
+        return Err(ServeFault::Device);
+    };
+    let port = serving.port;
+    if writeln!(writer, "listening {port}").is_err() || writer.flush().is_err() {
+        return Err(ServeFault::Device);
+    }
+    serve_on(rt, alloc, listener, clients)
+}
+
+/// `serve_at` 127.0.0.1 for so many clients, 1 to 1,000.
+pub fn serve<R: Wait + Clock + Net, W: Write>(
     rt: &R,
     alloc: Global,
     port: u16,
     clients: usize,
     writer: &mut W,
 ) -> Result<u32, ServeFault>
-where
-    R: Threads + Wait + Net<Listener = TcpListener, Stream = TcpStream> + Clock + Sync,
     ensures ok { OnOk result (IsCount clients) }
     ensures bad_plan { IfErr result (λ e. e ≡ ServeFault.BadPlan → ¬ (IsCount clients)) }
 {
-    if clients == 0 || clients > MOST {
-        return Err(ServeFault::BadPlan);
-    }
-    let Ok(listener) = TcpListener::bind(rt, (Ipv4Addr::UNSPECIFIED, port)) else {
-        return Err(ServeFault::Device);
+    let serving = Serving {
+        bind: IpAddr::V4(Ipv4Addr::LOCALHOST),
+        port,
+        clients: Some(clients),
     };
-    if writeln!(writer, "listening {port}").is_err() || writer.flush().is_err() {
-        return Err(ServeFault::Device);
-    }
-    serve_on(rt, alloc, &listener, clients)
+    serve_at(rt, alloc, &serving, writer)
 }

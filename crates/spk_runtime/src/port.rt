@@ -1,0 +1,32 @@
+//! What the loop asks of a client's socket.
+
+use mio::net::TcpStream;
+use std::io;
+use std::io::{Read, Write};
+use std::net::Shutdown;
+
+/// A client's socket: reads and writes answer `WouldBlock` where they would wait.
+pub trait Port: Drop {
+    /// Reads some bytes; 0 at the end.
+    fn take(&mut self, piece: &mut [u8]) -> io::Result<usize>;
+
+    /// Writes some of these bytes.
+    fn put(&mut self, bytes: &[u8]) -> io::Result<usize>;
+
+    /// Reading and writing are over.
+    fn shut(&mut self);
+}
+
+impl Port for TcpStream {
+    fn take(&mut self, piece: &mut [u8]) -> io::Result<usize> {
+        self.read(piece)
+    }
+
+    fn put(&mut self, bytes: &[u8]) -> io::Result<usize> {
+        self.write(bytes)
+    }
+
+    fn shut(&mut self) {
+        let _ = self.shutdown(Shutdown::Both);
+    }
+}

@@ -1,0 +1,216 @@
+//! One round of the loop: what is ready is read once, and what came of it is written.
+
+use crate::line::{Line, Read, Written};
+use crate::port::Port;
+use spk_server::{Conn, Server, ServerFault};
+use std::alloc::{AllocError, Global};
+use std::collections::{HashMap, VecDeque};
+
+/// How many bytes are read at once (own rule).
+const PIECE: usize = 65_536;
+
+/// How often a client is written to in a round (own rule).
+const WRITES: usize = 16;
+
+/// The server and its clients' sockets, by the numbers of their connections.
+#[derive(Drop)]
+pub(crate) struct Rounds<P: Port> {
+    pub(crate) server: Server,
+    lines: HashMap<Conn, Line<P>>,
+    /// Who is to be read.
+    ready: VecDeque<Conn>,
+    /// To whom more is to be written than went in one round.
+    more: VecDeque<Conn>,
+    piece: Vec<u8>,
+    batch: Vec<u8>,
+}
+
+impl<P: Port> Rounds<P> {
+    pub(crate) fn new(alloc: Global) -> Result<Rounds<P>, AllocError> {
+        Ok(Rounds {
+            server: Server::new(alloc),
+            lines: HashMap::new(alloc),
+            ready: VecDeque::new(alloc),
+            more: VecDeque::new(alloc),
+            piece: Vec::from_elem(alloc, 0, PIECE)?,
+            batch: Vec::with_capacity(alloc, PIECE)?,
+        })
+    }
+
+    /// Room for one more client.
+    pub(crate) fn reserve(&mut self) -> Result<(), AllocError> {
+        let count = self.lines.len().saturating_add(1);
+        self.ready.reserve(count)?;
+        self.more.reserve(count)?;
+        Ok(())
+    }
+
+    /// A client's socket. Where memory is refused it is dropped.
+    pub(crate) fn seat(&mut self, conn: Conn, port: P) -> Result<(), AllocError> {
+        self.lines.insert(conn, Line::new(port))?;
+        Ok(())
+    }
+
+    /// A client is to be read.
+    pub(crate) fn may_read(&mut self, conn: Conn, closing: bool) {
+        let Some(line) = self.lines.get_mut(&conn) else {
+            return;
+        };
+        line.closing = line.closing || closing;
+        let was_ready = line.ready;
+        line.ready = true;
+        if !was_ready {
+            let _ = self.ready.push_back(conn);
+        }
+    }
+
+    /// A client may be written to.
+    pub(crate) fn may_write(&mut self, conn: Conn) -> Result<(), ServerFault> {
+        let Some(line) = self.lines.get_mut(&conn) else {
+            return Ok(());
+        };
+        if line.writable {
+            return Ok(());
+        }
+        line.writable = true;
+        self.write(conn)
+    }
+
+    /// Reads once of a client, and says whether it is to be read again.
+    fn read(&mut self, conn: Conn, now: u64) -> Result<bool, ServerFault> {
+        let Some(line) = self.lines.get_mut(&conn) else {
+            return Ok(false);
+        };
+        match line.read(self.piece.as_mut_slice()) {
+            Read::Some(count) => {
+                let again = line.ready;
+                if let Some(bytes) = self.piece.as_slice().get(..count) {
+                    self.server.read(conn, bytes, now)?;
+                }
+                Ok(again)
+            }
+            Read::Nothing => Ok(line.ready),
+            Read::End => {
+                self.server.gone(conn, now)?;
+                Ok(false)
+            }
+            Read::Failed => {
+                self.turn_away(conn, now)?;
+                Ok(false)
+            }
+        }
+    }
+
+    /// Reads each client that is ready once; who waits for another stays ready. Whether one is left that may be read at once.
+    pub(crate) fn read_all(&mut self, now: u64) -> Result<bool, ServerFault> {
+        let mut left = false;
+        for _ in 0..self.ready.len() {
+            let Some(conn) = self.ready.pop_front() else {
+                break;
+            };
+            if self.server.is_held(conn) {
+                let _ = self.ready.push_back(conn);
+            } else if self.read(conn, now)? {
+                left = true;
+                let _ = self.ready.push_back(conn);
+            }
+        }
+        Ok(left)
+    }
+
+    /// What was written of what waits for a client. Whether more may be written.
+    fn note(&mut self, conn: Conn, written: Written) -> Result<bool, ServerFault> {
+        match written {
+            Written::Some(count) => {
+                self.server.wrote(conn, count)?;
+                Ok(true)
+            }
+            Written::Nothing => Ok(false),
+            Written::Failed => {
+                self.server.cut(conn)?;
+                self.may_read(conn, true);
+                Ok(false)
+            }
+        }
+    }
+
+    /// Writes once of what waits for a client. None where nothing waits, or its socket takes nothing now.
+    fn write_once(&mut self, conn: Conn) -> Option<Written> {
+        let line = self.lines.get_mut(&conn)?;
+        if !line.writable {
+            return None;
+        }
+        self.batch.clear();
+        self.server.gather(conn, &mut self.batch);
+        if self.batch.is_empty() {
+            let bytes = self.server.first(conn)?;
+            return Some(line.write(bytes));
+        }
+        Some(line.write(self.batch.as_slice()))
+    }
+
+    /// Writes what waits for a client, as far as it goes.
+    fn write(&mut self, conn: Conn) -> Result<(), ServerFault> {
+        for _ in 0..WRITES {
+            let Some(written) = self.write_once(conn) else {
+                return Ok(());
+            };
+            if !self.note(conn, written)? {
+                return Ok(());
+            }
+        }
+        self.more.push_back(conn)?;
+        Ok(())
+    }
+
+    /// Writes to those to whom more was to be written.
+    fn write_more(&mut self) -> Result<(), ServerFault> {
+        for _ in 0..self.more.len() {
+            let Some(conn) = self.more.pop_front() else {
+                break;
+            };
+            self.write(conn)?;
+        }
+        Ok(())
+    }
+
+    /// Writes to each client for whom something waits. Whether more is to be written at once.
+    pub(crate) fn write_all(&mut self) -> Result<bool, ServerFault> {
+        self.write_more()?;
+        for _ in 0..u64::MAX {
+            let Some(conn) = self.server.next_to_write() else {
+                break;
+            };
+            self.write(conn)?;
+        }
+        Ok(!self.more.is_empty())
+    }
+
+    /// Shuts the sockets of those who are done.
+    pub(crate) fn shut_all(&mut self) {
+        for _ in 0..u64::MAX {
+            let Some(conn) = self.server.next_to_shut() else {
+                break;
+            };
+            if let Some(mut line) = self.lines.remove(&conn) {
+                line.port.shut();
+            }
+        }
+    }
+
+    /// A client whose socket couldn't be kept.
+    pub(crate) fn turn_away(&mut self, conn: Conn, now: u64) -> Result<(), ServerFault> {
+        self.server.gone(conn, now)?;
+        self.server.cut(conn)
+    }
+
+    /// What is to be done before sockets are waited for, with what is ready. Whether more is ready at once.
+    pub(crate) fn round(&mut self, now: u64) -> Result<bool, ServerFault> {
+        self.server.moment(now)?;
+        self.server.go_on(now)?;
+        let more_to_read = self.read_all(now)?;
+        let more_to_write = self.write_all()?;
+        self.shut_all();
+        Ok(more_to_read || more_to_write)
+    }
+}

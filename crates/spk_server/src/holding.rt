@@ -1,0 +1,92 @@
+//! Who waits for whom: a client whose packets go to one for whom many wait isn't read for a while.
+
+use crate::fault::ServerFault;
+use crate::server::Server;
+use spk_broker::Conn;
+
+impl Server {
+    /// Whether a client whose packet was taken is to wait for another.
+    pub(crate) fn holds(&mut self, conn: Conn) -> Result<bool, ServerFault> {
+        let Some(slow) = self.pressing.take() else {
+            return Ok(false);
+        };
+        if !self.clients.begin_waiting(slow, slow == conn, self.now) {
+            return Ok(false);
+        }
+        self.clients.wait(conn, Some(slow));
+        self.held.push_back(conn)?;
+        Ok(true)
+    }
+
+    /// For whom a client waits.
+    fn slow_of(&self, conn: Conn) -> Option<Conn> {
+        match self.clients.get(conn) {
+            Some(client) => client.waits_for,
+            None => None,
+        }
+    }
+
+    /// Until when others wait for this client at most. None where they need not.
+    fn slow_until(&self, slow: Conn, own: bool) -> Option<u64> {
+        match self.clients.get(slow) {
+            Some(client) if client.has_some(own) => client.patience.until(),
+            _ => None,
+        }
+    }
+
+    /// Until when a client waits at most. None where it may go on.
+    fn waits_until(&self, conn: Conn) -> Option<u64> {
+        let slow = self.slow_of(conn)?;
+        self.slow_until(slow, slow == conn)
+    }
+
+    /// Whether a client is to wait still.
+    fn still_waits(&self, conn: Conn) -> bool {
+        match self.waits_until(conn) {
+            Some(until) => self.now < until,
+            None => false,
+        }
+    }
+
+    /// A client waits no more, and takes its packets.
+    fn release(&mut self, conn: Conn) -> Result<(), ServerFault> {
+        if let Some(slow) = self.slow_of(conn) {
+            self.clients.end_waiting(slow, self.now);
+        }
+        self.clients.wait(conn, None);
+        self.take_packets(conn)
+    }
+
+    /// Takes the packets of those who need not wait any more.
+    pub fn go_on(&mut self, now: u64) -> Result<(), ServerFault> {
+        self.at(now);
+        for _ in 0..self.held.len() {
+            let Some(conn) = self.held.pop_front() else {
+                break;
+            };
+            if self.still_waits(conn) {
+                self.held.push_back(conn)?;
+            } else {
+                self.release(conn)?;
+            }
+        }
+        Ok(())
+    }
+
+    /// Whether a client isn't to be read, since it waits for another.
+    pub fn is_held(&self, conn: Conn) -> bool {
+        self.slow_of(conn).is_some()
+    }
+
+    /// When `go_on` is to be called at the latest.
+    pub(crate) fn held_until(&self) -> u64 {
+        let mut first = u64::MAX;
+        for i in 0..self.held.len() {
+            match self.waits_until(self.held[i]) {
+                Some(until) => first = first.min(until),
+                None => return 0,
+            }
+        }
+        first
+    }
+}

@@ -1,0 +1,15 @@
+//! `serve` without its sockets: the broker and its clients. It is told what the sockets did, and answers what they are to
+//! do (own rules).
+#![tactic(auto)]
+
+mod fault;
+mod handing;
+mod holding;
+mod moments;
+mod reading;
+mod server;
+mod writing;
+
+pub use fault::ServerFault;
+pub use server::Server;
+pub use spk_broker::Conn;

@@ -1,0 +1,66 @@
+//! What time brings.
+
+use crate::fault::ServerFault;
+use crate::server::Server;
+use spk_broker::Conn;
+use spk_clients::Phase;
+
+/// How often the broker is told of the time, in milliseconds (own rule).
+const TICK: u64 = 1_000;
+
+impl Server {
+    /// Tells the broker of the time, where it has gone on. Where memory is refused it is told later.
+    pub(crate) fn tick(&mut self) -> Result<(), ServerFault> {
+        if self.now <= self.ticked {
+            return Ok(());
+        }
+        let Ok(out) = self.broker.tick(self.now) else {
+            return Ok(());
+        };
+        self.ticked = self.now;
+        self.hand_out(out)?;
+        self.tell_all()
+    }
+
+    /// A client's moment has come: one without CONNECT is ended, and the socket of one whose end came is shut.
+    fn call(&mut self, conn: Conn) -> Result<(), ServerFault> {
+        if self.clients.phase(conn) == Some(Phase::Quiet) {
+            self.give_up(conn)?;
+        }
+        self.clients.give_up(conn)?;
+        Ok(())
+    }
+
+    /// Calls those whose moment has come.
+    fn call_all(&mut self) -> Result<(), ServerFault> {
+        for _ in 0..self.clients.len() {
+            let Some(conn) = self.clients.next_due(self.now) else {
+                break;
+            };
+            self.call(conn)?;
+        }
+        self.soonest = self.clients.soonest();
+        Ok(())
+    }
+
+    /// Time has passed: it is to be called when `due` says, and may be called at any time.
+    pub fn moment(&mut self, now: u64) -> Result<(), ServerFault> {
+        self.at(now);
+        if self.now >= self.soonest {
+            self.call_all()?;
+        }
+        if self.now >= self.ticked.saturating_add(TICK) {
+            self.tick()?;
+        }
+        Ok(())
+    }
+
+    /// When `moment` and `go_on` are to be called next, if no socket does anything. None where no client is here.
+    pub fn due(&self) -> Option<u64> {
+        if self.clients.len() == 0 {
+            return None;
+        }
+        let tick = self.ticked.saturating_add(TICK);
+        Some(tick.min(self.soonest).min(self.held_until()))
+    }
+}

@@ -1,0 +1,98 @@
+//! The server, and how clients come.
+
+use crate::fault::ServerFault;
+use spk_broker::{Broker, BrokerFault, Conn};
+use spk_clients::Clients;
+use std::alloc::Global;
+use std::collections::VecDeque;
+use std::fmt;
+
+/// The most clients at once (own rule).
+const MOST_CLIENTS: usize = 1_000;
+
+/// The drop that closes a connection (own rule).
+const LIMIT: u16 = 128;
+
+/// How long a client may send nothing, in milliseconds (own rule).
+const QUIET: u64 = 10_000;
+
+/// The broker and its clients. Moments are in milliseconds; one that is less than the last counts as that.
+#[derive(Drop)]
+pub struct Server {
+    pub(crate) broker: Broker,
+    pub(crate) clients: Clients,
+    /// Who isn't read, since it waits for another, each once.
+    pub(crate) held: VecDeque<Conn>,
+    /// For whom more waits than others should add to, of the last packet taken.
+    pub(crate) pressing: Option<Conn>,
+    /// No client's moment comes before.
+    pub(crate) soonest: u64,
+    /// The latest moment.
+    pub(crate) now: u64,
+    /// The moment of the last tick.
+    pub(crate) ticked: u64,
+}
+
+impl fmt::Debug for Server {
+    fn fmt<W: fmt::Write>(&self, f: &mut fmt::Formatter<W>) -> fmt::Result {
+        f.write_str("Server { .. }")
+    }
+}
+
+impl Server {
+    /// A broker without clients.
+    pub fn new(alloc: Global) -> Server {
+        Server {
+            broker: Broker::new(alloc, LIMIT),
+            clients: Clients::new(alloc),
+            held: VecDeque::new(alloc),
+            pressing: None,
+            soonest: u64::MAX,
+            now: 0,
+            ticked: 0,
+        }
+    }
+
+    /// How many clients are here, those among them whose end came and whose sockets aren't shut yet.
+    pub fn clients(&self) -> usize {
+        self.clients.len()
+    }
+
+    /// Whether no further client may come: 1,000 are here (own rule).
+    pub fn is_full(&self) -> bool {
+        self.clients.len() >= MOST_CLIENTS
+    }
+
+    /// Time goes on.
+    pub(crate) fn at(&mut self, now: u64) {
+        self.now = self.now.max(now);
+    }
+
+    /// Opens a connection, and keeps its client.
+    fn open(&mut self, until: u64) -> Result<Conn, ServerFault> {
+        self.held.reserve(self.clients.len().saturating_add(1))?;
+        let conn = match self.broker.open(self.now) {
+            Ok(conn) => conn,
+            Err(BrokerFault::NoMemory) => return Err(ServerFault::NoMemory),
+            Err(_) => return Err(ServerFault::Limit),
+        };
+        if self.clients.insert(conn, until).is_err() {
+            let _ = self.broker.closed(conn, self.now);
+            return Err(ServerFault::NoMemory);
+        }
+        Ok(conn)
+    }
+
+    /// A client came: the number of its connection. It has ten seconds for its CONNECT (own rule). Refused with Limit (31)
+    /// where 1,000 clients are here.
+    pub fn accepted(&mut self, now: u64) -> Result<Conn, ServerFault> {
+        self.at(now);
+        if self.is_full() {
+            return Err(ServerFault::Limit);
+        }
+        let until = self.now.saturating_add(QUIET);
+        let conn = self.open(until)?;
+        self.soonest = self.soonest.min(until);
+        Ok(conn)
+    }
+}
