@@ -55,3 +55,7 @@ GivesFrontOf None r None = r ≡ None
 GivesFrontOf (Some c) r (Some d) = GivesFront c r d
 GivesFrontOf None r (Some d) = ⊥
 GivesFrontOf (Some c) r None = ⊥
+
+-- the broker is told of every refused packet
+abbrev pub IsSettled : Clients → Type 0
+IsSettled cs = AreNoted cs × (cs.untold.items ≡ [])

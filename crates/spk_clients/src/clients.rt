@@ -3,7 +3,7 @@ ghost use Rattle.std.specs.Prelude.{◌≡◌, ◌≢◌, ℕ, nat_eq, Some, Non
 ghost use Rattle.std.specs.Option.{option_map, option_copied};
 ghost use Rattle.std.specs.HashMap.{get, hash_map_len};
 ghost use Rattle.spk_clients.specs.Client.{fresh_client};
-ghost use Rattle.spk_clients.specs.Data.{AreNoted, OthersStay, client_at, client_count};
+ghost use Rattle.spk_clients.specs.Data.{AreNoted, IsSettled, OthersStay, client_at, client_count};
 
 use crate::client::Client;
 use std::alloc::{AllocError, Global};
@@ -33,7 +33,7 @@ impl Clients {
     /// No clients.
     pub fn new(alloc: Global) -> Clients
         ensures none { (k : ℕ) → client_at result k ≡ None }
-        ensures noted { AreNoted result }
+        ensures noted { IsSettled result }
     {
         Clients {
             alloc,
@@ -76,6 +76,7 @@ impl Clients {
         ensures others { OnOk result (OthersStay conn self.old self.new) }
         ensures err { OnErr result ((k : ℕ) → client_at self.new k ≡ client_at self.old k) }
         ensures noted { AreNoted self.old → AreNoted self.new }
+        ensures untold { self.new.untold.items ≡ self.old.untold.items }
     {
         self.reserve()?;
         self.table.insert(conn, Client::new(self.alloc, until))?;

@@ -94,6 +94,7 @@ impl Clients {
         ensures refused { result ≡ false → client_at self.new conn ≡ client_at self.old conn }
         ensures others { OthersStay conn self.old self.new }
         ensures noted { AreNoted self.old → AreNoted self.new }
+        ensures untold { self.new.untold.items ≡ self.old.untold.items }
     {
         feed_at(&mut self.table, conn, piece)
     }
@@ -104,6 +105,7 @@ impl Clients {
         ensures front { GivesFrontOf (client_at self.old conn) result (client_at self.new conn) }
         ensures others { OthersStay conn self.old self.new }
         ensures noted { AreNoted self.old → AreNoted self.new }
+        ensures untold { self.new.untold.items ≡ self.old.untold.items }
     {
         next_at(&mut self.table, conn)
     }
@@ -112,16 +114,18 @@ impl Clients {
     pub fn heard(&mut self, conn: u64, packet: &Packet)
         ensures done { Becomes (after_hearing (view packet.now)) conn self.old self.new }
         ensures noted { AreNoted self.old → AreNoted self.new }
+        ensures untold { self.new.untold.items ≡ self.old.untold.items }
     {
         hear_at(&mut self.table, conn, packet);
     }
 
     /// Where more than 512 packets wait for a client or aren't acknowledged by it, others may begin to wait for it at this moment,
-    /// in milliseconds, up to 200 in a second (own rule). Its own packets don't wait for its acknowledgements. Whether they wait.
+    /// in milliseconds, up to 200 at a time (own rule). Its own packets don't wait for its acknowledgements. Whether they wait.
     pub fn begin_waiting(&mut self, conn: u64, own: bool, now: u64) -> bool
         ensures done { Becomes (awaited own now) conn self.old self.new }
         ensures waits { result ≡ option_map_or (is_awaited own now) (client_at self.old conn) false }
         ensures noted { AreNoted self.old → AreNoted self.new }
+        ensures untold { self.new.untold.items ≡ self.old.untold.items }
     {
         begin_at(&mut self.table, conn, own, now)
     }
@@ -130,6 +134,7 @@ impl Clients {
     pub fn end_waiting(&mut self, conn: u64, now: u64)
         ensures done { Becomes (freed now) conn self.old self.new }
         ensures noted { AreNoted self.old → AreNoted self.new }
+        ensures untold { self.new.untold.items ≡ self.old.untold.items }
     {
         free_at(&mut self.table, conn, now);
     }
@@ -138,6 +143,7 @@ impl Clients {
     pub fn wait(&mut self, conn: u64, slow: Option<u64>)
         ensures done { Becomes (waiting_for slow) conn self.old self.new }
         ensures noted { AreNoted self.old → AreNoted self.new }
+        ensures untold { self.new.untold.items ≡ self.old.untold.items }
     {
         wait_at(&mut self.table, conn, slow);
     }

@@ -59,6 +59,7 @@ impl Clients {
     pub fn end(&mut self, conn: u64, until: u64) -> Result<(), AllocError>
         ensures done { Becomes (leaves until) conn self.old self.new }
         ensures noted { AreNoted self.old → AreNoted self.new }
+        ensures untold { self.new.untold.items ≡ self.old.untold.items }
     {
         if end_at(&mut self.table, conn, until) {
             self.done.push_back(conn)?;
@@ -70,6 +71,7 @@ impl Clients {
     pub fn give_up(&mut self, conn: u64) -> Result<(), AllocError>
         ensures done { Becomes given_up conn self.old self.new }
         ensures noted { AreNoted self.old → AreNoted self.new }
+        ensures untold { self.new.untold.items ≡ self.old.untold.items }
     {
         if give_up_at(&mut self.table, conn) {
             self.done.push_back(conn)?;
@@ -83,6 +85,7 @@ impl Clients {
             × (client_at self.new conn ≡ None) × OthersStay conn self.old self.new }
         ensures stays { result ≡ false → AllStay self.old self.new }
         ensures noted { AreNoted self.old → AreNoted self.new }
+        ensures untold { self.new.untold.items ≡ self.old.untold.items }
     {
         if phase_at(&self.table, conn) != Some(Phase::Done) {
             return false;
@@ -97,6 +100,7 @@ impl Clients {
             × (client_at self.new k ≡ None) × OthersStay k self.old self.new) }
         ensures none { IfNone result (AllStay self.old self.new) }
         ensures noted { AreNoted self.old → AreNoted self.new }
+        ensures untold { self.new.untold.items ≡ self.old.untold.items }
     {
         let conn = self.done.pop_front()?;
         if self.forget(conn) { Some(conn) } else { None }

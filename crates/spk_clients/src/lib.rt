@@ -6,6 +6,7 @@ mod client;
 mod clients;
 mod coming;
 mod ending;
+pub mod laws;
 mod offering;
 mod writing;
 

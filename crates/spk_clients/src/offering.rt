@@ -3,7 +3,7 @@ ghost use Rattle.std.specs.Prelude.{◌≡◌, ◌≢◌, ℕ, nat_eq, length, [
 ghost use Rattle.std.specs.Option.{option_map, option_map_or};
 ghost use Rattle.std.specs.HashMap.{get};
 ghost use Rattle.spk_clients.specs.Client.{is_untold, sort_untold, told};
-ghost use Rattle.spk_clients.specs.Data.{AreNoted, Becomes, OfferedTo, OthersStay, client_at};
+ghost use Rattle.spk_clients.specs.Data.{AllStay, AreNoted, Becomes, IsSettled, OfferedTo, OthersStay, client_at};
 
 use crate::client::{Client, Offered};
 use crate::clients::Clients;
@@ -101,8 +101,8 @@ impl Clients {
         ensures some { IfSome result (λ r. Becomes told r.0 self.old self.new) }
         ensures sort { IfSome result
             (λ r. r.1 ≡ option_map_or sort_untold (client_at self.old r.0) None) }
-        ensures none { IfNone result
-            ((self.old.untold.items ≡ []) × ((k : ℕ) → client_at self.new k ≡ client_at self.old k)) }
+        ensures none { IfNone result ((self.old.untold.items ≡ []) × AllStay self.old self.new) }
+        ensures settled { result ≡ None → AreNoted self.old → IsSettled self.new }
         ensures noted { AreNoted self.old → AreNoted self.new }
     {
         let conn = *self.untold.front()?;

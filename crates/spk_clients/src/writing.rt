@@ -55,6 +55,7 @@ impl Clients {
         ensures some { IfSome result (λ k. Becomes untouched k self.old self.new) }
         ensures none { IfNone result ((k : ℕ) → client_at self.new k ≡ client_at self.old k) }
         ensures noted { AreNoted self.old → AreNoted self.new }
+        ensures untold { self.new.untold.items ≡ self.old.untold.items }
     {
         let conn = self.touched.pop_front()?;
         untouch_at(&mut self.table, conn);
@@ -88,6 +89,7 @@ impl Clients {
     pub fn wrote(&mut self, conn: u64, count: usize) -> Result<(), AllocError>
         ensures done { Becomes (written_to count) conn self.old self.new }
         ensures noted { AreNoted self.old → AreNoted self.new }
+        ensures untold { self.new.untold.items ≡ self.old.untold.items }
     {
         if write_at(&mut self.table, conn, count) {
             self.done.push_back(conn)?;
@@ -99,6 +101,7 @@ impl Clients {
     pub fn cut(&mut self, conn: u64) -> Result<(), AllocError>
         ensures done { Becomes cut_off conn self.old self.new }
         ensures noted { AreNoted self.old → AreNoted self.new }
+        ensures untold { self.new.untold.items ≡ self.old.untold.items }
     {
         if cut_at(&mut self.table, conn) {
             self.done.push_back(conn)?;

@@ -9,24 +9,29 @@ pub record Waits : Type 0 where
   -- when the wait that goes on began
   pub since : Option ℕ
 
+-- the most that is waited at a time
+abbrev pub most_at_once : ℕ
+most_at_once = 200
+
 -- the most that is waited in a second
 abbrev pub most_waited : ℕ
-most_waited = 200
+most_waited = 1000
 
 abbrev pub fresh_waits : Waits
 fresh_waits = record { second = 0; used = 0; since = None }
 
 abbrev pub lasts_since : ℕ → ℕ → Option ℕ → Bool
 lasts_since now used None = false
-lasts_since now used (Some since) = nat_lt (now - since) (most_waited - used)
+lasts_since now used (Some since) = nat_lt (now - since) (min (most_waited - used) most_at_once)
 
 -- whether somebody waits at this moment
 abbrev pub lasts : ℕ → Waits → Bool
 lasts now w = lasts_since now w.used w.since
 
+-- a wait of the most at once uses up the second
 abbrev pub used_by : ℕ → ℕ → Option ℕ → ℕ
 used_by now used None = used
-used_by now used (Some since) = min (used + min (now - since) most_waited) most_waited
+used_by now used (Some since) = if nat_le most_at_once (now - since) then most_waited else min (used + (now - since)) most_waited
 
 abbrev pub ended : ℕ → Waits → Waits
 ended now w = record { second = w.second; used = used_by now w.used w.since; since = None }

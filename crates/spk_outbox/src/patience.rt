@@ -4,8 +4,11 @@ ghost use Rattle.spk_outbox.specs.Waits.{began, ended, fresh_waits, lasts};
 
 use std::marker::Model;
 
+/// How long others wait for one client at a time, in milliseconds (own rule).
+const WAIT: u64 = 200;
+
 /// How long others wait for one client in a second, in milliseconds (own rule).
-const MOST: u64 = 200;
+const MOST: u64 = 1_000;
 
 /// A second, in milliseconds.
 const SECOND: u64 = 1_000;
@@ -40,12 +43,13 @@ impl Patience {
         }
     }
 
-    /// Whether somebody waits at this moment: a wait began, and less than 200 milliseconds were waited in its second.
+    /// Whether somebody waits at this moment: a wait began less than 200 milliseconds ago, and with it less than a whole second
+    /// was waited in its second.
     pub fn lasts(&self, now: u64) -> bool
         ensures { result ≡ lasts now self.now }
     {
         match self.since {
-            Some(since) => now.saturating_sub(since) < MOST.saturating_sub(self.used),
+            Some(since) => now.saturating_sub(since) < MOST.saturating_sub(self.used).min(WAIT),
             None => false,
         }
     }
@@ -53,10 +57,10 @@ impl Patience {
     /// When the wait that goes on is over at the latest; none where nobody waits. No contract speaks of it.
     pub fn until(&self) -> Option<u64> {
         let since = self.since?;
-        Some(since.saturating_add(MOST.saturating_sub(self.used)))
+        Some(since.saturating_add(MOST.saturating_sub(self.used).min(WAIT)))
     }
 
-    /// A wait begins, unless one lasts or the second's 200 milliseconds are used up. A new second begins with the first wait that
+    /// A wait begins, unless one lasts or the second is used up. A new second begins with the first wait that
     /// comes a second or more after the last one began.
     pub fn begin(&mut self, now: u64)
         ensures { self.new ≡ began now self.old }
@@ -74,15 +78,20 @@ impl Patience {
         }
     }
 
-    /// The wait that goes on, if one does, is over.
+    /// The wait that goes on, if one does, is over. One of 200 milliseconds uses up the second: who took nothing so long isn't
+    /// waited for again in it.
     pub fn end(&mut self, now: u64)
         ensures { self.new ≡ ended now self.old }
     {
         let Some(since) = self.since else {
             return;
         };
-        let waited = now.saturating_sub(since).min(MOST);
-        self.used = self.used.saturating_add(waited).min(MOST);
+        let waited = now.saturating_sub(since);
+        self.used = if waited >= WAIT {
+            MOST
+        } else {
+            self.used.saturating_add(waited).min(MOST)
+        };
         self.since = None;
     }
 }

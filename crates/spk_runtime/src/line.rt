@@ -9,6 +9,8 @@ pub(crate) struct Line<P: Port> {
     pub(crate) port: P,
     /// A write may be tried.
     pub(crate) writable: bool,
+    /// It is among those that took nothing at their last write.
+    pub(crate) blocked: bool,
     /// It is among those that are to be read.
     pub(crate) ready: bool,
     /// The client sends no more: what it sent is read to its end.
@@ -44,6 +46,7 @@ impl<P: Port> Line<P> {
         Line {
             port,
             writable: true,
+            blocked: false,
             ready: false,
             closing: false,
         }

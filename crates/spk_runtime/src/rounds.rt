@@ -12,6 +12,10 @@ const PIECE: usize = 65_536;
 /// How often a client is written to in a round (own rule).
 const WRITES: usize = 16;
 
+/// How often a write is tried again where others wait, in milliseconds (own rule). The system says that a socket takes more only once a third
+/// of its buffer is free, which takes a slow client longer than others wait for it.
+const AGAIN: u64 = 10;
+
 /// The server and its clients' sockets, by the numbers of their connections.
 #[derive(Drop)]
 pub(crate) struct Rounds<P: Port> {
@@ -21,6 +25,10 @@ pub(crate) struct Rounds<P: Port> {
     ready: VecDeque<Conn>,
     /// To whom more is to be written than went in one round.
     more: VecDeque<Conn>,
+    /// Who took nothing at the last write.
+    blocked: VecDeque<Conn>,
+    /// When these are tried again at the earliest.
+    again: u64,
     piece: Vec<u8>,
     batch: Vec<u8>,
 }
@@ -32,6 +40,8 @@ impl<P: Port> Rounds<P> {
             lines: HashMap::new(alloc),
             ready: VecDeque::new(alloc),
             more: VecDeque::new(alloc),
+            blocked: VecDeque::new(alloc),
+            again: 0,
             piece: Vec::from_elem(alloc, 0, PIECE)?,
             batch: Vec::with_capacity(alloc, PIECE)?,
         })
@@ -42,6 +52,7 @@ impl<P: Port> Rounds<P> {
         let count = self.lines.len().saturating_add(1);
         self.ready.reserve(count)?;
         self.more.reserve(count)?;
+        self.blocked.reserve(count)?;
         Ok(())
     }
 
@@ -118,6 +129,52 @@ impl<P: Port> Rounds<P> {
         Ok(left)
     }
 
+    /// A client took nothing.
+    fn block(&mut self, conn: Conn) -> Result<(), ServerFault> {
+        let Some(line) = self.lines.get_mut(&conn) else {
+            return Ok(());
+        };
+        if !line.blocked {
+            line.blocked = true;
+            self.blocked.push_back(conn)?;
+        }
+        Ok(())
+    }
+
+    /// A write is tried again.
+    fn try_again(&mut self, conn: Conn) -> Result<(), ServerFault> {
+        let Some(line) = self.lines.get_mut(&conn) else {
+            return Ok(());
+        };
+        line.blocked = false;
+        line.writable = true;
+        self.write(conn)
+    }
+
+    /// Where others wait, writes are tried again now and then.
+    fn try_all_again(&mut self, now: u64) -> Result<(), ServerFault> {
+        if !self.server.is_waiting() || now < self.again {
+            return Ok(());
+        }
+        self.again = now.saturating_add(AGAIN);
+        for _ in 0..self.blocked.len() {
+            let Some(conn) = self.blocked.pop_front() else {
+                break;
+            };
+            self.try_again(conn)?;
+        }
+        Ok(())
+    }
+
+    /// When a round is to begin at the latest, if no socket does anything.
+    pub(crate) fn due(&self) -> Option<u64> {
+        let due = self.server.due()?;
+        if self.server.is_waiting() && !self.blocked.is_empty() {
+            return Some(due.min(self.again));
+        }
+        Some(due)
+    }
+
     /// What was written of what waits for a client. Whether more may be written.
     fn note(&mut self, conn: Conn, written: Written) -> Result<bool, ServerFault> {
         match written {
@@ -125,7 +182,10 @@ impl<P: Port> Rounds<P> {
                 self.server.wrote(conn, count)?;
                 Ok(true)
             }
-            Written::Nothing => Ok(false),
+            Written::Nothing => {
+                self.block(conn)?;
+                Ok(false)
+            }
             Written::Failed => {
                 self.server.cut(conn)?;
                 self.may_read(conn, true);
@@ -207,6 +267,7 @@ impl<P: Port> Rounds<P> {
     /// What is to be done before sockets are waited for, with what is ready. Whether more is ready at once.
     pub(crate) fn round(&mut self, now: u64) -> Result<bool, ServerFault> {
         self.server.moment(now)?;
+        self.try_all_again(now)?;
         self.server.go_on(now)?;
         let more_to_read = self.read_all(now)?;
         let more_to_write = self.write_all()?;

@@ -50,7 +50,7 @@ fn pause(doors: &Doors, rounds: &Rounds<TcpStream>, more: bool, now: u64) -> Opt
     if more || doors.may_accept(rounds, now) {
         return Some(Duration::ZERO);
     }
-    let mut due = rounds.server.due();
+    let mut due = rounds.due();
     if doors.knocked && now < doors.from {
         due = Some(due.unwrap_or(u64::MAX).min(doors.from));
     }

@@ -1,4 +1,6 @@
 //! Who waits for whom: a client whose packets go to one for whom many wait isn't read for a while.
+ghost use Rattle.std.specs.Prelude.{◌≡◌, OnOk, Ok, false, true};
+ghost use Rattle.spk_clients.specs.Data.{AreNoted, IsSettled};
 
 use crate::fault::ServerFault;
 use crate::server::Server;
@@ -6,7 +8,9 @@ use spk_broker::Conn;
 
 impl Server {
     /// Whether a client whose packet was taken is to wait for another.
-    pub(crate) fn holds(&mut self, conn: Conn) -> Result<bool, ServerFault> {
+    pub(crate) fn holds(&mut self, conn: Conn) -> Result<bool, ServerFault>
+        ensures settled { OnOk result (IsSettled self.old.clients → IsSettled self.new.clients) }
+    {
         let Some(slow) = self.pressing.take() else {
             return Ok(false);
         };
@@ -48,29 +52,56 @@ impl Server {
         }
     }
 
+    /// Nobody waits any more for whom this client waits.
+    fn free(&mut self, conn: Conn) -> Result<(), ServerFault>
+        ensures settled { OnOk result (IsSettled self.old.clients → IsSettled self.new.clients) }
+    {
+        let Some(slow) = self.slow_of(conn) else {
+            return Ok(());
+        };
+        self.clients.end_waiting(slow, self.now);
+        Ok(())
+    }
+
     /// A client waits no more, and takes its packets.
-    fn release(&mut self, conn: Conn) -> Result<(), ServerFault> {
-        if let Some(slow) = self.slow_of(conn) {
-            self.clients.end_waiting(slow, self.now);
-        }
+    fn release(&mut self, conn: Conn) -> Result<(), ServerFault>
+        ensures settled { OnOk result (IsSettled self.old.clients → IsSettled self.new.clients) }
+    {
+        self.free(conn)?;
         self.clients.wait(conn, None);
-        self.take_packets(conn)
+        self.take_packets(conn)?;
+        Ok(())
+    }
+
+    /// Takes the packets of the next client, where it need not wait any more.
+    fn go_on_with_next(&mut self) -> Result<(), ServerFault>
+        ensures settled { OnOk result (IsSettled self.old.clients → IsSettled self.new.clients) }
+    {
+        let Some(conn) = self.held.pop_front() else {
+            return Ok(());
+        };
+        if self.still_waits(conn) {
+            self.held.push_back(conn)?;
+            return Ok(());
+        }
+        self.release(conn)?;
+        Ok(())
     }
 
     /// Takes the packets of those who need not wait any more.
-    pub fn go_on(&mut self, now: u64) -> Result<(), ServerFault> {
+    pub fn go_on(&mut self, now: u64) -> Result<(), ServerFault>
+        ensures settled { OnOk result (IsSettled self.old.clients → IsSettled self.new.clients) }
+    {
         self.at(now);
         for _ in 0..self.held.len() {
-            let Some(conn) = self.held.pop_front() else {
-                break;
-            };
-            if self.still_waits(conn) {
-                self.held.push_back(conn)?;
-            } else {
-                self.release(conn)?;
-            }
+            self.go_on_with_next()?;
         }
         Ok(())
+    }
+
+    /// Whether somebody waits for another.
+    pub fn is_waiting(&self) -> bool {
+        !self.held.is_empty()
     }
 
     /// Whether a client isn't to be read, since it waits for another.

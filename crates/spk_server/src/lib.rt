@@ -2,6 +2,7 @@
 //! do (own rules).
 #![tactic(auto)]
 
+mod answers;
 mod fault;
 mod handing;
 mod holding;

@@ -1,5 +1,9 @@
 //! The server, and how clients come.
 
+ghost use Rattle.std.specs.Prelude.{◌≡◌};
+ghost use Rattle.spk_broker_rules.specs.Data.{fresh_broker};
+ghost use Rattle.spk_clients.specs.Data.{IsSettled};
+
 use crate::fault::ServerFault;
 use spk_broker::{Broker, BrokerFault, Conn};
 use spk_clients::Clients;
@@ -41,7 +45,10 @@ impl fmt::Debug for Server {
 
 impl Server {
     /// A broker without clients.
-    pub fn new(alloc: Global) -> Server {
+    pub fn new(alloc: Global) -> Server
+        ensures broker { result.broker ≡ fresh_broker 128 }
+        ensures settled { IsSettled result.clients }
+    {
         Server {
             broker: Broker::new(alloc, LIMIT),
             clients: Clients::new(alloc),
@@ -64,12 +71,16 @@ impl Server {
     }
 
     /// Time goes on.
-    pub(crate) fn at(&mut self, now: u64) {
+    pub(crate) fn at(&mut self, now: u64)
+        ensures { (self.new.broker ≡ self.old.broker) × (self.new.clients ≡ self.old.clients) }
+    {
         self.now = self.now.max(now);
     }
 
     /// Opens a connection, and keeps its client.
-    fn open(&mut self, until: u64) -> Result<Conn, ServerFault> {
+    fn open(&mut self, until: u64) -> Result<Conn, ServerFault>
+        ensures { IsSettled self.old.clients → IsSettled self.new.clients }
+    {
         self.held.reserve(self.clients.len().saturating_add(1))?;
         let conn = match self.broker.open(self.now) {
             Ok(conn) => conn,
@@ -85,7 +96,9 @@ impl Server {
 
     /// A client came: the number of its connection. It has ten seconds for its CONNECT (own rule). Refused with Limit (31)
     /// where 1,000 clients are here.
-    pub fn accepted(&mut self, now: u64) -> Result<Conn, ServerFault> {
+    pub fn accepted(&mut self, now: u64) -> Result<Conn, ServerFault>
+        ensures { IsSettled self.old.clients → IsSettled self.new.clients }
+    {
         self.at(now);
         if self.is_full() {
             return Err(ServerFault::Limit);

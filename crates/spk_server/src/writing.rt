@@ -1,40 +1,69 @@
 //! What is to be written, and whose sockets are to be shut.
 
+ghost use Rattle.std.specs.Prelude.{◌≡◌, ◌++◌, ◌-◌, OnOk, Some, None, length, take, IfSome, IfNone};
+ghost use Rattle.spk_outbox.specs.Data.{rest_of_first};
+ghost use Rattle.spk_clients.specs.declared.client.Phase.TheVariants as Phase;
+ghost use Rattle.spk_clients.specs.Client.{cut_off, untouched, written_to};
+ghost use Rattle.spk_clients.specs.Data.{AllStay, Becomes, IsSettled, OthersStay, client_at, phase_at, waiting_at};
+
 use crate::fault::ServerFault;
 use crate::server::Server;
 use spk_broker::Conn;
 
 impl Server {
     /// The next client to whom something is to be written.
-    pub fn next_to_write(&mut self) -> Option<Conn> {
+    pub fn next_to_write(&mut self) -> Option<Conn>
+        ensures some { IfSome result (λ k. Becomes untouched k self.old.clients self.new.clients) }
+        ensures none { IfNone result (AllStay self.old.clients self.new.clients) }
+        ensures settled { IsSettled self.old.clients → IsSettled self.new.clients }
+    {
         self.clients.next_to_write()
     }
 
     /// Joins a front of what waits for a client behind these bytes, up to 65,536 bytes.
-    pub fn gather(&self, conn: Conn, batch: &mut Vec<u8>) {
+    pub fn gather(&self, conn: Conn, batch: &mut Vec<u8>)
+        ensures { batch.new.items ≡ batch.old.items
+            ++ take (length batch.new.items - length batch.old.items) (waiting_at self.entry.now.clients conn) }
+    {
         self.clients.gather(conn, batch);
     }
 
     /// What is left of the first packet that waits for a client.
-    pub fn first(&self, conn: Conn) -> Option<&[u8]> {
+    pub fn first(&self, conn: Conn) -> Option<&[u8]>
+        ensures some { IfSome result (λ s. IfSome (client_at self.entry.now.clients conn)
+            (λ c. s.now ≡ rest_of_first c.outbox)) }
+        ensures none { IfNone result (IfSome (client_at self.entry.now.clients conn)
+            (λ c. length c.outbox.packets ≡ 0)) }
+    {
         self.clients.first(conn)
     }
 
     /// So many bytes of what waits for a client were written. The socket of one whose end came is to be shut where nothing is
     /// left.
-    pub fn wrote(&mut self, conn: Conn, count: usize) -> Result<(), ServerFault> {
+    pub fn wrote(&mut self, conn: Conn, count: usize) -> Result<(), ServerFault>
+        ensures done { OnOk result (Becomes (written_to count) conn self.old.clients self.new.clients) }
+        ensures settled { OnOk result (IsSettled self.old.clients → IsSettled self.new.clients) }
+    {
         self.clients.wrote(conn, count)?;
         Ok(())
     }
 
     /// A client's socket takes no more: once its end comes it is to be shut.
-    pub fn cut(&mut self, conn: Conn) -> Result<(), ServerFault> {
+    pub fn cut(&mut self, conn: Conn) -> Result<(), ServerFault>
+        ensures done { OnOk result (Becomes cut_off conn self.old.clients self.new.clients) }
+        ensures settled { OnOk result (IsSettled self.old.clients → IsSettled self.new.clients) }
+    {
         self.clients.cut(conn)?;
         Ok(())
     }
 
     /// The next client whose socket is to be shut. It is forgotten.
-    pub fn next_to_shut(&mut self) -> Option<Conn> {
+    pub fn next_to_shut(&mut self) -> Option<Conn>
+        ensures some { IfSome result (λ k. (phase_at self.old.clients k ≡ Some Phase.Done)
+            × (client_at self.new.clients k ≡ None) × OthersStay k self.old.clients self.new.clients) }
+        ensures none { IfNone result (AllStay self.old.clients self.new.clients) }
+        ensures settled { IsSettled self.old.clients → IsSettled self.new.clients }
+    {
         self.clients.next_to_shut()
     }
 }
