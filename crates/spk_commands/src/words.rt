@@ -3,7 +3,8 @@
 use clap::{Arg, ArgAction, ArgGroup, Command, value_parser};
 use std::alloc::{AllocError, Global};
 
-const ABOUT: &str = "Sparkplug B: what payloads and packets say, over decoders that are proved";
+const ABOUT: &str =
+    "Sparkplug B over MQTT 3.1.1: reads payloads and packets, and runs a broker, worlds and plants";
 
 const STATUSES: &str = "\
 Status: 0 is done; 1 is a fault, printed as `fault NAME (number)`, or output that could not be written;
@@ -48,7 +49,10 @@ prints
 and mosquitto_sub prints 1.
 
 It has neither TLS nor passwords; what it holds is lost when it is ended. It ends by itself once that many
-clients have come and gone, and prints `served K`.
+clients have come and gone, and prints `served K`; with --stay it doesn't end.
+
+Who publishes to a subscriber that reads too slowly is slowed, for less than 200 milliseconds at a time; a
+subscriber that loses 128 messages of QoS 0, or one of QoS 1, is closed. docs/SECURITY.md tells more.
 
 Status: 0 is done; 1 is a fault, printed as `fault NAME (number)`, or output that could not be written;
 2 is a command line that isn't one. docs/FAULTS.md tells each fault by its number.";
@@ -221,7 +225,7 @@ fn plant<'a>(alloc: Global) -> Result<Command<'a>, AllocError> {
 pub(crate) fn command_line<'a>(alloc: Global) -> Result<Command<'a>, AllocError> {
     let command = Command::new(alloc, "sparkplug")
         .about(ABOUT)
-        .version("0.1.0")
+        .version("0.3.0")
         .after_help(STATUSES)
         .subcommand_required(true)
         .arg_required_else_help(true);
