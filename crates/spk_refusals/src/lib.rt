@@ -5,5 +5,6 @@ pub mod broker;
 pub mod edge;
 pub mod packets;
 pub mod payload;
+pub mod plant;
 pub mod view;
 pub mod world;
