@@ -51,17 +51,20 @@ fn fill(registry: &mut impl Registers) -> Option<()> {
 
 fn registry(alloc: Global) -> Option<Registry> {
     let mut registry = Registry::new(alloc);
-    fill(&mut registry)?;
-    Some(registry)
+    match fill(&mut registry) {
+        Some(()) => Some(registry),
+        None => None,
+    }
 }
 
 /// A node's name, its primary host and its numbering.
 type Node = (&'static str, Option<&'static str>, Numbering);
 
 fn made(alloc: Global, node: Node) -> Option<(EdgeConfig, Registry)> {
-    let config = config(alloc, node.0, node.1, node.2)?;
-    let registry = registry(alloc)?;
-    Some((config, registry))
+    match (config(alloc, node.0, node.1, node.2), registry(alloc)) {
+        (Some(config), Some(registry)) => Some((config, registry)),
+        _ => None,
+    }
 }
 
 const WAITS: [u64; HOSTS] = [150, 1_500];
@@ -74,23 +77,37 @@ static EDGES: [Node; NODES] = [
 
 fn nodes(alloc: Global) -> Option<Vec<(EdgeConfig, Registry)>> {
     let mut nodes = Vec::new(alloc);
-    for node in EDGES {
-        nodes.push(made(alloc, node)?).ok()?;
+    match put_nodes(alloc, &mut nodes) {
+        Some(()) => Some(nodes),
+        None => None,
     }
-    Some(nodes)
+}
+
+fn put_nodes(alloc: Global, nodes: &mut Vec<(EdgeConfig, Registry)>) -> Option<()> {
+    for node in &EDGES {
+        nodes.push(made(alloc, *node)?).ok()?;
+    }
+    Some(())
 }
 
 fn hosts(alloc: Global, width: Width) -> Option<Vec<HostConfig>> {
     let mut hosts = Vec::new(alloc);
-    for (name, wait) in [("H0", WAITS[0]), ("H1", WAITS[1])] {
-        hosts.push(host(alloc, name, wait, width)?).ok()?;
+    match put_hosts(alloc, &mut hosts, width) {
+        Some(()) => Some(hosts),
+        None => None,
     }
-    Some(hosts)
+}
+
+fn put_hosts(alloc: Global, hosts: &mut Vec<HostConfig>, width: Width) -> Option<()> {
+    hosts.push(host(alloc, "H0", WAITS[0], width)?).ok()?;
+    hosts.push(host(alloc, "H1", WAITS[1], width)?).ok()
 }
 
 fn world(alloc: Global, width: Width) -> Option<World> {
-    let nodes = nodes(alloc)?;
-    World::new(alloc, nodes, hosts(alloc, width)?).ok()
+    match (nodes(alloc), hosts(alloc, width)) {
+        (Some(nodes), Some(hosts)) => World::new(alloc, nodes, hosts).ok(),
+        _ => None,
+    }
 }
 
 fn twin(alloc: Global, width: u64) -> Option<Twin> {
@@ -308,33 +325,30 @@ fn told_node(event: &Event) -> Option<(usize, bool)> {
     }
 }
 
-/// An event of a node: its answer is the count of what was published since, and the twin hears it.
-fn assert_told(
-    rt: &impl Abort,
+/// Whether an answer says how many messages of a node were published since, or that there is no such node.
+fn is_count(answer: Result<Done, WorldFault>, node: usize, added: usize) -> bool {
+    match answer {
+        Ok(done) => node < NODES && done == Done::Edge { added },
+        Err(WorldFault::Edge(_fault)) => node < NODES && added == 0,
+        Err(fault) => node >= NODES && fault == WorldFault::NoSuch,
+    }
+}
+
+/// An event of a node: whether its answer is the count of what was published since. The twin hears it.
+fn is_heard(
     world: &impl Plays,
     twin: &mut Twin,
     answer: Result<Done, WorldFault>,
     node: usize,
     opens: bool,
-) {
+) -> bool {
     let published = world.sent_by(node);
     let before = twin.nodes.get(node).map_or(0, |source| source.sent.len());
     let added = published.len().saturating_sub(before);
-    match answer {
-        Ok(done) => {
-            assert!(rt; node < NODES);
-            assert_eq!(rt; done, Done::Edge { added });
-            twin.hear(node, opens, published);
-        }
-        Err(WorldFault::Edge(_fault)) => {
-            assert!(rt; node < NODES);
-            assert_eq!(rt; added, 0);
-        }
-        Err(fault) => {
-            assert_eq!(rt; fault, WorldFault::NoSuch);
-            assert!(rt; node >= NODES);
-        }
+    if answer.is_ok() {
+        twin.hear(node, opens, published);
     }
+    is_count(answer, node, added)
 }
 
 /// A message that was consumed is at a position, and is what was published there.
@@ -439,35 +453,44 @@ fn count(counts: &mut [u64; SORTS], event: &Event, answer: Result<Done, WorldFau
     }
 }
 
-/// One event is done by the world and by the twin, and their answers are the same.
-fn assert_step(
-    rt: &impl Abort,
-    world: &mut impl Plays,
-    twin: &mut Twin,
-    event: &Event,
-) -> Result<Done, WorldFault> {
-    let answer = match world.tell(event) {
+/// What the world answers. Where memory was refused the event comes again.
+fn told(world: &mut impl Plays, event: &Event) -> Result<Done, WorldFault> {
+    match world.tell(event) {
         Err(WorldFault::NoMemory) => world.tell(event),
         answer => answer,
-    };
-    if let Some(wanted) = twin.answer(event) {
-        assert_eq!(rt; answer, wanted, "of {event:?}");
     }
-    if let Some((node, opens)) = told_node(event) {
-        assert_told(rt, world, twin, answer, node, opens);
-    }
-    answer
 }
 
-/// Every sort of answer came up. With one place nothing is ever held.
+/// Whether the twin has the same answer to an event, which it does too.
+fn is_alike(
+    world: &impl Plays,
+    twin: &mut Twin,
+    event: &Event,
+    answer: Result<Done, WorldFault>,
+) -> bool {
+    let is_same = match twin.answer(event) {
+        Some(wanted) => answer == wanted,
+        None => true,
+    };
+    match told_node(event) {
+        Some((node, opens)) => is_heard(world, twin, answer, node, opens) && is_same,
+        None => is_same,
+    }
+}
+
+/// Whether a sort of answer came up, or didn't. With one place nothing is ever held.
+fn is_counted(place: usize, count: u64, width: u64) -> bool {
+    if place == 26 || (width == 1 && (place == 4 || place == 5 || place == 14)) {
+        count == 0
+    } else {
+        count >= 5
+    }
+}
+
+/// Every sort of answer came up.
 fn assert_counted(rt: &impl Abort, counts: &[u64; SORTS], width: u64) {
     for (place, count) in counts.iter().enumerate() {
-        let is_none = place == 26 || (width == 1 && (place == 4 || place == 5 || place == 14));
-        if is_none {
-            assert_eq!(rt; *count, 0, "at {place}");
-        } else {
-            assert!(rt; *count >= 5, "{count} at {place}");
-        }
+        assert!(rt; is_counted(place, *count, width), "{count} at {place}");
     }
 }
 
@@ -481,7 +504,8 @@ fn turn(
     turn: u64,
 ) {
     let event = event_of(rt.alloc(), dice, twin, turn).expect(rt, "an event");
-    let answer = assert_step(rt, world, twin, &event);
+    let answer = told(world, &event);
+    assert!(rt; is_alike(world, twin, &event, answer), "of {event:?}");
     count(counts, &event, answer);
     if turn % 100 == 99 {
         assert_all_consumed(rt, world, twin);

@@ -54,8 +54,7 @@ static ROWS: [Row; 36] = [
 
 fn plays(rt: &(impl Abort + AllocGlobal), world: &mut impl Plays) {
     all_answer(rt, world, &ROWS);
-    assert!(rt; sizes(world) == (10, 3));
-    assert!(rt; are_at(world.heard_by(0, 0), &[7, 8, 9]));
+    assert!(rt; sizes(world) == (10, 3) && are_at(world.heard_by(0, 0), &[7, 8, 9]));
 }
 
 #[test]

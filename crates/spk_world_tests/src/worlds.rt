@@ -1,8 +1,9 @@
 //! Worlds by tables of acts and answers. Where memory was refused the call is made again.
-use crate::acts::{Act, Plays, Row, all_answer, answers, are_at, world};
+use crate::acts::{Act, Plays, Row, all_answer, are_at, is_answered, world};
 use spk_edge::{EdgeFault, Numbering};
 use spk_sequence::{Match, Step};
 use spk_world::{Consumed, Done, Published, WorldFault};
+use std::alloc::Global;
 use std::process::Abort;
 
 /// A node publishes nothing, or one message.
@@ -40,8 +41,7 @@ fn are_same(sent: &[Published], heard: &[Consumed]) -> bool {
 
 fn consumes(rt: &(impl Abort + AllocGlobal), world: &mut impl Plays) {
     plays(rt, world, &IN_ORDER, &[0, 1]);
-    assert!(rt; world.sent_by(0).len() == 2);
-    assert!(rt; are_same(world.sent_by(0), world.heard_by(0, 0)));
+    assert!(rt; world.sent_by(0).len() == 2 && are_same(world.sent_by(0), world.heard_by(0, 0)));
     assert!(rt; world.has_host(0) && !world.has_host(1));
 }
 
@@ -142,26 +142,35 @@ static FAR: [Row; 2] = [
 ];
 
 /// 130 changes.
-fn changes(rt: &(impl Abort + AllocGlobal), world: &mut impl Plays) {
+fn changes(alloc: Global, world: &mut impl Plays) -> bool {
     for now in 7..137 {
-        answers(rt, world, &(Act::Set(now as i64 + 1, now), SENDS));
+        if !is_answered(alloc, world, &(Act::Set(now as i64 + 1, now), SENDS)) {
+            return false;
+        }
     }
+    true
 }
 
 /// 256 sessions more.
-fn reopens(rt: &(impl Abort + AllocGlobal), world: &mut impl Plays) {
+fn reopens(alloc: Global, world: &mut impl Plays) -> bool {
     for now in 300..556 {
-        answers(rt, world, &(Act::Cut, QUIET));
-        answers(rt, world, &(Act::Open(now), QUIET));
+        let is_so = is_answered(alloc, world, &(Act::Cut, QUIET))
+            && is_answered(alloc, world, &(Act::Open(now), QUIET));
+        if !is_so {
+            return false;
+        }
     }
+    true
 }
+
+/// The death of a session too many before the last.
+const TOO_FAR: Row = (Act::Death(256, 600), Err(WorldFault::TooFar));
 
 fn refuses(rt: &(impl Abort + AllocGlobal), world: &mut impl Plays) {
     all_answer(rt, world, &REFUSALS);
-    changes(rt, world);
+    assert!(rt; changes(rt.alloc(), world));
     all_answer(rt, world, &FAR);
-    reopens(rt, world);
-    answers(rt, world, &(Act::Death(256, 600), Err(WorldFault::TooFar)));
+    assert!(rt; reopens(rt.alloc(), world) && is_answered(rt.alloc(), world, &TOO_FAR));
 }
 
 #[test]
