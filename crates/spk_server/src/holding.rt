@@ -52,6 +52,15 @@ impl Server {
         }
     }
 
+    /// When the wait for a client ended, as far as it counts: never began, where fewer packets are left of it. Such a wait did what
+    /// it was for, and may have been the server's own delay.
+    fn counted(&self, slow: Conn, own: bool) -> u64 {
+        match self.slow_until(slow, own) {
+            Some(_) => self.now,
+            None => 0,
+        }
+    }
+
     /// Nobody waits any more for whom this client waits.
     fn free(&mut self, conn: Conn) -> Result<(), ServerFault>
         ensures settled { OnOk result (IsSettled self.old.clients → IsSettled self.new.clients) }
@@ -59,7 +68,8 @@ impl Server {
         let Some(slow) = self.slow_of(conn) else {
             return Ok(());
         };
-        self.clients.end_waiting(slow, self.now);
+        let ended = self.counted(slow, slow == conn);
+        self.clients.end_waiting(slow, ended);
         Ok(())
     }
 
