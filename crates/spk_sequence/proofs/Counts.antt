@@ -1,5 +1,7 @@
 -- How many places hold a message.
-use Rattle.std.proofs.Common.{◌≡◌, ℕ, suc, ◌+◌, ◌<◌, Bool, true, false, cond, List, length, ◌∙◌, ap, arith, Option, None, is_some}
+use Rattle.std.proofs.Common.{◌≡◌, ℕ, suc, ◌+◌, ◌<◌, Bool, true, false, cond, List, [], ◌∷◌, length, refl, ◌∙◌, ap, arith, Option, Some, None, is_some}
+use Rattle.std.specs.List.{list_any}
+use Rattle.std.proofs.lemmas.Bool.{true≢false}
 use Rattle.std.proofs.Math.ListN.{drop}
 use Rattle.std.proofs.Math.Seq.{drop-cons}
 use Rattle.spk_sequence.specs.Data.{held_at}
@@ -13,3 +15,10 @@ count_step held i below = ap held_count (drop-cons held i None below) ∙ go (is
     go : (b : Bool) (n : ℕ) → cond b (suc n) n ≡ cond b 1 0 + n
     go true n = omega arith
     go false n = omega arith
+
+-- where none is held, none is counted
+pub none_counted : (held : List (Option (Option ℕ))) → list_any is_some held ≡ false → held_count held ≡ 0
+unfolding held_count
+none_counted [] e = refl
+none_counted (None ∷ held) e = none_counted held e
+none_counted (Some own ∷ held) e = absurd (true≢false e)

@@ -181,6 +181,9 @@ impl Sequence {
         ensures bounded { result ≤ self.now.width }
         ensures whole { IsWhole self.now }
     {
+        if !self.is_any_held() {
+            return 0;
+        }
         let width = self.width();
         let mut count = 0u8;
         for distance in 0..width {
@@ -309,7 +312,8 @@ impl Sequence {
         number.wrapping_sub(self.next)
     }
 
-    fn is_any_held(&self) -> bool
+    /// Whether any message is held.
+    pub fn is_any_held(&self) -> bool
         ensures value { result ≡ is_any_held self.now.held }
         ensures whole { IsWhole self.now }
     {

@@ -4,8 +4,12 @@ use Rattle.std.proofs.Math.ListN.{drop}
 use Rattle.std.proofs.lemmas.List.{drop_all}
 use Rattle.spk_sequence.specs.Data.{IsWhole, held_at}
 use Rattle.spk_sequence.specs.Numbers.{held_count}
-use Rattle.spk_sequence.proofs.Counts.{count_step}
+use Rattle.spk_sequence.proofs.Counts.{count_step, none_counted}
 use Rattle.spk_sequence.proofs.sequence.Sequence.held.Goals as goal
+
+pub returns-then-not-is_any_held-clause-count : goal.returns-then-not-is_any_held-clause-count
+returns-then-not-is_any_held-clause-count c =
+    sym (none_counted c.args.self.now.held (sym c.is_any_held.ensures.value ∙ c.if-not-is_any_held.true))
 
 pub loop-distance-preserved : goal.loop-distance-preserved
 loop-distance-preserved c =
