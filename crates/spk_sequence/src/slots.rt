@@ -119,6 +119,9 @@ impl Slots {
         requires { length self.old ≡ 128 }
         ensures { IsKeptBy self.old self.new from width number stamp }
     {
+        if self.is_empty() {
+            return;
+        }
         for slot in 0..128u8 {
             let past = from
                 .wrapping_add(slot.wrapping_sub(from) % 128)
