@@ -10,7 +10,7 @@ use Rattle.spk_sequence.specs.declared.message.Kind.{Kind}
 use Rattle.spk_sequence.specs.declared.answer.Step.{Step}
 use Rattle.spk_sequence.specs.declared.answer.Step.TheVariants as step
 use Rattle.spk_sequence.specs.Data.{Standing, held_at}
-use Rattle.spk_sequence.specs.Step.{is_live, is_dead, is_known, is_below, ahead, hand, hand_other, places_from, run_of, after_consumed, after_held, after_stop}
+use Rattle.spk_sequence.specs.Step.{is_live, is_dead, is_known, is_below, ahead, hand, hand_ahead, hand_other, places_from, run_of, after_consumed, after_held, after_stop}
 use Rattle.spk_sequence.specs.Calls.{Stepped, after_call}
 use Rattle.spk_sequence.specs.NodeRecord.{Setting, opens, stamp_at, written_number}
 use Rattle.spk_sequence.specs.HostRecord.{Input, MessageComes, Done, HostRecord, kind_of, call_of, consumed_by, done_at, next_after, reach}
@@ -73,6 +73,10 @@ too_old d x now own a b = rw (a, b) refl
 pub next_one : (d : Standing) (x now : ℕ) (own : Option ℕ) → is_live d.phase ≡ true → is_below own d.stamp ≡ false → eqb (ahead x d.next) 0 ≡ true →
     hand_other d x own now ≡ (step.Consumed (1 + run_of (places_from d.held d.width 1)), after_consumed d x (places_from d.held d.width 1) now)
 next_one d x now own a b c = rw (a, b, c) refl
+
+pub not_next : (d : Standing) (x now : ℕ) (own : Option ℕ) → is_live d.phase ≡ true → is_below own d.stamp ≡ false → eqb (ahead x d.next) 0 ≡ false →
+    hand_other d x own now ≡ hand_ahead d (ahead x d.next) own now
+not_next d x now own a b c = rw (a, b, c) refl
 
 pub again : (d : Standing) (x now : ℕ) (own : Option ℕ) → is_live d.phase ≡ true → is_below own d.stamp ≡ false → eqb (ahead x d.next) 0 ≡ false → nat_lt (ahead x d.next) d.width ≡ true → is_some (held_at d.held (ahead x d.next)) ≡ true →
     hand_other d x own now ≡ (step.Old, d)

@@ -1,4 +1,4 @@
-ghost use Rattle.std.specs.Prelude.{◌≡◌, ℕ, ◌+◌, ◌<◌, ◌≤◌, ◌==◌, nat_le, is_some, if◌then◌else◌, None};
+ghost use Rattle.std.specs.Prelude.{◌≡◌, ℕ, ◌+◌, ◌<◌, ◌≤◌, ◌==◌, nat_le, is_some, if◌then◌else◌, Option, None};
 ghost use Rattle.spk_sequence.specs.Data.{Standing, IsWhole, held_at};
 ghost use Rattle.spk_sequence.specs.Numbers.{held_as, held_count};
 ghost use Rattle.spk_sequence.specs.Step.{is_any_held, ahead, is_below, places_from, places_after, kept_places, run_of, after_consumed, after_stop, after_held, hand_birth, hand_other, hand_ahead, hand, is_over, tick, match_of, death, fresh_standing, next_of};
@@ -95,8 +95,13 @@ impl Sequence {
     pub fn step_of(&self, number: u8, kind: Kind, now: u64) -> Step
         ensures step { result ≡ (hand self.now number kind now).0 }
     {
-        let mut copy = self.copied();
-        copy.hand(number, kind, now)
+        match kind {
+            Kind::Birth { .. } => {
+                let mut copy = self.copied();
+                copy.hand(number, kind, now)
+            }
+            Kind::Other { stamp } => self.other_step(number, stamp),
+        }
     }
 
     /// A moment in milliseconds: a gap if a held message has waited long enough for one before it.
@@ -215,6 +220,52 @@ impl Sequence {
             since: self.since,
             slots: self.slots.copied(),
         }
+    }
+
+    /// What would become of a message that is no NBIRTH. The moment plays no part.
+    fn other_step(&self, number: u8, stamp: Option<u64>) -> Step
+        ensures { (now : ℕ) → result ≡ (hand_other self.now number stamp now).0 }
+    {
+        let Phase::Live = self.phase() else {
+            return Step::NotLive;
+        };
+        if self.is_before_birth(stamp) {
+            return Step::Old;
+        }
+        let place = self.place_of(number);
+        if place != 0 {
+            return self.ahead_step(place);
+        }
+        Step::Consumed(1 + self.run_after(number))
+    }
+
+    /// What would become of a message whose number is not the one that comes next.
+    fn ahead_step(&self, place: u8) -> Step
+        ensures { (stamp : Option ℕ) (now : ℕ)
+            → result ≡ (hand_ahead self.now place stamp now).0 }
+    {
+        let width = self.width();
+        if place >= width {
+            if u16::from(place) < 256 - u16::from(width) {
+                Step::Gap
+            } else {
+                Step::Old
+            }
+        } else if self.is_held_at(place) {
+            Step::Old
+        } else {
+            Step::Held
+        }
+    }
+
+    /// How many held messages follow the one that comes next without a hole.
+    fn run_after(&self, number: u8) -> u8
+        requires { number ≡ self.now.next }
+        ensures value { result ≡ run_of (places_after self.now) }
+        ensures bounded { result ≤ 96 }
+    {
+        let first = number.wrapping_add(1);
+        self.slots.run(first, self.width.get())
     }
 
     fn hand_birth(&mut self, number: u8, stamp: u64, bd: u8, now: u64) -> Step

@@ -84,6 +84,20 @@ impl Slots {
         self.mask == 0
     }
 
+    /// How many slots are full in a row from a number on, at most so many.
+    pub(crate) fn run(&self, from: u8, width: u8) -> u8
+        requires { width ≤ 128 }
+        ensures count { result ≡ run_of (places_of self.now from width) }
+        ensures bounded { result ≤ width }
+    {
+        for place in 0..width {
+            if self.get(from.wrapping_add(place) % 128).is_none() {
+                return place;
+            }
+        }
+        width
+    }
+
     /// Empties the slots that are full in a row from a number on, and says how many they are, at most so many.
     pub(crate) fn take_run(&mut self, from: u8, width: u8) -> u8
         requires few { width ≤ 128 }

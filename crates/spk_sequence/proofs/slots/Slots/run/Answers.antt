@@ -1,0 +1,15 @@
+use Rattle.std.proofs.Common.{◌≡◌, ◌+◌, ◌%◌, sym, ◌∙◌, ap, arith, get_or, None, is_some}
+use Rattle.spk_sequence.proofs.WindowLemmas.{run_is}
+use Rattle.spk_sequence.proofs.slots.Slots.run.Goals as goal
+
+pub returns-then-is_none-clause-count : goal.returns-then-is_none-clause-count
+returns-then-is_none-clause-count c =
+    let l = c.loop-place in
+    run_is c.args.self.now c.args.from c.args.width l.place l.auto.place-end l.invariant
+    (λ below. let at : (c.args.from + l.place) % 128 ≡ (c.args.from + l.place) % 256 % 128 = omega arith in
+    ap (λ k. is_some (get_or c.args.self.now k None)) at
+    ∙ sym (ap is_some c.get.ensures.entry) ∙ c.if-is_none.ensures)
+
+pub returns-clause-count : goal.returns-clause-count
+returns-clause-count c =
+    run_is c.args.self.now c.args.from c.args.width c.args.width (omega arith) (λ k below. c.loop-place.invariant k (omega (arith, c.loop-place-test.false))) (λ below. absurd (omega arith))
