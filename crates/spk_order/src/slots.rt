@@ -84,7 +84,7 @@ fn free_dropped<T: Drop>(slots: &mut Vec<Option<T>>, sequence: &Sequence)
     ensures { slots.new.items ≡ left_by sequence.now slots.old.items }
 {
     for number in 0..256u16 {
-        if !sequence.is_held(number as u8) {
+        if slots[usize::from(number)].is_some() && !sequence.is_held(number as u8) {
             slots[usize::from(number)] = None;
         }
     }
