@@ -1,5 +1,5 @@
 -- The payloads at a step of the order, by what the step does to what is held (`spk_sequence`'s law on numbers).
-use Rattle.std.proofs.Common.{◌⊎◌, ◌≡◌, ℕ, zero, suc, ◌+◌, ◌-◌, ◌%◌, ◌<◌, ◌≤◌, true, false, List, [], ◌∷◌, length, map, set, Option, Some, None, is_some, inl, inr, refl, sym, ◌∙◌, ap, arith, get_or-set_other}
+use Rattle.std.proofs.Common.{◌⊎◌, ◌≡◌, ℕ, zero, suc, ◌+◌, ◌-◌, ◌%◌, ◌<◌, ◌≤◌, Bool, true, false, List, [], ◌∷◌, length, map, set, Option, Some, None, is_some, inl, inr, refl, sym, ◌∙◌, ap, arith, get_or-set_other}
 use Rattle.std.specs.List.{range_with_len}
 use Rattle.std.proofs.lemmas.Bool.{cases_eq, cases_lt}
 use Rattle.std.proofs.lemmas.List.{get_or-set_same, get_or_past, length-map}
@@ -9,7 +9,7 @@ use Rattle.spk_sequence.specs.declared.answer.Step.TheVariants as step
 use Rattle.spk_sequence.specs.declared.message.Kind.{Kind}
 use Rattle.spk_sequence.specs.Data.{Standing, IsWhole, held_at}
 use Rattle.spk_sequence.specs.Numbers.{held_as, held_count, KeepsNumbers}
-use Rattle.spk_sequence.specs.Step.{ahead, hand}
+use Rattle.spk_sequence.specs.Step.{ahead, hand, is_any_held}
 use Rattle.spk_order.specs.Ordered.{Ordered, kept_at, IsKept}
 use Rattle.spk_order.specs.Step.{left_by, placed, consumed_with, handed, HasRun, IsBeyond}
 use Rattle.spk_order.proofs.Left.{stands, left_still, left_same, left_kept, remains_full}
@@ -27,6 +27,25 @@ none_counted [] i e = refl
 none_counted (None ∷ places) zero e = refl
 none_counted (None ∷ places) (suc i) e = none_counted places i e
 none_counted (Some own ∷ places) i e = absurd (omega arith)
+
+-- where none is held, none is counted
+pub none_any : (places : List (Option (Option ℕ))) → is_any_held places ≡ false → held_count places ≡ 0
+unfolding held_count
+none_any [] e = refl
+none_any (None ∷ places) e = none_any places e
+none_any (Some own ∷ places) e = absurd (cc)
+
+pub or_none : (answer : Step) (places : List (Option (Option ℕ))) (any : Bool) → any ≡ is_any_held places → (answer ≡ step.Held) ⊎ (any ≡ false) →
+    (answer ≡ step.Held) ⊎ (held_count places ≡ 0)
+or_none answer places any e (inl held) = inl held
+or_none answer places any e (inr none) = inr (none_any places (sym e ∙ none))
+
+-- where nothing was held, all that is kept stays, however the order stands then
+pub idle_left : {T : Type 0} (old new : Standing) (kept : List (Option T)) → IsKept old kept → is_any_held old.held ≡ false → left_by new kept ≡ kept
+idle_left old new kept are none =
+    left_still new kept are.sized
+    (λ x fits there. absurd (let gone : is_some (held_as old x) ≡ false = ap is_some (none_counted old.held (ahead x old.next) (none_any old.held none)) in
+    let empty : is_some (kept_at kept x) ≡ false = are.exact x fits ∙ gone in cc))
 
 -- so many come out at most
 pub few_eaten : (old new : Standing) (number n : ℕ) (answer : Step) → IsWhole old → KeepsNumbers old new number answer →

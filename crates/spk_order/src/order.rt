@@ -4,7 +4,7 @@ ghost use Rattle.spk_sequence.specs.declared.answer.Step.{Step};
 ghost use Rattle.spk_sequence.specs.declared.answer.Match.{Match};
 ghost use Rattle.spk_sequence.specs.Data.{IsWhole};
 ghost use Rattle.spk_sequence.specs.Numbers.{held_count};
-ghost use Rattle.spk_sequence.specs.Step.{hand, is_over, tick, match_of, death, fresh_standing};
+ghost use Rattle.spk_sequence.specs.Step.{is_any_held as is_any_held_in, hand, is_over, tick, match_of, death, fresh_standing};
 ghost use Rattle.spk_order.specs.Ordered.{IsKept};
 ghost use Rattle.spk_order.specs.Step.{consumed_with, handed, stands_so, fresh_order};
 
@@ -91,14 +91,14 @@ impl<T: Drop> Order<T> {
         ensures whole { IsKept self.new.standing self.new.kept }
     {
         numbers();
-        let held = self.sequence.held();
-        let room = room_for(&self.sequence, held);
+        let is_any_held = self.sequence.is_any_held();
+        let room = room_for(&self.sequence, is_any_held);
         let Ok(consumed) = Vec::with_capacity(self.alloc, room) else {
             return Err(NoMemory { payload });
         };
         let step = self.sequence.hand(number, kind, now);
         let consumed = place(&mut self.slots, consumed, number, payload, step);
-        settle(&mut self.slots, &self.sequence, may_drop(step, held));
+        settle(&mut self.slots, &self.sequence, may_drop(step, is_any_held));
         Ok(Handed { step, consumed })
     }
 
@@ -122,8 +122,13 @@ impl<T: Drop> Order<T> {
         ensures whole { IsKept self.new.standing self.new.kept }
     {
         numbers();
+        let is_any_held = self.sequence.is_any_held();
         let answer = self.sequence.death(bd);
-        settle(&mut self.slots, &self.sequence, is_matched(answer));
+        settle(
+            &mut self.slots,
+            &self.sequence,
+            may_end(answer, is_any_held),
+        );
         answer
     }
 
@@ -132,8 +137,9 @@ impl<T: Drop> Order<T> {
         ensures data { self.new ≡ fresh_order self.old.standing.wait self.old.standing.width }
         ensures whole { IsKept self.new.standing self.new.kept }
     {
+        let is_any_held = self.sequence.is_any_held();
         self.sequence.reset();
-        settle(&mut self.slots, &self.sequence, true);
+        settle(&mut self.slots, &self.sequence, is_any_held);
     }
 
     /// How many messages are held, with their payloads.
@@ -154,33 +160,33 @@ impl<T: Drop> Order<T> {
 }
 
 /// So many payloads at most come out at the next message: one, while nothing is held.
-fn room_for(sequence: &Sequence, held: u8) -> usize
-    requires counted { held ≡ held_count sequence.now.held }
+fn room_for(sequence: &Sequence, is_any_held: bool) -> usize
+    requires any { is_any_held ≡ is_any_held_in sequence.now.held }
     requires whole { IsWhole sequence.now }
     ensures some { 0 < result }
     ensures enough { (number now n : ℕ) (kind : Kind) → number < 256
         → (hand sequence.now number kind now).0 ≡ Step.Consumed n → n ≤ result }
 {
     numbers();
-    if held == 0 { 1 } else { 96 }
+    if is_any_held { 96 } else { 1 }
 }
 
-/// Whether a death ended the session that is followed.
-fn is_matched(answer: Match) -> bool
-    ensures { result ≡ false → answer ≡ Match.Ignored }
+/// Whether a death may have dropped a held message: it ended the session that is followed, and any was held.
+fn may_end(answer: Match, is_any_held: bool) -> bool
+    ensures { result ≡ false → (answer ≡ Match.Ignored) ⊎ (is_any_held ≡ false) }
 {
     match answer {
-        Match::Matched => true,
+        Match::Matched => is_any_held,
         Match::Ignored => false,
     }
 }
 
-/// Whether a step may have dropped or consumed any of so many held messages.
-fn may_drop(step: Step, held: u8) -> bool
-    ensures { result ≡ false → (step ≡ Step.Held) ⊎ (held ≡ 0) }
+/// Whether a step may have dropped or consumed a held message.
+fn may_drop(step: Step, is_any_held: bool) -> bool
+    ensures { result ≡ false → (step ≡ Step.Held) ⊎ (is_any_held ≡ false) }
 {
     match step {
         Step::Held => false,
-        _ => held != 0,
+        _ => is_any_held,
     }
 }

@@ -2,7 +2,7 @@ use Rattle.std.proofs.Common.{◌≡◌, ◌≤◌, ◌∙◌, sym, arith}
 use Rattle.spk_sequence.specs.Numbers.{KeepsNumbers}
 use Rattle.spk_order.specs.Step.{left_by, placed}
 use Rattle.spk_order.proofs.Left.{stands}
-use Rattle.spk_order.proofs.Steps.{keeps_by, run_full, few_eaten, left_placed, placed_kept, few_consumed, same_handed, placed_still}
+use Rattle.spk_order.proofs.Steps.{keeps_by, run_full, few_eaten, left_placed, placed_kept, few_consumed, same_handed, placed_still, or_none}
 use Rattle.spk_order.proofs.order.Order.hand.Goals as goal
 use Rattle.spk_order.proofs.order.Order.hand.Goals.{After-settle}
 
@@ -60,5 +60,5 @@ settle-requires-clause-still g c = λ none.
     c.args.payload c.hand-step.result c.self.invariant
     (keeps_by c.self.inside.sequence c.hand-step.new.self c.args.number c.args.kind c.args.now c.hand-step.result
     (omega arith) c.self.invariant.whole c.hand-step.ensures.data c.hand-step.ensures.step c.numbers.ensures.hand)
-    c.place-consumed.ensures.sized (rw (← c.held-held.ensures.count) (c.may_drop.ensures none))
+    c.place-consumed.ensures.sized (or_none c.hand-step.result c.self.inside.sequence.held c.is_any_held-is_any_held.result c.is_any_held-is_any_held.ensures.value (c.may_drop.ensures none))
     c.place-consumed.ensures.others
