@@ -1,13 +1,15 @@
 //! What a host keeps of one node.
-ghost use Rattle.std.specs.Prelude.{◌≡◌, ℕ, ◌+◌, ◌<◌, ◌≤◌, ◌||◌, true, false, IfOk, IfErr, OnOk, OnErr, Some, if◌then◌else◌};
+ghost use Rattle.std.specs.Prelude.{◌≡◌, ℕ, ◌+◌, ◌<◌, ◌≤◌, ◌||◌, true, false, map, IfOk, IfErr, OnOk, OnErr, Some, if◌then◌else◌};
 ghost use Rattle.std.specs.Option.{option_map};
-ghost use Rattle.spk_host_rules.specs.Data.{unheard, Message, Consumed, Gap, NotLive, Over};
+ghost use Rattle.spk_payload.specs.View.{metric_view};
+ghost use Rattle.spk_host_rules.specs.Data.{unheard, Message, NodeData, DeviceData, DeviceDeath, Consumed, Gap, NotLive, Over};
 ghost use Rattle.spk_host_rules.specs.Step as rules;
 ghost use Rattle.spk_view.specs.Prepared.{asks_by, is_birth_by, is_unknown_by, kept_after, prepared, takes_room, view_by};
 
 use crate::node::NodeView;
 use crate::ready::{Body, Ready};
 use spk_host_rules::may_ask;
+use spk_payload::Metric;
 use std::alloc::{AllocError, Global};
 use std::marker::Model;
 
@@ -117,6 +119,30 @@ impl Watch {
         ensures { result ≡ rules.asks wait self.now.watch (Gap now) }
     {
         may_ask(wait, now, self.asked, self.born_since)
+    }
+
+    /// Whether a rebirth would be asked for at an NDATA with these metrics, consumed at `now`: what `consume` would answer. Nothing
+    /// changes, and no memory is taken.
+    pub fn asks_at_node_data(&self, wait: u64, metrics: &[Metric], now: u64) -> bool
+        ensures { result ≡ rules.asks wait self.now.watch
+            (Consumed (NodeData (map metric_view metrics.now)) now) }
+    {
+        self.asks_at_gap(wait, now) && self.node.is_lacking(metrics)
+    }
+
+    /// The same of a DDATA of a device.
+    pub fn asks_at_device_data(&self, wait: u64, name: &str, metrics: &[Metric], now: u64) -> bool
+        ensures { result ≡ rules.asks wait self.now.watch
+            (Consumed (DeviceData name.now (map metric_view metrics.now)) now) }
+    {
+        self.asks_at_gap(wait, now) && self.node.is_device_lacking(name, metrics)
+    }
+
+    /// The same of a DDEATH of a device.
+    pub fn asks_at_device_death(&self, wait: u64, name: &str, now: u64) -> bool
+        ensures { result ≡ rules.asks wait self.now.watch (Consumed (DeviceDeath name.now) now) }
+    {
+        self.asks_at_gap(wait, now) && self.node.is_device_lacking(name, &[])
     }
 
     /// A message came at `now` while the node wasn't followed. Answers whether a rebirth is asked for, as `consume` does. Takes
