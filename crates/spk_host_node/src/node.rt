@@ -3,13 +3,15 @@ ghost use Rattle.std.specs.Prelude.{◌≡◌, ◌+◌, ◌≤◌, ℕ, map, len
 ghost use Rattle.std.specs.Option.{option_map};
 ghost use Rattle.spk_reading.specs.View.{numbered_view};
 ghost use Rattle.spk_sequence.specs.Step as sequence;
+ghost use Rattle.spk_host_rules.specs.Data.{Gap};
+ghost use Rattle.spk_host_rules.specs.Step as rules;
 ghost use Rattle.spk_host_node.specs.Data as plain;
 ghost use Rattle.spk_host_node.specs.Step as spec;
 
 use crate::hearing::{Handed, hear, most_heard};
 use crate::kept::Kept;
 use spk_order::Order;
-use spk_reading::Numbered;
+use spk_reading::{Numbered, Subject};
 use spk_sequence::{Match, Phase, Step, Width};
 use spk_view::{NodeView, Watch};
 use std::alloc::{AllocError, Global};
@@ -89,7 +91,39 @@ impl HostNode {
         ensures enough { spec.requests_of self.now (numbered_view message.now) now ≤ result }
         ensures few { result ≤ 256 }
     {
-        most_heard(self.step_of(message, now))
+        let step = self.step_of(message, now);
+        match step {
+            Step::Consumed(1) => usize::from(self.asks_at(message, now)),
+            Step::Gap | Step::NotLive => usize::from(self.asks_at_gap(now)),
+            _ => most_heard(step),
+        }
+    }
+
+    /// Whether a rebirth would be asked for at a gap.
+    fn asks_at_gap(&self, now: u64) -> bool
+        ensures { result ≡ rules.asks self.now.order.standing.wait self.now.watch (Gap now) }
+    {
+        self.watch.asks_at_gap(self.order.sequence().wait(), now)
+    }
+
+    /// Whether a rebirth would be asked for at a message that is consumed.
+    fn asks_at(&self, message: &Numbered, now: u64) -> bool
+        ensures { result ≡ rules.asks self.now.order.standing.wait self.now.watch
+            (spec.consumed_at now (numbered_view message.now)) }
+    {
+        let wait = self.order.sequence().wait();
+        let metrics = &message.payload.metrics;
+        match &message.subject {
+            Subject::NodeBirth | Subject::DeviceBirth(_) => false,
+            Subject::NodeData => self.watch.asks_at_node_data(wait, metrics, now),
+            Subject::DeviceData(device) => {
+                self.watch
+                    .asks_at_device_data(wait, device.as_str(), metrics, now)
+            }
+            Subject::DeviceDeath(device) => {
+                self.watch.asks_at_device_death(wait, device.as_str(), now)
+            }
+        }
     }
 
     /// A message of the node at a moment, in milliseconds. What becomes of it is the step of the node's order; where messages are
@@ -128,7 +162,7 @@ impl HostNode {
     pub fn is_asked(&self, now: u64) -> bool
         ensures { result ≡ spec.tick_asks self.now now }
     {
-        self.is_over(now) && self.watch.asks_at_gap(self.order.sequence().wait(), now)
+        self.is_over(now) && self.asks_at_gap(now)
     }
 
     /// A moment, in milliseconds: a gap, if a held message has waited long enough for one before it. Takes no memory.
