@@ -187,3 +187,22 @@ placed_still old new kept slots number payload step.Gap are keeps sized d = idle
 placed_still old new kept slots number payload step.OldBirth are keeps sized d = idle_still old new kept slots number step.OldBirth are keeps sized (idle_of step.OldBirth (held_count old.held) (λ e. cc) d)
 placed_still old new kept slots number payload step.DeadSession are keeps sized d = idle_still old new kept slots number step.DeadSession are keeps sized (idle_of step.DeadSession (held_count old.held) (λ e. cc) d)
 placed_still old new kept slots number payload step.NotLive are keeps sized d = idle_still old new kept slots number step.NotLive are keeps sized (idle_of step.NotLive (held_count old.held) (λ e. cc) d)
+
+-- ---- a message that is consumed alone: its payload plays no part
+
+pub passed_kept : {T : Type 0} (old new : Standing) (kept : List (Option T)) (number : ℕ) (answer : Step) → IsKept old kept →
+    KeepsNumbers old new number answer → answer ≡ step.Consumed 1 → IsKept new (left_by new kept)
+passed_kept old new kept number answer are keeps is =
+    left_kept new kept keeps.whole (remains_full old new kept are (keeps.remains (λ e. absurd (cc))))
+
+pub passed_still : {T : Type 0} (old new : Standing) (kept : List (Option T)) (number : ℕ) (answer : Step) → IsKept old kept →
+    KeepsNumbers old new number answer → answer ≡ step.Consumed 1 → (answer ≡ step.Held) ⊎ (held_count old.held ≡ 0) → left_by new kept ≡ kept
+passed_still old new kept number answer are keeps is d =
+    idle_still old new kept kept number answer are keeps are.sized (idle_of answer (held_count old.held) (λ e. absurd (cc)) d) (λ x fits far. refl)
+
+pub passed_handed : {T : Type 0} (o : Ordered T) (new : Standing) (after : List (Option T)) (number : ℕ) (kind : Kind) (now : ℕ) (answer : Step) →
+    new ≡ (hand o.standing number kind now).1 → answer ≡ (hand o.standing number kind now).0 → answer ≡ step.Consumed 1 →
+    after ≡ left_by new o.kept → (payload : T) → stands new after ≡ handed o number kind payload now
+passed_handed o new after number kind now answer e f is left payload =
+    same_handed o new after number kind payload now answer e f
+    (left ∙ sym (ap (λ a. left_by new (placed o.kept number payload a)) is))

@@ -102,6 +102,23 @@ impl<T: Drop> Order<T> {
         Ok(Handed { step, consumed })
     }
 
+    /// A message that is consumed alone, and whose payload stays with the caller: what `hand` does with it, whatever its payload is.
+    /// Takes no memory.
+    pub fn pass(&mut self, number: u8, kind: Kind, now: u64)
+        requires { (hand self.old.standing number kind now).0 ≡ Step.Consumed 1 }
+        ensures data { (payload : T) → self.new ≡ handed self.old number kind payload now }
+        ensures whole { IsKept self.new.standing self.new.kept }
+    {
+        numbers();
+        let is_any_held = self.sequence.is_any_held();
+        let passed = self.sequence.hand(number, kind, now);
+        settle(
+            &mut self.slots,
+            &self.sequence,
+            may_drop(passed, is_any_held),
+        );
+    }
+
     /// A moment in milliseconds: a gap if a held message has waited long enough for one before it.
     /// The payloads of what the order drops are freed.
     pub fn tick(&mut self, now: u64) -> Option<Gap>
