@@ -2,3 +2,4 @@ pub mod Data
 pub mod Indexed
 pub mod Prepared
 pub mod Inside
+pub mod Plain

@@ -6,9 +6,10 @@ ghost use Rattle.std.specs.Prelude.{string_bytes};
 ghost use Rattle.std.specs.Str.{bytes_eq};
 ghost use Rattle.spk_payload.specs.View.{metric_view};
 ghost use Rattle.spk_host_rules.specs.Table.{is_name};
+ghost use Rattle.spk_view.specs.Plain.{has_texts};
 ghost use Rattle.spk_view.specs.Prepared.{meaning};
 ghost use Rattle.spk_host_rules.specs.Step.{dead_device, ended_device, is_device_lacking, rows_if_born, show_all, stale_device, unborn};
-ghost use Rattle.std.specs.Prelude.{true, Some, if◌then◌else◌};
+ghost use Rattle.std.specs.Prelude.{true, false, Some, if◌then◌else◌};
 
 use crate::metric::MetricView;
 use crate::table::Table;
@@ -156,6 +157,19 @@ impl DeviceView {
         if self.born {
             self.table.show_all(metrics);
         }
+    }
+
+    /// The same of data without texts. Answers whether it wasn't born, or a metric names an alias that it lacks.
+    pub(crate) fn show_all_plain(&mut self, metrics: &[Metric]) -> bool
+        requires { has_texts (map metric_view metrics.now) ≡ false }
+        ensures lacking { result
+            ≡ is_device_lacking (rows_if_born (Some self.old)) (map metric_view metrics.now) }
+        ensures shown { self.new ≡ record self.old {
+          rows = if self.old.born then show_all
+              (map metric_view metrics.now) self.old.rows else self.old.rows;
+        } }
+    {
+        !self.born || self.table.show_all_plain(metrics)
     }
 
     /// Whether it wasn't born, or a metric names an alias that it lacks.

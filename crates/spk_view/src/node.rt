@@ -8,6 +8,7 @@ ghost use Rattle.spk_host_rules.specs.Step as rules;
 ghost use Rattle.spk_host_rules.specs.Table.{is_lacking, is_name};
 ghost use Rattle.spk_view.specs.Indexed.{IsPlaceOf};
 ghost use Rattle.spk_view.specs.Inside.{body_view};
+ghost use Rattle.spk_view.specs.Plain.{has_texts};
 ghost use Rattle.spk_view.specs.Prepared.{meaning, born_with, device_with, has_device, is_new, view_by};
 
 use crate::device::{DeviceView, end_all, hear_death, lose_all, unbear_all};
@@ -177,6 +178,17 @@ impl NodeView {
         self.table.show_all(metrics);
     }
 
+    /// The same of data without texts. Answers whether a metric names an alias that the node lacks.
+    pub(crate) fn show_all_plain(&mut self, metrics: &[Metric]) -> bool
+        requires { has_texts (map metric_view metrics.now) ≡ false }
+        ensures lacking { result ≡ is_lacking self.old.view.rows (map metric_view metrics.now) }
+        ensures view { self.new.view
+            ≡ rules.node_changed (map metric_view metrics.now) self.old.view }
+        ensures room { self.new.room ≡ self.old.room }
+    {
+        self.table.show_all_plain(metrics)
+    }
+
     /// A device had a birth.
     fn bear_device(&mut self, name: String, table: Table)
         requires { has_device (string_bytes name) self.old.view.devices ≡ false
@@ -203,6 +215,22 @@ impl NodeView {
     {
         if let Some(place) = self.place_of(name) {
             self.devices[place].show_all(metrics);
+        }
+    }
+
+    /// The same of data without texts. Answers whether the device wasn't born, or a metric of it names an alias that it lacks.
+    pub(crate) fn show_all_plain_of(&mut self, name: &str, metrics: &[Metric]) -> bool
+        requires { has_texts (map metric_view metrics.now) ≡ false }
+        ensures lacking { result
+            ≡ rules.is_device_lacking (rules.device_rows name.now (Some self.old.view))
+            (map metric_view metrics.now) }
+        ensures view { self.new.view ≡ rules.each_device
+            (rules.changed_device name.now (map metric_view metrics.now)) self.old.view }
+        ensures room { self.new.room ≡ self.old.room }
+    {
+        match self.place_of(name) {
+            Some(place) => self.devices[place].show_all_plain(metrics),
+            None => true,
         }
     }
 

@@ -1,18 +1,21 @@
 //! The metrics of a node's own or of a device, found by name and by alias.
-ghost use Rattle.std.specs.Prelude.{◌≡◌, ◌⊎◌, ℕ, [], map, length, IfOk, OnOk, Some, None, string_bytes, slice_get, set};
+ghost use Rattle.std.specs.Prelude.{◌≡◌, ◌⊎◌, ℕ, [], map, length, IfOk, OnOk, Some, None, is_some, not, ◌&&◌, ◌||◌, false, string_bytes, slice_get, set, if◌then◌else◌};
 ghost use Rattle.std.specs.List.{find, list_any};
 ghost use Rattle.std.specs.Option.{option_map, option_copied};
 ghost use Rattle.std.specs.Str.{bytes_eq};
+ghost use Rattle.spk_payload.specs.Meaning.{has_text_or_bytes};
 ghost use Rattle.spk_payload.specs.View.{content_of, metric_view};
 ghost use Rattle.spk_names.specs.Names.{number_in};
 ghost use Rattle.spk_host_rules.specs.Data.{Row};
 ghost use Rattle.spk_host_rules.specs.Step.{show, show_all};
-ghost use Rattle.spk_host_rules.specs.Table.{changes, is_alias, is_lacking, is_name, lacks, name_by, name_of, placed, released, shown_with, table_of, with_metric};
+ghost use Rattle.spk_host_rules.specs.Table.{changes, is_alias, is_lacking, is_name, is_set, lacks, name_by, name_of, placed, released, shown_with, table_of, with_metric};
+ghost use Rattle.spk_view.specs.Plain.{has_texts};
 ghost use Rattle.spk_view.specs.Prepared.{meaning};
 ghost use Rattle.spk_view.specs.Indexed.{place_in, IsAliased, IsApart, IsIndexed, IsNamed, IsPlaceOf};
 
 use crate::aliases::Aliases;
 use crate::metric::MetricView;
+use crate::plain::same_value;
 use spk_names::Names;
 use spk_names::laws::found_again;
 use spk_payload::{Metric, Raw};
@@ -272,4 +275,53 @@ impl Table {
             self.show(metric);
         }
     }
+
+    /// A metric of data is shown, unless it is historical. Answers whether it names an alias that no row has.
+    fn show_plain(&mut self, metric: &Metric) -> bool
+        requires { has_text_or_bytes (metric_view metric.now).value ≡ false }
+        ensures lacks { result ≡ lacks self.old metric.now.alias }
+        ensures rows { self.new ≡ show (metric_view metric.now) self.old }
+    {
+        let place = self.place_of(metric.alias, &metric.name);
+        let changed = unless_historical(metric, place);
+        self.show_at(changed, metric.null, same_value(&metric.value));
+        is_lost(metric.alias, place)
+    }
+
+    /// The metrics of data are shown, in turn. Answers whether any names an alias that no row has.
+    pub(crate) fn show_all_plain(&mut self, metrics: &[Metric]) -> bool
+        requires { has_texts (map metric_view metrics.now) ≡ false }
+        ensures lacking { result ≡ is_lacking self.old (map metric_view metrics.now) }
+        ensures rows { self.new ≡ show_all (map metric_view metrics.now) self.old }
+    {
+        let mut is_any_lost = false;
+        for metric in metrics {
+            is_any_lost = either(is_any_lost, self.show_plain(metric));
+        }
+        is_any_lost
+    }
+}
+
+/// The place that a metric of data changes, of that which it means.
+fn unless_historical(metric: &Metric, place: Option<usize>) -> Option<usize>
+    ensures { result ≡ (if is_set metric.now.historical then None else place) }
+{
+    if metric.historical == Some(true) {
+        None
+    } else {
+        place
+    }
+}
+
+/// Whether an alias is there and leads nowhere.
+fn is_lost(alias: Option<u64>, place: Option<usize>) -> bool
+    ensures { result ≡ (is_some alias && not (is_some place)) }
+{
+    alias.is_some() && place.is_none()
+}
+
+fn either(one: bool, other: bool) -> bool
+    ensures { result ≡ (one || other) }
+{
+    one || other
 }

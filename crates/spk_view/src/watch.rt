@@ -4,6 +4,8 @@ ghost use Rattle.std.specs.Option.{option_map};
 ghost use Rattle.spk_payload.specs.View.{metric_view};
 ghost use Rattle.spk_host_rules.specs.Data.{unheard, Message, NodeData, DeviceData, DeviceDeath, Consumed, Gap, NotLive, Over};
 ghost use Rattle.spk_host_rules.specs.Step as rules;
+ghost use Rattle.spk_view.specs.Data.{NodeChanges, DeviceChanges};
+ghost use Rattle.spk_view.specs.Plain.{has_texts};
 ghost use Rattle.spk_view.specs.Prepared.{asks_by, is_birth_by, is_unknown_by, kept_after, prepared, takes_room, view_by};
 
 use crate::node::NodeView;
@@ -101,6 +103,39 @@ impl Watch {
         let is_unknown = self.is_unknown(&ready);
         let is_birth = self.take(ready);
         Ok(self.ask(wait, is_unknown, is_birth, now))
+    }
+
+    /// An NDATA with these metrics is consumed at `now`, none of whose values is a text or bytes: what `consume` does with it made
+    /// ready, without making it ready. Answers whether a rebirth is asked for. It takes no memory.
+    pub fn consume_node_data(&mut self, wait: u64, metrics: &[Metric], now: u64) -> bool
+        requires { has_texts (map metric_view metrics.now) ≡ false }
+        ensures asks { result ≡ rules.asks wait self.old.watch
+            (Consumed (NodeData (map metric_view metrics.now)) now) }
+        ensures watch { self.new.watch ≡ rules.step wait self.old.watch
+            (Consumed (NodeData (map metric_view metrics.now)) now) }
+        ensures room { self.new.room ≡ self.old.room }
+    {
+        let is_unknown = self.show_node_data(metrics);
+        self.ask(wait, is_unknown, false, now)
+    }
+
+    /// The same of a DDATA of a device.
+    pub fn consume_device_data(
+        &mut self,
+        wait: u64,
+        name: &str,
+        metrics: &[Metric],
+        now: u64,
+    ) -> bool
+        requires { has_texts (map metric_view metrics.now) ≡ false }
+        ensures asks { result ≡ rules.asks wait self.old.watch
+            (Consumed (DeviceData name.now (map metric_view metrics.now)) now) }
+        ensures watch { self.new.watch ≡ rules.step wait self.old.watch
+            (Consumed (DeviceData name.now (map metric_view metrics.now)) now) }
+        ensures room { self.new.room ≡ self.old.room }
+    {
+        let is_unknown = self.show_device_data(name, metrics);
+        self.ask(wait, is_unknown, false, now)
     }
 
     /// A gap in the node's order at `now`: its values are stale. Answers whether a rebirth is asked for, as `consume` does. Takes
@@ -206,6 +241,35 @@ impl Watch {
             self.is_shown = true;
         }
         is_birth
+    }
+
+    /// Data without texts are shown. Answers whether a metric names an alias that the birth didn't give.
+    fn show_node_data(&mut self, metrics: &[Metric]) -> bool
+        requires { has_texts (map metric_view metrics.now) ≡ false }
+        ensures unknown { result
+            ≡ is_unknown_by self.old.watch.view (NodeChanges (map metric_view metrics.now)) }
+        ensures watch { self.new.watch ≡ record self.old.watch
+            { view = view_by self.old.watch.view (NodeChanges (map metric_view metrics.now)) } }
+        ensures room { self.new.room ≡ self.old.room }
+    {
+        if !self.is_shown {
+            return self.node.is_lacking(metrics);
+        }
+        self.node.show_all_plain(metrics)
+    }
+
+    /// The same of data of a device. Answers whether the births didn't give the device or an alias.
+    fn show_device_data(&mut self, name: &str, metrics: &[Metric]) -> bool
+        requires { has_texts (map metric_view metrics.now) ≡ false }
+        ensures unknown { result ≡ is_unknown_by self.old.watch.view
+            (DeviceChanges name.now (map metric_view metrics.now)) }
+        ensures watch { self.new.watch ≡ record self.old.watch {
+          view = view_by
+              self.old.watch.view (DeviceChanges name.now (map metric_view metrics.now));
+        } }
+        ensures room { self.new.room ≡ self.old.room }
+    {
+        !self.is_shown || self.node.show_all_plain_of(name, metrics)
     }
 
     /// Whether a rebirth is asked for at an event, and what is kept of that.
