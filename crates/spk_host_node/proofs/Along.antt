@@ -12,7 +12,7 @@ use Rattle.spk_sequence.specs.Step as sequence
 use Rattle.spk_order.specs.Ordered.{Ordered}
 use Rattle.spk_order.specs.Step.{fresh_order}
 use Rattle.spk_reading.specs.Data.{NumberedData}
-use Rattle.spk_host_rules.specs.Data.{Event, Gap, Over, Watch}
+use Rattle.spk_host_rules.specs.Data.{Event, Gap, Over}
 use Rattle.spk_host_rules.specs.Step.{after, asked_at}
 use Rattle.spk_host_rules.specs.Step as rules
 use Rattle.spk_host_node.specs.Data.{NodeData}

@@ -13,7 +13,7 @@ use Rattle.spk_host_rules.specs.Data.{Event, Watch}
 use Rattle.spk_host_rules.specs.Step as rules
 use Rattle.spk_host_node.specs.Data.{NodeData}
 use Rattle.spk_host_node.specs.Room.{IsNothing, most_heard}
-use Rattle.spk_host_node.specs.Step.{consumed_at, heard_by, heard_of, requests, requests_of, step_of, taken_of, watched}
+use Rattle.spk_host_node.specs.Step.{heard_by, heard_of, requests, requests_of, step_of, taken_of, watched}
 
 -- those that are there, of some that all are
 pub all_there : {X : Type 0} (xs : List X) (ys : List (Option X)) → map Some xs ≡ ys → xs ≡ filter_map (λ p. p) ys

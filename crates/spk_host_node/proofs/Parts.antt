@@ -1,7 +1,6 @@
 -- What is kept of a node, by its parts.
 use Rattle.std.proofs.Common.{◌≡◌, ◌∙◌, sym, ap, refl, ℕ, Bool, true, false}
 use Rattle.std.specs.Prelude.{if◌then◌else◌}
-use Rattle.spk_sequence.specs.declared.answer.Match.{Match}
 use Rattle.spk_sequence.specs.declared.answer.Match.TheVariants as match
 use Rattle.spk_sequence.specs.Step as sequence
 use Rattle.spk_order.specs.Ordered.{Ordered}

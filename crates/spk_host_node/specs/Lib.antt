@@ -2,3 +2,4 @@ pub mod Data
 pub mod Step
 pub mod Room
 pub mod Inputs
+pub mod Plain

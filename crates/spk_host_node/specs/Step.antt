@@ -1,11 +1,10 @@
 -- What a host does at each call that concerns one node: the data after it and its answer, by the steps of the node's order
 -- (`spk_order`) and of its view (`spk_host_rules`). No rule of either stands here.
-use Rattle.std.specs.Prelude.{ℕ, ◌+◌, Bool, false, ◌&&◌, List, [], ◌∷◌, map, if◌then◌else◌}
+use Rattle.std.specs.Prelude.{ℕ, ◌+◌, Bool, ◌&&◌, List, [], ◌∷◌, map, if◌then◌else◌}
 use Rattle.std.specs.List.{filter_map}
 use Rattle.spk_payload.specs.Meaning.{MetricData}
 use Rattle.spk_sequence.specs.declared.answer.Step.{Step}
 use Rattle.spk_sequence.specs.declared.answer.Step.TheVariants as step
-use Rattle.spk_sequence.specs.declared.answer.Match.{Match}
 use Rattle.spk_sequence.specs.Step as sequence
 use Rattle.spk_order.specs.Ordered.{Ordered}
 use Rattle.spk_order.specs.Step.{consumed_with, fresh_order, handed, stands_so}

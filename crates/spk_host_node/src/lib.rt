@@ -6,6 +6,7 @@ mod hearing;
 mod kept;
 pub mod laws;
 mod node;
+mod plain;
 
 pub use hearing::Handed;
 pub use node::{HostNode, Ticked};

@@ -1,15 +1,18 @@
 //! What a host keeps of one node.
-ghost use Rattle.std.specs.Prelude.{◌≡◌, ◌+◌, ◌≤◌, ℕ, map, length, IfOk, OnOk, OnErr, is_some, if◌then◌else◌};
+ghost use Rattle.std.specs.Prelude.{◌≡◌, ◌+◌, ◌≤◌, ◌∷◌, [], ℕ, map, length, IfOk, OnOk, OnErr, is_some, if◌then◌else◌};
 ghost use Rattle.std.specs.Option.{option_map};
 ghost use Rattle.spk_reading.specs.View.{numbered_view};
 ghost use Rattle.spk_sequence.specs.Step as sequence;
 ghost use Rattle.spk_host_rules.specs.Data.{Gap};
 ghost use Rattle.spk_host_rules.specs.Step as rules;
+ghost use Rattle.spk_order.specs.Step.{handed};
 ghost use Rattle.spk_host_node.specs.Data as plain;
+ghost use Rattle.spk_host_node.specs.Plain.{IsPlain};
 ghost use Rattle.spk_host_node.specs.Step as spec;
 
 use crate::hearing::{Handed, hear, most_heard};
 use crate::kept::Kept;
+use crate::plain::{is_plain, show_plain};
 use spk_order::Order;
 use spk_reading::{Numbered, Subject};
 use spk_sequence::{Match, Phase, Step, Width};
@@ -139,7 +142,11 @@ impl HostNode {
         ensures data { OnOk result (self.new ≡ spec.hand self.old (numbered_view message) now) }
         ensures unchanged { OnErr result (self.new ≡ self.old) }
     {
-        let room = most_heard(self.step_of(&message, now));
+        let step = self.step_of(&message, now);
+        if step == Step::Consumed(1) && is_plain(&message) {
+            return self.hand_plain(message, now);
+        }
+        let room = most_heard(step);
         self.watch.reserve(room)?;
         let consumed = Vec::with_capacity(self.alloc, room)?;
         let wait = self.order.sequence().wait();
@@ -149,6 +156,34 @@ impl HostNode {
             return Err(AllocError);
         };
         Ok(hear(&mut self.watch, wait, handed, consumed, now))
+    }
+
+    /// Data without texts that are consumed alone: they are shown as they came. All memory is asked for before anything changes.
+    fn hand_plain(&mut self, message: Numbered, now: u64) -> Result<Handed, AllocError>
+        requires alone { spec.step_of self.old.order (numbered_view message) now ≡ Step.Consumed 1 }
+        requires plain { IsPlain (numbered_view message) }
+        ensures step { IfOk result (λ h. h.step ≡ Step.Consumed 1) }
+        ensures consumed { IfOk result (λ h.
+            map numbered_view h.consumed.items ≡ numbered_view message ∷ []) }
+        ensures requests { IfOk result (λ h. h.requests
+            ≡ (if rules.asks self.old.order.standing.wait self.old.watch
+            (spec.consumed_at now (numbered_view message)) then 1 else 0)) }
+        ensures order { OnOk result (self.new.order ≡ handed self.old.order
+            message.number message.kind (numbered_view message) now) }
+        ensures watch { OnOk result (self.new.watch ≡ rules.step self.old.order.standing.wait
+            self.old.watch (spec.consumed_at now (numbered_view message))) }
+        ensures unchanged { OnErr result (self.new ≡ self.old) }
+    {
+        let mut consumed = Vec::with_capacity(self.alloc, 1)?;
+        let wait = self.order.sequence().wait();
+        self.order.pass(message.number, message.kind, now);
+        let asks = show_plain(&mut self.watch, wait, &message, now);
+        consumed.push_reserved(message);
+        Ok(Handed {
+            step: Step::Consumed(1),
+            consumed,
+            requests: usize::from(asks),
+        })
     }
 
     /// Whether a held message has waited long enough for one before it, so that `tick` would be a gap. Takes no memory.

@@ -1,6 +1,3 @@
-use Rattle.std.proofs.Common.{sym, ap}
-use Rattle.spk_host_rules.specs.Data.{Watch}
-use Rattle.spk_host_rules.specs.Showing.{IsShown}
 use Rattle.spk_host_node.specs.Inputs.{events_of}
 use Rattle.spk_host_node.proofs.Along.{asked_is, gap_is, order_is, watch_is}
 use Rattle.spk_host_node.proofs.laws.any_list.Goals as goal

@@ -1,5 +1,4 @@
 use Rattle.std.proofs.Common.{◌≡◌, ◌≤◌, ◌∙◌, sym, ap, arith, length}
-use Rattle.std.specs.Prelude.{vec_capacity}
 use Rattle.spk_reading.specs.View.{numbered_view}
 use Rattle.spk_order.specs.Step.{handed}
 use Rattle.spk_host_node.specs.Room.{most_heard}
@@ -14,8 +13,8 @@ hear-requires-clause-nothing c =
 
 pub hear-requires-clause-room : goal.hear-requires-clause-room
 hear-requires-clause-room c =
-    let same : c.in-Ok.handed.step ≡ c.step_of.result =
-    c.in-Ok.ensures.step ∙ ap (λ n. step_of n.order (numbered_view c.args.message) c.args.now) c.self.view_is ∙ sym c.step_of.ensures in
+    let same : c.in-Ok.handed.step ≡ c.step_of-step.result =
+    c.in-Ok.ensures.step ∙ ap (λ n. step_of n.order (numbered_view c.args.message) c.args.now) c.self.view_is ∙ sym c.step_of-step.ensures in
     let most : c.most_heard-room.result ≡ most_heard c.in-Ok.handed.step = c.most_heard-room.ensures.most ∙ ap most_heard (sym same) in
     let few : length c.in-Ok.handed.consumed.items ≤ most_heard c.in-Ok.handed.step =
     fits c.in-Ok.handed.step c.self.inside.order.kept c.args.message.number c.in_ok-kept.kept c.in-Ok.handed.consumed.items c.in-Ok.ensures.consumed in
@@ -23,8 +22,8 @@ hear-requires-clause-room c =
 
 pub hear-requires-clause-capacity : goal.hear-requires-clause-capacity
 hear-requires-clause-capacity c =
-    let same : c.in-Ok.handed.step ≡ c.step_of.result =
-    c.in-Ok.ensures.step ∙ ap (λ n. step_of n.order (numbered_view c.args.message) c.args.now) c.self.view_is ∙ sym c.step_of.ensures in
+    let same : c.in-Ok.handed.step ≡ c.step_of-step.result =
+    c.in-Ok.ensures.step ∙ ap (λ n. step_of n.order (numbered_view c.args.message) c.args.now) c.self.view_is ∙ sym c.step_of-step.ensures in
     let most : c.most_heard-room.result ≡ most_heard c.in-Ok.handed.step = c.most_heard-room.ensures.most ∙ ap most_heard (sym same) in
     let few : length c.in-Ok.handed.consumed.items ≤ most_heard c.in-Ok.handed.step =
     fits c.in-Ok.handed.step c.self.inside.order.kept c.args.message.number c.in_ok-kept.kept c.in-Ok.handed.consumed.items c.in-Ok.ensures.consumed in
