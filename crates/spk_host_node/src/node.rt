@@ -1,5 +1,5 @@
 //! What a host keeps of one node.
-ghost use Rattle.std.specs.Prelude.{◌≡◌, ◌+◌, ◌≤◌, ◌∷◌, [], ℕ, map, length, IfOk, OnOk, OnErr, is_some, if◌then◌else◌};
+ghost use Rattle.std.specs.Prelude.{◌≡◌, ◌+◌, ◌≤◌, ◌∷◌, [], true, ℕ, map, length, IfOk, OnOk, OnErr, is_some, if◌then◌else◌};
 ghost use Rattle.std.specs.Option.{option_map};
 ghost use Rattle.spk_reading.specs.View.{numbered_view};
 ghost use Rattle.spk_sequence.specs.Step as sequence;
@@ -7,6 +7,7 @@ ghost use Rattle.spk_host_rules.specs.Data.{Gap};
 ghost use Rattle.spk_host_rules.specs.Step as rules;
 ghost use Rattle.spk_order.specs.Step.{handed};
 ghost use Rattle.spk_host_node.specs.Data as plain;
+ghost use Rattle.spk_host_node.specs.Idle.{IsIdle};
 ghost use Rattle.spk_host_node.specs.Plain.{IsPlain};
 ghost use Rattle.spk_host_node.specs.Step as spec;
 
@@ -191,6 +192,13 @@ impl HostNode {
         ensures { result ≡ sequence.is_over self.now.order.standing now }
     {
         self.order.sequence().is_over(now)
+    }
+
+    /// Whether no message is held, so that no moment is a gap or changes anything. Takes no memory.
+    pub fn is_idle(&self) -> bool
+        ensures { result ≡ true → IsIdle self.now }
+    {
+        self.order.is_idle()
     }
 
     /// Whether `tick` would be a gap at which a rebirth is asked for. Takes no memory.

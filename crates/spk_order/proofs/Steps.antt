@@ -1,5 +1,5 @@
 -- The payloads at a step of the order, by what the step does to what is held (`spk_sequence`'s law on numbers).
-use Rattle.std.proofs.Common.{◌⊎◌, ◌≡◌, ℕ, zero, suc, ◌+◌, ◌-◌, ◌%◌, ◌<◌, ◌≤◌, Bool, true, false, List, [], ◌∷◌, length, map, set, Option, Some, None, is_some, inl, inr, refl, sym, ◌∙◌, ap, arith, get_or-set_other}
+use Rattle.std.proofs.Common.{◌⊎◌, ◌≡◌, ℕ, zero, suc, ◌+◌, ◌-◌, ◌%◌, ◌<◌, ◌≤◌, Bool, true, false, cond, List, [], ◌∷◌, length, map, set, Option, Some, None, is_some, inl, inr, refl, sym, ◌∙◌, ap, arith, get_or-set_other}
 use Rattle.std.specs.List.{range_with_len}
 use Rattle.std.proofs.lemmas.Bool.{cases_eq, cases_lt}
 use Rattle.std.proofs.lemmas.List.{get_or-set_same, get_or_past, length-map}
@@ -9,9 +9,11 @@ use Rattle.spk_sequence.specs.declared.answer.Step.TheVariants as step
 use Rattle.spk_sequence.specs.declared.message.Kind.{Kind}
 use Rattle.spk_sequence.specs.Data.{Standing, IsWhole, held_at}
 use Rattle.spk_sequence.specs.Numbers.{held_as, held_count, KeepsNumbers}
-use Rattle.spk_sequence.specs.Step.{ahead, hand, is_any_held}
+use Rattle.std.specs.Prelude.{◌&&◌, nat_le}
+use Rattle.spk_sequence.specs.declared.phase.Phase.TheVariants as phase
+use Rattle.spk_sequence.specs.Step.{after_stop, ahead, hand, is_any_held, is_over, tick}
 use Rattle.spk_order.specs.Ordered.{Ordered, kept_at, IsKept}
-use Rattle.spk_order.specs.Step.{left_by, placed, consumed_with, handed, HasRun, IsBeyond}
+use Rattle.spk_order.specs.Step.{left_by, placed, consumed_with, handed, stands_so, HasRun, IsBeyond, IsIdle}
 use Rattle.spk_order.proofs.Left.{stands, left_still, left_same, left_kept, remains_full}
 
 -- what a step consumes after the message handed has its payload
@@ -206,3 +208,11 @@ pub passed_handed : {T : Type 0} (o : Ordered T) (new : Standing) (after : List 
 passed_handed o new after number kind now answer e f is left payload =
     same_handed o new after number kind payload now answer e f
     (left ∙ sym (ap (λ a. left_by new (placed o.kept number payload a)) is))
+
+-- ---- while none is held
+
+pub idle_at : {T : Type 0} (o : Ordered T) → IsKept o.standing o.kept → is_any_held o.standing.held ≡ false → IsIdle o
+idle_at o are none now =
+    let still : is_over o.standing now ≡ false = ap (λ b. b && nat_le o.standing.wait (now - o.standing.since)) none in
+    let same : tick o.standing now ≡ o.standing = ap (λ b. cond b (after_stop o.standing phase.Gap) o.standing) still in
+    (still, ap (λ s. stands s (left_by s o.kept)) same ∙ ap (stands o.standing) (left_still o.standing o.kept are.sized (λ x byte there. sym (are.exact x byte) ∙ there)))

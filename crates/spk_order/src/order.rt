@@ -1,4 +1,4 @@
-ghost use Rattle.std.specs.Prelude.{◌⊎◌, false, ◌≡◌, ℕ, ◌+◌, ◌<◌, ◌≤◌, map, length, Some, is_some, replicate, IfOk, IfErr, OnOk, OnErr};
+ghost use Rattle.std.specs.Prelude.{◌⊎◌, true, false, ◌≡◌, ℕ, ◌+◌, ◌<◌, ◌≤◌, map, length, Some, is_some, replicate, IfOk, IfErr, OnOk, OnErr};
 ghost use Rattle.spk_sequence.specs.declared.message.Kind.{Kind};
 ghost use Rattle.spk_sequence.specs.declared.answer.Step.{Step};
 ghost use Rattle.spk_sequence.specs.declared.answer.Match.{Match};
@@ -6,7 +6,7 @@ ghost use Rattle.spk_sequence.specs.Data.{IsWhole};
 ghost use Rattle.spk_sequence.specs.Numbers.{held_count};
 ghost use Rattle.spk_sequence.specs.Step.{is_any_held as is_any_held_in, hand, is_over, tick, match_of, death, fresh_standing};
 ghost use Rattle.spk_order.specs.Ordered.{IsKept};
-ghost use Rattle.spk_order.specs.Step.{consumed_with, handed, stands_so, fresh_order};
+ghost use Rattle.spk_order.specs.Step.{consumed_with, handed, stands_so, fresh_order, IsIdle};
 
 use crate::slots::{empty_slots, place, settle};
 use spk_sequence::laws::numbers;
@@ -157,6 +157,13 @@ impl<T: Drop> Order<T> {
         let is_any_held = self.sequence.is_any_held();
         self.sequence.reset();
         settle(&mut self.slots, &self.sequence, is_any_held);
+    }
+
+    /// Whether no message is held, so that no moment is a gap or changes anything.
+    pub fn is_idle(&self) -> bool
+        ensures { result ≡ true → IsIdle self.now }
+    {
+        !self.sequence.is_any_held()
     }
 
     /// How many messages are held, with their payloads.
