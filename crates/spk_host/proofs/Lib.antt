@@ -3,6 +3,7 @@ pub mod Asked
 pub mod Found
 pub mod Fresh
 pub mod Heard
+pub mod Idle
 pub mod Indexed
 pub mod Kept
 pub mod Mapped

@@ -1,4 +1,5 @@
 pub mod Data
+pub mod Idle
 pub mod Index
 pub mod Inputs
 pub mod Nodes

@@ -19,7 +19,7 @@ ghost use Rattle.spk_host.specs.View.{AreWhole, fault_of, out_view};
 
 use crate::entry::Entry;
 use crate::messages::acknowledged;
-use crate::nodes::{Nodes, ask_at};
+use crate::nodes::Nodes;
 use crate::out::Out;
 use spk_host_session::{HostConfig, HostFault, HostSession};
 use spk_reading::{Content, Heard, ReadFault, read};
@@ -247,7 +247,7 @@ impl Host {
         if !self.session.is_open() {
             return Err(HostFault::WrongPhase);
         }
-        let out = ask_at(self.alloc, self.nodes.entries(), now)?;
+        let out = self.nodes.ask(self.alloc, now)?;
         self.nodes.tick(now);
         Ok(out)
     }

@@ -1,9 +1,11 @@
 //! The nodes that a host heard, in the order in which they were first heard.
-ghost use Rattle.std.specs.Prelude.{◌≡◌, ◌++◌, ◌∷◌, ℕ, List, [], None, Some, map, length, IfOk, OnOk, OnErr, if◌then◌else◌};
+ghost use Rattle.std.specs.Prelude.{◌≡◌, true, false, ◌++◌, ◌∷◌, ℕ, List, [], None, Some, map, length, IfOk, OnOk, OnErr, if◌then◌else◌};
 ghost use Rattle.std.specs.List.{position};
 ghost use Rattle.spk_reading.specs.View.{numbered_view};
 ghost use Rattle.spk_host_node.specs.Data.{fresh_node};
 ghost use Rattle.spk_host_node.specs.Step as one_node;
+ghost use Rattle.spk_host_node.specs.Idle.{IsIdle};
+ghost use Rattle.spk_host.specs.Idle.{AreIdle};
 ghost use Rattle.spk_host.specs.Index.{place_in};
 ghost use Rattle.spk_host.specs.Inputs.{is_same};
 ghost use Rattle.spk_host.specs.Nodes as spec;
@@ -26,18 +28,20 @@ pub(crate) struct Nodes {
     entries: Vec<Entry>,
     /// The place of each node, by its names.
     index: Index,
+    /// A node may hold a message. While none does, no moment changes anything.
+    may_hold: bool,
 }
 
 impl Model for Nodes {
-    ghost use Rattle.std.specs.Prelude.{List, map};
+    ghost use Rattle.std.specs.Prelude.{List};
     ghost use Rattle.spk_host.specs.Data as plain;
-    ghost use Rattle.spk_host.specs.Index.{IsIndexed, names_of};
+    ghost use Rattle.spk_host.specs.Idle.{IsInOrder};
 
     ghost Value = { List plain.Entry };
 
     ghost view = { λ a. a.entries.items };
 
-    ghost invariant = { λ a. IsIndexed (map names_of a.entries.items) a.index };
+    ghost invariant = { λ a. IsInOrder a.entries.items a.index a.may_hold };
 }
 
 /// A message of a node that was never heard. All memory is asked for before anything changes.
@@ -85,6 +89,7 @@ impl Nodes {
         Nodes {
             entries: Vec::new(alloc),
             index: Index::new(alloc),
+            may_hold: false,
         }
     }
 
@@ -124,17 +129,25 @@ impl Nodes {
         ensures unchanged { OnErr result (self.new ≡ self.old) }
     {
         match self.place_of(message.group.as_str(), message.node.as_str()) {
-            Some(place) => hear_message(alloc, &mut self.entries[place], ack, message, now),
-            None => hear_first(
-                alloc,
-                &mut self.entries,
-                &mut self.index,
-                wait,
-                width,
-                ack,
-                message,
-                now,
-            ),
+            Some(place) => {
+                let entry = &mut self.entries[place];
+                let out = hear_message(alloc, entry, ack, message, now);
+                self.may_hold = may_hold(self.may_hold, entry);
+                out
+            }
+            None => {
+                self.may_hold = true;
+                hear_first(
+                    alloc,
+                    &mut self.entries,
+                    &mut self.index,
+                    wait,
+                    width,
+                    ack,
+                    message,
+                    now,
+                )
+            }
         }
     }
 
@@ -144,28 +157,65 @@ impl Nodes {
             ≡ spec.change_node group.now node.now (λ n. one_node.death n bd) self.old }
     {
         match self.place_of(group, node) {
-            Some(place) => self.entries[place].death(bd),
+            Some(place) => {
+                self.may_hold = true;
+                self.entries[place].death(bd);
+            }
             None => {}
         }
+    }
+
+    /// What a moment hands out: the gaps, and the requests to the nodes that had one, in their order.
+    pub(crate) fn ask(&self, alloc: Global, now: u64) -> Result<Out, AllocError>
+        ensures out { IfOk result (λ o. out_view o ≡ step.tick_out self.now now) }
+        ensures whole { IfOk result (λ o. AreWhole o) }
+    {
+        if !self.may_hold {
+            return ask_at(alloc, &[], now);
+        }
+        ask_at(alloc, &self.entries, now)
     }
 
     /// A moment, at each node.
     pub(crate) fn tick(&mut self, now: u64)
         ensures { self.new ≡ map (step.tick_entry now) self.old }
     {
-        tick_all(&mut self.entries, now);
+        if self.may_hold {
+            tick_all(&mut self.entries, now);
+            self.may_hold = !are_idle(&self.entries);
+        }
     }
 
     /// The host's session is over, for each node.
     pub(crate) fn over(&mut self)
         ensures { self.new ≡ map step.over_entry self.old }
     {
+        self.may_hold = true;
         end_all(&mut self.entries);
     }
 }
 
+/// Whether a node may hold a message, where it was so of others and this one changed.
+fn may_hold(others: bool, entry: &Entry) -> bool
+    ensures { result ≡ false → (others ≡ false) × IsIdle entry.now.kept }
+{
+    others || !entry.kept().is_idle()
+}
+
+/// Whether no node holds a message.
+fn are_idle(nodes: &[Entry]) -> bool
+    ensures { result ≡ true → AreIdle nodes.now }
+{
+    for entry in nodes {
+        if !entry.kept().is_idle() {
+            return false;
+        }
+    }
+    true
+}
+
 /// What a moment hands out: the gaps, and the requests to the nodes that had one, in their order.
-pub(crate) fn ask_at(alloc: Global, nodes: &[Entry], now: u64) -> Result<Out, AllocError>
+fn ask_at(alloc: Global, nodes: &[Entry], now: u64) -> Result<Out, AllocError>
     ensures out { IfOk result (λ o. out_view o ≡ step.tick_out nodes.now now) }
     ensures whole { IfOk result (λ o. AreWhole o) }
 {

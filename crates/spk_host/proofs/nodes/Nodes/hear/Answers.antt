@@ -5,7 +5,8 @@ use Rattle.spk_host_node.specs.Step as one_node
 use Rattle.spk_host.specs.Data.{Entry}
 use Rattle.spk_host.specs.Step.{message_out}
 use Rattle.spk_host.proofs.Found.{absent, at, if_ok, node_there, on_ok, place_is, read_there}
-use Rattle.spk_host.proofs.Indexed.{absent-in, indexed-first, indexed-set}
+use Rattle.spk_host.proofs.Idle.{held-so, order-set}
+use Rattle.spk_host.proofs.Indexed.{absent-in, indexed-first}
 use Rattle.spk_host.proofs.Parts.{entry_of}
 use Rattle.spk_host.proofs.nodes.Nodes.hear.Goals as goal
 
@@ -14,9 +15,9 @@ returns-in-Some-clause-out c =
     let l = c.args.self.now in
     let found = at (numbered_view c.args.message).group (numbered_view c.args.message).node l c.in-Some.place
     (place_is c.place_of.result _ _ _ _ _ _ c.place_of.ensures c.as_str.ensures.value c.as_str-2.ensures.value refl ∙ c.in-Some.is) in
-    let read = read_there l c.in-Some.place c.index_mut.result.now found.0 found.1.there
-    (c.index_mut.ensures.value ∙ ap (λ (xs : List Entry). get_or xs c.in-Some.place c.index_mut.result.now) c.self.view_is) in
-    if_ok c.hear_message.result c.hear_message.ensures.out
+    let read = read_there l c.in-Some.place c.index_mut-entry.result.now found.0 found.1.there
+    (c.index_mut-entry.ensures.value ∙ ap (λ (xs : List Entry). get_or xs c.in-Some.place c.index_mut-entry.result.now) c.self.view_is) in
+    if_ok c.hear_message-out.result c.hear_message-out.ensures.out
     (λ o is. is ∙ ap (λ (e : Entry). message_out e.kept c.args.ack (numbered_view c.args.message) c.args.now) read
     ∙ ap (λ k. message_out k c.args.ack (numbered_view c.args.message) c.args.now)
     (sym (node_there (fresh_node c.args.wait c.args.width) _ _ l (Some found.0) found.1.found)))
@@ -26,10 +27,10 @@ returns-in-Some-clause-nodes c =
     let l = c.args.self.now in
     let found = at (numbered_view c.args.message).group (numbered_view c.args.message).node l c.in-Some.place
     (place_is c.place_of.result _ _ _ _ _ _ c.place_of.ensures c.as_str.ensures.value c.as_str-2.ensures.value refl ∙ c.in-Some.is) in
-    let read = read_there l c.in-Some.place c.index_mut.result.now found.0 found.1.there
-    (c.index_mut.ensures.value ∙ ap (λ (xs : List Entry). get_or xs c.in-Some.place c.index_mut.result.now) c.self.view_is) in
-    on_ok c.hear_message.result c.hear_message.ensures.entry
-    (λ is. ap (λ (xs : List Entry). set xs c.in-Some.place c.hear_message.new.entry) c.self.view_is
+    let read = read_there l c.in-Some.place c.index_mut-entry.result.now found.0 found.1.there
+    (c.index_mut-entry.ensures.value ∙ ap (λ (xs : List Entry). get_or xs c.in-Some.place c.index_mut-entry.result.now) c.self.view_is) in
+    on_ok c.hear_message-out.result c.hear_message-out.ensures.entry
+    (λ is. ap (λ (xs : List Entry). set xs c.in-Some.place c.hear_message-out.new.entry) c.self.view_is
     ∙ ap (set l c.in-Some.place)
     (is ∙ ap (λ (e : Entry). record e { kept = one_node.hand e.kept (numbered_view c.args.message) c.args.now }) read
     ∙ ap (λ k. entry_of found.0.group found.0.node (one_node.hand k (numbered_view c.args.message) c.args.now))
@@ -58,19 +59,19 @@ returns-in-None-clause-nodes c =
 
 pub invariant_of-self : goal.invariant_of-self
 invariant_of-self c =
-    indexed-set c.self.inside.entries.items c.self.inside.index c.in-Some.place c.hear_message.new.entry c.index_mut.result.now c.self.invariant
-    c.index_mut.ensures.value c.hear_message.ensures.names
+    order-set c.self.inside.entries.items c.self.inside.index c.in-Some.place c.hear_message-out.new.entry c.index_mut-entry.result.now
+    c.self.inside.may_hold c.may_hold-self-inside.result c.self.invariant c.index_mut-entry.ensures.value c.hear_message-out.ensures.names c.may_hold-self-inside.ensures
 
 pub hear_first-requires : goal.hear_first-requires
 hear_first-requires c =
-    absent-in (numbered_view c.args.message).group (numbered_view c.args.message).node c.self.inside.entries.items c.self.inside.index c.self.invariant
+    absent-in (numbered_view c.args.message).group (numbered_view c.args.message).node c.self.inside.entries.items c.self.inside.index c.self.invariant.indexed
     (place_is c.place_of.result _ _ _ _ _ _ c.place_of.ensures c.as_str.ensures.value c.as_str-2.ensures.value (sym c.self.view_is) ∙ c.in-None.is)
 
 pub invariant_of-self-in-None : goal.invariant_of-self-in-None
 invariant_of-self-in-None c =
-    indexed-first c.hear_first.result c.self.inside.entries.items c.hear_first.new.entries.items c.self.inside.index c.hear_first.new.index
+    held-so (indexed-first c.hear_first.result c.self.inside.entries.items c.hear_first.new.entries.items c.self.inside.index c.hear_first.new.index
     (entry_of (numbered_view c.args.message).group (numbered_view c.args.message).node
-    (one_node.hand (fresh_node c.args.wait c.args.width) (numbered_view c.args.message) c.args.now)) c.self.invariant
-    (absent-in (numbered_view c.args.message).group (numbered_view c.args.message).node c.self.inside.entries.items c.self.inside.index c.self.invariant
+    (one_node.hand (fresh_node c.args.wait c.args.width) (numbered_view c.args.message) c.args.now)) c.self.invariant.indexed
+    (absent-in (numbered_view c.args.message).group (numbered_view c.args.message).node c.self.inside.entries.items c.self.inside.index c.self.invariant.indexed
     (place_is c.place_of.result _ _ _ _ _ _ c.place_of.ensures c.as_str.ensures.value c.as_str-2.ensures.value (sym c.self.view_is) ∙ c.in-None.is))
-    c.hear_first.ensures.nodes c.hear_first.ensures.entered c.hear_first.ensures.unchanged c.hear_first.ensures.not_entered
+    c.hear_first.ensures.nodes c.hear_first.ensures.entered c.hear_first.ensures.unchanged c.hear_first.ensures.not_entered)

@@ -3,13 +3,14 @@ use Rattle.spk_host_node.specs.Step as one_node
 use Rattle.spk_host.specs.Data.{Entry}
 use Rattle.spk_host.specs.Index.{names_of}
 use Rattle.spk_host.proofs.Found.{absent, at, read_there}
+use Rattle.spk_host.proofs.Idle.{held-so}
 use Rattle.spk_host.proofs.Indexed.{first-place, indexed-set}
 use Rattle.spk_host.proofs.nodes.Nodes.hear_death.Goals as goal
 
 pub invariant_of-self : goal.invariant_of-self
 invariant_of-self c =
-    indexed-set c.self.inside.entries.items c.self.inside.index c.in-Some.place c.death.new.self c.index_mut.result.now c.self.invariant
-    c.index_mut.ensures.value (ap names_of c.death.ensures)
+    held-so (indexed-set c.self.inside.entries.items c.self.inside.index c.in-Some.place c.death.new.self c.index_mut.result.now c.self.invariant.indexed
+    c.index_mut.ensures.value (ap names_of c.death.ensures))
 
 pub returns-in-Some : goal.returns-in-Some
 returns-in-Some c =

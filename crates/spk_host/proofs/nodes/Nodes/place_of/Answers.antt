@@ -6,5 +6,5 @@ use Rattle.spk_host.proofs.nodes.Nodes.place_of.Goals as goal
 
 pub returns : goal.returns
 returns c =
-    c.find.ensures ∙ led c.args.group.now c.args.node.now c.self.inside.entries.items c.self.inside.index c.self.invariant
+    c.find.ensures ∙ led c.args.group.now c.args.node.now c.self.inside.entries.items c.self.inside.index c.self.invariant.indexed
     ∙ ap (position (is_of c.args.group.now c.args.node.now)) c.self.view_is
