@@ -1,9 +1,11 @@
 -- The canonical spelling of a number is a varint of it, and none is shorter.
 use Rattle.std.proofs.Common.{◌≡◌, ℕ, zero, suc, ◌+◌, ◌-◌, ◌*◌, ◌/◌, ◌%◌, ◌^◌, ◌<◌, ◌≤◌, true, false, cond, ltb, List, [], ◌∷◌, ◌++◌, length, refl, sym, ap, subst, ◌∙◌, append_assoc, append-nil, take, arith, inl, inr}
 use Rattle.std.proofs.lemmas.Bool.{lt-ltb, le-ltb, cases_lt}
-use Rattle.std.proofs.lemmas.Nat.{pow-add}
-use Rattle.std.proofs.Math.Seq.{take-append_seam}
-use Rattle.std.specs.Prelude.{Result, Ok, Err, is_ok, OnOk, OnErr}
+use Rattle.std.proofs.lemmas.Nat.{pow-add, pow_below}
+use Rattle.std.proofs.lemmas.List.{length-set}
+use Rattle.std.proofs.Math.Seq.{take-suc-set}
+use Rattle.std.proofs.Math.ListN.{set}
+use Rattle.std.specs.Prelude.{Result, Ok, Err, is_ok, OnOk}
 use Rattle.spk_protobuf.specs.Grammar.{Bytes, AreGroups, IsVarint, IsField}
 use Rattle.spk_protobuf.specs.Spelling.{groups_of, varint, bytes_field}
 use Rattle.spk_protobuf.proofs.Groups.{AreGroups-more}
@@ -83,6 +85,106 @@ varint_shortest n (b ∷ bs) h =
     let small : n ≤ h.1 = omega (arith, n_is) in
     groups_short 9 n (length bs) (omega (arith, below, small))
 
+-- a number of more groups has a longer varint
+groups_long : (k n m : ℕ) → m ≤ k → 128 ^ m ≤ n → suc m ≤ length (groups_of k n)
+unfolding groups_of
+groups_long zero n m le ge = omega arith
+groups_long (suc k) n zero le ge =
+    elim (cases_lt n 128) [
+      | inl below ↦ let t : ltb n 128 ≡ true = lt-ltb _ _ below in rw t (omega arith)
+      | inr above ↦ let t : ltb n 128 ≡ false = le-ltb _ _ above in rw t (omega arith)
+    ]
+groups_long (suc k) n (suc j) le ge =
+    let product : 128 ^ suc j ≡ 128 * 128 ^ j = omega arith in
+    let positive : 0 < 128 ^ j = pow_positive j in
+    let above : 128 ≤ n = omega (arith, ge, product, positive) in
+    let high : 128 ^ j ≤ n / 128 = omega (arith, ge, product) in
+    let t : ltb n 128 ≡ false = le-ltb _ _ above in
+    rw t (omega (arith, groups_long k (n / 128) j (omega arith) high))
+  where
+    pow_positive : (i : ℕ) → 0 < 128 ^ i
+    pow_positive zero = omega arith
+    pow_positive (suc i) = let product : 128 ^ suc i ≡ 128 * 128 ^ i = omega arith in omega (arith, product, pow_positive i)
+
+-- a number of so many bits has a group for each seven of them
+pub size_by_bits : (n j : ℕ) → j < 64 → 2 ^ j ≤ n → n < 2 * 2 ^ j → j / 7 + 1 ≡ length (varint n)
+unfolding varint
+size_by_bits n j short least most =
+    let power : 128 ^ (j / 7) ≡ 2 ^ (7 * (j / 7)) = pow_of (j / 7) in
+    let next : 128 ^ suc (j / 7) ≡ 2 ^ (7 * suc (j / 7)) = pow_of (suc (j / 7)) in
+    let low : 2 ^ (7 * (j / 7)) ≤ 2 ^ j = pow_le (7 * (j / 7)) j (omega arith) in
+    let high : 2 ^ suc j ≤ 2 ^ (7 * suc (j / 7)) = pow_le (suc j) (7 * suc (j / 7)) (omega arith) in
+    let twice : 2 ^ suc j ≡ 2 * 2 ^ j = omega arith in
+    let enough = groups_long 9 n (j / 7) (omega arith) (omega (arith, power, low, least)) in
+    let few = groups_short 9 n (j / 7) (omega (arith, next, high, twice, most)) in
+    omega (arith, enough, few)
+  where
+    pow_of : (i : ℕ) → 128 ^ i ≡ 2 ^ (7 * i)
+    pow_of zero = refl
+    pow_of (suc i) =
+        let product : 128 ^ suc i ≡ 128 * 128 ^ i = omega arith in
+        let sum : 7 * suc i ≡ 7 + 7 * i = omega arith in
+        let split : 2 ^ (7 + 7 * i) ≡ 2 ^ 7 * 2 ^ (7 * i) = pow-add 2 7 (7 * i) in
+        let before = pow_of i in
+        rw sum (omega (arith, product, split, before))
+
+    pow_le : (a b : ℕ) → a ≤ b → 2 ^ a ≤ 2 ^ b
+    pow_le a b le =
+        elim (cases_lt a b) [
+          | inl lt ↦ let below : 2 ^ a < 2 ^ b = pow_below a b lt in omega (arith, below)
+          | inr ge ↦ let same : a ≡ b = omega arith in rw same (omega arith)
+        ]
+
+-- ---- short varints, group by group
+
+groups_more : (k n byte : ℕ) → 128 ≤ n → byte ≡ n % 128 + 128 → groups_of (suc k) n ≡ byte ∷ groups_of k (n / 128)
+unfolding groups_of
+groups_more k n byte le e = let t : ltb n 128 ≡ false = le-ltb _ _ le in rw (e, t) refl
+
+groups_end : (k n : ℕ) → n < 128 → groups_of (suc k) n ≡ n ∷ []
+unfolding groups_of
+groups_end k n lt = let t : ltb n 128 ≡ true = lt-ltb _ _ lt in rw t refl
+
+-- what was appended at once
+pub appended : {E : Type 0} (r : Result (Unit {0}) E) (old new text : List ℕ) (n : ℕ) → varint n ≡ text → new ≡ cond (is_ok r) (old ++ text) old → OnOk r (new ≡ old ++ varint n)
+appended (Err w) old new text n t e = tt
+appended (Ok x) old new text n t e = e ∙ ap (λ (bytes : List ℕ). old ++ bytes) (sym t)
+
+pub put-two : {E : Type 0} (r : Result (Unit {0}) E) (old new : List ℕ) (n a : ℕ) → 128 ≤ n → a ≡ n % 128 + 128 → n / 128 < 128
+    → new ≡ cond (is_ok r) (old ++ a ∷ n / 128 ∷ []) old → OnOk r (new ≡ old ++ varint n)
+unfolding varint
+put-two r old new n a le_a is_a last e =
+    let text : varint n ≡ a ∷ n / 128 ∷ [] = rw (groups_more 8 n a le_a is_a, groups_end 7 (n / 128) last) refl in
+    appended r old new (a ∷ n / 128 ∷ []) n text e
+
+pub put-three : {E : Type 0} (r : Result (Unit {0}) E) (old new : List ℕ) (n a b : ℕ) → 128 ≤ n → a ≡ n % 128 + 128 → 128 ≤ n / 128 → b ≡ n / 128 % 128 + 128 → n / 128 / 128 < 128
+    → new ≡ cond (is_ok r) (old ++ a ∷ b ∷ n / 128 / 128 ∷ []) old → OnOk r (new ≡ old ++ varint n)
+unfolding varint
+put-three r old new n a b le_a is_a le_b is_b last e =
+    let text : varint n ≡ a ∷ b ∷ n / 128 / 128 ∷ [] = rw (groups_more 8 n a le_a is_a, groups_more 7 (n / 128) b le_b is_b, groups_end 6 (n / 128 / 128) last) refl in
+    appended r old new (a ∷ b ∷ n / 128 / 128 ∷ []) n text e
+
+pub put-four : {E : Type 0} (r : Result (Unit {0}) E) (old new : List ℕ) (n a b c : ℕ) → 128 ≤ n → a ≡ n % 128 + 128 → 128 ≤ n / 128 → b ≡ n / 128 % 128 + 128 → 128 ≤ n / 128 / 128 → c ≡ n / 128 / 128 % 128 + 128 → n / 128 / 128 / 128 < 128
+    → new ≡ cond (is_ok r) (old ++ a ∷ b ∷ c ∷ n / 128 / 128 / 128 ∷ []) old → OnOk r (new ≡ old ++ varint n)
+unfolding varint
+put-four r old new n a b c le_a is_a le_b is_b le_c is_c last e =
+    let text : varint n ≡ a ∷ b ∷ c ∷ n / 128 / 128 / 128 ∷ [] = rw (groups_more 8 n a le_a is_a, groups_more 7 (n / 128) b le_b is_b, groups_more 6 (n / 128 / 128) c le_c is_c, groups_end 5 (n / 128 / 128 / 128) last) refl in
+    appended r old new (a ∷ b ∷ c ∷ n / 128 / 128 / 128 ∷ []) n text e
+
+pub put-five : {E : Type 0} (r : Result (Unit {0}) E) (old new : List ℕ) (n a b c d : ℕ) → 128 ≤ n → a ≡ n % 128 + 128 → 128 ≤ n / 128 → b ≡ n / 128 % 128 + 128 → 128 ≤ n / 128 / 128 → c ≡ n / 128 / 128 % 128 + 128 → 128 ≤ n / 128 / 128 / 128 → d ≡ n / 128 / 128 / 128 % 128 + 128 → n / 128 / 128 / 128 / 128 < 128
+    → new ≡ cond (is_ok r) (old ++ a ∷ b ∷ c ∷ d ∷ n / 128 / 128 / 128 / 128 ∷ []) old → OnOk r (new ≡ old ++ varint n)
+unfolding varint
+put-five r old new n a b c d le_a is_a le_b is_b le_c is_c le_d is_d last e =
+    let text : varint n ≡ a ∷ b ∷ c ∷ d ∷ n / 128 / 128 / 128 / 128 ∷ [] = rw (groups_more 8 n a le_a is_a, groups_more 7 (n / 128) b le_b is_b, groups_more 6 (n / 128 / 128) c le_c is_c, groups_more 5 (n / 128 / 128 / 128) d le_d is_d, groups_end 4 (n / 128 / 128 / 128 / 128) last) refl in
+    appended r old new (a ∷ b ∷ c ∷ d ∷ n / 128 / 128 / 128 / 128 ∷ []) n text e
+
+pub put-six : {E : Type 0} (r : Result (Unit {0}) E) (old new : List ℕ) (n a b c d e : ℕ) → 128 ≤ n → a ≡ n % 128 + 128 → 128 ≤ n / 128 → b ≡ n / 128 % 128 + 128 → 128 ≤ n / 128 / 128 → c ≡ n / 128 / 128 % 128 + 128 → 128 ≤ n / 128 / 128 / 128 → d ≡ n / 128 / 128 / 128 % 128 + 128 → 128 ≤ n / 128 / 128 / 128 / 128 → e ≡ n / 128 / 128 / 128 / 128 % 128 + 128 → n / 128 / 128 / 128 / 128 / 128 < 128
+    → new ≡ cond (is_ok r) (old ++ a ∷ b ∷ c ∷ d ∷ e ∷ n / 128 / 128 / 128 / 128 / 128 ∷ []) old → OnOk r (new ≡ old ++ varint n)
+unfolding varint
+put-six r old new n a b c d e le_a is_a le_b is_b le_c is_c le_d is_d le_e is_e last made =
+    let text : varint n ≡ a ∷ b ∷ c ∷ d ∷ e ∷ n / 128 / 128 / 128 / 128 / 128 ∷ [] = rw (groups_more 8 n a le_a is_a, groups_more 7 (n / 128) b le_b is_b, groups_more 6 (n / 128 / 128) c le_c is_c, groups_more 5 (n / 128 / 128 / 128) d le_d is_d, groups_more 4 (n / 128 / 128 / 128 / 128) e le_e is_e, groups_end 3 (n / 128 / 128 / 128 / 128 / 128) last) refl in
+    appended r old new (a ∷ b ∷ c ∷ d ∷ e ∷ n / 128 / 128 / 128 / 128 / 128 ∷ []) n text made
+
 -- ---- length-delimited fields
 
 pub bytes_field-is : (number : ℕ) (bytes : List ℕ) → 0 < number → number < 2 ^ 61 → length bytes < 2 ^ 64 → IsField (bytes_field number bytes) (record { number = number; shape = Bytes bytes })
@@ -124,12 +226,6 @@ tenth i rest number so_far le e =
     let one : groups_of (9 - i) rest ≡ rest ∷ [] = rw k refl in
     ap (λ (x : List ℕ). so_far ++ x) (sym one) ∙ e
 
-pub tenth-below : (i rest : ℕ) → i ≤ 9 → 9 ≤ i → rest < 2 ^ (64 - 7 * i) → rest < 256
-tenth-below i rest a b below =
-    let e : i ≡ 9 = omega arith in
-    let small : rest < 2 ^ (64 - 7 * 9) = subst (λ (j : ℕ). rest < 2 ^ (64 - 7 * j)) e below in
-    omega (arith, small)
-
 pub varint-groups : (n : ℕ) → groups_of (9 - 0) n ≡ varint n
 unfolding varint
 varint-groups n = refl
@@ -158,58 +254,28 @@ put-all : (old items next : List ℕ) (i rest number : ℕ) → Put old items i 
 put-all old items next i rest number p ends e =
     e ∙ ap (λ (x : List ℕ). x ++ rest ∷ []) p.grown ∙ append_assoc old p.so_far (rest ∷ []) ∙ ap (λ (x : List ℕ). old ++ x) (ends p.so_far p.whole)
 
-pub put-last : {E : Type 0} (r : Result (Unit {0}) E) (old items next : List ℕ) (i rest number : ℕ) → i < 9 → rest < 128 → Put old items i rest number → OnOk r (next ≡ items ++ rest ∷ []) → OnOk r (next ≡ old ++ varint number)
-put-last (Err w) old items next i rest number lt below p e = tt
-put-last (Ok x) old items next i rest number lt below p e = put-all old items next i rest number p (λ so_far. last_one i rest number so_far lt below) e
+-- the front of an array in which the next byte was set
+set-front : (bytes : List ℕ) (i byte : ℕ) → i < length bytes → take (i + 1) (set bytes i byte) ≡ take i bytes ++ byte ∷ []
+set-front bytes i byte below =
+    let n : i + 1 ≡ suc i = omega arith in
+    rw n (take-suc-set bytes i byte below)
 
-pub put-tenth : {E : Type 0} (r : Result (Unit {0}) E) (old items next : List ℕ) (i rest number : ℕ) → 9 ≤ i → Put old items i rest number → OnOk r (next ≡ items ++ rest ∷ []) → OnOk r (next ≡ old ++ varint number)
-put-tenth (Err w) old items next i rest number le p e = tt
-put-tenth (Ok x) old items next i rest number le p e = put-all old items next i rest number p (λ so_far. tenth i rest number so_far le) e
+pub set-more : (bytes : List ℕ) (i rest number : ℕ) → i < 9 → 128 ≤ rest → length bytes ≡ 10 → Put [] (take i bytes) i rest number
+    → record { size : length (set bytes i (rest % 128 + 128)) ≡ 10; put : Put [] (take (i + 1) (set bytes i (rest % 128 + 128))) (i + 1) (rest / 128) number }
+set-more bytes i rest number lt le size p = record {
+  size = length-set bytes i (rest % 128 + 128) ∙ size;
+  put = put-more [] (take i bytes) (take (i + 1) (set bytes i (rest % 128 + 128))) i rest number lt le (set-front bytes i (rest % 128 + 128) (omega (arith, size))) p;
+}
 
-put-kept : (old items next : List ℕ) (i rest number : ℕ) → Put old items i rest number → next ≡ items → take (length old) next ≡ old
-put-kept old items next i rest number p e = ap (λ (x : List ℕ). take (length old) x) (e ∙ p.grown) ∙ take-append_seam old p.so_far
+pub set-last : (bytes : List ℕ) (i rest number : ℕ) → i < 9 → rest < 128 → length bytes ≡ 10 → Put [] (take i bytes) i rest number → take (i + 1) (set bytes i rest) ≡ varint number
+set-last bytes i rest number lt below size p =
+    put-all [] (take i bytes) (take (i + 1) (set bytes i rest)) i rest number p (λ so_far. last_one i rest number so_far lt below) (set-front bytes i rest (omega (arith, size)))
 
-pub put-failed : {X E : Type 0} (r : Result X E) (old items next : List ℕ) (i rest number : ℕ) → Put old items i rest number → OnErr r (next ≡ items) → OnErr r (take (length old) next ≡ old)
-put-failed (Ok x) old items next i rest number p e = tt
-put-failed (Err w) old items next i rest number p e = put-kept old items next i rest number p e
-
-pub put-stopped : {X E : Type 0} (r : Result X E) (old items next : List ℕ) (i rest number : ℕ) → Put old items i rest number → next ≡ items → OnErr r (take (length old) next ≡ old)
-put-stopped (Ok x) old items next i rest number p e = tt
-put-stopped (Err w) old items next i rest number p e = put-kept old items next i rest number p e
-
-pub put-below : (old items : List ℕ) (i rest number : ℕ) → i ≤ 9 → 9 ≤ i → Put old items i rest number → rest < 256
-put-below old items i rest number a b p = tenth-below i rest a b p.below
-
--- ---- the loop that counts them: those so far, with the groups of what is left, are as many as the whole
-
-pub count-init : (number : ℕ) → 0 + length (groups_of (9 - 0) number) ≡ length (varint number)
-count-init number = let e : length (groups_of (9 - 0) number) ≡ length (varint number) = ap (λ (x : List ℕ). length x) (varint-groups number) in omega (arith, e)
-
-pub count-more : (i rest n : ℕ) → i < 9 → 128 ≤ rest → i + length (groups_of (9 - i) rest) ≡ n → i + 1 + length (groups_of (9 - (i + 1)) (rest / 128)) ≡ n
-unfolding groups_of
-count-more i rest n lt le e =
-    let k : 9 - i ≡ suc (9 - (i + 1)) = omega arith in
-    let t : ltb rest 128 ≡ false = le-ltb _ _ le in
-    let one : groups_of (9 - i) rest ≡ (rest % 128 + 128) ∷ groups_of (9 - (i + 1)) (rest / 128) = rw (k, t) refl in
-    let many : length (groups_of (9 - i) rest) ≡ suc (length (groups_of (9 - (i + 1)) (rest / 128))) = ap (λ (x : List ℕ). length x) one in
-    omega (arith, e, many)
-
-pub count-last : (i rest n : ℕ) → i < 9 → rest < 128 → i + length (groups_of (9 - i) rest) ≡ n → i + 1 ≡ n
-unfolding groups_of
-count-last i rest n lt below e =
-    let k : 9 - i ≡ suc (9 - (i + 1)) = omega arith in
-    let t : ltb rest 128 ≡ true = lt-ltb _ _ below in
-    let one : groups_of (9 - i) rest ≡ rest ∷ [] = rw (k, t) refl in
-    let many : length (groups_of (9 - i) rest) ≡ 1 = ap (λ (x : List ℕ). length x) one in
-    omega (arith, e, many)
-
-pub count-tenth : (i rest n : ℕ) → i ≤ 9 → 9 ≤ i → i + length (groups_of (9 - i) rest) ≡ n → 10 ≡ n
-unfolding groups_of
-count-tenth i rest n le ge e =
-    let k : 9 - i ≡ 0 = omega arith in
-    let one : groups_of (9 - i) rest ≡ rest ∷ [] = rw k refl in
-    let many : length (groups_of (9 - i) rest) ≡ 1 = ap (λ (x : List ℕ). length x) one in
-    omega (arith, e, many)
+pub set-tenth : (bytes : List ℕ) (i rest number : ℕ) → i ≤ 9 → 9 ≤ i → length bytes ≡ 10 → Put [] (take i bytes) i rest number → take 10 (set bytes 9 rest) ≡ varint number
+set-tenth bytes i rest number le ge size p =
+    let nine : i ≡ 9 = omega arith in
+    let so_far : Put [] (take 9 bytes) 9 rest number = subst (λ (j : ℕ). Put [] (take j bytes) j rest number) nine p in
+    put-all [] (take 9 bytes) (take 10 (set bytes 9 rest)) 9 rest number so_far (λ front. tenth 9 rest number front (omega arith)) (set-front bytes 9 rest (omega (arith, size)))
 
 -- ---- what was appended
 

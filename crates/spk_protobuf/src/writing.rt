@@ -17,33 +17,60 @@ fn put_byte(out: &mut Vec<u8>, byte: u8) -> Result<(), AllocError>
     }
 }
 
-/// The groups of a number, the least significant first. After an `Err` some of them may stand in `out`.
-fn put_groups(out: &mut Vec<u8>, number: u64) -> Result<(), AllocError>
-    ensures ok { OnOk result (out.new.items ≡ out.old.items ++ varint number) }
-    ensures err { OnErr result (take (length out.old.items) out.new.items ≡ out.old.items) }
+/// The lowest group of a number, with the bit that says that more follow.
+#[inline(always)]
+fn followed(rest: u64) -> u8
+    ensures { result ≡ rest % 128 + 128 }
 {
-    let mut rest = number;
-    for _ in 0..9u32 {
-        if rest < 128 {
-            return put_byte(out, rest as u8);
-        }
-        put_byte(out, (rest % 128) as u8 + 128)?;
-        rest /= 128;
-    }
-    put_byte(out, rest as u8)
+    (rest % 128) as u8 + 128
 }
 
-/// A varint of any length.
-fn put_any_varint(out: &mut Vec<u8>, number: u64) -> Result<(), AllocError>
+/// A varint of any length: its bytes are filled in an array, and appended at once.
+fn put_groups(out: &mut Vec<u8>, number: u64) -> Result<(), AllocError>
     ensures ok { OnOk result (out.new.items ≡ out.old.items ++ varint number) }
     ensures err { OnErr result (out.new.items ≡ out.old.items) }
 {
-    let length = out.len();
-    let put = put_groups(out, number);
-    if put.is_err() {
-        out.truncate(length);
+    let mut groups = [0; 10];
+    let mut rest = number;
+    for i in 0..9usize {
+        if rest < 128 {
+            groups[i] = rest as u8;
+            return out.extend_from_slice(&groups[..i + 1]);
+        }
+        groups[i] = followed(rest);
+        rest /= 128;
     }
-    put
+    groups[9] = rest as u8;
+    out.extend_from_slice(&groups)
+}
+
+/// A varint of two bytes or more. Those of up to six, as a time in milliseconds has, are appended without a loop.
+fn put_any_varint(out: &mut Vec<u8>, number: u64) -> Result<(), AllocError>
+    requires { 128 ≤ number }
+    ensures ok { OnOk result (out.new.items ≡ out.old.items ++ varint number) }
+    ensures err { OnErr result (out.new.items ≡ out.old.items) }
+{
+    let (a, second) = (followed(number), number / 128);
+    if second < 128 {
+        return out.extend_from_slice(&[a, second as u8]);
+    }
+    let (b, third) = (followed(second), second / 128);
+    if third < 128 {
+        return out.extend_from_slice(&[a, b, third as u8]);
+    }
+    let (c, fourth) = (followed(third), third / 128);
+    if fourth < 128 {
+        return out.extend_from_slice(&[a, b, c, fourth as u8]);
+    }
+    let (d, fifth) = (followed(fourth), fourth / 128);
+    if fifth < 128 {
+        return out.extend_from_slice(&[a, b, c, d, fifth as u8]);
+    }
+    let (e, sixth) = (followed(fifth), fifth / 128);
+    if sixth < 128 {
+        return out.extend_from_slice(&[a, b, c, d, e, sixth as u8]);
+    }
+    put_groups(out, number)
 }
 
 /// Appends the number as the shortest varint, 1 to 10 bytes (protobuf encoding, "Base 128 Varints").
@@ -71,14 +98,10 @@ pub fn varint_size(number: u64) -> usize
     ensures size { result ≡ length (varint number) }
     ensures bound { result ≤ 10 }
 {
-    let mut left = number;
-    for i in 0..9usize {
-        if left < 128 {
-            return i + 1;
-        }
-        left /= 128;
+    if number < 128 {
+        return 1;
     }
-    10
+    (number.ilog2() / 7) as usize + 1
 }
 
 /// The tag of a length-delimited field, the length, and the bytes. After an `Err` some of it may stand in `out`.
