@@ -261,6 +261,11 @@ fn put_metrics(out: &mut Vec<u8>, metrics: &[Metric]) -> Result<(), PayloadFault
 /// The bytes that are asked for at first, enough for a payload of one metric without a name.
 const FEW: usize = 64;
 
+/// And for each metric, up to so many of them, about as many as one without a name takes.
+const EACH: usize = 16;
+
+const MANY: usize = 64;
+
 /// The one canonical spelling of a payload (docs/DEFINITIONS.md): fields in ascending number, each that is there,
 /// zero and false too, shortest varints, metrics in order. `laws::canonical` says that it means the payload and
 /// nothing else, so `decode` reads it as what was written.
@@ -275,7 +280,8 @@ pub fn encode(alloc: Global, payload: &Payload) -> Result<Vec<u8>, PayloadFault>
     ensures fault { IfErr result (λ f. (f ≡ PayloadFault.NoMemory)
         ⊎ ((f ≡ PayloadFault.HasOther) × spec.HoldsOther (payload_view payload.now).metrics)) }
 {
-    let mut out = Vec::with_capacity(alloc, FEW)?;
+    let room = payload.metrics.len().min(MANY).saturating_mul(EACH);
+    let mut out = Vec::with_capacity(alloc, room.saturating_add(FEW))?;
     put_long(&mut out, 8, payload.timestamp)?;
     put_metrics(&mut out, &payload.metrics)?;
     put_long(&mut out, 3 * 8, payload.seq)?;
