@@ -12,6 +12,7 @@ pub mod PathLemmas
 pub mod ListLemmas
 pub mod RowLemmas
 pub mod Rows
+pub mod NameLemmas
 pub mod NamedLemmas
 pub mod SparkLemmas
 pub mod TreeLemmas

@@ -1,5 +1,6 @@
 //! The topics of Sparkplug 3.0.0 (chapter 4).
-ghost use Rattle.std.specs.Prelude.{◌≡◌, ◌≢◌, ◌⊎◌, ◌∷◌, codes, IfOk, IfErr, IfSome, IfNone, IsTrue, Some, None};
+ghost use Rattle.std.specs.Prelude.{◌≡◌, ◌==◌, ◌≢◌, ◌⊎◌, ◌||◌, ◌∷◌, codes, IfOk, IfErr, IfSome, IfNone, IsTrue, Some, None};
+ghost use Rattle.std.specs.List.{list_any};
 ghost use Rattle.std.specs.String.{string_bytes};
 ghost use Rattle.spk_topics.specs.Spark.{Named, RefusesNames, RefusesText, device_type, has_names, is_name, named, named_at, named_levels, node_type, topic_of};
 ghost use Rattle.spk_topics.specs.Levels.{levels};
@@ -7,7 +8,6 @@ ghost use Rattle.spk_topics.specs.SparkReading.{parts_named};
 
 use crate::fault::TopicFault;
 use crate::levels::cut;
-use crate::topic::{has, is_plain};
 use std::alloc::{AllocError, Global};
 
 /// What a message is: the `BIRTH` of `NBIRTH` and `DBIRTH`, and so on.
@@ -202,11 +202,20 @@ fn parse_named<'a>(group: &'a str, kind: &'a str, rest: &'a str) -> Option<Parts
     }
 }
 
+// Whether a byte stands in a text that no name has. One pass serves, since names are short.
+fn has_barred(text: &str) -> bool
+    ensures { result ≡ list_any (λ b. b == 47 || b == 43 || b == 35 || b == 0) text.now }
+{
+    text.bytes()
+        .any(|b| b == b'/' || b == b'+' || b == b'#' || b == 0)
+}
+
 // Whether a text may be a name in a topic.
+#[tactic(auto, using(crate::proofs::NameLemmas::name_by_bytes))]
 fn is_name(text: &str) -> bool
     ensures { result ≡ is_name text.now }
 {
-    !text.is_empty() && !has(text, b'/') && is_plain(text) && !has(text, 0)
+    !text.is_empty() && !has_barred(text)
 }
 
 /// The third level of an edge node's topic, as `NBIRTH` (Sparkplug 3.0.0, chapter 4). Takes no memory.

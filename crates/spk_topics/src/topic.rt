@@ -51,7 +51,7 @@ impl<'a> Topic<'a> {
 pub(crate) fn has(text: &str, byte: u8) -> bool
     ensures { result ≡ holds byte text.now }
 {
-    text.bytes().any(|b| b == byte)
+    text.as_bytes().contains(&byte)
 }
 
 /// Whether no wildcard stands in a text.
