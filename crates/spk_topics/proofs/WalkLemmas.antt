@@ -1,5 +1,5 @@
 -- A walk over a topic's levels passes each filter that fits them.
-use Rattle.std.proofs.Common.{◌≡◌, ◌⊎◌, ℕ, zero, suc, List, [], ◌∷◌, ◌++◌, refl, ap, sym, ◌∙◌, subst, inl, inr, arith, Option, Some, None, get_or, append_assoc}
+use Rattle.std.proofs.Common.{◌≡◌, ◌⊎◌, ℕ, zero, suc, List, [], ◌∷◌, ◌++◌, refl, ap, sym, ◌∙◌, subst, inl, inr, arith, Option, Some, None, get_or, append_assoc, length}
 use Rattle.std.specs.Prelude.{slice_get, Contains}
 use Rattle.std.specs.Ordering.{nat_cmp}
 use Rattle.std.specs.BTreeMap as tree
@@ -261,6 +261,16 @@ sound_more rows topic old new sound g k q e = side (g.sound k q e)
 pub all_found : (rows : List Row) (topic : List ℕ) (old new : ℕ → Option ℕ) → ((key qos : ℕ) → old key ≡ Some qos → Reached rows topic key qos) → Gains rows topic old new
     → ((key qos : ℕ) → Reached rows topic key qos → HasLeast (new key) qos) → FindsAll rows topic new
 all_found rows topic old new sound g all = record { sound = sound_more rows topic old new sound g; all = all }
+
+-- without a front nothing is ahead: all that matches is found
+pub nothing_ahead : (rows : List Row) (topic : List ℕ) (up : Up) (found : ℕ → Option ℕ) (front : List Ahead) (left : List (List ℕ)) → length front ≡ 0 → IsOnTheWay rows topic up found (front_of front) left
+    → (key qos : ℕ) → Reached rows topic key qos → HasLeast (found key) qos
+nothing_ahead rows topic up found [] left none way k q r = side (way k q r)
+  where
+    side : HasLeast (found k) q ⊎ IsAhead rows up [] left r.place → HasLeast (found k) q
+    side (inl h) = h
+    side (inr a) = absurd (omega (arith, a.among.1))
+nothing_ahead rows topic up found (x ∷ xs) left none way k q r = absurd (omega (arith, none))
 
 -- ---- nodes that are appended
 

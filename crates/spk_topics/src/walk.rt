@@ -16,6 +16,7 @@ use crate::matching::{begins_with_dollar, matches_text};
 use crate::nodes::Nodes;
 use std::alloc::Global;
 use std::collections::BTreeMap;
+use std::mem;
 
 /// A node to which the topic leads so far.
 #[derive(Clone, Copy, Drop)]
@@ -37,9 +38,15 @@ impl Nodes {
         let mut found = BTreeMap::new(alloc);
         let begun = self.begin(alloc, topic)?;
         let (mut front, mut left) = begun;
+        let mut next = Vec::new(alloc);
         while let Some(text) = left {
+            // Nothing is ahead any more.
+            if front.is_empty() {
+                return Ok(found);
+            }
             let (level, rest) = cut(text);
-            front = self.pass(alloc, &front, level, topic, &mut found)?;
+            self.pass(&front, level, topic, &mut found, &mut next)?;
+            mem::swap(&mut front, &mut next);
             left = rest;
         }
         self.arrive(&front, topic, &mut found)?;
@@ -82,26 +89,26 @@ impl Nodes {
         }
     }
 
-    // The nodes to which a level of the topic leads from those of the front, with what `#` there matches.
+    // The nodes to which a level of the topic leads from those of the front, in place of what `next` held, with what `#` there matches.
     fn pass<'a>(
         &'a self,
-        alloc: Global,
         front: &[Ahead<'a>],
         level: &str,
         topic: &str,
         found: &mut BTreeMap<u64, u8>,
-    ) -> Result<Vec<Ahead<'a>>, TopicFault>
+        next: &mut Vec<Ahead<'a>>,
+    ) -> Result<(), TopicFault>
         requires { IsWhole self.now }
         ensures gains { OnOk result (GainsIn self.now topic.now found.old found.new) }
-        ensures way { IfOk result
-            (λ next. Passes self.now topic.now level.now found.old found.new front.now next.items) }
+        ensures way { OnOk result
+            (Passes self.now topic.now level.now found.old found.new front.now next.new.items) }
         ensures fault { IfErr result (λ e. e ≡ TopicFault.NoMemory) }
     {
-        let mut next: Vec<Ahead<'a>> = Vec::new(alloc);
+        next.clear();
         for ahead in front {
-            self.step(ahead, level, topic, found, &mut next)?;
+            self.step(ahead, level, topic, found, next)?;
         }
-        Ok(next)
+        Ok(())
     }
 
     // Goes on by one level of the topic, along the edge to a node or from the node itself.
