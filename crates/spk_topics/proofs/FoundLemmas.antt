@@ -96,3 +96,14 @@ gathered old new m ordered h = record {
   kept = λ j q e. subst (λ o. HasLeast o q) (sym (h j)) (merged_kept j (old j) m.entries q e);
   taken = λ j q e. subst (λ o. HasLeast o q) (sym (h j)) (merged_taken j (old j) m.entries q e);
 }
+
+-- where nothing was found yet, what is found is the map itself
+pub taken_whole : (old new m : BTreeMap ℕ ℕ) → old.entries ≡ [] → new.entries ≡ m.entries → Gathers (get nat_cmp old) (get nat_cmp new) (get nat_cmp m)
+taken_whole old new m none same = record {
+  sound = λ j q e. inr (sym (found j) ∙ e);
+  kept = λ j q e. let empty : get nat_cmp old j ≡ None = ap (λ (es : List (ℕ × ℕ)). lookup (is_at (nat_cmp j)) es) none in cc;
+  taken = λ j q e. (q, found j ∙ e, omega arith);
+}
+  where
+    found : (j : ℕ) → get nat_cmp new j ≡ get nat_cmp m j
+    found j = ap (λ (es : List (ℕ × ℕ)). lookup (is_at (nat_cmp j)) es) same

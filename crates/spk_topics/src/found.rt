@@ -33,6 +33,10 @@ pub(crate) fn gather(
         (Gathers (get nat_cmp found.old) (get nat_cmp found.new) (get nat_cmp grants.now)) }
     ensures fault { IfErr result (λ e. e ≡ TopicFault.NoMemory) }
 {
+    if found.is_empty() {
+        *found = grants.clone()?;
+        return Ok(());
+    }
     for (key, qos) in grants.iter() {
         raise(found, *key, *qos)?;
     }
@@ -45,7 +49,7 @@ pub(crate) fn listed(alloc: Global, found: &BTreeMap<u64, u8>) -> Result<Vec<(u6
     ensures ordered { OnOk result (IsOrdered nat_cmp found.now) }
     ensures fault { IfErr result (λ e. e ≡ TopicFault.NoMemory) }
 {
-    let mut list = Vec::new(alloc);
+    let mut list = Vec::with_capacity(alloc, found.len())?;
     for (key, qos) in found.iter() {
         list.push((*key, *qos))?;
     }
