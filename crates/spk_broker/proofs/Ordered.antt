@@ -1,22 +1,19 @@
 -- Sessions stand in the order of their numbers, and each number at one place.
-use Rattle.std.proofs.Common.{◌≡◌, ℕ, zero, suc, ◌+◌, ◌<◌, ◌≤◌, Bool, true, false, not, ◌&&◌, ◌||◌, eqb, List, [], ◌∷◌, length, map, get_or, is_none, is_some, refl, sym, ap, ◌∙◌, subst, Option, Some, Result, Ok, Err, Vec, Global, arith, true≢false}
-use Rattle.std.specs.List.{list_any}
+use Rattle.std.proofs.Common.{◌≡◌, ℕ, zero, suc, ◌+◌, ◌<◌, ◌≤◌, Bool, true, false, ◌&&◌, ◌||◌, eqb, List, [], ◌∷◌, ◌++◌, length, map, get_or, is_some, refl, sym, ap, ◌∙◌, Result, Ok, Err, arith, true≢false, eq-eqb}
 use Rattle.std.specs.List.Sorted.{IsBinarySearchResult, IsNonDecreasingBy, IsStrictlyIncreasing}
 use Rattle.std.specs.declared.cmp.Ordering.TheVariants.{Equal}
 use Rattle.std.specs.Ordering.{nat_cmp, ordering_index}
-use Rattle.std.specs.Result.{IfOk}
-use Rattle.std.specs.declared.alloc.AllocError.{AllocError}
 use Rattle.std.proofs.lemmas.Bool.{cases_lt}
 use Rattle.std.proofs.lemmas.Bool.Decides.{nat_tests}
 use Rattle.std.proofs.lemmas.Cmp.{ranked}
 use Rattle.std.proofs.lemmas.List.{get_or-map, length-map}
+use Rattle.std.proofs.lemmas.List.Folds.{list_any-append}
 use Rattle.std.proofs.lemmas.List.Kept.{AllPairs-from_increasing}
 use mathlib.Core.Logic.{⊎_elim}
 use Rattle.spk_broker_rules.specs.Lawful.{Rises}
 use Rattle.spk_broker_rules.proofs.Lists.{eqb-is}
 use Rattle.spk_broker.specs.Both.{Both}
-use Rattle.spk_broker.specs.Called.{AreAscending, AreOrdered, IsPast, are_lost, is_lost, is_there}
-use Rattle.spk_broker.proofs.Near.{any-at}
+use Rattle.spk_broker.specs.Called.{AreOrdered, IsPast, is_place, is_there}
 use Rattle.spk_broker.proofs.Places.{unequal}
 
 was-above : (bs : List Both) (low top j : ℕ) (d : Both) → Rises low top (map (λ (b : Both). b.was) bs) → j < length bs → low < (get_or bs j d).was.key
@@ -37,7 +34,7 @@ pub ordered-lt : (bs : List Both) → AreOrdered bs → (i j : ℕ) (d : Both) �
 ordered-lt bs o i j d less lt = was-lt bs o.0 o.1 i j d o.2 less lt
 
 -- two places of one number are one
-was-same : (bs : List Both) → AreOrdered bs → (i j : ℕ) (d : Both) → i < length bs → j < length bs → (get_or bs i d).was.key ≡ (get_or bs j d).was.key → i ≡ j
+pub was-same : (bs : List Both) → AreOrdered bs → (i j : ℕ) (d : Both) → i < length bs → j < length bs → (get_or bs i d).was.key ≡ (get_or bs j d).was.key → i ≡ j
 was-same bs o i j d ilow jlow same =
     ⊎_elim
     (λ lt. let up = ordered-lt bs o i j d lt jlow in absurd (omega (arith, up, same)))
@@ -78,10 +75,6 @@ missed-there bs key p (Err q) e result o i d low is =
 
 -- ---- the places of the numbers that were found
 
--- the first ones are there
-abbrev pub AreThere : List (ℕ × ℕ) → ℕ → List Both → Type 0
-AreThere found j seats = (k : ℕ) (e : ℕ × ℕ) → k < j → k < length found → (p : ℕ) × (p < length seats) × ((d : Both) → is_there (get_or found k e).0 (get_or seats p d) ≡ true)
-
 -- the others stand no further ahead than here
 abbrev pub AreBehind : List (ℕ × ℕ) → ℕ → ℕ → List Both → Type 0
 AreBehind found j from seats = AreOrdered seats → IsStrictlyIncreasing (map (λ g. g.0) found)
@@ -103,15 +96,6 @@ and-false : (a b : Bool) → b ≡ false → a && b ≡ false
 and-false true b e = e
 and-false false b e = refl
 
-pub there-start : (found : List (ℕ × ℕ)) (seats : List Both) → AreThere found 0 seats
-there-start found seats k e low within = absurd (omega (arith, low))
-
-pub there-more : (found : List (ℕ × ℕ)) (j p : ℕ) (seats : List Both) → AreThere found j seats → p < length seats → ((e : ℕ × ℕ) (d : Both) → is_there (get_or found j e).0 (get_or seats p d) ≡ true) → AreThere found (j + 1) seats
-there-more found j p seats old low here k e less within =
-    ⊎_elim (λ lt. old k e lt within)
-    (λ ge. let last : j ≡ k = omega (arith, ge, less) in (p, low, λ d. ap (λ n. is_there (get_or found n e).0 (get_or seats p d)) (sym last) ∙ here e d))
-    (cases_lt k j)
-
 pub behind-start : (found : List (ℕ × ℕ)) (seats : List Both) → AreBehind found 0 0 seats
 behind-start found seats o up i d m e low le within = absurd (omega (arith, low))
 
@@ -123,34 +107,53 @@ behind-more found j p seats plow here o up i d m e low le within =
     and-false (is_some (get_or seats i d).now) (eqb (get_or seats i d).was.key (get_or found m e).0)
     (unequal (get_or seats i d).was.key (get_or found m e).0 (λ same. omega (arith, same, at, before, more)))
 
-any-none : {X : Type 0} (p : X → Bool) (xs : List X) → ((i : ℕ) (d : X) → i < length xs → p (get_or xs i d) ≡ false) → list_any p xs ≡ false
-any-none p [] h = refl
-any-none p (x ∷ xs) h = ap (λ b. b || list_any p xs) (h zero x (omega arith)) ∙ any-none p xs (λ i d lt. h (suc i) d (omega (arith, lt)))
+-- where one of them is gone
+pub behind-past : (found : List (ℕ × ℕ)) (j from : ℕ) (seats : List Both) → AreBehind found j from seats → AreBehind found (j + 1) from seats
+behind-past found j from seats behind o up i d m e low le within = behind o up i d m e low (omega (arith, le)) within
 
--- one of them isn't there
-pub one-lost : (found : List (ℕ × ℕ)) (j from : ℕ) (e : ℕ × ℕ) (seats : List Both) → AreBehind found j from seats → IsPast (get_or found j e).0 from seats → j < length found → AreOrdered seats → IsStrictlyIncreasing (map (λ g. g.0) found)
-    → true ≡ list_any (λ g. is_lost g.0 seats) found
-one-lost found j from e seats behind past low o up =
-    sym (any-at (λ (g : ℕ × ℕ). is_lost g.0 seats) found j e low
-    (ap not (any-none (is_there (get_or found j e).0) seats
-    (λ i d lt. ⊎_elim (λ less. behind o up i d j e less (omega arith) low) (λ ge. past i d ge lt) (cases_lt i from)))))
+-- where the first ones are, is a place
+abbrev pub AreMet : List (ℕ × ℕ) → ℕ → List ℕ → List Both → Type 0
+AreMet found j ps seats = AreOrdered seats → IsStrictlyIncreasing (map (λ g. g.0) found)
+    → (k : ℕ) (e : ℕ × ℕ) (i : ℕ) (d : Both) → k < j → k < length found → i < length seats → is_there (get_or found k e).0 (get_or seats i d) ≡ true → is_place i ps ≡ true
 
--- all of them are there
-pub none-lost : (found : List (ℕ × ℕ)) (j : ℕ) (seats : List Both) → AreThere found j seats → length found ≤ j → false ≡ list_any (λ g. is_lost g.0 seats) found
-none-lost found j seats there whole =
-    sym (any-none (λ (g : ℕ × ℕ). is_lost g.0 seats) found
-    (λ k e low. let at = there k e (omega (arith, low, whole)) low in ap not (some seats at.0 (get_or found k e).0 at.1 at.2)))
-  where
-    some : (bs : List Both) (p key : ℕ) → p < length bs → ((d : Both) → is_there key (get_or bs p d) ≡ true) → list_any (is_there key) bs ≡ true
-    some [] p key low at = absurd (omega (arith, low))
-    some (b ∷ bs) p key low at = any-at (is_there key) (b ∷ bs) p b low (at b)
+pub none-met : (found : List (ℕ × ℕ)) (ps : List ℕ) (seats : List Both) → AreMet found 0 ps seats
+none-met found ps seats o up k e i d low within ilow there = absurd (omega (arith, low))
 
--- and where they were found
-pub lost-where : (r : Result (Option (Vec ℕ Global)) AllocError) (f : Option (Vec (ℕ × ℕ) Global)) (found : Vec (ℕ × ℕ) Global) (l : List (ℕ × ℕ)) (seats : List Both) → f ≡ Some found → l ≡ found.items
-    → IfOk r (λ o. AreOrdered seats → IsStrictlyIncreasing (map (λ g. g.0) l) → is_none o ≡ list_any (λ g. is_lost g.0 seats) l)
-    → IfOk r (λ o. AreOrdered seats → AreAscending f → is_none o ≡ are_lost f seats)
-lost-where (Err x) f found l seats is same h = tt
-lost-where (Ok o) f found l seats is same h = λ ordered up.
-    let rise : IsStrictlyIncreasing (map (λ (g : ℕ × ℕ). g.0) found.items) = subst AreAscending is up in
-    h ordered (subst (λ (x : List (ℕ × ℕ)). IsStrictlyIncreasing (map (λ (g : ℕ × ℕ). g.0) x)) (sym same) rise)
-    ∙ ap (list_any (λ (g : ℕ × ℕ). is_lost g.0 seats)) same ∙ ap (λ q. are_lost q seats) (sym is)
+either-true : (a b : Bool) → a ≡ true → a || b ≡ true
+either-true a b e = ap (λ x. x || b) e
+
+or-true : (a b : Bool) → b ≡ true → a || b ≡ true
+or-true true b e = refl
+or-true false b e = e
+
+more-place : (ps : List ℕ) (p i : ℕ) → is_place i (ps ++ p ∷ []) ≡ is_place i ps || (eqb p i || false)
+more-place ps p i = list_any-append (λ q. eqb q i) ps (p ∷ [])
+
+pub met-more : (found : List (ℕ × ℕ)) (j p : ℕ) (ps : List ℕ) (seats : List Both) → AreMet found j ps seats → p < length seats
+    → ((e : ℕ × ℕ) (d : Both) → is_there (get_or found j e).0 (get_or seats p d) ≡ true) → AreMet found (j + 1) (ps ++ p ∷ []) seats
+met-more found j p ps seats old plow here o up k e i d low within ilow there =
+    more-place ps p i
+    ∙ ⊎_elim
+    (λ less. either-true (is_place i ps) (eqb p i || false) (old o up k e i d less within ilow there))
+    (λ ge.
+    let last : k ≡ j = omega (arith, ge, low) in
+    let one : (get_or seats i d).was.key ≡ (get_or found k e).0 = eqb-is (get_or seats i d).was.key (get_or found k e).0 (and-second (is_some (get_or seats i d).now) (eqb (get_or seats i d).was.key (get_or found k e).0) there) in
+    let two : (get_or seats p d).was.key ≡ (get_or found j e).0 = eqb-is (get_or seats p d).was.key (get_or found j e).0 (and-second (is_some (get_or seats p d).now) (eqb (get_or seats p d).was.key (get_or found j e).0) (here e d)) in
+    let same : i ≡ p = was-same seats o i p d ilow plow (one ∙ ap (λ n. (get_or found n e).0) last ∙ sym two) in
+    or-true (is_place i ps) (eqb p i || false) (either-true (eqb p i) false (eq-eqb p i (sym same))))
+    (cases_lt k j)
+
+pub met-past : (found : List (ℕ × ℕ)) (j from : ℕ) (key : ℕ) (ps : List ℕ) (seats : List Both) → AreMet found j ps seats → AreBehind found j from seats
+    → ((e : ℕ × ℕ) → key ≡ (get_or found j e).0) → (AreOrdered seats → IsPast key from seats) → AreMet found (j + 1) ps seats
+met-past found j from key ps seats old behind is past o up k e i d low within ilow there =
+    ⊎_elim
+    (λ less. old o up k e i d less within ilow there)
+    (λ ge.
+    let last : k ≡ j = omega (arith, ge, low) in
+    let gone : is_there (get_or found k e).0 (get_or seats i d) ≡ false =
+    ⊎_elim
+    (λ lt. behind o up i d k e lt (omega (arith, ge)) within)
+    (λ le. ap (λ n. is_there (get_or found n e).0 (get_or seats i d)) last ∙ ap (λ n. is_there n (get_or seats i d)) (sym (is e)) ∙ past o i d le ilow)
+    (cases_lt i from) in
+    absurd (true≢false (sym there ∙ gone)))
+    (cases_lt k j)

@@ -10,7 +10,7 @@ use Rattle.spk_broker_rules.specs.Words.{option_list}
 use Rattle.spk_broker_rules.proofs.Lists.{eqb-is}
 use Rattle.spk_broker.specs.Asking.{place_in}
 use Rattle.spk_broker.specs.Both.{Both}
-use Rattle.spk_broker.specs.Called.{ArePlaces, is_place}
+use Rattle.spk_broker.specs.Called.{AreKeyed, ArePlaces, IsKeyed, is_place}
 use Rattle.spk_broker.specs.Entering.{whole}
 use Rattle.spk_broker.specs.Settling.{has_ended, seat_left}
 use Rattle.spk_broker.specs.Touched.{AreTouched, AreVisited, IsAlone, OnlyAt}
@@ -78,6 +78,10 @@ only-set d0 d1 p x seats guests o = record {
   seats = subst (AreTouched (p ∷ [])) (sym seats) (touched-set d0.seats.items p x o.seats);
   guests = subst (λ (g : Vec Guest Global). flat_map guest_now g.items ≡ map guest_was g.items) (sym guests) o.guests;
 }
+
+-- between calls each has its number
+pub settled-keyed : (d : Desk) → IsSettled d → AreKeyed d.seats.items
+settled-keyed d e i x lt = subst IsKeyed (sym (whole-at d.seats.items i x (ap (λ (b : plain.Broker). b.seats) e) lt)) refl
 
 -- of a settled desk none has changed
 pub settled-alone : (d : Desk) (conn : ℕ) (o : Option ℕ) → IsSettled d → place_in conn d.seats.items ≡ o → IsAlone o d

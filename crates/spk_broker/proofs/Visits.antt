@@ -1,29 +1,28 @@
 -- A message calls at some places alone: to the sessions in between it does nothing.
-use Rattle.std.proofs.Common.{◌≡◌, ℕ, zero, suc, ◌+◌, ◌<◌, ◌≤◌, Bool, true, false, not, ◌||◌, cond, eqb, List, [], ◌∷◌, ◌++◌, length, map, take, drop, get_or, set, refl, sym, ap, ◌∙◌, subst, append_assoc, Option, Some, None, arith, true≢false, eq-eqb, Vec, Global, Result, Ok, Err}
-use Rattle.std.specs.List.{flat_map}
-use Rattle.std.specs.Option.{IfSome, is_some, option_map_or}
-use Rattle.std.specs.Result.{IfOk}
-use Rattle.std.specs.declared.alloc.AllocError.{AllocError}
-use Rattle.spk_session.specs.PacketIds.{next_id}
-use Rattle.spk_session.specs.Step.{has_room}
+use Rattle.std.proofs.Common.{◌≡◌, ℕ, zero, suc, ◌+◌, ◌<◌, ◌≤◌, Bool, true, false, not, ◌&&◌, ◌||◌, eqb, List, [], ◌∷◌, ◌++◌, length, map, take, drop, get_or, set, refl, sym, ap, ◌∙◌, subst, append_assoc, Option, Some, None, arith, true≢false, eq-eqb, Vec, Global}
+use Rattle.std.specs.List.{flat_map, list_any}
+use Rattle.std.specs.List.Sorted.{IsStrictlyIncreasing}
+use Rattle.std.specs.Option.{IfSome, is_some}
 use Rattle.spk_topics.specs.Grants.{Grants}
 use Rattle.std.proofs.lemmas.List.{get_or-set_other, length-set}
 use Rattle.std.proofs.lemmas.Bool.{cases_lt}
 use mathlib.Core.Logic.{⊎_elim}
 use Rattle.spk_broker_rules.specs.Data as plain
 use Rattle.spk_broker_rules.specs.Lawful.{Rises}
-use Rattle.spk_broker_rules.specs.Step.{bursts, hand_at, numbered, serve, serve_at}
+use Rattle.spk_broker_rules.specs.Step.{serve}
 use Rattle.spk_broker_rules.specs.Table.{Table}
-use Rattle.spk_broker_rules.specs.Words.{best, level, option_list, sent_as}
+use Rattle.spk_broker_rules.specs.Words.{best, option_list}
 use Rattle.spk_broker_rules.proofs.Lists.{eqb-is}
 use Rattle.spk_broker.specs.Both.{Both}
-use Rattle.spk_broker.specs.Called.{AreAllFound, AreCalled, ArePlaces, StandsAt, has_number, is_place}
+use Rattle.spk_broker.specs.Called.{AreAllFound, AreAscending, AreCalled, AreInOrder, AreKeyed, AreOrdered, ArePlaces, IsKeyed, IsPast, is_place, is_there}
 use Rattle.spk_broker.specs.Drafts.{Drafted, left_by, served_by}
-use Rattle.spk_broker.specs.Filing.{AllOf, AreInOrder, ArePassed, has_key, is_passed}
+use Rattle.spk_broker.specs.Filing.{AllOf, ArePassed, has_key, is_passed}
 use Rattle.spk_broker.specs.Rounds.{left_of_round, with_round}
 use Rattle.spk_broker.specs.View.{seat_now, seat_was}
+use Rattle.spk_broker.proofs.Counts.{any-default}
+use Rattle.spk_broker.proofs.Near.{any-at}
+use Rattle.spk_broker.proofs.Ordered.{AreBehind, AreMet, behind-more, behind-past, behind-start, met-more, met-past, none-met}
 use Rattle.spk_broker.proofs.Passing.{idle-drafted, idle-left, passed-at}
-use Rattle.spk_broker.proofs.Places.{key-above}
 use Rattle.spk_broker.proofs.Rounds.{drafted-end, drafted-whole, left_all, left_so_far, left-end, left-whole, round_all, round-step}
 
 -- ---- places
@@ -45,30 +44,6 @@ place-is (p ∷ ps) (suc k) i low e = ap (λ b. eqb p i || b) (place-is ps k i (
     either true = refl
     either false = refl
 
--- numbers are those of one place
-key-lt : (bs : List Both) (i j : ℕ) (d : Both) (s r : plain.Seat) (low top : ℕ) → Rises low top (flat_map seat_now bs) → i < j → j < length bs → (get_or bs i d).now ≡ Some s → (get_or bs j d).now ≡ Some r
-    → s.key < r.key
-key-lt [] i j d s r low top rises lt within e f = absurd (omega (arith, within))
-key-lt (b ∷ bs) i zero d s r low top rises lt within e f = absurd (omega (arith, lt))
-key-lt (b ∷ bs) zero (suc j) d s r low top rises lt within e f =
-    let at = subst (λ o. Rises low top (option_list o ++ flat_map seat_now bs)) e rises in key-above bs j d r s.key top at.1 (omega (arith, within)) f
-key-lt (b ∷ bs) (suc i) (suc j) d s r low top rises lt within e f = by b.now rises (λ k q. key-lt bs i j d s r k top q (omega (arith, lt)) (omega (arith, within)) e f)
-  where
-    by : (o : Option plain.Seat) → Rises low top (option_list o ++ flat_map seat_now bs) → ((k : ℕ) → Rises k top (flat_map seat_now bs) → s.key < r.key) → s.key < r.key
-    by None q rest = rest low q
-    by (Some x) q rest = rest x.key q.1
-
-same-place : (bs : List Both) (i j : ℕ) (d : Both) (s r : plain.Seat) (low top : ℕ) → Rises low top (flat_map seat_now bs) → i < length bs → j < length bs → (get_or bs i d).now ≡ Some s → (get_or bs j d).now ≡ Some r
-    → s.key ≡ r.key → j ≡ i
-same-place bs i j d s r low top rises ilow jlow e f same =
-    ⊎_elim
-    (λ lt. let up = key-lt bs i j d s r low top rises lt jlow e f in absurd (omega (arith, up, same)))
-    (λ le. ⊎_elim
-    (λ lt. let up = key-lt bs j i d r s low top rises lt ilow f e in absurd (omega (arith, up, same)))
-    (λ ge. omega (arith, le, ge))
-    (cases_lt j i))
-    (cases_lt i j)
-
 -- where a number was found
 key-at : (found : List (ℕ × ℕ)) (key : ℕ) → has_key key found ≡ true → (k : ℕ) × (k < length found) × ((e : ℕ × ℕ) → (get_or found k e).0 ≡ key)
 key-at [] key h = absurd (true≢false (sym h))
@@ -79,29 +54,28 @@ key-at (g ∷ gs) key h = by (eqb g.0 key) refl h (λ r. key-at gs key r)
     by true e r rest = (zero, omega arith, λ d. eqb-is g.0 key e)
     by false e r rest = let at = rest r in let low = at.1 in (suc at.0, omega (arith, low), at.2)
 
--- who is there
-there : (key : ℕ) (o : Option plain.Seat) → option_map_or (has_number key) o false ≡ true → (s : plain.Seat) × (o ≡ Some s) × (s.key ≡ key)
-there key None e = absurd (true≢false (sym e))
-there key (Some s) e = (s, refl, eqb-is s.key key e)
-
 -- the places of the first numbers
-pub record Placed (found : List (ℕ × ℕ)) (ps : List ℕ) (from : ℕ) (seats : List Both) : Type 0 where
+pub record Placed (ps : List ℕ) (from : ℕ) (seats : List Both) : Type 0 where
   pub places : ArePlaces ps seats
   pub under : (k : ℕ) → k < length ps → get_or ps k 0 < from
-  pub here : (k : ℕ) (e : ℕ × ℕ) → k < length ps → StandsAt (get_or found k e).0 (get_or ps k 0) seats
 
-pub all-found : (found : List (ℕ × ℕ)) (ps : List ℕ) (from : ℕ) (seats : List Both) → Placed found ps from seats → length found ≤ length ps
-    → (low top : ℕ) → Rises low top (flat_map seat_now seats) → AreAllFound found ps seats
-all-found found ps from seats placed whole low top rises i d s ilow is out = by (has_key s.key found) refl
+-- who has a number is there
+keyed-there : (b : Both) (s : plain.Seat) → b.now ≡ Some s → IsKeyed b → is_there s.key b ≡ true
+keyed-there b s is keyed =
+    let same : s.key ≡ b.was.key = subst (λ (o : Option plain.Seat). IfSome o (λ (x : plain.Seat). x.key ≡ b.was.key)) is keyed in
+    ap (λ (o : Option plain.Seat). is_some o && eqb b.was.key s.key) is ∙ eq-eqb b.was.key s.key (sym same)
+
+pub all-found : (found : List (ℕ × ℕ)) (j : ℕ) (ps : List ℕ) (seats : List Both) → AreMet found j ps seats → length found ≤ j
+    → AreOrdered seats → AreKeyed seats → IsStrictlyIncreasing (map (λ g. g.0) found) → AreAllFound found ps seats
+all-found found j ps seats met whole ordered keyed up i d s ilow is out = by (has_key s.key found) refl
   where
     by : (b : Bool) → has_key s.key found ≡ b → has_key s.key found ≡ false
     by true e =
         let at = key-at found s.key e in
-        let inside = at.1 in
-        let klow : at.0 < length ps = omega (arith, inside, whole) in
-        let one = there (get_or found at.0 (zero, zero)).0 (get_or seats (get_or ps at.0 0) d).now (placed.here at.0 (zero, zero) klow d) in
-        let same = same-place seats i (get_or ps at.0 0) d s one.0 low top rises ilow (placed.places.low at.0 klow) is one.1 (sym (one.2 ∙ at.2 (zero, zero))) in
-        absurd (true≢false (sym (place-is ps at.0 i klow same) ∙ out))
+        let low = at.1 in
+        let there : is_there (get_or found at.0 (zero, zero)).0 (get_or seats i d) ≡ true =
+        ap (λ n. is_there n (get_or seats i d)) (at.2 (zero, zero)) ∙ keyed-there (get_or seats i d) s is (keyed i d ilow) in
+        absurd (true≢false (sym (met ordered up at.0 (zero, zero) i d (omega (arith, low, whole)) low ilow there) ∙ out))
     by false e = e
 
 -- what holds of each holds of the one at a place
@@ -115,19 +89,14 @@ pass-at Q (b ∷ bs) (suc i) d s low is all = by b.now all (λ rest. pass-at Q b
     by (Some x) h rest = rest h.1
 
 -- who stands elsewhere has no grant that fits
-found-called : (o : Option (Vec ℕ Global)) (f : Option (Vec (ℕ × ℕ) Global)) (found : Vec (ℕ × ℕ) Global) (l : List (ℕ × ℕ)) (seats : List Both) → f ≡ Some found → l ≡ found.items
-    → IfSome o (λ ps. (low top : ℕ) → Rises low top (flat_map seat_now seats) → AreAllFound l ps.items seats)
-    → IfSome o (λ ps. (low top : ℕ) (topic : List ℕ) → Rises low top (flat_map seat_now seats) → ArePassed f topic (flat_map seat_now seats) → AreCalled topic ps.items seats)
-found-called None f found l seats is same h = tt
-found-called (Some ps) f found l seats is same h = λ low top topic r passed i d s ilow here out.
-    let none : has_key s.key found.items ≡ false = ap (has_key s.key) (sym same) ∙ h low top r i d s ilow here out in
+pub found-called : (ps : List ℕ) (f : Option (Vec (ℕ × ℕ) Global)) (found : Vec (ℕ × ℕ) Global) (l : List (ℕ × ℕ)) (seats : List Both) → f ≡ Some found → l ≡ found.items
+    → (AreOrdered seats → AreKeyed seats → IsStrictlyIncreasing (map (λ g. g.0) l) → AreAllFound l ps seats)
+    → (topic : List ℕ) → AreOrdered seats → AreKeyed seats → AreAscending f → ArePassed f topic (flat_map seat_now seats) → AreCalled topic ps seats
+found-called ps f found l seats is same h topic ordered keyed up passed i d s ilow here out =
+    let rise : IsStrictlyIncreasing (map (λ (g : ℕ × ℕ). g.0) found.items) = subst AreAscending is up in
+    let all = h ordered keyed (subst (λ (x : List (ℕ × ℕ)). IsStrictlyIncreasing (map (λ (g : ℕ × ℕ). g.0) x)) (sym same) rise) in
+    let none : has_key s.key found.items ≡ false = ap (has_key s.key) (sym same) ∙ all i d s ilow here out in
     pass-at (λ key grants. is_passed f key ≡ true → best topic grants ≡ None) seats i d s ilow here passed (ap (λ q. is_passed q s.key) is ∙ ap (λ b. not b) none)
-
-pub found-called-ok : (r : Result (Option (Vec ℕ Global)) AllocError) (f : Option (Vec (ℕ × ℕ) Global)) (found : Vec (ℕ × ℕ) Global) (l : List (ℕ × ℕ)) (seats : List Both) → f ≡ Some found → l ≡ found.items
-    → IfOk r (λ o. IfSome o (λ ps. (low top : ℕ) → Rises low top (flat_map seat_now seats) → AreAllFound l ps.items seats))
-    → IfOk r (λ o. IfSome o (λ ps. (low top : ℕ) (topic : List ℕ) → Rises low top (flat_map seat_now seats) → ArePassed f topic (flat_map seat_now seats) → AreCalled topic ps.items seats))
-found-called-ok (Err x) f found l seats is same h = tt
-found-called-ok (Ok o) f found l seats is same h = found-called o f found l seats is same h
 
 -- ---- the places of the numbers that were found, one after the other
 
@@ -146,16 +115,8 @@ push-new [] p (suc k) e = absurd (omega (arith, e))
 push-new (x ∷ ps) p zero e = absurd (omega (arith, e))
 push-new (x ∷ ps) p (suc k) e = push-new ps p k (omega (arith, e))
 
-pub placed-start : (found : List (ℕ × ℕ)) (seats : List Both) → Placed found [] 0 seats
-placed-start found seats = record {
-  places = record { rise = λ i j lt within. absurd (omega (arith, within)); low = λ k within. absurd (omega (arith, within)) };
-  under = λ k within. absurd (omega (arith, within));
-  here = λ k e within. absurd (omega (arith, within));
-}
-
-pub placed-more : (found : List (ℕ × ℕ)) (ps : List ℕ) (from : ℕ) (seats : List Both) (j p : ℕ) (key : ℕ) → Placed found ps from seats → length ps ≡ j → p < length seats → from < p + 1
-    → ((e : ℕ × ℕ) → key ≡ (get_or found j e).0) → StandsAt key p seats → Placed found (ps ++ p ∷ []) (p + 1) seats
-placed-more found ps from seats j p key c count plow behind is stands =
+pub placed-more : (ps : List ℕ) (from : ℕ) (seats : List Both) (p : ℕ) → Placed ps from seats → p < length seats → from < p + 1 → Placed (ps ++ p ∷ []) (p + 1) seats
+placed-more ps from seats p c plow behind =
     let long = push-long ps p in
     let old : (k : ℕ) → k < length ps → get_or (ps ++ p ∷ []) k 0 < p = λ k low. let up = c.under k low in let same = push-old ps p k low in omega (arith, up, same, behind) in
     record {
@@ -176,51 +137,87 @@ placed-more found ps from seats j p key c count plow behind is stands =
           (λ low. let up = old k low in omega (arith, up))
           (λ ge. let last : k ≡ length ps = omega (arith, ge, within, long) in let one = push-new ps p k last in omega (arith, one))
           (cases_lt k (length ps));
-      here = λ k e within.
-          ⊎_elim
-          (λ low. subst (λ q. StandsAt (get_or found k e).0 q seats) (sym (push-old ps p k low)) (c.here k e low))
-          (λ ge. let last : k ≡ length ps = omega (arith, ge, within, long) in
-          subst (λ q. StandsAt (get_or found k e).0 q seats) (sym (push-new ps p k last))
-          (subst (λ n. StandsAt n p seats) (is e ∙ ap (λ n. (get_or found n e).0) (sym (last ∙ count))) stands))
-          (cases_lt k (length ps));
     }
+
+-- one of those that were found is at each
+abbrev pub AreOf : List (ℕ × ℕ) → List ℕ → List Both → Type 0
+AreOf found ps seats = (k : ℕ) (d : Both) → k < length ps → list_any (λ g. is_there g.0 (get_or seats (get_or ps k 0) d)) found ≡ true
+
+pub of-more : (found : List (ℕ × ℕ)) (j : ℕ) (e : ℕ × ℕ) (ps : List ℕ) (p : ℕ) (seats : List Both) → AreOf found ps seats → j < length found → ((d : Both) → is_there (get_or found j e).0 (get_or seats p d) ≡ true)
+    → AreOf found (ps ++ p ∷ []) seats
+of-more found j e ps p seats old low here k d within =
+    let long = push-long ps p in
+    ⊎_elim
+    (λ less. subst (λ q. list_any (λ (g : ℕ × ℕ). is_there g.0 (get_or seats q d)) found ≡ true) (sym (push-old ps p k less)) (old k d less))
+    (λ ge. let last : k ≡ length ps = omega (arith, ge, within, long) in
+    subst (λ q. list_any (λ (g : ℕ × ℕ). is_there g.0 (get_or seats q d)) found ≡ true) (sym (push-new ps p k last))
+    (any-at (λ (g : ℕ × ℕ). is_there g.0 (get_or seats p d)) found j e low (here d)))
+    (cases_lt k (length ps))
+
+-- those of the first that were found
+pub record Met (found : List (ℕ × ℕ)) (j : ℕ) (ps : List ℕ) (from : ℕ) (seats : List Both) : Type 0 where
+  pub placed : Placed ps from seats
+  pub of : AreOf found ps seats
+  pub met : AreMet found j ps seats
+  pub behind : AreBehind found j from seats
+
+pub met-start : (found : List (ℕ × ℕ)) (seats : List Both) → Met found 0 [] 0 seats
+met-start found seats = record {
+  placed = record {
+    places = record { rise = λ i j lt within. absurd (omega (arith, within)); low = λ k within. absurd (omega (arith, within)) };
+    under = λ k within. absurd (omega (arith, within));
+  };
+  of = λ k d within. absurd (omega (arith, within));
+  met = none-met found [] seats;
+  behind = behind-start found seats;
+}
+
+-- the next one is there
+pub met-found : (found : List (ℕ × ℕ)) (j : ℕ) (e : ℕ × ℕ) (ps : List ℕ) (from p : ℕ) (seats : List Both) → Met found j ps from seats → j < length found → p < length seats → from < p + 1
+    → ((d : Both) → is_there (get_or found j e).0 (get_or seats p d) ≡ true) → Met found (j + 1) (ps ++ p ∷ []) (p + 1) seats
+met-found found j e ps from p seats m low plow behind here =
+    let there : (x : ℕ × ℕ) (d : Both) → is_there (get_or found j x).0 (get_or seats p d) ≡ true =
+    λ x d. ap (λ (g : ℕ × ℕ). is_there g.0 (get_or seats p d)) (any-default found j x e low) ∙ here d in
+    record {
+      placed = placed-more ps from seats p m.placed plow behind;
+      of = of-more found j e ps p seats m.of low here;
+      met = met-more found j p ps seats m.met plow there;
+      behind = behind-more found j p seats plow there;
+    }
+
+-- the next one is gone
+pub met-gone : (found : List (ℕ × ℕ)) (j : ℕ) (e : ℕ × ℕ) (ps : List ℕ) (from : ℕ) (seats : List Both) → Met found j ps from seats → j < length found
+    → (AreOrdered seats → IsPast (get_or found j e).0 from seats) → Met found (j + 1) ps from seats
+met-gone found j e ps from seats m low past = record {
+  placed = m.placed;
+  of = m.of;
+  met = met-past found j from (get_or found j e).0 ps seats m.met m.behind (λ x. ap (λ (g : ℕ × ℕ). g.0) (any-default found j e x low)) past;
+  behind = behind-past found j from seats m.behind;
+}
 
 -- ---- sessions stay in the order of their numbers
 
-risen-over : (low mid top : ℕ) (ss : List plain.Seat) → low < mid → Rises mid top ss → Rises low top ss
-risen-over low mid top [] lt r = let last : mid ≤ top = r in omega (arith, lt, last)
-risen-over low mid top (s ∷ ss) lt r = (let up : mid < s.key = r.0 in omega (arith, lt, up), r.1)
+pub keyed-set : (bs : List Both) (p : ℕ) (x : Both) → IsKeyed x → AreKeyed bs → AreKeyed (set bs p x)
+keyed-set [] p x is all i d low = all i d low
+keyed-set (b ∷ bs) zero x is all zero d low = is
+keyed-set (b ∷ bs) zero x is all (suc i) d low = all (suc i) d low
+keyed-set (b ∷ bs) (suc p) x is all zero d low = all zero d (omega arith)
+keyed-set (b ∷ bs) (suc p) x is all (suc i) d low = keyed-set bs p x is (λ k y lt. all (suc k) y (omega (arith, lt))) i d (omega (arith, low))
 
-handed-order : (q : ℕ) (post : plain.Post) (s : plain.Seat) (low top : ℕ) (rest : List plain.Seat) → low < s.key → Rises s.key top rest → Rises low top ((hand_at q post s).left ++ rest)
-handed-order zero post s low top rest lt r = (lt, r)
-handed-order (suc q) post s low top rest lt r = by (has_room s.used)
-  where
-    by : (b : Bool) → Rises low top ((cond b (numbered s post (next_id s.used s.last)) (bursts s)).left ++ rest)
-    by true = (lt, r)
-    by false = risen-over low s.key top rest lt r
+pub keyed-at : (bs : List Both) (p : ℕ) (x d : Both) → IsKeyed (get_or (set bs p x) p d) → AreKeyed bs → AreKeyed (set bs p x)
+keyed-at [] p x e is all i d low = all i d low
+keyed-at (b ∷ bs) zero x e is all zero d low = is
+keyed-at (b ∷ bs) zero x e is all (suc i) d low = all (suc i) d low
+keyed-at (b ∷ bs) (suc p) x e is all zero d low = all zero d (omega arith)
+keyed-at (b ∷ bs) (suc p) x e is all (suc i) d low = keyed-at bs p x e is (λ k y lt. all (suc k) y (omega (arith, lt))) i d (omega (arith, low))
 
-served-order : (m : plain.Post) (s : plain.Seat) (low top : ℕ) (rest : List plain.Seat) → low < s.key → Rises s.key top rest → Rises low top ((serve m s).left ++ rest)
-served-order m s low top rest lt r = by (level m.qos (best m.topic s.grants))
-  where
-    by : (o : Option ℕ) → Rises low top ((serve_at o m s).left ++ rest)
-    by None = (lt, r)
-    by (Some q) = handed-order q (sent_as m q false) s low top rest lt r
+pub order-as : (index : Option Grants) (old new : List Both) → map seat_was new ≡ map seat_was old → (AreKeyed old → AreKeyed new) → AreInOrder index old → AreInOrder index new
+order-as None old new was keyed h = tt
+order-as (Some index) old new was keyed h = ((h.0.0, h.0.1, subst (Rises h.0.0 h.0.1) (sym was) h.0.2), keyed h.1)
 
-round-order : (m : plain.Post) (ss : List plain.Seat) (low top : ℕ) → Rises low top ss → Rises low top (left_of_round (serve m) ss)
-round-order m [] low top r = r
-round-order m (s ∷ ss) low top r = served-order m s low top (left_of_round (serve m) ss) r.0 (round-order m ss s.key top r.1)
-
-pub kept-order : (index : Option Grants) (m : plain.Post) (ss : List plain.Seat) → AreInOrder index ss → AreInOrder index (left_of_round (serve m) ss)
-kept-order None m ss h = tt
-kept-order (Some index) m ss h = (h.0, round-order m ss 0 h.0 h.1)
-
-pub is-order : (index : Option Grants) (ss : List plain.Seat) → is_some index ≡ true → AreInOrder index ss → (top : ℕ) × Rises 0 top ss
-is-order None ss e h = absurd (true≢false (sym e))
-is-order (Some index) ss e h = h
-
-pub some-order : (index : Option Grants) (ss : List plain.Seat) (top : ℕ) → Rises 0 top ss → AreInOrder index ss
-some-order None ss top r = tt
-some-order (Some index) ss top r = (top, r)
+pub some-order : (index : Option Grants) (bs : List Both) (top : ℕ) → Rises 0 top (map seat_was bs) → AreKeyed bs → AreInOrder index bs
+some-order None bs top r keyed = tt
+some-order (Some index) bs top r keyed = ((0, top, r), keyed)
 
 -- ---- nothing is done in between
 

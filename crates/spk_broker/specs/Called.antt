@@ -1,12 +1,12 @@
 -- Places at which a message calls, where all other sessions have no grant that fits.
-use Rattle.std.specs.Prelude.{◌≡◌, ◌==◌, ◌<◌, ◌≤◌, ℕ, Bool, true, false, not, ◌&&◌, List, length, map, get_or, Option, Some, None, is_some, Vec}
+use Rattle.std.specs.Prelude.{◌≡◌, ◌==◌, ◌<◌, ◌≤◌, ℕ, Bool, false, ◌&&◌, List, length, map, get_or, Option, Some, None, IfSome, is_some, Vec}
 use Rattle.std.specs.declared.alloc.Global.{Global}
 use Rattle.std.specs.List.{list_any}
 use Rattle.std.specs.List.Sorted.{IsStrictlyIncreasing}
+use Rattle.spk_topics.specs.Grants.{Grants}
 use Rattle.spk_broker_rules.specs.Data as plain
 use Rattle.spk_broker_rules.specs.Lawful.{Rises}
 use Rattle.spk_broker_rules.specs.Words.{best}
-use Rattle.spk_broker.specs.Asking.{passes}
 use Rattle.spk_broker.specs.Both.{Both}
 use Rattle.spk_broker.specs.Filing.{has_key}
 
@@ -23,13 +23,21 @@ pub record ArePlaces (places : List ℕ) (seats : List Both) : Type 0 where
 abbrev pub has_number : ℕ → plain.Seat → Bool
 has_number key s = s.key == key
 
--- a session of this number stands at this place
-abbrev pub StandsAt : ℕ → ℕ → List Both → Type 0
-StandsAt key place seats = (d : Both) → passes (has_number key) (get_or seats place d) ≡ true
-
 -- sessions stand in the order of their numbers, those that ended in the call too
 abbrev pub AreOrdered : List Both → Type 0
 AreOrdered seats = (low : ℕ) × (top : ℕ) × Rises low top (map (λ (b : Both). b.was) seats)
+
+-- a session has the number that it had before the call, where it didn't end
+abbrev pub IsKeyed : Both → Type 0
+IsKeyed b = IfSome b.now (λ s. s.key ≡ b.was.key)
+
+abbrev pub AreKeyed : List Both → Type 0
+AreKeyed seats = (i : ℕ) (d : Both) → i < length seats → IsKeyed (get_or seats i d)
+
+-- where there is an index, sessions are found by their numbers
+abbrev pub AreInOrder : Option Grants → List Both → Type 0
+AreInOrder None seats = Unit {0}
+AreInOrder (Some index) seats = AreOrdered seats × AreKeyed seats
 
 -- whether this one is the session of a number, and didn't end
 abbrev pub is_there : ℕ → Both → Bool
@@ -39,19 +47,10 @@ is_there key seat = is_some seat.now && seat.was.key == key
 abbrev pub IsPast : ℕ → ℕ → List Both → Type 0
 IsPast key from seats = (i : ℕ) (d : Both) → from ≤ i → i < length seats → is_there key (get_or seats i d) ≡ false
 
--- whether the session of a number isn't there any more
-abbrev pub is_lost : ℕ → List Both → Bool
-is_lost key seats = not (list_any (is_there key) seats)
-
 -- the numbers that were found rise
 abbrev pub AreAscending : Option (Vec (ℕ × ℕ) Global) → Type 0
 AreAscending None = Unit {0}
 AreAscending (Some found) = IsStrictlyIncreasing (map (λ g. g.0) found.items)
-
--- whether it isn't known where those stand that were found: nobody knows who, or one of them isn't there any more
-abbrev pub are_lost : Option (Vec (ℕ × ℕ) Global) → List Both → Bool
-are_lost None seats = true
-are_lost (Some found) seats = list_any (λ g. is_lost g.0 seats) found.items
 
 -- a session that stands elsewhere has none of these numbers
 abbrev pub AreAllFound : List (ℕ × ℕ) → List ℕ → List Both → Type 0

@@ -8,7 +8,6 @@ use Rattle.spk_topics.specs.Grants.{Finds, Grants}
 use Rattle.spk_topics.specs.Text.{topic_refusal}
 use Rattle.spk_broker_rules.specs.Data.{Seat}
 use Rattle.spk_broker_rules.specs.Plan.{Act, Opens, At, Hear, Drop, Say, Leave, Tell, Queue, Route, Forget, Accept, Give, Take, Ack, Event, Open, Packet, Fault, Closed, Tick, Refused}
-use Rattle.spk_broker_rules.specs.Lawful.{Rises}
 use Rattle.spk_broker_rules.specs.Table.{Table, has}
 use Rattle.spk_broker_rules.specs.Words.{best}
 use Rattle.spk_broker.specs.Sizes.{size_of_all}
@@ -141,8 +140,3 @@ ArePassed found topic seats = AllOf (λ key grants. is_passed found key ≡ true
 abbrev pub IsIndex : Option Grants → List Seat → Type 0
 IsIndex None seats = Unit {0}
 IsIndex (Some index) seats = AreFiled index seats
-
--- where there is an index, the sessions stand in the order of their numbers
-abbrev pub AreInOrder : Option Grants → List Seat → Type 0
-AreInOrder None seats = Unit {0}
-AreInOrder (Some index) seats = (top : ℕ) × Rises 0 top seats

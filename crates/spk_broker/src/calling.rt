@@ -1,12 +1,11 @@
 //! Which sessions a message calls at: those that the index found, each by its number.
-ghost use Rattle.std.specs.Prelude.{ℕ, ◌≡◌, ◌+◌, ◌<◌, IfOk, IfSome, None, OnOk, get_or, is_none, length, map, true};
+ghost use Rattle.std.specs.Prelude.{ℕ, ◌≡◌, ◌+◌, ◌<◌, IfOk, IfSome, None, OnOk, get_or, length, map, true};
 ghost use Rattle.std.specs.List.{flat_map, list_any};
 ghost use Rattle.std.specs.List.Sorted.{IsStrictlyIncreasing};
-ghost use Rattle.spk_broker_rules.specs.Lawful.{Rises};
 ghost use Rattle.spk_broker_rules.specs.Step.{serve};
 ghost use Rattle.spk_broker.specs.Asking.{passes};
 ghost use Rattle.spk_broker.specs.Both.{Both};
-ghost use Rattle.spk_broker.specs.Called.{AreAllFound, AreCalled, AreOrdered, ArePlaces, IsPast, StandsAt, has_number, is_lost, is_there};
+ghost use Rattle.spk_broker.specs.Called.{AreAllFound, AreCalled, AreKeyed, AreOrdered, ArePlaces, IsKeyed, IsPast, has_number, is_there};
 ghost use Rattle.spk_broker.specs.Drafts.{draft_view};
 ghost use Rattle.spk_broker.specs.Parts.{post_view};
 ghost use Rattle.spk_broker.specs.Rounds.{left_of_round, with_round};
@@ -20,6 +19,13 @@ use crate::seat::Seat;
 use std::alloc::{AllocError, Global};
 
 impl Seat {
+    /// Its number is the one that it had before the call.
+    pub(crate) fn keyed(&self)
+        ensures { IsKeyed self.now }
+    {
+        let _ = &self.key;
+    }
+
     /// Whether it has this number and didn't end.
     fn has_number(&self, key: u64) -> bool
         ensures now { result ≡ passes (has_number key) self.now }
@@ -45,7 +51,6 @@ fn guess(seats: &[Seat], key: u64) -> usize
 fn place_from(seats: &[Seat], from: usize, key: u64) -> Option<usize>
     ensures low { IfSome result (λ p. p < length seats.now) }
     ensures behind { IfSome result (λ p. from < p + 1) }
-    ensures here { IfSome result (λ p. StandsAt key p seats.now) }
     ensures there { IfSome result
         (λ p. (d : Both) → is_there key (get_or seats.now p d) ≡ true) }
     ensures none { result ≡ None → AreOrdered seats.now → IsPast key from seats.now }
@@ -57,31 +62,30 @@ fn place_from(seats: &[Seat], from: usize, key: u64) -> Option<usize>
     Some(place)
 }
 
-/// The places of the sessions that were found, in the order of their numbers; none exactly where one of them isn't there any
-/// more.
+/// The places of the sessions that were found, in the order of their numbers. Those that ended are passed over.
 pub(crate) fn places(
     alloc: Global,
     seats: &[Seat],
     found: &[(u64, u8)],
-) -> Result<Option<Vec<usize>>, AllocError>
-    ensures places { IfOk result (λ o. IfSome o (λ ps. ArePlaces ps.items seats.now)) }
-    ensures others { IfOk result (λ o. IfSome o
-        (λ ps. (low top : ℕ) → Rises low top (flat_map seat_now seats.now)
-        → AreAllFound found.now ps.items seats.now)) }
-    ensures lost { IfOk result
-        (λ o. AreOrdered seats.now → IsStrictlyIncreasing (map (λ g. g.0) found.now)
-        → is_none o ≡ list_any (λ g. is_lost g.0 seats.now) found.now) }
+) -> Result<Vec<usize>, AllocError>
+    ensures places { IfOk result (λ ps. ArePlaces ps.items seats.now) }
+    ensures found { IfOk result (λ ps. (k : ℕ) (d : Both) → k < length ps.items
+        → list_any (λ g. is_there g.0 (get_or seats.now (get_or ps.items k 0) d)) found.now
+        ≡ true) }
+    ensures others { IfOk result
+        (λ ps. AreOrdered seats.now → AreKeyed seats.now
+        → IsStrictlyIncreasing (map (λ g. g.0) found.now)
+        → AreAllFound found.now ps.items seats.now) }
 {
     let mut places = Vec::new(alloc);
     let mut from = 0;
     for entry in found {
-        let Some(place) = place_from(seats, from, entry.0) else {
-            return Ok(None);
-        };
-        places.push(place)?;
-        from = place + 1;
+        if let Some(place) = place_from(seats, from, entry.0) {
+            places.push(place)?;
+            from = place + 1;
+        }
     }
-    Ok(Some(places))
+    Ok(places)
 }
 
 /// What a routed message does to the sessions at these places, where it does nothing to any other.
@@ -100,10 +104,12 @@ pub(crate) fn call(
         ≡ with_round (serve (post_view post.now)) (flat_map seat_now seats.old)
         (draft_view draft.old)) }
     ensures visited { OnOk result (AreVisited places.now seats.old seats.new) }
+    ensures keyed { OnOk result (AreKeyed seats.old → AreKeyed seats.new) }
 {
     let mut letter = Letter::new(post);
     for place in places {
         seats[*place].serve(draft, &mut letter)?;
+        seats[*place].keyed();
     }
     Ok(())
 }

@@ -8,7 +8,8 @@ ghost use Rattle.spk_broker_rules.specs.Step.{Turn, acts, older_in, seat_at, wel
 ghost use Rattle.spk_broker.specs.Asking.{place_in};
 ghost use Rattle.spk_broker.specs.Drafts.{draft_view};
 ghost use Rattle.spk_broker.specs.Endings.{IsReady, Leads};
-ghost use Rattle.spk_broker.specs.Filing.{AreInOrder, IsIndex};
+ghost use Rattle.spk_broker.specs.Called.{AreInOrder, AreKeyed};
+ghost use Rattle.spk_broker.specs.Filing.{IsIndex};
 ghost use Rattle.spk_broker.specs.Sendable.{IsWritable};
 ghost use Rattle.spk_broker.specs.Touched.{IsAlone, OnlyAt};
 ghost use Rattle.spk_broker.specs.View.{Stands, desk_now, desk_was, stepped};
@@ -68,7 +69,7 @@ impl Desk {
         requires place { place_in conn self.old.seats.items ≡ Some place }
         requires only { OnlyAt (place ∷ []) self.old }
         requires index { IsIndex tree.now (desk_now self.old).seats }
-        requires order { AreInOrder tree.now (desk_now self.old).seats }
+        requires order { AreInOrder tree.now self.old.seats.items }
         requires keeps { (draft_view draft.old).keeps ≡ [] }
         ensures done { IfOk result (λ e. (t : Turn) → Stands self.old draft.old t
             → Leads self.new draft.new e (acts (next_packet conn (view packet.now)) t)) }
@@ -112,7 +113,7 @@ impl Desk {
         requires place { place_in conn self.old.seats.items ≡ place }
         requires alone { IsAlone place self.old }
         requires index { IsIndex tree.now (desk_now self.old).seats }
-        requires order { AreInOrder tree.now (desk_now self.old).seats }
+        requires order { AreInOrder tree.now self.old.seats.items }
         requires keeps { (draft_view draft.old).keeps ≡ [] }
         requires lawful { IsLawful (desk_was self.old) }
         ensures done { IfOk result (λ e. (seen : Seen) (t : Turn)
@@ -149,6 +150,7 @@ impl Desk {
         requires place { place_in conn self.old.seats.items ≡ place }
         requires alone { IsAlone place self.old }
         requires index { IsIndex tree.now (desk_now self.old).seats }
+        requires keyed { AreKeyed self.old.seats.items }
         requires stands { (t : Turn) × Stands self.old draft.old t }
         requires keeps { (draft_view draft.old).keeps ≡ [] }
         requires lawful { IsLawful (desk_was self.old) }

@@ -3,6 +3,7 @@ ghost use Rattle.std.specs.Prelude.{◌≡◌, ◌∷◌, ◌++◌, [], IfOk, On
 ghost use Rattle.spk_broker_rules.specs.Plan.{At, Drop, Hear, Leave, Say, Tell, shut};
 ghost use Rattle.spk_broker_rules.specs.Step.{Turn, act, acts};
 ghost use Rattle.spk_broker.specs.Asking.{place_in};
+ghost use Rattle.spk_broker.specs.Called.{AreKeyed};
 ghost use Rattle.spk_broker.specs.Endings.{IsReady, Leads};
 ghost use Rattle.spk_broker.specs.Touched.{IsAlone, OnlyAt};
 ghost use Rattle.spk_broker.specs.View.{Stands, desk_was};
@@ -35,9 +36,11 @@ impl Desk {
         ensures same { desk_was self.new ≡ desk_was self.old }
         ensures place { place_in conn self.new.seats.items ≡ Some place }
         ensures alone { OnlyAt (place ∷ []) self.old → OnlyAt (place ∷ []) self.new }
+        ensures keyed { AreKeyed self.old.seats.items → AreKeyed self.new.seats.items }
     {
         let clock = self.clock;
         self.seats[place].hear(conn, clock);
+        self.seats[place].keyed();
     }
 
     /// A packet of this connection came, which sits at this place, if it does.
@@ -48,6 +51,7 @@ impl Desk {
         ensures same { desk_was self.new ≡ desk_was self.old }
         ensures place { place_in conn self.new.seats.items ≡ place }
         ensures alone { IsAlone place self.old → IsAlone place self.new }
+        ensures keyed { AreKeyed self.old.seats.items → AreKeyed self.new.seats.items }
     {
         match place {
             Some(place) => self.hear_at(conn, place),

@@ -7,7 +7,8 @@ ghost use Rattle.spk_broker_rules.specs.Step.{Turn, acts};
 ghost use Rattle.spk_broker.specs.Asking.{place_in};
 ghost use Rattle.spk_broker.specs.Drafts.{draft_view};
 ghost use Rattle.spk_broker.specs.Endings.{IsReady, Leads};
-ghost use Rattle.spk_broker.specs.Filing.{AreInOrder, IsIndex};
+ghost use Rattle.spk_broker.specs.Called.{AreInOrder};
+ghost use Rattle.spk_broker.specs.Filing.{IsIndex};
 ghost use Rattle.spk_broker.specs.Parts.{post_view};
 ghost use Rattle.spk_broker.specs.Plain.{is_plain};
 ghost use Rattle.spk_broker.specs.Sendable.{IsWritable};
@@ -58,7 +59,7 @@ impl Desk {
         post: Post,
     ) -> Result<Ending, AllocError>
         requires index { IsIndex tree.now (desk_now self.old).seats }
-        requires order { AreInOrder tree.now (desk_now self.old).seats }
+        requires order { AreInOrder tree.now self.old.seats.items }
         requires id { IfSome id (λ n. (n == 0) ≡ false) }
         requires place { place_in conn self.old.seats.items ≡ Some place }
         requires only { OnlyAt (place ∷ []) self.old }

@@ -2,13 +2,12 @@
 ghost use Rattle.std.specs.Prelude.{ℕ, ◌≡◌, ◌+◌, ◌≤◌, [], List, length, IfOk, IfSome, OnOk, is_none, map};
 ghost use Rattle.std.specs.List.{flat_map};
 ghost use Rattle.indexmap.specs.IndexMap.{spare};
-ghost use Rattle.spk_broker_rules.specs.Lawful.{Rises};
 ghost use Rattle.spk_broker_rules.specs.Plan.{Route};
 ghost use Rattle.spk_broker_rules.specs.Step.{Turn, act, route_one, serve};
-ghost use Rattle.spk_broker.specs.Called.{AreAscending, AreCalled, AreOrdered, ArePlaces, are_lost};
+ghost use Rattle.spk_broker.specs.Called.{AreAscending, AreCalled, AreInOrder, AreKeyed, AreOrdered, ArePlaces};
 ghost use Rattle.spk_broker.specs.Drafts.{draft_view};
 ghost use Rattle.spk_broker.specs.Endings.{IsReady, Leads, alone_at};
-ghost use Rattle.spk_broker.specs.Filing.{AreInOrder, ArePassed, IsIndex};
+ghost use Rattle.spk_broker.specs.Filing.{ArePassed, IsIndex};
 ghost use Rattle.spk_broker.specs.Parts.{post_view};
 ghost use Rattle.spk_broker.specs.Rounds.{kept_with, left_of_round, with_round};
 ghost use Rattle.spk_broker.specs.Touched.{AreVisited, IsAlone};
@@ -40,15 +39,17 @@ fn visit(
     ensures drafted { OnOk result (draft_view draft.new
         ≡ with_round (serve (post_view post.now)) (flat_map seat_now seats.old)
         (draft_view draft.old)) }
+    ensures keyed { OnOk result (AreKeyed seats.old → AreKeyed seats.new) }
 {
     let mut letter = Letter::new(post);
     for seat in seats.iter_mut() {
         seat.concern(draft, &mut letter, found)?;
+        seat.keyed();
     }
     Ok(())
 }
 
-/// Where those stand that the index found; none exactly where it isn't known who they are, or one of them isn't there any more.
+/// Where those stand that the index found, but for those that ended; none exactly where it isn't known who they are.
 fn found_places(
     alloc: Global,
     seats: &[Seat],
@@ -56,14 +57,13 @@ fn found_places(
 ) -> Result<Option<Vec<usize>>, AllocError>
     ensures places { IfOk result (λ o. IfSome o (λ ps. ArePlaces ps.items seats.now)) }
     ensures others { IfOk result (λ o. IfSome o
-        (λ ps. (low top : ℕ) (topic : List ℕ) → Rises low top (flat_map seat_now seats.now)
+        (λ ps. (topic : List ℕ) → AreOrdered seats.now → AreKeyed seats.now → AreAscending found.now
         → ArePassed found.now topic (flat_map seat_now seats.now)
         → AreCalled topic ps.items seats.now)) }
-    ensures lost { IfOk result (λ o. AreOrdered seats.now → AreAscending found.now
-        → is_none o ≡ are_lost found.now seats.now) }
+    ensures unknown { IfOk result (λ o. is_none o ≡ is_none found.now) }
 {
     match found {
-        Some(found) => places(alloc, seats, found),
+        Some(found) => Ok(Some(places(alloc, seats, found)?)),
         None => Ok(None),
     }
 }
@@ -76,7 +76,7 @@ fn round(
     tree: &Option<Tree>,
 ) -> Result<Option<Vec<usize>>, AllocError>
     requires index { IsIndex tree.now (flat_map seat_now seats.old) }
-    requires order { AreInOrder tree.now (flat_map seat_now seats.old) }
+    requires order { AreInOrder tree.now seats.old }
     ensures was { map seat_was seats.new ≡ map seat_was seats.old }
     ensures left { OnOk result (flat_map seat_now seats.new
         ≡ left_of_round (serve (post_view post.now)) (flat_map seat_now seats.old)) }
@@ -84,6 +84,7 @@ fn round(
         ≡ with_round (serve (post_view post.now)) (flat_map seat_now seats.old)
         (draft_view draft.old)) }
     ensures visited { IfOk result (λ o. IfSome o (λ ps. AreVisited ps.items seats.old seats.new)) }
+    ensures keyed { OnOk result (AreKeyed seats.old → AreKeyed seats.new) }
 {
     let found = reach(tree, post.topic.as_str()).unwrap_or(None);
     if tree.is_none() {
@@ -127,13 +128,13 @@ impl Desk {
         tree: &Option<Tree>,
     ) -> Result<Option<Vec<usize>>, AllocError>
         requires index { IsIndex tree.now (desk_now self.old).seats }
-        requires order { AreInOrder tree.now (desk_now self.old).seats }
+        requires order { AreInOrder tree.now self.old.seats.items }
         ensures done { OnOk result ((t : Turn) → Stands self.old draft.old t
             → Stands self.new draft.new (route_one (post_view post) t)) }
         ensures same { desk_was self.new ≡ desk_was self.old }
         ensures fewer { OnOk result (how_many self.new draft.new ≤ how_many self.old draft.old) }
         ensures index { OnOk result (IsIndex tree.now (desk_now self.new).seats) }
-        ensures order { OnOk result (AreInOrder tree.now (desk_now self.new).seats) }
+        ensures order { OnOk result (AreInOrder tree.now self.new.seats.items) }
         ensures visited { IfOk result
             (λ o. IfSome o (λ ps. AreVisited ps.items self.old.seats.items self.new.seats.items)) }
         ensures guests { self.new.guests ≡ self.old.guests }
@@ -146,7 +147,7 @@ impl Desk {
     /// Those that wait are routed, each whole before the next.
     pub(crate) fn route(&mut self, draft: &mut Draft, tree: &Option<Tree>) -> Result<(), AllocError>
         requires index { IsIndex tree.now (desk_now self.old).seats }
-        requires order { AreInOrder tree.now (desk_now self.old).seats }
+        requires order { AreInOrder tree.now self.old.seats.items }
         ensures done { OnOk result ((t : Turn) → Stands self.old draft.old t
             → Stands self.new draft.new (act Route t)) }
         ensures same { desk_was self.new ≡ desk_was self.old }
@@ -166,7 +167,7 @@ impl Desk {
         place: Option<usize>,
     ) -> Result<Ending, AllocError>
         requires index { IsIndex tree.now (desk_now self.old).seats }
-        requires order { AreInOrder tree.now (desk_now self.old).seats }
+        requires order { AreInOrder tree.now self.old.seats.items }
         requires alone { IsAlone place self.old }
         ensures done { IfOk result (λ e. (t : Turn) → Stands self.old draft.old t
             → Leads self.new draft.new e (act Route t)) }

@@ -4,7 +4,7 @@ use Rattle.spk_broker.specs.Drafts.{draft_view, left_by, served_by}
 use Rattle.spk_broker.specs.Parts.{post_view}
 use Rattle.spk_broker.proofs.Rounds.{was-step}
 use Rattle.spk_broker.proofs.Touched.{apart-step, visited}
-use Rattle.spk_broker.proofs.Visits.{calling-end, calling-step}
+use Rattle.spk_broker.proofs.Visits.{calling-end, calling-step, keyed-at}
 use Rattle.spk_broker.proofs.calling.call.Goals as goal
 
 pub returns-in_err-serve-clause-was : goal.returns-in_err-serve-clause-was
@@ -17,6 +17,7 @@ loop-place-preserved c =
     let same = c.loop-place.invariant.letter in
     let x = get_or c.loop-place.seats (get_or c.args.places.now c.loop-place.place-index 0) c.index-seats-place.result in
     record {
+      keyed = λ k. keyed-at c.loop-place.seats (get_or c.args.places.now c.loop-place.place-index 0) c.serve.new.self _ c.keyed.ensures (c.loop-place.invariant.keyed k);
       letter = c.serve.ensures.letter ∙ same;
       calling = calling-step m c.args.places.now c.loop-place.place-index c.args.seats.now c.loop-place.seats (draft_view c.args.draft.now) (draft_view c.loop-place.draft) (draft_view c.serve.new.draft)
           c.index-seats-place.result x c.serve.new.self c.loop-place.invariant.calling c.requires.places c.loop-place-test.true refl c.serve.ensures.was

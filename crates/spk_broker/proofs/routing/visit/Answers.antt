@@ -7,6 +7,7 @@ use Rattle.spk_broker_rules.specs.Words.{best}
 use Rattle.spk_broker.specs.Filing.{is_passed}
 use Rattle.spk_broker.proofs.Passing.{passed-at, passed-next}
 use Rattle.spk_broker.proofs.Rounds.{was-step, round-step, left-end, left-whole, drafted-end, drafted-whole}
+use Rattle.spk_broker.proofs.Visits.{keyed-set}
 use Rattle.spk_broker.proofs.routing.visit.Goals as goal
 
 pub returns-in_err-concern-clause-was : goal.returns-in_err-concern-clause-was
@@ -24,6 +25,7 @@ loop-seat-preserved c =
     let step = round-step f c.loop-seat.seats c.loop-seat.seat-index c.seat-item.result _ c.concern.new.self below refl c.concern.ensures.was left in
     record {
       passed = passed-next (λ key grants. is_passed c.args.found.now key ≡ true → best (post_view c.args.post.now).topic grants ≡ None) c.loop-seat.seats c.loop-seat.seat-index c.concern.new.self below c.loop-seat.invariant.passed;
+      keyed = λ k. keyed-set c.loop-seat.seats c.loop-seat.seat-index c.concern.new.self c.keyed.ensures (c.loop-seat.invariant.keyed k);
       letter = c.concern.ensures.letter ∙ same;
       was = step.was ∙ c.loop-seat.invariant.was;
       left = step.left ∙ c.loop-seat.invariant.left;

@@ -4,6 +4,7 @@ use Rattle.spk_broker_rules.specs.Plan.{Packet}
 use Rattle.spk_broker.specs.Filing.{IsIndex}
 use Rattle.spk_broker.specs.View.{desk_now}
 use Rattle.spk_broker.proofs.Finishing.{closes-to, begun-for, done-to, dropped-or, index-or, index-to, kept-to, now-index, was-index, sends-to, stands-to}
+use Rattle.spk_broker.proofs.Touched.{settled-keyed}
 use Rattle.spk_broker.proofs.broker.Broker.packet.Goals as goal
 
 pub conclude-requires-clause-stands : goal.conclude-requires-clause-stands
@@ -62,3 +63,6 @@ draft_packet-drafted-requires-clause-alone c = c.seek-place.ensures.alone
 
 pub knows-requires : goal.knows-requires
 knows-requires c = sym c.seek-place.ensures.place
+
+pub draft_packet-drafted-requires-clause-keyed : goal.draft_packet-drafted-requires-clause-keyed
+draft_packet-drafted-requires-clause-keyed c = settled-keyed c.self.inside.desk c.self.invariant.sound.settled

@@ -1,11 +1,13 @@
-use Rattle.std.proofs.Common.{refl, subst, sym, ap, ◌∙◌}
+use Rattle.std.proofs.Common.{Global, Vec, refl, subst, sym, ap, ◌∙◌}
 use Rattle.spk_packets.specs.View.{view}
 use Rattle.spk_broker_rules.specs.Data as plain
 use Rattle.spk_broker_rules.specs.Lawful.{IsLawful, Rises}
 use Rattle.spk_broker_rules.specs.Plan.{At, Hear, Packet}
 use Rattle.spk_broker_rules.specs.Step.{act, seen}
 use Rattle.spk_broker.specs.Asking.{place_in}
-use Rattle.spk_broker.specs.View.{desk_now}
+use Rattle.spk_broker.specs.Called.{AreKeyed}
+use Rattle.spk_broker.specs.View.{desk_was}
+use Rattle.spk_broker.specs.declared.seat.Seat.{Seat}
 use Rattle.spk_broker.proofs.Finishing.{index-on}
 use Rattle.spk_broker.proofs.Quiet.{heard-index}
 use Rattle.spk_broker.proofs.Touched.{alone-as}
@@ -34,10 +36,9 @@ judge_packet-requires-clause-lawful c = subst IsLawful (sym (c.hear.ensures.same
 
 pub judge_packet-requires-clause-order : goal.judge_packet-requires-clause-order
 judge_packet-requires-clause-order c =
-    let t = act (Hear c.args.conn) (act (At c.args.now) c.requires.stands.0) in
-    let s = c.hear.ensures.done c.args.draft.now (act (At c.args.now) c.requires.stands.0) (c.at.ensures.done c.args.draft.now c.requires.stands.0 c.requires.stands.1) in
-    some-order c.args.tree.now (desk_now c.hear.new.self).seats t.broker.made
-    (subst (Rises 0 t.broker.made) (sym (ap (λ (b : plain.Broker). b.seats) s.broker)) s.lawful.keys)
+    some-order c.args.tree.now c.hear.new.self.seats.items (desk_was c.args.self.now).made
+    (subst (λ (b : plain.Broker). Rises 0 (desk_was c.args.self.now).made b.seats) (sym (c.hear.ensures.same ∙ c.at.ensures.same)) c.requires.lawful.keys)
+    (c.hear.ensures.keyed (subst (λ (v : Vec Seat Global). AreKeyed v.items) (sym c.at.ensures.seats) c.requires.keyed))
 
 pub judge_packet-requires-clause-alone : goal.judge_packet-requires-clause-alone
 judge_packet-requires-clause-alone c =

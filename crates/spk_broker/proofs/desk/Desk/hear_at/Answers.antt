@@ -1,11 +1,13 @@
-use Rattle.std.proofs.Common.{◌∙◌, refl, ap}
+use Rattle.std.proofs.Common.{◌∙◌, refl, ap, subst}
 use Rattle.std.specs.Option.{option_map}
 use Rattle.std.specs.Vec.{with_item}
 use Rattle.spk_broker.specs.Both.{Both}
+use Rattle.spk_broker.specs.Called.{IsKeyed}
 use Rattle.spk_broker.specs.Seats.{seat_heard}
 use Rattle.spk_broker.specs.View.{desk_was, seat_was}
 use Rattle.spk_broker.specs.declared.desk.Desk.{Desk}
 use Rattle.spk_broker.proofs.Near.{hear-at-stands}
+use Rattle.spk_broker.proofs.Visits.{keyed-at}
 use Rattle.spk_broker.proofs.Walks.{same-step}
 use Rattle.spk_broker.proofs.desk.Desk.hear_at.Goals as goal
 
@@ -20,3 +22,6 @@ pub returns-clause-same : goal.returns-clause-same
 returns-clause-same c =
     let d = c.args.self.now in
     ap (λ l. record (desk_was d) { seats = l }) (same-step seat_was d.seats.items c.args.place c.index_mut.result.now _ c.hear.new.self refl (c.hear.ensures.was ∙ ap (λ (b : Both). b.was) c.index_mut.ensures.value))
+
+pub returns-clause-keyed : goal.returns-clause-keyed
+returns-clause-keyed c = keyed-at c.args.self.now.seats.items c.args.place c.hear.new.self c.index.result.now (subst IsKeyed c.index.ensures c.keyed.ensures)

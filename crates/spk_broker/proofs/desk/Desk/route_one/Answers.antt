@@ -9,13 +9,14 @@ use Rattle.spk_broker.specs.Parts.{post_view, retained_view}
 use Rattle.spk_broker.specs.Sendable.{are_sendable}
 use Rattle.spk_broker.specs.Rounds.{kept_with, left_of_round, with_round}
 use Rattle.spk_broker_rules.specs.Step.{serve}
-use Rattle.spk_broker.specs.View.{seat_now}
-use Rattle.spk_broker.specs.Filing.{AreInOrder, IsIndex}
+use Rattle.spk_broker.specs.View.{seat_now, seat_was}
+use Rattle.spk_broker.specs.Called.{AreKeyed}
+use Rattle.spk_broker.specs.Filing.{IsIndex}
 use Rattle.spk_broker.proofs.Quiet.{kept-index}
 use Rattle.spk_broker.proofs.Refilled.{refilled}
 use Rattle.spk_broker.proofs.Routes.{RoutedOne, one-fewer, one-stands}
 use Rattle.spk_broker.proofs.Touched.{visited-as}
-use Rattle.spk_broker.proofs.Visits.{kept-order}
+use Rattle.spk_broker.proofs.Visits.{order-as}
 use Rattle.spk_broker.proofs.desk.Desk.route_one.Goals as goal
 
 abbrev Good : goal.In_ok-keep → Type 0
@@ -53,8 +54,12 @@ returns-clause-index c =
 
 pub returns-clause-order : goal.returns-clause-order
 returns-clause-order c =
-    subst (AreInOrder c.args.tree.now) (sym (facts c c.self-2-1.given.0).seats)
-    (kept-order c.args.tree.now (post_view c.args.post) (flat_map seat_now c.args.self.now.seats.items) c.requires.order)
+    let lent = c.deref_mut.ensures.value in
+    let back : (end c c.self-2-1.given.0).seats.items ≡ c.round.new.seats = refilled (vec_len c.args.self.now.seats) c.round.new.seats c.args.self.now.seats.items (omega arith) (omega arith) in
+    order-as c.args.tree.now c.args.self.now.seats.items (end c c.self-2-1.given.0).seats.items
+    (ap (map seat_was) back ∙ c.round.ensures.was ∙ ap (map seat_was) lent)
+    (λ keyed. subst AreKeyed (sym back) (c.in_ok-places.ensures.keyed (subst AreKeyed (sym lent) keyed)))
+    c.requires.order
 
 pub returns-clause-visited : goal.returns-clause-visited
 returns-clause-visited c =
