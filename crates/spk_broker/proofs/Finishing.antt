@@ -1,26 +1,31 @@
 -- A call as a whole: what it drafted stands for the rules' step, and is settled or taken back.
-use Rattle.std.proofs.Common.{◌≡◌, ◌≤◌, Bool, true, false, List, Option, None, length, map, refl, sym, ap, subst, ◌∙◌, Result, Ok, Err}
+use Rattle.std.proofs.Common.{◌≡◌, ◌≤◌, ℕ, Bool, true, false, List, Option, None, length, map, refl, sym, ap, subst, ◌∙◌, Result, Ok, Err}
 use Rattle.std.specs.Result.{IfOk, OnErr, OnOk, is_ok, result_unwrap_or}
 use Rattle.std.specs.declared.alloc.AllocError.{AllocError}
 use Rattle.indexmap.specs.IndexMap.{spare}
 use Rattle.spk_broker_rules.specs.Data as plain
 use Rattle.spk_broker_rules.specs.Lawful.{IsLawful}
-use Rattle.spk_broker_rules.specs.Plan.{Event}
-use Rattle.spk_broker_rules.specs.Step.{Turn, begun, step}
+use Rattle.spk_packets.specs.Message.{Message}
+use Rattle.spk_broker_rules.specs.Plan.{Event, Packet}
+use Rattle.spk_broker_rules.specs.Step.{Turn, begun, seat_at, step}
 use Rattle.spk_broker.specs.declared.desk.Desk.{Desk}
 use Rattle.spk_broker.specs.declared.fault.BrokerFault.{BrokerFault}
 use Rattle.spk_broker.specs.declared.out.Draft.{Draft}
 use Rattle.spk_broker.specs.declared.out.Out.{Out}
+use Rattle.spk_broker.specs.Asking.{seats_now}
+use Rattle.spk_broker.specs.Both.{Both}
+use Rattle.spk_broker.specs.Called.{AreOrdered}
 use Rattle.spk_broker.specs.Drafts.{draft_view, empty_draft}
 use Rattle.spk_broker.specs.Sent.{outgoing, sent_view}
-use Rattle.spk_broker.specs.View.{IsSound, IsSettled, Stands, desk_now, desk_was, stepped}
+use Rattle.spk_broker.specs.View.{IsSound, IsSettled, Stands, desk_now, desk_was, seat_was, stepped}
 use Rattle.spk_broker_rules.proofs.AnyList.{step-lawful}
 use Rattle.spk_broker.specs.Endings.{Leads, ended}
 use Rattle.spk_broker.specs.declared.ending.Ending.{Ending}
 use Rattle.spk_topics.specs.Grants.{Grants}
-use Rattle.spk_broker.specs.Filing.{IsIndex, takes_grants}
+use Rattle.spk_broker.specs.Filing.{IsIndex, IsIndexBut, regrants, takes_grants, turned_of}
 use Rattle.spk_broker.proofs.Quiet.{index-step}
 use Rattle.spk_broker.proofs.Standing.{begun-stands}
+use Rattle.spk_broker.proofs.Turned.{but-index, turned-index}
 
 -- what the parts of a call say of it
 pub record Call (e : Event) (b : plain.Broker) (d0 d1 : Desk) (x0 x1 : Draft) (drafted : Result (Unit {0}) AllocError) : Type 0 where
@@ -159,13 +164,35 @@ index-to i e b d0 d1 d2 x0 x1 drafted (Ok out) gone k f h = by (takes_grants e) 
     by true is = subst (λ j. IsIndex j (desk_was d2).seats) (sym (gone is)) tt
     by false is = on-step i e b (desk_was d0) (desk_was d2) is k.is (done-to e b d0 d1 d2 x0 x1 drafted (Ok out) k f) h
 
+-- after a packet it has all grants but the new ones of the session whose packet it is
+pub index-but : (i : Option Grants) (turned : Option (ℕ × ℕ)) (conn : ℕ) (p : Message) (moment : ℕ) (b : plain.Broker) (d0 d1 d2 : Desk) (x0 x1 : Draft) (drafted : Result Ending AllocError) (r : Result Out BrokerFault)
+    → (regrants p ≡ false → turned ≡ None) → (regrants p ≡ true → turned ≡ turned_of (seat_at conn (desk_now d0).seats))
+    → CallTo (Packet conn p moment) b d0 d1 x0 x1 drafted → Concluded d1 d2 x1 drafted r → IsIndex i (desk_was d0).seats → IsIndexBut i turned (desk_was d2).seats
+index-but i turned conn p moment b d0 d1 d2 x0 x1 drafted (Err x) quiet some k f h = but-index i turned (desk_was d2).seats (subst (λ (y : plain.Broker). IsIndex i y.seats) (sym (f.same ∙ k.same)) h)
+index-but i turned conn p moment b d0 d1 d2 x0 x1 drafted (Ok out) quiet some k f h = by (regrants p) refl
+  where
+    to : desk_was d2 ≡ (step b (Packet conn p moment)).broker
+    to = done-to (Packet conn p moment) b d0 d1 d2 x0 x1 drafted (Ok out) k f
+
+    by : (q : Bool) → regrants p ≡ q → IsIndexBut i turned (desk_was d2).seats
+    by true is =
+        subst (λ o. IsIndexBut i o (desk_was d2).seats) (sym (some is ∙ ap (λ (x : plain.Broker). turned_of (seat_at conn x.seats)) (k.kept.settled ∙ k.is)))
+        (subst (λ (x : plain.Broker). IsIndexBut i (turned_of (seat_at conn b.seats)) x.seats) (sym to)
+        (turned-index i b conn p moment is (subst (λ (x : plain.Broker). IsIndex i x.seats) k.is h)))
+    by false is = subst (λ o. IsIndexBut i o (desk_was d2).seats) (sym (quiet is)) (but-index i None (desk_was d2).seats (on-step i (Packet conn p moment) b (desk_was d0) (desk_was d2) is k.is to h))
+
+-- and then with those
+pub followed : (i j : Option Grants) (turned : Option (ℕ × ℕ)) (d : Desk) (bs : List Both) → bs ≡ d.seats.items → IsSound d
+    → (AreOrdered bs → seats_now bs ≡ map seat_was bs → IsIndexBut i turned (map seat_was bs) → IsIndex j (map seat_was bs))
+    → IsIndexBut i turned (desk_was d).seats → IsIndex j (desk_was d).seats
+followed i j turned d bs is sound h =
+    subst (λ (l : List Both). AreOrdered l → seats_now l ≡ map seat_was l → IsIndexBut i turned (map seat_was l) → IsIndex j (map seat_was l)) is h
+    (0, (desk_was d).made, sound.lawful.keys) (ap (λ (b : plain.Broker). b.seats) sound.settled)
+
 -- where the memory for it is refused there is none
 pub index-or : (r : Result (Option Grants) AllocError) (i : Option Grants) (ss : List plain.Seat) → i ≡ result_unwrap_or r None → IfOk r (λ o. IsIndex o ss) → IsIndex i ss
 index-or (Ok o) i ss is h = subst (λ x. IsIndex x ss) (sym is) h
 index-or (Err x) i ss is h = subst (λ x. IsIndex x ss) (sym is) tt
-
-pub dropped-or : (r : Result (Option Grants) AllocError) (i : Option Grants) (b : Bool) → i ≡ result_unwrap_or r None → (b ≡ true → r ≡ Ok None) → b ≡ true → i ≡ None
-dropped-or r i b is h e = is ∙ ap (λ x. result_unwrap_or x None) (h e)
 
 -- what stands for turns has the index of its turn
 pub index-on : (i : Option Grants) (d d2 : Desk) (x x2 : Draft) (t t2 : Turn) → Stands d x t → Stands d2 x2 t2 → (IsIndex i t.broker.seats → IsIndex i t2.broker.seats)

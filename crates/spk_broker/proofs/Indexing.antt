@@ -20,7 +20,7 @@ use Rattle.spk_broker_rules.specs.Table.{Table, has}
 use Rattle.spk_broker_rules.specs.Words.{option_list}
 use Rattle.spk_broker_rules.proofs.Tables.{bytes_self}
 use Rattle.spk_broker.specs.Both.{Both}
-use Rattle.spk_broker.specs.Filing.{AreFiled, Entry, HasNoOther, IsFiled, entries_of, index_of, is_granted, with_entry}
+use Rattle.spk_broker.specs.Filing.{AreFiled, Entry, HasNoOther, IsFiled, entries_of, entry_of, index_of, is_granted, with_entry}
 use Rattle.spk_broker.specs.Granting.{standing_grants}
 use Rattle.spk_broker.specs.Parts.{grant_view}
 use Rattle.spk_broker.specs.View.{seat_now}
@@ -29,24 +29,21 @@ use Rattle.spk_broker.proofs.Retained.{same-bytes}
 
 -- ---- what is made
 
-abbrev pub entry : ℕ → List ℕ × ℕ → Entry
-entry key g = ((g.0, key), g.1)
-
 -- one more grant
 pub entries-step : (index : Grants) (key : ℕ) (gs : List Grant) (i : ℕ) (d : Grant) → i < length gs
-    → fold with_entry index (map (entry key) (map grant_view (take (i + 1) gs)))
-    ≡ with_entry (fold with_entry index (map (entry key) (map grant_view (take i gs)))) ((string_bytes (get_or gs i d).filter, key), (get_or gs i d).qos)
+    → fold with_entry index (map (entry_of key) (map grant_view (take (i + 1) gs)))
+    ≡ with_entry (fold with_entry index (map (entry_of key) (map grant_view (take i gs)))) ((string_bytes (get_or gs i d).filter, key), (get_or gs i d).qos)
 entries-step index key [] i d low = absurd (omega (arith, low))
 entries-step index key (g ∷ gs) zero d low = refl
 entries-step index key (g ∷ gs) (suc i) d low =
     let z : suc i + 1 ≡ suc (i + 1) = omega arith in
-    ap (λ k. fold with_entry index (map (entry key) (map grant_view (take k (g ∷ gs))))) z
-    ∙ entries-step (with_entry index (entry key (grant_view g))) key gs i d (omega (arith, low))
+    ap (λ k. fold with_entry index (map (entry_of key) (map grant_view (take k (g ∷ gs))))) z
+    ∙ entries-step (with_entry index (entry_of key (grant_view g))) key gs i d (omega (arith, low))
 
 -- all grants of one session, if it is there
-pub seat-entries : (o : Option plain.Seat) (key : ℕ) (gs : Table ℕ) → IfSome o (λ s. key ≡ s.key) → gs ≡ standing_grants o → map (entry key) gs ≡ flat_map entries_of (option_list o)
-seat-entries None key gs k e = ap (map (entry key)) e
-seat-entries (Some s) key gs k e = ap (map (entry key)) e ∙ ap (λ n. map (entry n) s.grants) k ∙ sym (append-nil (entries_of s))
+pub seat-entries : (o : Option plain.Seat) (key : ℕ) (gs : Table ℕ) → IfSome o (λ s. key ≡ s.key) → gs ≡ standing_grants o → map (entry_of key) gs ≡ flat_map entries_of (option_list o)
+seat-entries None key gs k e = ap (map (entry_of key)) e
+seat-entries (Some s) key gs k e = ap (map (entry_of key)) e ∙ ap (λ n. map (entry_of n) s.grants) k ∙ sym (append-nil (entries_of s))
 
 -- one more session
 pub index-step : (bs : List Both) (i : ℕ) (d : Both) → i < length bs
@@ -67,20 +64,20 @@ pub record Inserts : Type 0 where
   pub one : (grants : Grants) (filter : List ℕ) (key qos : ℕ) → tree.get (tree.insert grants (filter, key) qos) (filter, key) ≡ Some qos
   pub others : (grants : Grants) (filter other : List ℕ) (key qos at : ℕ) → is_some (tree.get grants (other, at)) ≡ true → is_some (tree.get (tree.insert grants (filter, key) qos) (other, at)) ≡ true
 
-still : Inserts → (index : Grants) (es : List Entry) (f : List ℕ) (k : ℕ) → is_some (tree.get index (f, k)) ≡ true → is_some (tree.get (fold with_entry index es) (f, k)) ≡ true
+pub still : Inserts → (index : Grants) (es : List Entry) (f : List ℕ) (k : ℕ) → is_some (tree.get index (f, k)) ≡ true → is_some (tree.get (fold with_entry index es) (f, k)) ≡ true
 still law index [] f k there = there
 still law index (e ∷ es) f k there = still law (with_entry index e) es f k (law.others index e.0.0 f e.0.1 e.1 k there)
 
-session-filed : Inserts → (index : Grants) (key : ℕ) (gs : Table ℕ) → IsFiled (fold with_entry index (map (entry key) gs)) key gs
+pub session-filed : Inserts → (index : Grants) (key : ℕ) (gs : Table ℕ) → IsFiled (fold with_entry index (map (entry_of key) gs)) key gs
 session-filed law index key [] f there = absurd (true≢false (sym there))
-session-filed law index key (g ∷ gs) f there = by (bytes_eq g.0 f) refl there (session-filed law (with_entry index (entry key g)) key gs f)
+session-filed law index key (g ∷ gs) f there = by (bytes_eq g.0 f) refl there (session-filed law (with_entry index (entry_of key g)) key gs f)
   where
     by : (b : Bool) → bytes_eq g.0 f ≡ b → b || has f gs ≡ true
-        → (has f gs ≡ true → is_some (tree.get (fold with_entry (with_entry index (entry key g)) (map (entry key) gs)) (f, key)) ≡ true)
-        → is_some (tree.get (fold with_entry (with_entry index (entry key g)) (map (entry key) gs)) (f, key)) ≡ true
+        → (has f gs ≡ true → is_some (tree.get (fold with_entry (with_entry index (entry_of key g)) (map (entry_of key) gs)) (f, key)) ≡ true)
+        → is_some (tree.get (fold with_entry (with_entry index (entry_of key g)) (map (entry_of key) gs)) (f, key)) ≡ true
     by true e h rest =
-        still law (with_entry index (entry key g)) (map (entry key) gs) f key
-        (subst (λ t. is_some (tree.get (with_entry index (entry key g)) (t, key)) ≡ true) (same-bytes g.0 f e) (ap is_some (law.one index g.0 key g.1)))
+        still law (with_entry index (entry_of key g)) (map (entry_of key) gs) f key
+        (subst (λ t. is_some (tree.get (with_entry index (entry_of key g)) (t, key)) ≡ true) (same-bytes g.0 f e) (ap is_some (law.one index g.0 key g.1)))
     by false e h rest = rest h
 
 all-filed : Inserts → (index : Grants) (ss : List plain.Seat) → AreFiled (fold with_entry index (flat_map entries_of ss)) ss
@@ -124,7 +121,7 @@ fold-only index (e ∷ es) f k there =
     (fold-only (with_entry index e) es f k there)
 
 -- those of one session
-of-session : (s : plain.Seat) (gs : Table ℕ) (f : List ℕ) (k : ℕ) → list_any (λ (e : Entry). (e.0.1 == k) && bytes_eq e.0.0 f) (map (entry s.key) gs) ≡ ((s.key == k) && has f gs)
+of-session : (s : plain.Seat) (gs : Table ℕ) (f : List ℕ) (k : ℕ) → list_any (λ (e : Entry). (e.0.1 == k) && bytes_eq e.0.0 f) (map (entry_of s.key) gs) ≡ ((s.key == k) && has f gs)
 of-session s [] f k = sym (and-none (s.key == k))
   where
     and-none : (b : Bool) → b && false ≡ false

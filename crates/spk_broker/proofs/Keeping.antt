@@ -1,20 +1,21 @@
 -- What holds of the key and the grants of each session goes on holding, unless a SUBSCRIBE or an UNSUBSCRIBE comes.
-use Rattle.std.proofs.Common.{◌≡◌, ℕ, zero, suc, ◌+◌, Bool, true, false, ◌&&◌, cond, eqb, List, [], ◌∷◌, map, length, refl, sym, ap, ◌∙◌, subst, Option, Some, None, true≢false}
+use Rattle.std.proofs.Common.{◌≡◌, ℕ, zero, suc, ◌+◌, Bool, true, false, ◌&&◌, cond, eqb, List, [], ◌∷◌, ◌++◌, map, length, refl, sym, ap, ◌∙◌, subst, Option, Some, None, true≢false}
 use Rattle.std.specs.Option.{option_map}
-use Rattle.std.specs.List.{find, flat_map}
+use Rattle.std.specs.List.{find, flat_map, fold}
 use Rattle.spk_session.specs.PacketIds.{next_id}
 use Rattle.spk_session.specs.Step.{has_room}
 use Rattle.spk_broker_rules.specs.Data.{Post, Line, Guest, Seat}
-use Rattle.spk_broker_rules.specs.Words.{handed_out, best, level, sent_as, without_id}
+use Rattle.spk_packets.specs.Message.{SubAck}
+use Rattle.spk_broker_rules.specs.Words.{handed_out, best, codes_of, granted_of, level, offers_to, sent_as, with_entry, without_id}
 use Rattle.spk_broker_rules.specs.Plan.{Act, Opens, At, Hear, Drop, Say, Leave, Tell, Queue, Route, Forget, Accept, Give, Take, Ack}
-use Rattle.spk_broker_rules.specs.Step.{Turn, act, acts, swap, leave_at, seat_at, sits, is_guest, is_away, forget_at, line_of, line_heard, line_dropped, new_seat, take_up, away_for, accept_of, ack_at, hand_at, serve, serve_at, route_one, route_some, route, numbered, bursts}
-use Rattle.spk_broker_rules.specs.Table.{Table}
+use Rattle.spk_broker_rules.specs.Step.{Turn, act, acts, swap, leave_at, seat_at, sits, is_guest, is_away, forget_at, line_of, line_heard, line_dropped, new_seat, take_up, away_for, accept_of, ack_at, hand_at, serve, serve_at, route_one, route_some, route, numbered, bursts, give_at, offer, offer_at, other_grants, take_at, with_key, with_seats}
+use Rattle.spk_broker_rules.specs.Table.{Table, remove}
 use Rattle.spk_session.specs.Step.{without}
 use Rattle.spk_broker_rules.proofs.Lists.{all-append, all-mapped, all-flat}
 use Rattle.spk_broker.specs.Filing.{AllOf, all_quiet, is_quiet}
 
 -- what is found is one of the list
-found-is : (Q : ℕ → Table ℕ → Type 0) (p : Seat → Bool) (ss : List Seat) (s : Seat) → AllOf Q ss → find p ss ≡ Some s → Q s.key s.grants
+pub found-is : (Q : ℕ → Table ℕ → Type 0) (p : Seat → Bool) (ss : List Seat) (s : Seat) → AllOf Q ss → find p ss ≡ Some s → Q s.key s.grants
 found-is Q p [] s all e = absurd (none e)
   where
     none : {Y : Type 0} {y : Y} → None ≡ Some y → ⊥
@@ -105,6 +106,40 @@ kept-ack : (Q : ℕ → Table ℕ → Type 0) (c id : ℕ) (t : Turn) (o : Optio
 kept-ack Q c id t None is l = l
 kept-ack Q c id t (Some s) is l =
     swapped Q s.key ((record s { used = without id s.used; copies = without_id id s.copies }) ∷ []) t.broker.seats (found-is Q (sits c) t.broker.seats s l is, tt) l
+
+-- ---- SUBSCRIBE and UNSUBSCRIBE
+
+kept-offer : (Q : ℕ → Table ℕ → Type 0) (key : ℕ) (t : Turn) (post : Post) → AllOf Q t.broker.seats → AllOf Q (offer key t post).broker.seats
+kept-offer Q key t post l = by (with_key key t.broker.seats) refl
+  where
+    by : (o : Option Seat) → with_key key t.broker.seats ≡ o → AllOf Q (offer_at o key post t).broker.seats
+    by None is = l
+    by (Some s) is = swapped Q key (hand_at post.qos post s).left t.broker.seats (handed Q post.qos post s (found-is Q (λ (x : Seat). eqb x.key key) t.broker.seats s l is)) l
+
+kept-offers : (Q : ℕ → Table ℕ → Type 0) (key : ℕ) (posts : List Post) (t : Turn) → AllOf Q t.broker.seats → AllOf Q (fold (offer key) t posts).broker.seats
+kept-offers Q key [] t l = l
+kept-offers Q key (p ∷ ps) t l = kept-offers Q key ps (offer key t p) (kept-offer Q key t p l)
+
+pub kept-give : (Q : ℕ → Table ℕ → Type 0) (c id : ℕ) (es : List (List ℕ × ℕ)) (t : Turn) → ((s : Seat) → seat_at c t.broker.seats ≡ Some s → Q s.key (fold (with_entry (other_grants s t.broker.seats)) s.grants es))
+    → AllOf Q t.broker.seats → AllOf Q (act (Give c id es) t).broker.seats
+kept-give Q c id es t new l = by (seat_at c t.broker.seats) refl
+  where
+    by : (o : Option Seat) → seat_at c t.broker.seats ≡ o → AllOf Q (give_at o c id es t).broker.seats
+    by None is = l
+    by (Some s) is =
+        let others = other_grants s t.broker.seats in
+        let seats = swap s.key ((record s { grants = fold (with_entry others) s.grants es }) ∷ []) t.broker.seats in
+        kept-offers Q s.key (flat_map (offers_to t.broker.retained) (granted_of others s.grants es))
+        (record (with_seats seats t) { sends = t.sends ++ (record { conn = c; packet = SubAck id (codes_of others s.grants es) }) ∷ [] })
+        (swapped Q s.key ((record s { grants = fold (with_entry others) s.grants es }) ∷ []) t.broker.seats (new s is, tt) l)
+
+pub kept-take : (Q : ℕ → Table ℕ → Type 0) (c : ℕ) (names : List (List ℕ)) (t : Turn) → ((s : Seat) → seat_at c t.broker.seats ≡ Some s → Q s.key (fold (λ (g : Table ℕ) f. remove f g) s.grants names))
+    → AllOf Q t.broker.seats → AllOf Q (act (Take c names) t).broker.seats
+kept-take Q c names t new l = by (seat_at c t.broker.seats) refl
+  where
+    by : (o : Option Seat) → seat_at c t.broker.seats ≡ o → AllOf Q (take_at o names t).broker.seats
+    by None is = l
+    by (Some s) is = swapped Q s.key ((record s { grants = fold (λ (g : Table ℕ) f. remove f g) s.grants names }) ∷ []) t.broker.seats (new s is, tt) l
 
 pub kept-act : (Q : ℕ → Table ℕ → Type 0) → ((k : ℕ) → Q k []) → (a : Act) (t : Turn) → is_quiet a ≡ true → AllOf Q t.broker.seats → AllOf Q (act a t).broker.seats
 kept-act Q bare Opens t h l = l

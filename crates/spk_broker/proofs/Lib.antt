@@ -21,6 +21,7 @@ pub mod Packeted
 pub mod Passing
 pub mod Places
 pub mod Quiet
+pub mod Refiled
 pub mod Refilled
 pub mod Retained
 pub mod Rounds
@@ -32,6 +33,7 @@ pub mod Sizes
 pub mod Standing
 pub mod Stayers
 pub mod Touched
+pub mod Turned
 pub mod Visits
 pub mod Walks
 pub mod Wholes

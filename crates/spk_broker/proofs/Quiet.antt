@@ -34,7 +34,7 @@ quiet-connect seen conn name clean alive will =
     (quiet-if (has_bad_topic will) (shut conn) _ refl
     (quiet-if (not clean && not seen.welcome) (turn_away conn 3) _ refl (quiet-join seen.older conn name clean alive (option_map will_post will))))
 
-quiet-first : (seen : Seen) (conn : ℕ) (p : Message) → all_quiet (first_packet seen conn p) ≡ true
+pub quiet-first : (seen : Seen) (conn : ℕ) (p : Message) → all_quiet (first_packet seen conn p) ≡ true
 quiet-first seen conn (Connect name clean alive will) = quiet-connect seen conn name clean alive will
 quiet-first seen conn (ConnAck present code) = refl
 quiet-first seen conn (Publish dup qos retain topic id payload) = refl

@@ -55,7 +55,7 @@ more-out (q ∷ ps) p i e = by (eqb q i) e (λ f. more-out ps p i f)
     by false f rest = rest f
 
 -- what is read where something stands
-same-read : {X : Type 0} (xs : List X) (i : ℕ) (d e : X) → i < length xs → get_or xs i d ≡ get_or xs i e
+pub same-read : {X : Type 0} (xs : List X) (i : ℕ) (d e : X) → i < length xs → get_or xs i d ≡ get_or xs i e
 same-read [] i d e lt = absurd (omega (arith, lt))
 same-read (x ∷ xs) zero d e lt = refl
 same-read (x ∷ xs) (suc i) d e lt = same-read xs i d e (omega (arith, lt))

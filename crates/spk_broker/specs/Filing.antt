@@ -1,5 +1,5 @@
 -- The index of grants: for each standing grant it has an entry of its filter and the session's number.
-use Rattle.std.specs.Prelude.{◌≡◌, ◌==◌, ◌<◌, ◌≤◌, nat_lt, ℕ, Bool, true, false, ◌&&◌, not, List, [], ◌∷◌, length, map, if◌then◌else◌, Option, Some, None, is_some, Vec}
+use Rattle.std.specs.Prelude.{◌≡◌, ◌⊎◌, ◌==◌, ◌<◌, ◌≤◌, drop, nat_lt, ℕ, Bool, true, false, ◌&&◌, not, List, [], ◌∷◌, length, map, if◌then◌else◌, Option, Some, None, is_some, Vec}
 use Rattle.std.specs.declared.alloc.Global.{Global}
 use Rattle.std.specs.List.{AllByRecursion, flat_map, fold, list_any}
 use Rattle.std.specs.FinMap as tree
@@ -17,6 +17,10 @@ use Rattle.spk_broker.specs.Sizes.{size_of_all}
 -- a grant in an index: its QoS by its filter and the number of its session
 abbrev pub Entry : Type 0
 Entry = (List ℕ × ℕ) × ℕ
+
+-- a grant of the session of this number
+abbrev pub entry_of : ℕ → List ℕ × ℕ → Entry
+entry_of key g = ((g.0, key), g.1)
 
 -- the grants of a session
 abbrev pub entries_of : Seat → List Entry
@@ -140,3 +144,21 @@ ArePassed found topic seats = AllOf (λ key grants. is_passed found key ≡ true
 abbrev pub IsIndex : Option Grants → List Seat → Type 0
 IsIndex None seats = Unit {0}
 IsIndex (Some index) seats = AreFiled index seats
+
+-- ---- after a SUBSCRIBE or UNSUBSCRIBE
+
+-- the number of a session, and how many grants it has
+abbrev pub turned_of : Option Seat → Option (ℕ × ℕ)
+turned_of None = None
+turned_of (Some s) = Some (s.key, length s.grants)
+
+-- each of these grants has its entry in the index, but for those of one session behind its first ones
+abbrev pub IsFiledBut : Grants → ℕ → ℕ → ℕ → Table ℕ → Type 0
+IsFiledBut index key count k grants =
+    (filter : List ℕ) → has filter grants ≡ true → (is_some (tree.get index (filter, k)) ≡ true) ⊎ ((k ≡ key) × (has filter (drop count grants) ≡ true))
+
+-- the index, where there is one, has the grants of these sessions, but for those of this session behind so many
+abbrev pub IsIndexBut : Option Grants → Option (ℕ × ℕ) → List Seat → Type 0
+IsIndexBut None turned seats = Unit {0}
+IsIndexBut (Some index) None seats = AreFiled index seats
+IsIndexBut (Some index) (Some e) seats = AllOf (IsFiledBut index e.0 e.1) seats

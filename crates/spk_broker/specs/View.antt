@@ -86,7 +86,7 @@ pub record IsSound (d : Desk) : Type 0 where
 -- the index, where there is one, has all grants
 pub record IsKept (b : Inside) : Type 0 where
   pub sound : IsSound b.desk
-  pub index : IsIndex b.tree (desk_was b.desk).seats
+  pub index : IsIndex b.index.tree (desk_was b.desk).seats
 
 -- how many messages wait and how many sessions there are
 abbrev pub how_many : Desk → Draft → ℕ

@@ -10,9 +10,9 @@ use crate::desk::Desk;
 use crate::fault::BrokerFault;
 use crate::guest::Guest;
 use crate::hints::Hints;
+use crate::index::GrantIndex;
 use crate::out::Conn;
 use indexmap::IndexMap;
-use spk_topics::Tree;
 use std::alloc::Global;
 use std::fmt;
 use std::marker::Model;
@@ -24,8 +24,7 @@ const MOST_OPEN: usize = 1_000;
 #[derive(Drop)]
 pub struct Broker {
     pub(crate) desk: Desk,
-    /// The index of grants, where there is one.
-    pub(crate) tree: Option<Tree>,
+    pub(crate) index: GrantIndex,
     /// Where connections sat.
     pub(crate) hints: Hints,
 }
@@ -66,7 +65,7 @@ impl Broker {
                 seats: Vec::new(alloc),
                 retained: IndexMap::new(alloc),
             },
-            tree: None,
+            index: GrantIndex::new(),
             hints: Hints::new(alloc),
         }
     }

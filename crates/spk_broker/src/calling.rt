@@ -48,7 +48,7 @@ fn guess(seats: &[Seat], key: u64) -> usize
 }
 
 /// Where the session of this number stands, if it does and no further ahead than here.
-fn place_from(seats: &[Seat], from: usize, key: u64) -> Option<usize>
+pub(crate) fn place_from(seats: &[Seat], from: usize, key: u64) -> Option<usize>
     ensures low { IfSome result (λ p. p < length seats.now) }
     ensures behind { IfSome result (λ p. from < p + 1) }
     ensures there { IfSome result

@@ -1,19 +1,22 @@
 //! The index of grants: whom a message may concern.
-ghost use Rattle.std.specs.Prelude.{◌≡◌, ℕ, List, IfOk, IfSome, Ok, OnOk, None, Some, false, is_some, true, string_bytes};
+ghost use Rattle.std.specs.Prelude.{◌≡◌, ℕ, List, IfOk, IfSome, Ok, OnOk, None, Some, false, is_some, length, map, true, string_bytes};
 ghost use Rattle.std.specs.List.{flat_map, fold};
 ghost use Rattle.spk_packets.specs.View.{view};
 ghost use Rattle.spk_broker_rules.specs.Data as plain;
-ghost use Rattle.spk_broker_rules.specs.Step.{serve};
+ghost use Rattle.spk_broker_rules.specs.Step.{seat_at, serve};
 ghost use Rattle.spk_broker_rules.specs.Words.{best, option_list};
+ghost use Rattle.spk_broker.specs.Asking.{place_in, seats_now};
+ghost use Rattle.spk_broker.specs.Called.{AreOrdered};
 ghost use Rattle.spk_broker.specs.Drafts.{draft_view, left_by, served_by};
-ghost use Rattle.spk_broker.specs.Filing.{ArePassed, HasNoOther, IsIndex, IsReached, entries_of, has_key, index_of, is_passed, is_publish, made_index, regrants, with_entry};
-ghost use Rattle.spk_broker.specs.View.{desk_now, seat_now};
+ghost use Rattle.spk_broker.specs.Filing.{ArePassed, HasNoOther, IsIndex, IsIndexBut, IsReached, entries_of, has_key, index_of, is_passed, is_publish, made_index, regrants, turned_of, with_entry};
+ghost use Rattle.spk_broker.specs.View.{desk_now, seat_now, seat_was};
 
 use crate::desk::Desk;
 use crate::letter::Letter;
-use crate::out::Draft;
+use crate::out::{Conn, Draft};
 use crate::seat::{Grant, Seat};
 use crate::sizing::is_small;
+use crate::tally::Tally;
 use spk_packets::Packet;
 use spk_topics::laws::{granted, matching};
 use spk_topics::{Filter, Topic, Tree};
@@ -43,8 +46,8 @@ pub(crate) fn reach(tree: &Option<Tree>, topic: &str) -> Result<Option<Vec<(u64,
     }
 }
 
-/// One more grant of a session in the index.
-fn file_one(tree: &mut Tree, key: u64, grant: &Grant) -> Result<(), AllocError>
+/// One more grant of a session in the index. Answers whether it is new there.
+pub(crate) fn file_one(tree: &mut Tree, key: u64, grant: &Grant) -> Result<bool, AllocError>
     ensures { OnOk result
         (tree.new ≡ with_entry tree.old ((string_bytes grant.now.filter, key), grant.now.qos)) }
 {
@@ -52,7 +55,7 @@ fn file_one(tree: &mut Tree, key: u64, grant: &Grant) -> Result<(), AllocError>
         unreachable!()
     };
     match tree.grant(&filter, key, grant.qos) {
-        Ok(_) => Ok(()),
+        Ok(is_new) => Ok(is_new),
         Err(_) => Err(AllocError),
     }
 }
@@ -64,7 +67,7 @@ fn file_seat(tree: &mut Tree, seat: &Seat) -> Result<(), AllocError>
 {
     let key = seat.key();
     for grant in seat.standing() {
-        file_one(tree, key, grant)?;
+        let _ = file_one(tree, key, grant)?;
     }
     Ok(())
 }
@@ -128,26 +131,93 @@ impl Seat {
     }
 }
 
-/// The index for what this packet does: none where it may change grants, else the one that there is, and for a publish a new
-/// one where there is none.
-pub(crate) fn next_index(
-    tree: Option<Tree>,
-    desk: &Desk,
-    packet: &Packet,
-) -> Result<Option<Tree>, AllocError>
+/// The index of grants, where there is one, and how much it has.
+#[derive(Drop)]
+pub(crate) struct GrantIndex {
+    pub(crate) tree: Option<Tree>,
+    tally: Tally,
+}
+
+impl GrantIndex {
+    /// None.
+    pub(crate) fn new() -> GrantIndex
+        ensures { result.tree ≡ None }
+    {
+        GrantIndex {
+            tree: None,
+            tally: Tally::new(),
+        }
+    }
+
+    /// Before a packet is drafted: for a publish there is one, unless there can't be.
+    pub(crate) fn ready(&mut self, desk: &Desk, packet: &Packet)
+        requires { IsIndex self.old.tree (desk_now desk.now).seats }
+        ensures index { IsIndex self.new.tree (desk_now desk.now).seats }
+        ensures kept { is_some self.old.tree ≡ true → self.new.tree ≡ self.old.tree }
+    {
+        let was_none = self.tree.is_none();
+        let tree = self.tree.take();
+        self.tree = next_index(tree, desk, packet).unwrap_or(None);
+        if was_none && self.tree.is_some() {
+            self.tally = Tally::of(&desk.seats);
+        }
+    }
+
+    /// After a packet: it has the new grants of the session whose grants this packet may have changed.
+    pub(crate) fn follow(&mut self, seats: &[Seat], holder: Option<(u64, usize)>)
+        ensures same { holder ≡ None → self.new.tree ≡ self.old.tree }
+        ensures index { AreOrdered seats.now → seats_now seats.now ≡ map seat_was seats.now
+            → IsIndexBut self.old.tree holder (map seat_was seats.now)
+            → IsIndex self.new.tree (map seat_was seats.now) }
+    {
+        let tree = self.tree.take();
+        self.tree = self.tally.follow(tree, seats, holder);
+    }
+}
+
+/// The index for what this packet does: the one that there is, and for a publish a new one where there is none.
+fn next_index(tree: Option<Tree>, desk: &Desk, packet: &Packet) -> Result<Option<Tree>, AllocError>
     requires { IsIndex tree (desk_now desk.now).seats }
     ensures index { IfOk result (λ o. IsIndex o (desk_now desk.now).seats) }
-    ensures dropped { regrants (view packet.now) ≡ true → result ≡ Ok None }
-    ensures kept { regrants (view packet.now) ≡ false → is_some tree ≡ true → result ≡ Ok tree }
+    ensures kept { is_some tree ≡ true → result ≡ Ok tree }
     ensures none { is_publish (view packet.now) ≡ false → tree ≡ None → result ≡ Ok None }
     ensures made { is_publish (view packet.now) ≡ true → tree ≡ None
         → IfOk result (λ o. o ≡ made_index (desk_now desk.now).seats) }
 {
     match packet {
-        Packet::Subscribe { .. } | Packet::Unsubscribe { .. } => Ok(None),
         Packet::Publish { .. } if tree.is_none() => index(desk.alloc, &desk.seats),
         _ => Ok(tree),
     }
+}
+
+impl Seat {
+    /// Its number, and how many grants it has.
+    fn holding(&self) -> (u64, usize)
+        ensures { IfSome self.now.now (λ s. result ≡ (s.key, length s.grants)) }
+    {
+        (self.key, self.grants().len())
+    }
+}
+
+/// The session whose grants this packet may change, of the connection that sits at this place, if it does, and how many it has.
+pub(crate) fn holder(
+    desk: &Desk,
+    conn: Conn,
+    place: Option<usize>,
+    packet: &Packet,
+) -> Option<(u64, usize)>
+    requires { place_in conn desk.now.seats.items ≡ place }
+    ensures quiet { regrants (view packet.now) ≡ false → result ≡ None }
+    ensures turned { regrants (view packet.now) ≡ true
+        → result ≡ turned_of (seat_at conn (desk_now desk.now).seats) }
+{
+    let (Packet::Subscribe { .. } | Packet::Unsubscribe { .. }) = packet else {
+        return None;
+    };
+    let Some(place) = place else {
+        return None;
+    };
+    Some(desk.seats[place].holding())
 }
 
 /// Whether a session of this number was found.

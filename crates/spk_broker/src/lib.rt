@@ -35,6 +35,7 @@ mod serving;
 mod settling;
 mod sizing;
 mod subscribing;
+mod tally;
 mod turning;
 
 pub use broker::Broker;

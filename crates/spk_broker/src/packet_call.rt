@@ -8,7 +8,7 @@ ghost use Rattle.spk_broker_rules.specs.Step.{knows, step};
 
 use crate::broker::Broker;
 use crate::fault::BrokerFault;
-use crate::index::next_index;
+use crate::index::holder;
 use crate::out::{Conn, Draft, Out};
 use spk_packets::Packet;
 
@@ -31,11 +31,13 @@ impl Broker {
             return Err(BrokerFault::NoSuchConn);
         }
         let mut draft = Draft::new(self.desk.alloc);
-        let tree = self.tree.take();
-        self.tree = next_index(tree, &self.desk, packet).unwrap_or(None);
+        self.index.ready(&self.desk, packet);
+        let holder = holder(&self.desk, conn, place, packet);
         let drafted = self
             .desk
-            .draft_packet(&mut draft, &self.tree, conn, place, packet, now);
-        self.desk.conclude(drafted, draft)
+            .draft_packet(&mut draft, &self.index.tree, conn, place, packet, now);
+        let concluded = self.desk.conclude(drafted, draft);
+        self.index.follow(&self.desk.seats, holder);
+        concluded
     }
 }

@@ -11,7 +11,7 @@ use crate::seat::{Grant, Seat};
 // A level takes 168 bytes of an index, three times that while its vector doubles, and 64 bytes of text, which stands there three times, some
 // 200: so an index takes some 40 MB at most beside the maps of 10,000 grants, some 10 MB. One client may ask for 10,000 filters of 65,536
 // levels, which would take 110 GB. Without an index a publish is matched against all grants.
-const MOST_LEVELS: usize = 100_000;
+pub(crate) const MOST_LEVELS: usize = 100_000;
 
 /// How many levels a filter has (section 4.7.1.1).
 fn level_count(filter: &[u8]) -> usize
@@ -28,7 +28,7 @@ fn level_count(filter: &[u8]) -> usize
 }
 
 /// What a filter takes: its levels, and one more for each 64 bytes.
-fn size(filter: &str) -> usize
+pub(crate) fn size(filter: &str) -> usize
     ensures { result ≡ size_of filter.now }
 {
     level_count(filter.as_bytes()) + filter.len() / 64

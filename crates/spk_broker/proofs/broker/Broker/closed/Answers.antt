@@ -22,7 +22,7 @@ invariant_of-self-2 c = record {
   sound = kept-to (Closed c.args.conn c.args.now) c.args.self.now c.self.inside.desk c.draft_closed-drafted.new.self c.conclude.new.self c.new-draft.result c.draft_closed-drafted.new.draft c.draft_closed-drafted.result c.conclude.result
       (record { is = c.self.view_is; kept = c.self.invariant.sound; empty = c.new-draft.ensures; done = c.draft_closed-drafted.ensures.done; same = c.draft_closed-drafted.ensures.same })
       (record { done = c.conclude.ensures.done; sends = c.conclude.ensures.sends; closes = c.conclude.ensures.closes; variant = c.conclude.ensures.variant; same = c.conclude.ensures.same; settled = c.conclude.ensures.settled });
-  index = index-to c.self.inside.tree (Closed c.args.conn c.args.now) c.args.self.now c.self.inside.desk c.draft_closed-drafted.new.self c.conclude.new.self c.new-draft.result c.draft_closed-drafted.new.draft c.draft_closed-drafted.result c.conclude.result
+  index = index-to c.self.inside.index.tree (Closed c.args.conn c.args.now) c.args.self.now c.self.inside.desk c.draft_closed-drafted.new.self c.conclude.new.self c.new-draft.result c.draft_closed-drafted.new.draft c.draft_closed-drafted.result c.conclude.result
       (λ (e : false ≡ true). absurd (let z : ⊥ = cc in z))
       (record { is = c.self.view_is; kept = c.self.invariant.sound; empty = c.new-draft.ensures; done = c.draft_closed-drafted.ensures.done; same = c.draft_closed-drafted.ensures.same })
       (record { done = c.conclude.ensures.done; sends = c.conclude.ensures.sends; closes = c.conclude.ensures.closes; variant = c.conclude.ensures.variant; same = c.conclude.ensures.same; settled = c.conclude.ensures.settled })

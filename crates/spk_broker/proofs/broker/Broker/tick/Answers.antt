@@ -13,7 +13,7 @@ invariant_of-self c = record {
   sound = kept-is (Tick c.args.now) c.args.self.now c.self.inside.desk c.draft_tick-drafted.new.self c.finish.new.self c.new-draft.result c.draft_tick-drafted.new.draft c.draft_tick-drafted.result c.finish.result
       (record { is = c.self.view_is; kept = c.self.invariant.sound; empty = c.new-draft.ensures; done = c.draft_tick-drafted.ensures.done; same = c.draft_tick-drafted.ensures.same })
       (record { done = c.finish.ensures.done; sends = c.finish.ensures.sends; closes = c.finish.ensures.closes; variant = c.finish.ensures.variant; same = c.finish.ensures.same; settled = c.finish.ensures.settled });
-  index = index-is c.self.inside.tree (Tick c.args.now) c.args.self.now c.self.inside.desk c.draft_tick-drafted.new.self c.finish.new.self c.new-draft.result c.draft_tick-drafted.new.draft c.draft_tick-drafted.result c.finish.result refl
+  index = index-is c.self.inside.index.tree (Tick c.args.now) c.args.self.now c.self.inside.desk c.draft_tick-drafted.new.self c.finish.new.self c.new-draft.result c.draft_tick-drafted.new.draft c.draft_tick-drafted.result c.finish.result refl
       (record { is = c.self.view_is; kept = c.self.invariant.sound; empty = c.new-draft.ensures; done = c.draft_tick-drafted.ensures.done; same = c.draft_tick-drafted.ensures.same })
       (record { done = c.finish.ensures.done; sends = c.finish.ensures.sends; closes = c.finish.ensures.closes; variant = c.finish.ensures.variant; same = c.finish.ensures.same; settled = c.finish.ensures.settled })
       c.self.invariant.index;
