@@ -1,5 +1,5 @@
 -- Requests to a node: one more, and those of a longer list.
-use Rattle.std.proofs.Common.{◌≡◌, ◌∙◌, sym, ap, refl, ℕ, zero, suc, ◌+◌, ◌≤◌, Bool, true, false, List, [], ◌++◌, map, length, take, append_assoc}
+use Rattle.std.proofs.Common.{◌≡◌, ◌∙◌, sym, ap, refl, ℕ, zero, suc, ◌+◌, ◌≤◌, Bool, true, false, List, [], ◌∷◌, ◌++◌, map, length, take, append_assoc}
 use Rattle.std.specs.Prelude.{replicate, if◌then◌else◌}
 use Rattle.std.proofs.lemmas.List.{length-map, map-append, replicate-append-replicate, take-map, take-replicate}
 use Rattle.std.proofs.Math.Seq.{take-append-add}
@@ -9,6 +9,7 @@ use Rattle.spk_sequence.specs.declared.answer.Step.{Step}
 use Rattle.spk_topics.specs.Spark.{Named}
 use Rattle.spk_reading.specs.Data.{NumberedData}
 use Rattle.spk_host_session.specs.Data.{is_address}
+use Rattle.spk_host_session.specs.Packets.{rebirth_of}
 use Rattle.spk_host.specs.Data.{OutData}
 use Rattle.spk_host.specs.Step.{requests_to, spelled, topics_to}
 
@@ -40,6 +41,17 @@ requests_more see new old first group node now k so is =
     ∙ append_assoc (map see first) (spelled (requests_to group node now k)) (spelled (requests_to group node now 1))
     ∙ ap (λ l. map see first ++ l) (sym (map-append spelling (requests_to group node now k) (requests_to group node now 1))
     ∙ ap spelled (sym (more (is_address group node) k _)))
+
+written : (m : Message) (k : ℕ) → replicate k (spelling m) ≡ map spelling (replicate k m)
+written m zero = refl
+written m (suc k) = ap (λ l. spelling m ∷ l) (written m k)
+
+-- copies of the bytes of one request are so many requests
+pub copied : (group node : List ℕ) (now count : ℕ) (bytes : List ℕ) → is_address group node ≡ true → bytes ≡ spelling (rebirth_of group node now) →
+    replicate count bytes ≡ spelled (requests_to group node now count)
+copied group node now count bytes good is =
+    ap (replicate count) is ∙ written (rebirth_of group node now) count
+    ∙ sym (ap (λ b. spelled (if b then replicate count (rebirth_of group node now) else [])) good)
 
 pub topics_cut : {X : Type 0} (see : X → Named) (new all : List X) (group node : List ℕ) (k most : ℕ) → new ≡ take k all →
     map see all ≡ topics_to group node most → k ≤ most → map see new ≡ topics_to group node k

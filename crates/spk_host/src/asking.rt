@@ -1,7 +1,8 @@
 //! Rebirth requests to a node.
-ghost use Rattle.std.specs.Prelude.{◌≡◌, ◌++◌, All, map, IfOk, OnOk};
+ghost use Rattle.std.specs.Prelude.{◌≡◌, ◌++◌, ◌∷◌, [], true, All, map, replicate, IfOk, OnOk};
 ghost use Rattle.spk_topics.specs.Spark.{named};
 ghost use Rattle.spk_topics.specs.Spark.Named.{of_node};
+ghost use Rattle.spk_host_session.specs.Data.{is_address};
 ghost use Rattle.spk_host_session.specs.Packets.{IsPacket};
 ghost use Rattle.spk_host.specs.Step.{requests_to, spelled, topics_to};
 
@@ -47,6 +48,78 @@ pub(crate) fn ask(
     }
 }
 
+/// A request to a node, whose bytes are these, behind those that are there.
+fn ask_copy(
+    alloc: Global,
+    group: &str,
+    node: &str,
+    bytes: &[u8],
+    rebirths: &mut Vec<Spark>,
+    packets: &mut Vec<Vec<u8>>,
+) -> Result<(), AllocError>
+    requires { is_address group.now node.now ≡ true }
+    ensures topics { OnOk result (map named rebirths.new.items
+        ≡ map named rebirths.old.items ++ topics_to group.now node.now 1) }
+    ensures packets { OnOk result (map (λ b. b.items) packets.new.items
+        ≡ map (λ b. b.items) packets.old.items ++ bytes.now ∷ []) }
+    ensures whole { IsPacket bytes.now → All (λ b. IsPacket b.items) packets.old.items
+        → OnOk result (All (λ b. IsPacket b.items) packets.new.items) }
+{
+    let copy = bytes.to_vec(alloc)?;
+    rebirths.push(topic_to(alloc, group, node)?)?;
+    packets.push(copy)?;
+    Ok(())
+}
+
+/// So many requests to a node, whose bytes are these, behind those that are there.
+fn ask_copies(
+    alloc: Global,
+    group: &str,
+    node: &str,
+    count: usize,
+    bytes: &[u8],
+    rebirths: &mut Vec<Spark>,
+    packets: &mut Vec<Vec<u8>>,
+) -> Result<(), AllocError>
+    requires { is_address group.now node.now ≡ true }
+    ensures topics { OnOk result (map named rebirths.new.items
+        ≡ map named rebirths.old.items ++ topics_to group.now node.now count) }
+    ensures packets { OnOk result (map (λ b. b.items) packets.new.items
+        ≡ map (λ b. b.items) packets.old.items ++ replicate count bytes.now) }
+    ensures whole { IsPacket bytes.now → All (λ b. IsPacket b.items) packets.old.items
+        → OnOk result (All (λ b. IsPacket b.items) packets.new.items) }
+{
+    for _copy in 0..count {
+        ask_copy(alloc, group, node, bytes, rebirths, packets)?;
+    }
+    Ok(())
+}
+
+/// So many requests to a node, behind those that are there. They are of one moment, so they are written once.
+fn ask_many(
+    alloc: Global,
+    group: &str,
+    node: &str,
+    now: u64,
+    count: usize,
+    rebirths: &mut Vec<Spark>,
+    packets: &mut Vec<Vec<u8>>,
+) -> Result<(), AllocError>
+    ensures topics { OnOk result (map named rebirths.new.items
+        ≡ map named rebirths.old.items ++ topics_to group.now node.now count) }
+    ensures packets { OnOk result (map (λ b. b.items) packets.new.items
+        ≡ map (λ b. b.items) packets.old.items
+        ++ spelled (requests_to group.now node.now now count)) }
+    ensures whole { All (λ b. IsPacket b.items) packets.old.items
+        → OnOk result (All (λ b. IsPacket b.items) packets.new.items) }
+{
+    match rebirth(alloc, group, node, now) {
+        Ok(bytes) => ask_copies(alloc, group, node, count, &bytes, rebirths, packets),
+        Err(HostFault::NotSparkplug) => Ok(()),
+        Err(_) => Err(AllocError),
+    }
+}
+
 /// So many requests to a node, behind those that are there.
 pub(crate) fn ask_all(
     alloc: Global,
@@ -65,6 +138,9 @@ pub(crate) fn ask_all(
     ensures whole { All (λ b. IsPacket b.items) packets.old.items
         → OnOk result (All (λ b. IsPacket b.items) packets.new.items) }
 {
+    if count > 1 {
+        return ask_many(alloc, group, node, now, count, rebirths, packets);
+    }
     for _request in 0..count {
         ask(alloc, group, node, now, rebirths, packets)?;
     }
