@@ -1,5 +1,5 @@
 //! Topics, and payloads as bytes.
-ghost use Rattle.std.specs.Prelude.{◌≡◌, IfOk, map, string_bytes};
+ghost use Rattle.std.specs.Prelude.{◌≡◌, [], IfOk, map, string_bytes};
 ghost use Rattle.spk_payload.specs.Spelling as spelled;
 ghost use Rattle.spk_payload.specs.View.{metric_view, payload_view};
 ghost use Rattle.spk_topics.specs.Spark.{topic_of};
@@ -13,6 +13,15 @@ use spk_payload::{Metric, Payload, PayloadFault, Raw, encode};
 use spk_topics::{Verb, device_type, node_type};
 use std::alloc::{AllocError, Global};
 
+/// A text for a topic of these names, with room for all of it: besides them it has 17 bytes at the most.
+fn room_for(alloc: Global, group: &str, node: &str, device: &str) -> Result<String, AllocError>
+    ensures { IfOk result (λ t. string_bytes t ≡ []) }
+{
+    let names = group.len().saturating_add(node.len());
+    let names = names.saturating_add(device.len());
+    String::with_capacity(alloc, names.saturating_add(17))
+}
+
 /// The topic of the node (Sparkplug 3.0.0, chapter 4).
 pub fn node_topic(alloc: Global, config: &EdgeConfig, kind: Verb) -> Result<String, AllocError>
     ensures { IfOk result (λ t. string_bytes t
@@ -21,7 +30,14 @@ pub fn node_topic(alloc: Global, config: &EdgeConfig, kind: Verb) -> Result<Stri
     let group = config.group.as_str();
     let node = config.node.as_str();
     let kind = node_type(kind);
-    format!(in alloc; "spBv1.0/{group}/{kind}/{node}")
+    let mut topic = room_for(alloc, group, node, "")?;
+    topic.push_str("spBv1.0/")?;
+    topic.push_str(group)?;
+    topic.push_str("/")?;
+    topic.push_str(kind)?;
+    topic.push_str("/")?;
+    topic.push_str(node)?;
+    Ok(topic)
 }
 
 /// The topic of one of its devices.
@@ -38,7 +54,16 @@ pub(crate) fn device_topic(
     let group = config.group.as_str();
     let node = config.node.as_str();
     let kind = device_type(kind);
-    format!(in alloc; "spBv1.0/{group}/{kind}/{node}/{device}")
+    let mut topic = room_for(alloc, group, node, device)?;
+    topic.push_str("spBv1.0/")?;
+    topic.push_str(group)?;
+    topic.push_str("/")?;
+    topic.push_str(kind)?;
+    topic.push_str("/")?;
+    topic.push_str(node)?;
+    topic.push_str("/")?;
+    topic.push_str(device)?;
+    Ok(topic)
 }
 
 /// The topic of a host application's STATE.
