@@ -1,7 +1,8 @@
 //! Messages get their numbers, and packets are written.
-ghost use Rattle.std.specs.Prelude.{◌≡◌, ◌⊎◌, IfOk, IfErr, OnOk, map, true, false, ◌∷◌, []};
+ghost use Rattle.std.specs.Prelude.{◌≡◌, ◌⊎◌, IfOk, IfErr, OnOk, None, map, true, false, ◌∷◌, []};
 ghost use Rattle.std.specs.List.{AllByRecursion, list_all};
 ghost use Rattle.spk_payload.specs.Spelling.{PayloadFits};
+ghost use Rattle.spk_packets.specs.Message.{Publish};
 ghost use Rattle.spk_packets.specs.Spelling.{spelling};
 ghost use Rattle.spk_packets.specs.View.{view};
 ghost use Rattle.spk_edge_rules.specs.Answers.{is_writable};
@@ -13,8 +14,8 @@ use crate::message::Published;
 use crate::texts::spelled;
 use spk_edge_rules::EdgeFault;
 use spk_packets::laws::spelling_spells;
-use spk_packets::{Packet, PacketFault, encode};
-use std::alloc::{AllocError, Global};
+use spk_packets::{Packet, PacketFault, PublishRef, encode};
+use std::alloc::Global;
 
 /// A packet's bytes; TooLarge where it can't be written.
 pub(crate) fn written(alloc: Global, packet: &Packet) -> Result<Vec<u8>, EdgeFault>
@@ -44,20 +45,28 @@ pub(crate) fn written_packets(alloc: Global, packets: &[Packet]) -> Result<Vec<V
     Ok(out)
 }
 
-/// The packet of a message that has its number.
-fn publish(alloc: Global, message: &Published) -> Result<Packet, AllocError>
-    requires { seal.AreKnown (message_view message.now).payload.metrics }
-    ensures packet { IfOk result (λ p. view p ≡ seal.wire_of (message_view message.now)) }
-    ensures fits { OnOk result (PayloadFits (message_view message.now).payload) }
+/// The bytes of a PUBLISH of QoS 0; TooLarge where it can't be written.
+fn published(alloc: Global, topic: &str, payload: &[u8]) -> Result<Vec<u8>, EdgeFault>
+    ensures bytes { IfOk result (λ v. seal.bytes_of v
+        ≡ spelling (Publish false 0 false topic.now None payload.now)) }
+    ensures writable { OnOk result
+        (is_writable (Publish false 0 false topic.now None payload.now) ≡ true) }
+    ensures fault { IfErr result (λ e. (e ≡ EdgeFault.NoMemory) ⊎ ((e ≡ EdgeFault.TooLarge)
+        × (is_writable (Publish false 0 false topic.now None payload.now) ≡ false))) }
 {
-    Ok(Packet::Publish {
+    let packet = PublishRef {
         dup: false,
         qos: 0,
         retain: false,
-        topic: String::from_str(alloc, message.topic.as_str())?,
+        topic,
         id: None,
-        payload: spelled(alloc, &message.payload)?,
-    })
+        payload,
+    };
+    match packet.encode(alloc) {
+        Ok(bytes) => Ok(bytes),
+        Err(PacketFault::NoMemory) => Err(EdgeFault::NoMemory),
+        Err(_) => Err(EdgeFault::TooLarge),
+    }
 }
 
 /// A message's bytes.
@@ -72,8 +81,8 @@ fn written_message(alloc: Global, message: &Published) -> Result<Vec<u8>, EdgeFa
         ≡ false))) }
 {
     spelling_spells();
-    let packet = publish(alloc, message)?;
-    written(alloc, &packet)
+    let payload = spelled(alloc, &message.payload)?;
+    published(alloc, message.topic.as_str(), &payload)
 }
 
 /// The messages' bytes, in order.
