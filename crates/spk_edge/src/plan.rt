@@ -102,7 +102,13 @@ fn packets(
     if plain.is_empty() && messages.is_empty() {
         return Ok(Vec::new(alloc));
     }
+    if plain.is_empty() {
+        return written_messages(alloc, messages);
+    }
     let mut out = written_packets(alloc, plain)?;
+    if messages.is_empty() {
+        return Ok(out);
+    }
     let mut more = written_messages(alloc, messages)?;
     out.append(&mut more)?;
     Ok(out)
