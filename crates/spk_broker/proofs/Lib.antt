@@ -13,6 +13,7 @@ pub mod Gives
 pub mod Indexing
 pub mod Keepers
 pub mod Keeping
+pub mod Leaving
 pub mod Near
 pub mod Offers
 pub mod Opening

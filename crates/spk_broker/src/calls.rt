@@ -30,7 +30,9 @@ impl Broker {
             return Err(BrokerFault::NoSuchConn);
         }
         let mut draft = Draft::new(self.desk.alloc);
-        let drafted = self.desk.draft_closed(&mut draft, conn, place, now);
+        let drafted = self
+            .desk
+            .draft_closed(&mut draft, &self.index.tree, conn, place, now);
         self.desk.conclude(drafted, draft)
     }
 
@@ -52,7 +54,9 @@ impl Broker {
             return Err(BrokerFault::NoSuchConn);
         }
         let mut draft = Draft::new(self.desk.alloc);
-        let drafted = self.desk.draft_fault(&mut draft, conn, place, fault, now);
+        let drafted =
+            self.desk
+                .draft_fault(&mut draft, &self.index.tree, conn, place, fault, now);
         self.desk.conclude(drafted, draft)
     }
 
@@ -67,7 +71,7 @@ impl Broker {
         ensures err { OnErr result (self.new ≡ self.old) }
     {
         let mut draft = Draft::new(self.desk.alloc);
-        let drafted = self.desk.draft_tick(&mut draft, now);
+        let drafted = self.desk.draft_tick(&mut draft, &self.index.tree, now);
         self.desk.finish(drafted, draft)
     }
 

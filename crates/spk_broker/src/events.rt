@@ -1,14 +1,17 @@
 //! What each event drafts, but for packets.
-ghost use Rattle.std.specs.Prelude.{◌≡◌, ◌≤◌, ◌∷◌, [], IfOk, OnOk, true, false, ◌&&◌, is_none};
+ghost use Rattle.std.specs.Prelude.{◌≡◌, ◌≤◌, ◌∷◌, [], IfOk, OnOk, Option, true, false, ◌&&◌, is_none};
 ghost use Rattle.std.specs.List.{flat_map};
 ghost use Rattle.spk_packets.specs.Message.{ConnAck};
+ghost use Rattle.spk_topics.specs.Grants.{Grants};
 ghost use Rattle.spk_broker_rules.specs.Plan.{Closed, Fault, Leave, Refused, Route, Say, Tell, Tick, is_bad_level, shut, turn_away};
 ghost use Rattle.spk_broker_rules.specs.Step.{Turn, acts};
 ghost use Rattle.spk_session.specs.declared.answer.Sort.TheVariants as Sort;
 ghost use Rattle.spk_broker.specs.Asking.{place_in};
+ghost use Rattle.spk_broker.specs.Called.{AreInOrder, AreKeyed};
 ghost use Rattle.spk_broker.specs.Endings.{IsReady, Leads};
+ghost use Rattle.spk_broker.specs.Filing.{IsIndex};
 ghost use Rattle.spk_broker.specs.Touched.{IsAlone};
-ghost use Rattle.spk_broker.specs.View.{Stands, desk_was, ends, stepped};
+ghost use Rattle.spk_broker.specs.View.{Stands, desk_now, desk_was, ends, stepped};
 
 use crate::asking::silent;
 use crate::desk::Desk;
@@ -16,6 +19,7 @@ use crate::ending::Ending;
 use crate::out::{Conn, Draft};
 use spk_packets::{Packet, PacketFault};
 use spk_session::Sort;
+use spk_topics::Tree;
 use std::alloc::AllocError;
 
 /// Whether bytes name another protocol level (section 3.1.2.2).
@@ -61,10 +65,13 @@ impl Desk {
     pub(crate) fn draft_closed(
         &mut self,
         draft: &mut Draft,
+        tree: &Option<Tree>,
         conn: Conn,
         place: Option<usize>,
         now: u64,
     ) -> Result<Ending, AllocError>
+        requires index { IsIndex tree.now (desk_now self.old).seats }
+        requires order { AreInOrder tree.now self.old.seats.items }
         requires place { place_in conn self.old.seats.items ≡ place }
         requires alone { IsAlone place self.old }
         ensures done { IfOk result (λ e. (t : Turn) → Stands self.old draft.old t
@@ -74,7 +81,7 @@ impl Desk {
     {
         self.at(now);
         self.leave_at(draft, conn, place, true)?;
-        let ending = self.route_near(draft, &None, place)?;
+        let ending = self.route_near(draft, tree, place)?;
         Ok(ending)
     }
 
@@ -83,11 +90,14 @@ impl Desk {
     pub(crate) fn draft_fault(
         &mut self,
         draft: &mut Draft,
+        tree: &Option<Tree>,
         conn: Conn,
         place: Option<usize>,
         fault: PacketFault,
         now: u64,
     ) -> Result<Ending, AllocError>
+        requires index { IsIndex tree.now (desk_now self.old).seats }
+        requires order { AreInOrder tree.now self.old.seats.items }
         requires place { place_in conn self.old.seats.items ≡ place }
         requires alone { IsAlone place self.old }
         ensures done { IfOk result (λ e. (t : Turn) → Stands self.old draft.old t
@@ -100,7 +110,7 @@ impl Desk {
             self.turn_away(draft, conn, 1)?;
             return Ok(Ending::Nothing);
         }
-        let ending = self.shut_at(draft, conn, place)?;
+        let ending = self.shut_at(draft, tree, conn, place)?;
         Ok(ending)
     }
 
@@ -109,6 +119,10 @@ impl Desk {
         ensures done { OnOk result ((t : Turn) → Stands self.old draft.old t
             → Stands self.new draft.new (acts (flat_map ends conns.now) t)) }
         ensures same { desk_was self.new ≡ desk_was self.old }
+        ensures index { OnOk result ((i : Option Grants) → IsIndex i (desk_now self.old).seats
+            → IsIndex i (desk_now self.new).seats) }
+        ensures keyed { OnOk result
+            (AreKeyed self.old.seats.items → AreKeyed self.new.seats.items) }
     {
         for conn in conns {
             self.leave(draft, *conn, true)?;
@@ -118,7 +132,14 @@ impl Desk {
     }
 
     /// All that are silent for too long are ended, then their wills are routed in that order (section 3.1.2.10).
-    pub(crate) fn draft_tick(&mut self, draft: &mut Draft, now: u64) -> Result<(), AllocError>
+    pub(crate) fn draft_tick(
+        &mut self,
+        draft: &mut Draft,
+        tree: &Option<Tree>,
+        now: u64,
+    ) -> Result<(), AllocError>
+        requires index { IsIndex tree.now (desk_now self.old).seats }
+        requires order { AreInOrder tree.now self.old.seats.items }
         ensures done { OnOk result ((t : Turn) → Stands self.old draft.old t
             → Stands self.new draft.new (stepped (Tick now) t)) }
         ensures same { desk_was self.new ≡ desk_was self.old }
@@ -126,7 +147,7 @@ impl Desk {
         self.at(now);
         let conns = silent(self.alloc, &self.seats, self.clock)?;
         self.end_all(draft, &conns)?;
-        self.route(draft, &None)?;
+        self.route(draft, tree)?;
         Ok(())
     }
 
@@ -150,7 +171,7 @@ impl Desk {
         if !self.is_spent(conn, place) {
             return Ok(Ending::alone(place));
         }
-        let ending = self.shut_at(draft, conn, place)?;
+        let ending = self.shut_at(draft, &None, conn, place)?;
         Ok(ending)
     }
 
@@ -178,7 +199,7 @@ impl Desk {
             }
             Sort::Other => {
                 self.at(now);
-                let ending = self.shut_at(draft, conn, place)?;
+                let ending = self.shut_at(draft, &None, conn, place)?;
                 Ok(ending)
             }
         }

@@ -126,7 +126,7 @@ impl Desk {
         ensures same { desk_was self.new ≡ desk_was self.old }
     {
         if !is_writable(packet) {
-            let ending = self.shut_at(draft, conn, place)?;
+            let ending = self.shut_at(draft, tree, conn, place)?;
             return Ok(ending);
         }
         if let Some(place) = place {

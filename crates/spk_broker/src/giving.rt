@@ -117,7 +117,7 @@ impl Desk {
         ensures same { desk_was self.new ≡ desk_was self.old }
     {
         if has_bad_entry(entries) {
-            let ending = self.shut_at(draft, conn, Some(place))?;
+            let ending = self.shut_at(draft, &None, conn, Some(place))?;
             return Ok(ending);
         }
         self.give(draft, conn, place, id, entries)?;

@@ -1,12 +1,14 @@
 //! Drafted acts: the clock, what was heard and dropped, and connections that leave.
-ghost use Rattle.std.specs.Prelude.{◌≡◌, ◌∷◌, ◌++◌, [], IfOk, OnOk, Some, true};
+ghost use Rattle.std.specs.Prelude.{◌≡◌, ◌∷◌, ◌++◌, [], IfOk, OnOk, Option, Some, true};
+ghost use Rattle.spk_topics.specs.Grants.{Grants};
 ghost use Rattle.spk_broker_rules.specs.Plan.{At, Drop, Hear, Leave, Say, Tell, shut};
 ghost use Rattle.spk_broker_rules.specs.Step.{Turn, act, acts};
 ghost use Rattle.spk_broker.specs.Asking.{place_in};
-ghost use Rattle.spk_broker.specs.Called.{AreKeyed};
+ghost use Rattle.spk_broker.specs.Called.{AreInOrder, AreKeyed};
 ghost use Rattle.spk_broker.specs.Endings.{IsReady, Leads};
+ghost use Rattle.spk_broker.specs.Filing.{IsIndex};
 ghost use Rattle.spk_broker.specs.Touched.{IsAlone, OnlyAt};
-ghost use Rattle.spk_broker.specs.View.{Stands, desk_was};
+ghost use Rattle.spk_broker.specs.View.{Stands, desk_now, desk_was};
 ghost use Rattle.spk_broker.specs.declared.out.Draft.{Draft};
 
 use crate::asking::place_of;
@@ -14,6 +16,7 @@ use crate::desk::Desk;
 use crate::ending::Ending;
 use crate::guest;
 use crate::out::{Conn, Draft};
+use spk_topics::Tree;
 use std::alloc::AllocError;
 
 impl Desk {
@@ -102,12 +105,17 @@ impl Desk {
             → Stands self.new draft.new (act (Leave conn wills) t)) }
         ensures same { desk_was self.new ≡ desk_was self.old }
         ensures alone { OnOk result (IsAlone place self.old → IsAlone place self.new) }
+        ensures index { OnOk result ((i : Option Grants) → IsIndex i (desk_now self.old).seats
+            → IsIndex i (desk_now self.new).seats) }
+        ensures keyed { OnOk result
+            (AreKeyed self.old.seats.items → AreKeyed self.new.seats.items) }
     {
         let Some(place) = place else {
             guest::leave(&mut self.guests, conn);
             return Ok(());
         };
         self.seats[place].leave(draft, wills)?;
+        self.seats[place].keyed();
         Ok(())
     }
 
@@ -121,6 +129,10 @@ impl Desk {
         ensures done { OnOk result ((t : Turn) → Stands self.old draft.old t
             → Stands self.new draft.new (act (Leave conn wills) t)) }
         ensures same { desk_was self.new ≡ desk_was self.old }
+        ensures index { OnOk result ((i : Option Grants) → IsIndex i (desk_now self.old).seats
+            → IsIndex i (desk_now self.new).seats) }
+        ensures keyed { OnOk result
+            (AreKeyed self.old.seats.items → AreKeyed self.new.seats.items) }
     {
         let place = place_of(&self.seats, conn);
         self.leave_at(draft, conn, place, wills)?;
@@ -143,9 +155,12 @@ impl Desk {
     pub(crate) fn shut_at(
         &mut self,
         draft: &mut Draft,
+        tree: &Option<Tree>,
         conn: Conn,
         place: Option<usize>,
     ) -> Result<Ending, AllocError>
+        requires index { IsIndex tree.now (desk_now self.old).seats }
+        requires order { AreInOrder tree.now self.old.seats.items }
         requires place { place_in conn self.old.seats.items ≡ place }
         requires alone { IsAlone place self.old }
         ensures done { IfOk result (λ e. (t : Turn) → Stands self.old draft.old t
@@ -155,7 +170,7 @@ impl Desk {
     {
         self.leave_at(draft, conn, place, true)?;
         draft.tell(conn)?;
-        let ending = self.route_near(draft, &None, place)?;
+        let ending = self.route_near(draft, tree, place)?;
         Ok(ending)
     }
 }

@@ -69,7 +69,7 @@ impl Desk {
         ensures same { desk_was self.new ≡ desk_was self.old }
     {
         if is_no_topic(post.topic.as_str()) {
-            let ending = self.shut_at(draft, conn, Some(place))?;
+            let ending = self.shut_at(draft, tree, conn, Some(place))?;
             return Ok(ending);
         }
         self.puback(draft, conn, id)?;
@@ -114,7 +114,7 @@ impl Desk {
                 Ok(Ending::One(place))
             }
             _ => {
-                let ending = self.shut_at(draft, conn, Some(place))?;
+                let ending = self.shut_at(draft, &None, conn, Some(place))?;
                 Ok(ending)
             }
         }

@@ -99,7 +99,7 @@ impl Desk {
         ensures same { desk_was self.new ≡ desk_was self.old }
     {
         if has_bad_filter(names) {
-            let ending = self.shut_at(draft, conn, Some(place))?;
+            let ending = self.shut_at(draft, &None, conn, Some(place))?;
             return Ok(ending);
         }
         self.take(conn, place, names)?;

@@ -1,6 +1,7 @@
 use Rattle.std.proofs.Common.{◌≡◌, sym, false, true}
 use Rattle.spk_broker_rules.specs.Plan.{Fault}
-use Rattle.spk_broker.proofs.Finishing.{closes-to, done-to, index-to, kept-to, sends-to, stands-to}
+use Rattle.spk_broker.proofs.Finishing.{closes-to, done-to, index-to, kept-to, now-index, sends-to, stands-to}
+use Rattle.spk_broker.proofs.Leaving.{sound-order}
 use Rattle.spk_broker.proofs.broker.Broker.fault.Goals as goal
 
 pub conclude-requires-clause-stands : goal.conclude-requires-clause-stands
@@ -46,3 +47,9 @@ returns-clause-done c =
     done-to (Fault c.args.conn c.args.fault c.args.now) c.args.self.now c.self.inside.desk c.draft_fault-drafted.new.self c.conclude.new.self c.new-draft.result c.draft_fault-drafted.new.draft c.draft_fault-drafted.result c.conclude.result
     (record { is = c.self.view_is; kept = c.self.invariant.sound; empty = c.new-draft.ensures; done = c.draft_fault-drafted.ensures.done; same = c.draft_fault-drafted.ensures.same })
     (record { done = c.conclude.ensures.done; sends = c.conclude.ensures.sends; closes = c.conclude.ensures.closes; variant = c.conclude.ensures.variant; same = c.conclude.ensures.same; settled = c.conclude.ensures.settled })
+
+pub draft_fault-drafted-requires-clause-index : goal.draft_fault-drafted-requires-clause-index
+draft_fault-drafted-requires-clause-index c = now-index c.self.inside.index.tree c.self.inside.desk c.self.invariant.sound c.self.invariant.index
+
+pub draft_fault-drafted-requires-clause-order : goal.draft_fault-drafted-requires-clause-order
+draft_fault-drafted-requires-clause-order c = sound-order c.self.inside.index.tree c.self.inside.desk c.self.invariant.sound

@@ -1,6 +1,7 @@
 use Rattle.std.proofs.Common.{refl}
 use Rattle.spk_broker_rules.specs.Plan.{Tick}
-use Rattle.spk_broker.proofs.Finishing.{closes-are, done-is, index-is, kept-is, room-for, sends-are}
+use Rattle.spk_broker.proofs.Finishing.{closes-are, done-is, index-is, kept-is, now-index, room-for, sends-are}
+use Rattle.spk_broker.proofs.Leaving.{sound-order}
 use Rattle.spk_broker.proofs.broker.Broker.tick.Goals as goal
 
 pub finish-requires : goal.finish-requires
@@ -36,3 +37,9 @@ returns-clause-done c =
     done-is (Tick c.args.now) c.args.self.now c.self.inside.desk c.draft_tick-drafted.new.self c.finish.new.self c.new-draft.result c.draft_tick-drafted.new.draft c.draft_tick-drafted.result c.finish.result
     (record { is = c.self.view_is; kept = c.self.invariant.sound; empty = c.new-draft.ensures; done = c.draft_tick-drafted.ensures.done; same = c.draft_tick-drafted.ensures.same })
     (record { done = c.finish.ensures.done; sends = c.finish.ensures.sends; closes = c.finish.ensures.closes; variant = c.finish.ensures.variant; same = c.finish.ensures.same; settled = c.finish.ensures.settled })
+
+pub draft_tick-drafted-requires-clause-index : goal.draft_tick-drafted-requires-clause-index
+draft_tick-drafted-requires-clause-index c = now-index c.self.inside.index.tree c.self.inside.desk c.self.invariant.sound c.self.invariant.index
+
+pub draft_tick-drafted-requires-clause-order : goal.draft_tick-drafted-requires-clause-order
+draft_tick-drafted-requires-clause-order c = sound-order c.self.inside.index.tree c.self.inside.desk c.self.invariant.sound

@@ -1,5 +1,8 @@
-use Rattle.std.proofs.Common.{◌∙◌, ap}
+use Rattle.std.proofs.Common.{Global, Vec, ◌∙◌, ap, subst, sym}
 use Rattle.spk_broker.specs.Asking.{place_in}
+use Rattle.spk_broker.specs.Called.{AreKeyed}
+use Rattle.spk_broker.specs.declared.seat.Seat.{Seat}
+use Rattle.spk_broker.proofs.Leaving.{order-left}
 use Rattle.spk_broker.proofs.Touched.{alone-as}
 use Rattle.spk_broker.proofs.desk.Desk.draft_closed.Goals as goal
 
@@ -12,3 +15,8 @@ route_near-requires-clause-alone c =
 
 pub returns-clause-done : goal.returns-clause-done
 returns-clause-done c t s = c.in_ok-ending.ensures.done _ (c.in_ok-leave_at.ensures.done _ (c.at.ensures.done c.args.draft.now t s))
+
+pub route_near-requires-clause-order : goal.route_near-requires-clause-order
+route_near-requires-clause-order c =
+    order-left c.args.tree.now c.args.self.now c.leave_at.new.self (c.leave_at.ensures.same ∙ c.at.ensures.same)
+    (λ keyed. c.in_ok-leave_at.ensures.keyed (subst (λ (v : Vec Seat Global). AreKeyed v.items) (sym c.at.ensures.seats) keyed)) c.requires.order

@@ -1,8 +1,11 @@
-use Rattle.std.proofs.Common.{◌∙◌, ap}
+use Rattle.std.proofs.Common.{Global, Vec, ◌∙◌, ap, subst, sym}
 use Rattle.std.specs.List.{flat_map}
 use Rattle.spk_broker_rules.specs.Plan.{At}
 use Rattle.spk_broker_rules.specs.Step.{act, silent_at}
 use Rattle.spk_broker.specs.Asking.{seats_now}
+use Rattle.spk_broker.specs.Called.{AreKeyed}
+use Rattle.spk_broker.specs.declared.seat.Seat.{Seat}
+use Rattle.spk_broker.proofs.Leaving.{order-left}
 use Rattle.spk_broker.proofs.Ruled.{tick-stands}
 use Rattle.spk_broker.proofs.desk.Desk.draft_tick.Goals as goal
 
@@ -12,3 +15,8 @@ returns-clause-done c t s =
     tick-stands c.at.new.self c.route.new.self c.args.draft.now c.route.new.draft c.args.now c.deref-2.result.now t s1
     (c.deref-2.ensures.value ∙ c.in_ok-conns.ensures ∙ ap (λ l. flat_map (silent_at c.at.new.self.clock) (seats_now l)) c.deref.ensures.value)
     (c.in_ok-route.ensures.done _ (c.in_ok-end_all.ensures.done (act (At c.args.now) t) s1))
+
+pub route-requires-clause-order : goal.route-requires-clause-order
+route-requires-clause-order c =
+    order-left c.args.tree.now c.args.self.now c.end_all.new.self (c.end_all.ensures.same ∙ c.at.ensures.same)
+    (λ keyed. c.in_ok-end_all.ensures.keyed (subst (λ (v : Vec Seat Global). AreKeyed v.items) (sym c.at.ensures.seats) keyed)) c.requires.order

@@ -1,11 +1,16 @@
-use Rattle.std.proofs.Common.{◌≡◌, take}
+use Rattle.std.proofs.Common.{◌≡◌, Option, take}
 use Rattle.std.specs.List.{flat_map}
+use Rattle.spk_topics.specs.Grants.{Grants}
 use Rattle.spk_broker_rules.specs.Step.{Turn, acts}
-use Rattle.spk_broker.specs.View.{Stands, desk_was, ends}
+use Rattle.spk_broker.specs.Called.{AreKeyed}
+use Rattle.spk_broker.specs.Filing.{IsIndex}
+use Rattle.spk_broker.specs.View.{Stands, desk_now, desk_was, ends}
 use Rattle.spk_broker.proofs.desk.Desk.end_all.Given as goal
 
 abbrev pub invariant-loop-conn : goal.invariant-loop-conn
 invariant-loop-conn l = record {
   same : desk_was l.self ≡ desk_was l.initial.self;
+  index : (i : Option Grants) → IsIndex i (desk_now l.initial.self).seats → IsIndex i (desk_now l.self).seats;
+  keyed : AreKeyed l.initial.self.seats.items → AreKeyed l.self.seats.items;
   done : (t : Turn) → Stands l.initial.self l.initial.draft t → Stands l.self l.draft (acts (flat_map ends (take l.conn-index l.conns)) t);
 }

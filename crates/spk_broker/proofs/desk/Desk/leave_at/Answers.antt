@@ -7,6 +7,7 @@ use Rattle.spk_broker.specs.Both.{Both}
 use Rattle.spk_broker.specs.declared.desk.Desk.{Desk}
 use Rattle.spk_broker.specs.Drafts.{draft_view}
 use Rattle.spk_broker.specs.View.{guest_now, seat_was, desk_was}
+use Rattle.spk_broker.proofs.Leaving.{index-left}
 use Rattle.spk_broker.proofs.Refilled.{refilled}
 use Rattle.spk_broker.proofs.Standing.{guest-leaves, seat-leaves}
 use Rattle.spk_broker.proofs.Walks.{same-step}
@@ -39,3 +40,8 @@ returns-clause-done c =
     (c.requires ∙ c.in-Some.is) refl refl
     (c.in_ok-leave.ensures.left ∙ ap (λ (b : Both). flat_map left_behind (option_list b.now)) c.index_mut.ensures.value)
     (c.in_ok-leave.ensures.drafted ∙ ap (λ (b : Both). record (draft_view c.args.draft.now) { waiting = (draft_view c.args.draft.now).waiting ++ flat_map (will_at c.args.wills) (option_list b.now) }) c.index_mut.ensures.value)
+
+pub returns-clause-index : goal.returns-clause-index
+returns-clause-index c i h =
+    index-left i c.args.self.now.seats.items c.in-Some.place c.index_mut.result.now c.leave-2.new.self
+    (c.in_ok-leave.ensures.left ∙ ap (λ (b : Both). flat_map left_behind (option_list b.now)) c.index_mut.ensures.value) h
