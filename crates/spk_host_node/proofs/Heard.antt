@@ -1,5 +1,5 @@
 -- What the view hears by a step: how much it is, and that it is what the order consumes.
-use Rattle.std.proofs.Common.{◌≡◌, ◌∙◌, sym, ap, refl, arith, ℕ, suc, ◌+◌, ◌-◌, ◌%◌, ◌≤◌, Bool, true, false, List, [], ◌∷◌, map, length, Option, Some, None}
+use Rattle.std.proofs.Common.{◌≡◌, ◌∙◌, sym, ap, refl, subst, arith, ℕ, suc, ◌+◌, ◌-◌, ◌%◌, ◌≤◌, Bool, true, false, List, [], ◌∷◌, map, length, Option, Some, None}
 use Rattle.std.specs.Prelude.{if◌then◌else◌}
 use Rattle.std.specs.List.{filter_map, range_with_len}
 use Rattle.std.proofs.lemmas.List.{length-map}
@@ -7,12 +7,12 @@ use Rattle.std.proofs.lemmas.List.FromFn.{length-map-range_with_len}
 use Rattle.spk_sequence.specs.declared.answer.Step.{Step}
 use Rattle.spk_sequence.specs.declared.answer.Step.TheVariants as step
 use Rattle.spk_order.specs.Ordered.{Ordered, kept_at}
-use Rattle.spk_order.specs.Step.{consumed_with}
+use Rattle.spk_order.specs.Step.{IsAlone, consumed_with}
 use Rattle.spk_reading.specs.Data.{NumberedData}
 use Rattle.spk_host_rules.specs.Data.{Event, Watch}
 use Rattle.spk_host_rules.specs.Step as rules
 use Rattle.spk_host_node.specs.Data.{NodeData}
-use Rattle.spk_host_node.specs.Room.{IsNothing, most_heard}
+use Rattle.spk_host_node.specs.Room.{IsDropped, IsNothing, most_heard}
 use Rattle.spk_host_node.specs.Step.{heard_by, heard_of, requests, requests_of, step_of, taken_of, watched}
 
 -- those that are there, of some that all are
@@ -107,3 +107,42 @@ asked_are wait other w v es fs e h k = ap (λ x. requests x w es) e ∙ ap (λ x
 
 pub watched_are : (wait other : ℕ) (w v : Watch) (es fs : List Event) → wait ≡ other → w ≡ v → es ≡ fs → watched wait w es ≡ watched other v fs
 watched_are wait other w v es fs e h k = ap (λ x. watched x w es) e ∙ ap (λ x. watched other x es) h ∙ ap (watched other v) k
+
+-- ---- a message that is dropped
+
+pub dropped_alone : (answer : Step) → IsDropped answer → IsAlone answer
+dropped_alone (step.Consumed n) h = absurd h
+dropped_alone step.Held h = absurd h
+dropped_alone step.Gap h = tt
+dropped_alone step.NotLive h = tt
+dropped_alone step.Old h = tt
+dropped_alone step.OldBirth h = tt
+dropped_alone step.DeadSession h = tt
+
+pub dropped_nothing : {X : Type 0} (answer : Step) (taken : List X) → IsDropped answer → taken ≡ [] → IsNothing answer taken
+dropped_nothing (step.Consumed n) taken h e = tt
+dropped_nothing step.Held taken h e = e
+dropped_nothing step.Gap taken h e = e
+dropped_nothing step.NotLive taken h e = e
+dropped_nothing step.Old taken h e = e
+dropped_nothing step.OldBirth taken h e = e
+dropped_nothing step.DeadSession taken h e = e
+
+taken_none : (kept : List (Option NumberedData)) (number : ℕ) (payload : NumberedData) (answer : Step) → IsDropped answer →
+    [] ≡ filter_map (λ p. p) (consumed_with kept number payload answer)
+taken_none kept number payload (step.Consumed n) h = absurd h
+taken_none kept number payload step.Held h = absurd h
+taken_none kept number payload step.Gap h = refl
+taken_none kept number payload step.NotLive h = refl
+taken_none kept number payload step.Old h = refl
+taken_none kept number payload step.OldBirth h = refl
+taken_none kept number payload step.DeadSession h = refl
+
+pub dropped_taken : (o : Ordered NumberedData) (m : NumberedData) (now : ℕ) (answer : Step) → answer ≡ step_of o m now → IsDropped answer →
+    [] ≡ taken_of o m now
+dropped_taken o m now answer is h = taken_none o.kept m.number m (step_of o m now) (subst IsDropped is h)
+
+pub dropped_heard : (o : Ordered NumberedData) (m : NumberedData) (now : ℕ) (answer : Step) (taken : List NumberedData) → answer ≡ step_of o m now →
+    IsDropped answer → taken ≡ [] → heard_by answer taken now ≡ heard_of o m now
+dropped_heard o m now answer taken is h e =
+    ap (λ a. heard_by a taken now) is ∙ ap (λ t. heard_by (step_of o m now) t now) (e ∙ dropped_taken o m now answer is h)

@@ -22,3 +22,13 @@ IsNothing step.Held taken = taken ≡ []
 IsNothing step.Old taken = taken ≡ []
 IsNothing step.OldBirth taken = taken ≡ []
 IsNothing step.DeadSession taken = taken ≡ []
+
+-- the message is neither consumed nor held
+abbrev pub IsDropped : Step → Type 0
+IsDropped (step.Consumed n) = ⊥
+IsDropped step.Held = ⊥
+IsDropped step.Gap = Unit {0}
+IsDropped step.NotLive = Unit {0}
+IsDropped step.Old = Unit {0}
+IsDropped step.OldBirth = Unit {0}
+IsDropped step.DeadSession = Unit {0}

@@ -1,10 +1,10 @@
 //! What the view hears of a node by a step of the node's order.
-ghost use Rattle.std.specs.Prelude.{◌≡◌, ◌+◌, ◌++◌, ◌<◌, ◌≤◌, [], map, length, vec_len, vec_capacity};
+ghost use Rattle.std.specs.Prelude.{◌≡◌, true, ◌+◌, ◌++◌, ◌<◌, ◌≤◌, [], map, length, vec_len, vec_capacity};
 ghost use Rattle.spk_reading.specs.View.{numbered_view};
 ghost use Rattle.spk_host_rules.specs.Data.{Consumed, Message};
 ghost use Rattle.spk_host_rules.specs.Step as rules;
 ghost use Rattle.spk_view.specs.Prepared.{prepared};
-ghost use Rattle.spk_host_node.specs.Room.{IsNothing, most_heard};
+ghost use Rattle.spk_host_node.specs.Room.{IsDropped, IsNothing, most_heard};
 ghost use Rattle.spk_host_node.specs.Step as spec;
 
 use crate::kept::Kept;
@@ -29,6 +29,16 @@ pub(crate) fn most_heard(step: Step) -> usize
         Step::Consumed(count) => 1 + usize::from(count.saturating_sub(1)),
         Step::Gap | Step::NotLive => 1,
         _ => 0,
+    }
+}
+
+/// Whether a step drops the message: it is neither consumed nor held.
+pub(crate) fn is_dropped(step: Step) -> bool
+    ensures { result ≡ true → IsDropped step }
+{
+    match step {
+        Step::Consumed(_) | Step::Held => false,
+        Step::Old | Step::Gap | Step::OldBirth | Step::DeadSession | Step::NotLive => true,
     }
 }
 

@@ -9,9 +9,10 @@ ghost use Rattle.spk_order.specs.Step.{handed};
 ghost use Rattle.spk_host_node.specs.Data as plain;
 ghost use Rattle.spk_host_node.specs.Idle.{IsIdle};
 ghost use Rattle.spk_host_node.specs.Plain.{IsPlain};
+ghost use Rattle.spk_host_node.specs.Room.{IsDropped};
 ghost use Rattle.spk_host_node.specs.Step as spec;
 
-use crate::hearing::{Handed, hear, most_heard};
+use crate::hearing::{Handed, hear, is_dropped, most_heard};
 use crate::kept::Kept;
 use crate::plain::{is_plain, show_plain};
 use spk_order::Order;
@@ -147,6 +148,9 @@ impl HostNode {
         if step == Step::Consumed(1) && is_plain(&message) {
             return self.hand_plain(message, now);
         }
+        if is_dropped(step) {
+            return Ok(self.hand_dropped(&message, step, now));
+        }
         let room = most_heard(step);
         self.watch.reserve(room)?;
         let consumed = Vec::with_capacity(self.alloc, room)?;
@@ -157,6 +161,27 @@ impl HostNode {
             return Err(AllocError);
         };
         Ok(hear(&mut self.watch, wait, handed, consumed, now))
+    }
+
+    /// A message that is dropped: the view hears what its step says. Takes no memory.
+    fn hand_dropped(&mut self, message: &Numbered, step: Step, now: u64) -> Handed
+        requires is { step ≡ spec.step_of self.old.order (numbered_view message.now) now }
+        requires dropped { IsDropped step }
+        ensures step { result.step ≡ step }
+        ensures consumed { map numbered_view result.consumed.items
+            ≡ spec.taken_of self.old.order (numbered_view message.now) now }
+        ensures requests { result.requests
+            ≡ spec.requests_of self.old (numbered_view message.now) now }
+        ensures data { self.new ≡ spec.hand self.old (numbered_view message.now) now }
+    {
+        let wait = self.order.sequence().wait();
+        self.order.pass(message.number, message.kind, now);
+        let handed = spk_order::Handed {
+            step,
+            consumed: Vec::new(self.alloc),
+        };
+        let consumed = Vec::new(self.alloc);
+        hear(&mut self.watch, wait, handed, consumed, now)
     }
 
     /// Data without texts that are consumed alone: they are shown as they came. All memory is asked for before anything changes.

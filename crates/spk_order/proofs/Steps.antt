@@ -13,7 +13,7 @@ use Rattle.std.specs.Prelude.{◌&&◌, nat_le}
 use Rattle.spk_sequence.specs.declared.phase.Phase.TheVariants as phase
 use Rattle.spk_sequence.specs.Step.{after_stop, ahead, hand, is_any_held, is_over, tick}
 use Rattle.spk_order.specs.Ordered.{Ordered, kept_at, IsKept}
-use Rattle.spk_order.specs.Step.{left_by, placed, consumed_with, handed, stands_so, HasRun, IsBeyond, IsIdle}
+use Rattle.spk_order.specs.Step.{left_by, placed, consumed_with, handed, HasRun, IsAlone, IsBeyond, IsIdle}
 use Rattle.spk_order.proofs.Left.{stands, left_still, left_same, left_kept, remains_full}
 
 -- what a step consumes after the message handed has its payload
@@ -190,24 +190,42 @@ placed_still old new kept slots number payload step.OldBirth are keeps sized d =
 placed_still old new kept slots number payload step.DeadSession are keeps sized d = idle_still old new kept slots number step.DeadSession are keeps sized (idle_of step.DeadSession (held_count old.held) (λ e. cc) d)
 placed_still old new kept slots number payload step.NotLive are keeps sized d = idle_still old new kept slots number step.NotLive are keeps sized (idle_of step.NotLive (held_count old.held) (λ e. cc) d)
 
--- ---- a message that is consumed alone: its payload plays no part
+-- ---- a message that is handed alone: its payload plays no part
+
+not_held : (answer : Step) → IsAlone answer → answer ≡ step.Held → ⊥
+not_held step.Held alone e = alone
+not_held (step.Consumed n) alone e = absurd (cc)
+not_held step.Old alone e = absurd (cc)
+not_held step.Gap alone e = absurd (cc)
+not_held step.OldBirth alone e = absurd (cc)
+not_held step.DeadSession alone e = absurd (cc)
+not_held step.NotLive alone e = absurd (cc)
+
+alone_placed : {T : Type 0} (kept : List (Option T)) (number : ℕ) (payload : T) (answer : Step) → IsAlone answer → placed kept number payload answer ≡ kept
+alone_placed kept number payload step.Held alone = absurd alone
+alone_placed kept number payload (step.Consumed n) alone = refl
+alone_placed kept number payload step.Old alone = refl
+alone_placed kept number payload step.Gap alone = refl
+alone_placed kept number payload step.OldBirth alone = refl
+alone_placed kept number payload step.DeadSession alone = refl
+alone_placed kept number payload step.NotLive alone = refl
 
 pub passed_kept : {T : Type 0} (old new : Standing) (kept : List (Option T)) (number : ℕ) (answer : Step) → IsKept old kept →
-    KeepsNumbers old new number answer → answer ≡ step.Consumed 1 → IsKept new (left_by new kept)
-passed_kept old new kept number answer are keeps is =
-    left_kept new kept keeps.whole (remains_full old new kept are (keeps.remains (λ e. absurd (cc))))
+    KeepsNumbers old new number answer → IsAlone answer → IsKept new (left_by new kept)
+passed_kept old new kept number answer are keeps alone =
+    left_kept new kept keeps.whole (remains_full old new kept are (keeps.remains (not_held answer alone)))
 
 pub passed_still : {T : Type 0} (old new : Standing) (kept : List (Option T)) (number : ℕ) (answer : Step) → IsKept old kept →
-    KeepsNumbers old new number answer → answer ≡ step.Consumed 1 → (answer ≡ step.Held) ⊎ (held_count old.held ≡ 0) → left_by new kept ≡ kept
-passed_still old new kept number answer are keeps is d =
-    idle_still old new kept kept number answer are keeps are.sized (idle_of answer (held_count old.held) (λ e. absurd (cc)) d) (λ x fits far. refl)
+    KeepsNumbers old new number answer → IsAlone answer → (answer ≡ step.Held) ⊎ (held_count old.held ≡ 0) → left_by new kept ≡ kept
+passed_still old new kept number answer are keeps alone d =
+    idle_still old new kept kept number answer are keeps are.sized (idle_of answer (held_count old.held) (not_held answer alone) d) (λ x fits far. refl)
 
 pub passed_handed : {T : Type 0} (o : Ordered T) (new : Standing) (after : List (Option T)) (number : ℕ) (kind : Kind) (now : ℕ) (answer : Step) →
-    new ≡ (hand o.standing number kind now).1 → answer ≡ (hand o.standing number kind now).0 → answer ≡ step.Consumed 1 →
+    new ≡ (hand o.standing number kind now).1 → answer ≡ (hand o.standing number kind now).0 → IsAlone answer →
     after ≡ left_by new o.kept → (payload : T) → stands new after ≡ handed o number kind payload now
-passed_handed o new after number kind now answer e f is left payload =
+passed_handed o new after number kind now answer e f alone left payload =
     same_handed o new after number kind payload now answer e f
-    (left ∙ sym (ap (λ a. left_by new (placed o.kept number payload a)) is))
+    (left ∙ sym (ap (left_by new) (alone_placed o.kept number payload answer alone)))
 
 -- ---- while none is held
 

@@ -51,6 +51,16 @@ HasRun kept number answer =
 abbrev pub IsBeyond : ℕ → ℕ → Step → Type 0
 IsBeyond x number answer = (n : ℕ) → answer ≡ step.Consumed n → 0 < ahead x number → n ≤ ahead x number
 
+-- a step that holds nothing, and consumes no message behind the one handed
+abbrev pub IsAlone : Step → Type 0
+IsAlone (step.Consumed n) = n ≤ 1
+IsAlone step.Held = ⊥
+IsAlone step.Old = Unit {0}
+IsAlone step.Gap = Unit {0}
+IsAlone step.OldBirth = Unit {0}
+IsAlone step.DeadSession = Unit {0}
+IsAlone step.NotLive = Unit {0}
+
 -- no moment is a gap, or changes anything
 abbrev pub IsIdle : {T : Type 0} → Ordered T → Type 0
 IsIdle o = (now : ℕ) → (is_over o.standing now ≡ false) × (stands_so (tick o.standing now) o.kept ≡ o)

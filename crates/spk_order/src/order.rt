@@ -6,7 +6,7 @@ ghost use Rattle.spk_sequence.specs.Data.{IsWhole};
 ghost use Rattle.spk_sequence.specs.Numbers.{held_count};
 ghost use Rattle.spk_sequence.specs.Step.{is_any_held as is_any_held_in, hand, is_over, tick, match_of, death, fresh_standing};
 ghost use Rattle.spk_order.specs.Ordered.{IsKept};
-ghost use Rattle.spk_order.specs.Step.{consumed_with, handed, stands_so, fresh_order, IsIdle};
+ghost use Rattle.spk_order.specs.Step.{consumed_with, handed, stands_so, fresh_order, IsAlone, IsIdle};
 
 use crate::slots::{empty_slots, place, settle};
 use spk_sequence::laws::numbers;
@@ -102,10 +102,10 @@ impl<T: Drop> Order<T> {
         Ok(Handed { step, consumed })
     }
 
-    /// A message that is consumed alone, and whose payload stays with the caller: what `hand` does with it, whatever its payload is.
-    /// Takes no memory.
+    /// A message that isn't held, and with which no held one is consumed: its payload stays with the caller. What `hand` does with it,
+    /// whatever its payload is. Takes no memory.
     pub fn pass(&mut self, number: u8, kind: Kind, now: u64)
-        requires { (hand self.old.standing number kind now).0 ≡ Step.Consumed 1 }
+        requires { IsAlone (hand self.old.standing number kind now).0 }
         ensures data { (payload : T) → self.new ≡ handed self.old number kind payload now }
         ensures whole { IsKept self.new.standing self.new.kept }
     {

@@ -1,6 +1,6 @@
-use Rattle.std.proofs.Common.{◌≡◌, ◌∙◌, arith}
-use Rattle.spk_sequence.specs.declared.answer.Step.TheVariants as step
+use Rattle.std.proofs.Common.{sym, subst, arith}
 use Rattle.spk_sequence.specs.Numbers.{KeepsNumbers}
+use Rattle.spk_order.specs.Step.{IsAlone}
 use Rattle.spk_order.proofs.Left.{stands}
 use Rattle.spk_order.proofs.Steps.{keeps_by, or_none, passed_kept, passed_still, passed_handed}
 use Rattle.spk_order.proofs.order.Order.pass.Goals as goal
@@ -11,8 +11,8 @@ keeps g c =
     keeps_by c.self.inside.sequence c.hand-passed.new.self c.args.number c.args.kind c.args.now c.hand-passed.result
     (omega arith) c.self.invariant.whole c.hand-passed.ensures.data c.hand-passed.ensures.step c.numbers.ensures.hand
 
-alone : (g : _) (c : After-settle g) → c.hand-passed.result ≡ step.Consumed 1
-alone g c = c.hand-passed.ensures.step ∙ (rw (← c.self.view_is) at c.requires)
+alone : (g : _) (c : After-settle g) → IsAlone c.hand-passed.result
+alone g c = subst IsAlone (sym c.hand-passed.ensures.step) (rw (← c.self.view_is) at c.requires)
 
 pub invariant_of-self : goal.invariant_of-self
 invariant_of-self g c =
@@ -33,5 +33,5 @@ settle-requires-clause-still g c = λ none.
     passed_still c.self.inside.sequence c.hand-passed.new.self c.self.inside.slots.items c.args.number c.hand-passed.result c.self.invariant
     (keeps_by c.self.inside.sequence c.hand-passed.new.self c.args.number c.args.kind c.args.now c.hand-passed.result
     (omega arith) c.self.invariant.whole c.hand-passed.ensures.data c.hand-passed.ensures.step c.numbers.ensures.hand)
-    (c.hand-passed.ensures.step ∙ (rw (← c.self.view_is) at c.requires))
+    (subst IsAlone (sym c.hand-passed.ensures.step) (rw (← c.self.view_is) at c.requires))
     (or_none c.hand-passed.result c.self.inside.sequence.held c.is_any_held-is_any_held.result c.is_any_held-is_any_held.ensures.value (c.may_drop.ensures none))
