@@ -23,6 +23,9 @@ use std::alloc::{AllocError, Global};
 use std::fmt;
 use std::marker::Model;
 
+/// So many metrics, or devices, are few: to look them up costs less than a rebirth request that is made in vain.
+const FEW: usize = 32;
+
 /// What came of a moment: whether there was a gap, and whether a rebirth is asked for.
 #[derive(Clone, Copy, Debug, PartialEq, Eq)]
 pub struct Ticked {
@@ -98,9 +101,33 @@ impl HostNode {
     {
         let step = self.step_of(message, now);
         match step {
-            Step::Consumed(1) => usize::from(self.asks_at(message, now)),
+            Step::Consumed(1) if self.is_soon_told(message) => {
+                usize::from(self.asks_at(message, now))
+            }
             Step::Gap | Step::NotLive => usize::from(self.asks_at_gap(now)),
             _ => most_heard(step),
+        }
+    }
+
+    /// Whether it costs less to tell if a message asks for a rebirth than to make a request in vain. A device is looked for one by one,
+    /// and data with texts are looked up once more when they are shown.
+    fn is_soon_told(&self, message: &Numbered) -> bool {
+        let metrics = message.payload.metrics.len();
+        match &message.subject {
+            Subject::NodeBirth | Subject::DeviceBirth(_) => true,
+            Subject::NodeData => metrics <= FEW || is_plain(message),
+            Subject::DeviceData(_) => {
+                (metrics <= FEW && self.has_few_devices()) || is_plain(message)
+            }
+            Subject::DeviceDeath(_) => self.has_few_devices(),
+        }
+    }
+
+    /// Whether a device is soon found.
+    fn has_few_devices(&self) -> bool {
+        match self.view() {
+            Some(view) => view.devices().len() <= FEW,
+            None => true,
         }
     }
 
