@@ -120,12 +120,11 @@ takes_grants (Refused conn sort moment) = false
 
 -- ---- what it finds
 
--- What is found for a topic: none where there is no index, where the text is no topic name, or where more than 128 sessions
--- have a filter that matches (own rule).
+-- what is found for a topic: none exactly where there is no index, or where the text is no topic name
 abbrev pub IsReached : Option Grants → List ℕ → Option (Vec (ℕ × ℕ) Global) → Type 0
 IsReached None topic found = found ≡ None
-IsReached (Some index) topic None = topic_refusal topic ≡ None → (found : List (ℕ × ℕ)) × Finds index topic found × (128 < length found)
-IsReached (Some index) topic (Some found) = (topic_refusal topic ≡ None) × Finds index topic found.items × (length found.items ≤ 128)
+IsReached (Some index) topic None = topic_refusal topic ≡ None → ⊥
+IsReached (Some index) topic (Some found) = (topic_refusal topic ≡ None) × Finds index topic found.items
 
 -- whether a session of this number was found
 abbrev pub has_key : ℕ → List (ℕ × ℕ) → Bool

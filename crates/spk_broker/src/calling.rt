@@ -35,12 +35,15 @@ impl Seat {
     }
 }
 
-/// Where a session of this number may stand: sessions stand in the order of their numbers.
-fn guess(seats: &[Seat], key: u64) -> usize
+/// Where a session of this number may stand, looked for at one place first: sessions stand in the order of their numbers.
+fn guess(seats: &[Seat], near: usize, key: u64) -> usize
     ensures { AreOrdered seats.now
         → (i : ℕ) (d : Both) → i < length seats.now
         → (get_or seats.now i d).was.key ≡ key → i ≡ result }
 {
+    if near < seats.len() && seats[near].key() == key {
+        return near;
+    }
     match seats.binary_search_by_key(&key, |seat| seat.key()) {
         Ok(place) => place,
         Err(place) => place,
@@ -55,7 +58,7 @@ pub(crate) fn place_from(seats: &[Seat], from: usize, key: u64) -> Option<usize>
         (λ p. (d : Both) → is_there key (get_or seats.now p d) ≡ true) }
     ensures none { result ≡ None → AreOrdered seats.now → IsPast key from seats.now }
 {
-    let place = guess(seats, key);
+    let place = guess(seats, from, key);
     if place < from || place >= seats.len() || !seats[place].has_number(key) {
         return None;
     }

@@ -30,10 +30,14 @@ impl Broker {
             return Err(BrokerFault::NoSuchConn);
         }
         let mut draft = Draft::new(self.desk.alloc);
+        let before = self.desk.seats.len();
         let drafted = self
             .desk
             .draft_closed(&mut draft, &self.index.tree, conn, place, now);
-        self.desk.conclude(drafted, draft)
+        let lost = draft.lost;
+        let concluded = self.desk.conclude(drafted, draft);
+        self.index.shed(&self.desk.seats, before, lost);
+        concluded
     }
 
     /// Bytes of a connection are no packet: a first packet of another protocol level gets CONNACK code 1 (section
@@ -54,10 +58,14 @@ impl Broker {
             return Err(BrokerFault::NoSuchConn);
         }
         let mut draft = Draft::new(self.desk.alloc);
-        let drafted =
-            self.desk
-                .draft_fault(&mut draft, &self.index.tree, conn, place, fault, now);
-        self.desk.conclude(drafted, draft)
+        let before = self.desk.seats.len();
+        let drafted = self
+            .desk
+            .draft_fault(&mut draft, &self.index.tree, conn, place, fault, now);
+        let lost = draft.lost;
+        let concluded = self.desk.conclude(drafted, draft);
+        self.index.shed(&self.desk.seats, before, lost);
+        concluded
     }
 
     /// Time has passed: connections that were silent for more than one and a half times their keep alive are closed
@@ -71,8 +79,12 @@ impl Broker {
         ensures err { OnErr result (self.new ≡ self.old) }
     {
         let mut draft = Draft::new(self.desk.alloc);
+        let before = self.desk.seats.len();
         let drafted = self.desk.draft_tick(&mut draft, &self.index.tree, now);
-        self.desk.finish(drafted, draft)
+        let lost = draft.lost;
+        let finished = self.desk.finish(drafted, draft);
+        self.index.shed(&self.desk.seats, before, lost);
+        finished
     }
 
     /// A send to a connection couldn't be taken: a PUBLISH of QoS 0 is dropped, and drop number `limit` closes the
@@ -93,7 +105,11 @@ impl Broker {
             return Err(BrokerFault::NoSuchConn);
         }
         let mut draft = Draft::new(self.desk.alloc);
+        let before = self.desk.seats.len();
         let drafted = self.desk.draft_refused(&mut draft, conn, place, sort, now);
-        self.desk.conclude(drafted, draft)
+        let lost = draft.lost;
+        let concluded = self.desk.conclude(drafted, draft);
+        self.index.shed(&self.desk.seats, before, lost);
+        concluded
     }
 }

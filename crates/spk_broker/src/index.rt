@@ -22,11 +22,7 @@ use spk_topics::laws::{granted, matching};
 use spk_topics::{Filter, Topic, Tree};
 use std::alloc::{AllocError, Global};
 
-/// The most sessions among which each one's number is looked for.
-const MOST_FOUND: usize = 128;
-
-/// The numbers of the sessions that the index finds for a topic; none where there is no index, where the text is no topic, or
-/// where they are more than pay.
+/// The numbers of the sessions that the index finds for a topic; none where there is no index, or where the text is no topic.
 pub(crate) fn reach(tree: &Option<Tree>, topic: &str) -> Result<Option<Vec<(u64, u8)>>, AllocError>
     ensures reached { IfOk result (λ o. IsReached tree.now topic.now o) }
     ensures passed { IfOk result (λ o. (ss : List plain.Seat)
@@ -40,8 +36,7 @@ pub(crate) fn reach(tree: &Option<Tree>, topic: &str) -> Result<Option<Vec<(u64,
         return Ok(None);
     };
     match tree.find(&name) {
-        Ok(found) if found.len() <= MOST_FOUND => Ok(Some(found)),
-        Ok(_) => Ok(None),
+        Ok(found) => Ok(Some(found)),
         Err(_) => Err(AllocError),
     }
 }
@@ -97,40 +92,6 @@ fn filed(alloc: Global, seats: &[Seat]) -> Result<Tree, AllocError>
     Ok(tree)
 }
 
-impl Seat {
-    /// Whether the index is known to have none of its grants that fits.
-    pub(crate) fn is_passed(&self, found: &Option<Vec<(u64, u8)>>) -> bool
-        ensures { IfSome self.now.now (λ s. result ≡ is_passed found.now s.key) }
-    {
-        match found {
-            Some(found) => !has_key(found, self.key),
-            None => false,
-        }
-    }
-
-    /// What a routed message does to the session. One that is known to have no grant that fits is passed over.
-    pub(crate) fn concern(
-        &mut self,
-        draft: &mut Draft,
-        letter: &mut Letter<'_>,
-        found: &Option<Vec<(u64, u8)>>,
-    ) -> Result<(), AllocError>
-        requires { (s : plain.Seat) → self.old.now ≡ Some s → is_passed found.now s.key ≡ true
-            → best letter.old.topic s.grants ≡ None }
-        ensures was { self.new.was ≡ self.old.was }
-        ensures left { OnOk result
-            (option_list self.new.now ≡ left_by (serve letter.old) self.old.now) }
-        ensures drafted { OnOk result (draft_view draft.new
-            ≡ served_by (serve letter.old) self.old.now (draft_view draft.old)) }
-        ensures letter { letter.new ≡ letter.old }
-    {
-        if self.is_passed(found) {
-            return Ok(());
-        }
-        self.serve(draft, letter)
-    }
-}
-
 /// The index of grants, where there is one, and how much it has.
 #[derive(Drop)]
 pub(crate) struct GrantIndex {
@@ -160,6 +121,21 @@ impl GrantIndex {
         self.tree = next_index(tree, desk, packet).unwrap_or(None);
         if was_none && self.tree.is_some() {
             self.tally = Tally::of(&desk.seats);
+        }
+    }
+
+    /// After a call behind which there are so many sessions if none ended, and in which so many that it found weren't there any more. It
+    /// is dropped where a session ended and more entries are left over than grants stand, and some more, or where as many were
+    /// looked for in vain as it has entries, and some more.
+    pub(crate) fn shed(&mut self, seats: &[Seat], before: usize, lost: usize)
+        ensures { (ss : List plain.Seat) → IsIndex self.old.tree ss → IsIndex self.new.tree ss }
+    {
+        if self.tree.is_none() {
+            return;
+        }
+        let is_worn = seats.len() < before && self.tally.is_worn(seats);
+        if is_worn || (lost != 0 && self.tally.is_spent(lost)) {
+            self.tree = None;
         }
     }
 
@@ -218,11 +194,4 @@ pub(crate) fn holder(
         return None;
     };
     Some(desk.seats[place].holding())
-}
-
-/// Whether a session of this number was found.
-fn has_key(found: &[(u64, u8)], key: u64) -> bool
-    ensures { result ≡ has_key key found.now }
-{
-    found.iter().any(|entry| entry.0 == key)
 }

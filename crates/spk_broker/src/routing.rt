@@ -25,14 +25,8 @@ use indexmap::IndexMap;
 use spk_topics::Tree;
 use std::alloc::{AllocError, Global};
 
-/// What a routed message does to all sessions. Those that are known to have no grant that fits are passed over.
-fn visit(
-    seats: &mut [Seat],
-    draft: &mut Draft,
-    post: &Post,
-    found: &Option<Vec<(u64, u8)>>,
-) -> Result<(), AllocError>
-    requires { ArePassed found.now (post_view post.now).topic (flat_map seat_now seats.old) }
+/// What a routed message does to all sessions.
+fn visit(seats: &mut [Seat], draft: &mut Draft, post: &Post) -> Result<(), AllocError>
     ensures was { map seat_was seats.new ≡ map seat_was seats.old }
     ensures left { OnOk result (flat_map seat_now seats.new
         ≡ left_of_round (serve (post_view post.now)) (flat_map seat_now seats.old)) }
@@ -43,7 +37,7 @@ fn visit(
 {
     let mut letter = Letter::new(post);
     for seat in seats.iter_mut() {
-        seat.concern(draft, &mut letter, found)?;
+        seat.serve(draft, &mut letter)?;
         seat.keyed();
     }
     Ok(())
@@ -68,6 +62,14 @@ fn found_places(
     }
 }
 
+/// How many were found.
+fn found_count(found: &Option<Vec<(u64, u8)>>) -> usize {
+    match found {
+        Some(found) => found.len(),
+        None => 0,
+    }
+}
+
 /// What a routed message does to all sessions. Answers the places at which it called, where it looked at no others.
 fn round(
     seats: &mut [Seat],
@@ -88,13 +90,14 @@ fn round(
 {
     let found = reach(tree, post.topic.as_str()).unwrap_or(None);
     if tree.is_none() {
-        visit(seats, draft, post, &found)?;
+        visit(seats, draft, post)?;
         return Ok(None);
     }
     let Some(places) = found_places(draft.alloc, seats, &found).unwrap_or(None) else {
-        visit(seats, draft, post, &found)?;
+        visit(seats, draft, post)?;
         return Ok(None);
     };
+    draft.miss(found_count(&found), places.len());
     call(seats, draft, post, &places)?;
     Ok(Some(places))
 }

@@ -18,8 +18,8 @@ use std::alloc::AllocError;
 /// As many entries may be left over as grants stand, and these.
 const SPARE: usize = 64;
 
-/// One grant in so many sessions comes or goes before all grants are counted.
-const SESSIONS: usize = 8;
+/// A longer filter, in bytes, isn't put into an index that is there.
+const LONG: usize = 256;
 
 /// How much the index has.
 #[derive(Debug, Drop)]
@@ -27,8 +27,10 @@ pub(crate) struct Tally {
     /// Its entries, and what their filters take.
     entries: usize,
     size: usize,
-    /// How many grants have come or gone since those that stand were counted.
-    turned: usize,
+    /// Whether one of its filters is long.
+    is_any_long: bool,
+    /// How many sessions were found that weren't there any more.
+    lost: usize,
 }
 
 impl Tally {
@@ -37,7 +39,8 @@ impl Tally {
         Tally {
             entries: 0,
             size: 0,
-            turned: 0,
+            is_any_long: false,
+            lost: 0,
         }
     }
 
@@ -60,6 +63,7 @@ impl Tally {
     fn add(&mut self, grant: &Grant) {
         self.entries = self.entries.saturating_add(1);
         self.size = self.size.saturating_add(size(grant.filter.as_str()));
+        self.is_any_long = self.is_any_long || grant.filter.len() > LONG;
     }
 
     /// These grants of a session in the index.
@@ -75,29 +79,29 @@ impl Tally {
         Ok(())
     }
 
-    /// So many grants came or went.
-    fn turn(&mut self, before: usize, after: usize) {
-        self.turned = self.turned.saturating_add(before.abs_diff(after));
+    /// So many more sessions were found that weren't there. Whether it was one for each entry, and some more.
+    pub(crate) fn is_spent(&mut self, lost: usize) -> bool {
+        self.lost = self.lost.saturating_add(lost);
+        self.lost > self.entries.saturating_add(SPARE)
     }
 
-    /// Whether there may be entries for these grants.
+    /// Whether there may be entries for these grants: no filter is long, and the levels aren't too many.
     fn has_room(&self, grants: &[Grant]) -> bool {
+        if self.is_any_long {
+            return false;
+        }
         let mut total = self.size;
         for grant in grants {
             total = total.saturating_add(size(grant.filter.as_str()));
-            if total > MOST_LEVELS {
+            if total > MOST_LEVELS || grant.filter.len() > LONG {
                 return false;
             }
         }
         true
     }
 
-    /// Whether more entries were left over than grants stand.
-    fn is_worn(&mut self, seats: &[Seat]) -> bool {
-        if self.turned <= seats.len() / SESSIONS {
-            return false;
-        }
-        self.turned = 0;
+    /// Whether more entries are left over than grants stand, and some more.
+    pub(crate) fn is_worn(&self, seats: &[Seat]) -> bool {
         self.entries / 2 > standing_count(seats).saturating_add(SPARE / 2)
     }
 
@@ -118,7 +122,10 @@ impl Tally {
             return Ok(Some(tree));
         };
         let grants = seats[place].standing();
-        self.turn(count, grants.len());
+        // Entries that a session took back would be found for it by each publish that fits.
+        if grants.len() < count {
+            return Ok(None);
+        }
         let mut tree = tree;
         if count < grants.len() {
             let new = &grants[count..];
@@ -152,9 +159,6 @@ impl Tally {
         let Ok(Some(tree)) = self.refile(tree, seats, key, count) else {
             return None;
         };
-        if self.is_worn(seats) {
-            return None;
-        }
         Some(tree)
     }
 }

@@ -1,7 +1,8 @@
-use Rattle.std.proofs.Common.{rules}
+use Rattle.std.proofs.Common.{◌∙◌, ap, rules, sym}
 use Rattle.std.proofs.lemmas.List.Sorted.{answers_always}
 use Rattle.spk_broker.specs.Both.{Both}
-use Rattle.spk_broker.proofs.Ordered.{found-there, missed-there}
+use Rattle.spk_broker.proofs.Ordered.{found-there, missed-there, was-same}
+use Rattle.spk_broker.proofs.Touched.{same-read}
 use Rattle.spk_broker.proofs.calling.guess.Goals as goal
 
 pub returns-in-Ok : goal.returns-in-Ok
@@ -13,3 +14,9 @@ pub returns-in-Err : goal.returns-in-Err
 returns-in-Err c =
     missed-there c.args.seats.now c.args.key c.in-Err.place c.binary_search_by_key.result c.in-Err.is
     (c.binary_search_by_key.ensures.position (λ (b : Both). b.was.key) (answers_always _ _ _ (λ f a r g called. search rules)))
+
+pub returns-then-key : goal.returns-then-key
+returns-then-key c o i d low is =
+    was-same c.args.seats.now o i c.args.near d low c.if-near-seats.true
+    (is
+    ∙ sym (ap (λ (b : Both). b.was.key) (same-read c.args.seats.now c.args.near d c.index-seats-near.result c.if-near-seats.true ∙ sym c.index-seats-near.is) ∙ sym c.key.ensures.was ∙ c.if-key.true))

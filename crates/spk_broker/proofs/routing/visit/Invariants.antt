@@ -1,17 +1,14 @@
 use Rattle.std.proofs.Common.{◌≡◌, map, drop}
-use Rattle.std.specs.List.{flat_map}
 use Rattle.spk_broker_rules.specs.Step.{serve}
 use Rattle.spk_broker.specs.Called.{AreKeyed}
 use Rattle.spk_broker.specs.Drafts.{draft_view}
-use Rattle.spk_broker.specs.Filing.{ArePassed}
 use Rattle.spk_broker.specs.Parts.{post_view}
-use Rattle.spk_broker.specs.View.{seat_now, seat_was}
+use Rattle.spk_broker.specs.View.{seat_was}
 use Rattle.spk_broker.proofs.Rounds.{left_all, left_so_far, round_all}
 use Rattle.spk_broker.proofs.routing.visit.Given as goal
 
 abbrev pub invariant-loop-seat : goal.invariant-loop-seat
 invariant-loop-seat l = record {
-  passed : ArePassed l.found (post_view l.post).topic (flat_map seat_now (drop l.seat-index l.seats));
   keyed : AreKeyed l.initial.seats → AreKeyed l.seats;
   letter : l.letter ≡ post_view l.post;
   was : map seat_was l.seats ≡ map seat_was l.initial.seats;

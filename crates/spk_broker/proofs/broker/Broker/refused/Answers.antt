@@ -3,8 +3,8 @@ use Rattle.spk_broker_rules.specs.Plan.{Refused}
 use Rattle.spk_broker.proofs.Finishing.{closes-to, done-to, index-to, kept-to, sends-to, stands-to}
 use Rattle.spk_broker.proofs.broker.Broker.refused.Goals as goal
 
-pub conclude-requires-clause-stands : goal.conclude-requires-clause-stands
-conclude-requires-clause-stands c =
+pub conclude-concluded-requires-clause-stands : goal.conclude-concluded-requires-clause-stands
+conclude-concluded-requires-clause-stands c =
     stands-to (Refused c.args.conn c.args.sort c.args.now) c.args.self.now c.self.inside.desk c.draft_refused-drafted.new.self c.new-draft.result c.draft_refused-drafted.new.draft c.draft_refused-drafted.result
     (record { is = c.self.view_is; kept = c.self.invariant.sound; empty = c.new-draft.ensures; done = c.draft_refused-drafted.ensures.done; same = c.draft_refused-drafted.ensures.same })
 
@@ -18,31 +18,33 @@ pub knows-requires : goal.knows-requires
 knows-requires c = sym c.seek-place.ensures.place
 
 pub invariant_of-self-2 : goal.invariant_of-self-2
-invariant_of-self-2 c = record {
-  sound = kept-to (Refused c.args.conn c.args.sort c.args.now) c.args.self.now c.self.inside.desk c.draft_refused-drafted.new.self c.conclude.new.self c.new-draft.result c.draft_refused-drafted.new.draft c.draft_refused-drafted.result c.conclude.result
-      (record { is = c.self.view_is; kept = c.self.invariant.sound; empty = c.new-draft.ensures; done = c.draft_refused-drafted.ensures.done; same = c.draft_refused-drafted.ensures.same })
-      (record { done = c.conclude.ensures.done; sends = c.conclude.ensures.sends; closes = c.conclude.ensures.closes; variant = c.conclude.ensures.variant; same = c.conclude.ensures.same; settled = c.conclude.ensures.settled });
-  index = index-to c.self.inside.index.tree (Refused c.args.conn c.args.sort c.args.now) c.args.self.now c.self.inside.desk c.draft_refused-drafted.new.self c.conclude.new.self c.new-draft.result c.draft_refused-drafted.new.draft c.draft_refused-drafted.result c.conclude.result
-      (λ (e : false ≡ true). absurd (let z : ⊥ = cc in z))
-      (record { is = c.self.view_is; kept = c.self.invariant.sound; empty = c.new-draft.ensures; done = c.draft_refused-drafted.ensures.done; same = c.draft_refused-drafted.ensures.same })
-      (record { done = c.conclude.ensures.done; sends = c.conclude.ensures.sends; closes = c.conclude.ensures.closes; variant = c.conclude.ensures.variant; same = c.conclude.ensures.same; settled = c.conclude.ensures.settled })
-      c.self.invariant.index;
-}
+invariant_of-self-2 c =
+    let sound = kept-to (Refused c.args.conn c.args.sort c.args.now) c.args.self.now c.self.inside.desk c.draft_refused-drafted.new.self c.conclude-concluded.new.self c.new-draft.result c.draft_refused-drafted.new.draft c.draft_refused-drafted.result c.conclude-concluded.result
+    (record { is = c.self.view_is; kept = c.self.invariant.sound; empty = c.new-draft.ensures; done = c.draft_refused-drafted.ensures.done; same = c.draft_refused-drafted.ensures.same })
+    (record { done = c.conclude-concluded.ensures.done; sends = c.conclude-concluded.ensures.sends; closes = c.conclude-concluded.ensures.closes; variant = c.conclude-concluded.ensures.variant; same = c.conclude-concluded.ensures.same; settled = c.conclude-concluded.ensures.settled }) in
+    record {
+      sound = record { settled = sound.settled; lawful = sound.lawful };
+      index = c.shed.ensures _ (index-to c.self.inside.index.tree (Refused c.args.conn c.args.sort c.args.now) c.args.self.now c.self.inside.desk c.draft_refused-drafted.new.self c.conclude-concluded.new.self c.new-draft.result c.draft_refused-drafted.new.draft c.draft_refused-drafted.result c.conclude-concluded.result
+          (λ (e : false ≡ true). absurd (let z : ⊥ = cc in z))
+          (record { is = c.self.view_is; kept = c.self.invariant.sound; empty = c.new-draft.ensures; done = c.draft_refused-drafted.ensures.done; same = c.draft_refused-drafted.ensures.same })
+          (record { done = c.conclude-concluded.ensures.done; sends = c.conclude-concluded.ensures.sends; closes = c.conclude-concluded.ensures.closes; variant = c.conclude-concluded.ensures.variant; same = c.conclude-concluded.ensures.same; settled = c.conclude-concluded.ensures.settled })
+          c.self.invariant.index);
+    }
 
 pub returns-clause-sends : goal.returns-clause-sends
 returns-clause-sends c =
-    sends-to (Refused c.args.conn c.args.sort c.args.now) c.args.self.now c.self.inside.desk c.draft_refused-drafted.new.self c.conclude.new.self c.new-draft.result c.draft_refused-drafted.new.draft c.draft_refused-drafted.result c.conclude.result
+    sends-to (Refused c.args.conn c.args.sort c.args.now) c.args.self.now c.self.inside.desk c.draft_refused-drafted.new.self c.conclude-concluded.new.self c.new-draft.result c.draft_refused-drafted.new.draft c.draft_refused-drafted.result c.conclude-concluded.result
     (record { is = c.self.view_is; kept = c.self.invariant.sound; empty = c.new-draft.ensures; done = c.draft_refused-drafted.ensures.done; same = c.draft_refused-drafted.ensures.same })
-    (record { done = c.conclude.ensures.done; sends = c.conclude.ensures.sends; closes = c.conclude.ensures.closes; variant = c.conclude.ensures.variant; same = c.conclude.ensures.same; settled = c.conclude.ensures.settled })
+    (record { done = c.conclude-concluded.ensures.done; sends = c.conclude-concluded.ensures.sends; closes = c.conclude-concluded.ensures.closes; variant = c.conclude-concluded.ensures.variant; same = c.conclude-concluded.ensures.same; settled = c.conclude-concluded.ensures.settled })
 
 pub returns-clause-closes : goal.returns-clause-closes
 returns-clause-closes c =
-    closes-to (Refused c.args.conn c.args.sort c.args.now) c.args.self.now c.self.inside.desk c.draft_refused-drafted.new.self c.conclude.new.self c.new-draft.result c.draft_refused-drafted.new.draft c.draft_refused-drafted.result c.conclude.result
+    closes-to (Refused c.args.conn c.args.sort c.args.now) c.args.self.now c.self.inside.desk c.draft_refused-drafted.new.self c.conclude-concluded.new.self c.new-draft.result c.draft_refused-drafted.new.draft c.draft_refused-drafted.result c.conclude-concluded.result
     (record { is = c.self.view_is; kept = c.self.invariant.sound; empty = c.new-draft.ensures; done = c.draft_refused-drafted.ensures.done; same = c.draft_refused-drafted.ensures.same })
-    (record { done = c.conclude.ensures.done; sends = c.conclude.ensures.sends; closes = c.conclude.ensures.closes; variant = c.conclude.ensures.variant; same = c.conclude.ensures.same; settled = c.conclude.ensures.settled })
+    (record { done = c.conclude-concluded.ensures.done; sends = c.conclude-concluded.ensures.sends; closes = c.conclude-concluded.ensures.closes; variant = c.conclude-concluded.ensures.variant; same = c.conclude-concluded.ensures.same; settled = c.conclude-concluded.ensures.settled })
 
 pub returns-clause-done : goal.returns-clause-done
 returns-clause-done c =
-    done-to (Refused c.args.conn c.args.sort c.args.now) c.args.self.now c.self.inside.desk c.draft_refused-drafted.new.self c.conclude.new.self c.new-draft.result c.draft_refused-drafted.new.draft c.draft_refused-drafted.result c.conclude.result
+    done-to (Refused c.args.conn c.args.sort c.args.now) c.args.self.now c.self.inside.desk c.draft_refused-drafted.new.self c.conclude-concluded.new.self c.new-draft.result c.draft_refused-drafted.new.draft c.draft_refused-drafted.result c.conclude-concluded.result
     (record { is = c.self.view_is; kept = c.self.invariant.sound; empty = c.new-draft.ensures; done = c.draft_refused-drafted.ensures.done; same = c.draft_refused-drafted.ensures.same })
-    (record { done = c.conclude.ensures.done; sends = c.conclude.ensures.sends; closes = c.conclude.ensures.closes; variant = c.conclude.ensures.variant; same = c.conclude.ensures.same; settled = c.conclude.ensures.settled })
+    (record { done = c.conclude-concluded.ensures.done; sends = c.conclude-concluded.ensures.sends; closes = c.conclude-concluded.ensures.closes; variant = c.conclude-concluded.ensures.variant; same = c.conclude-concluded.ensures.same; settled = c.conclude-concluded.ensures.settled })
