@@ -44,7 +44,7 @@ pub(crate) fn hear_message(
     ensures names { names_of entry.new ≡ names_of entry.old }
 {
     let (group, name) = (message.group.as_str(), message.node.as_str());
-    let most = entry.kept().most_requests(&message, now);
+    let most = entry.kept().requests_at(&message, now);
     let mut rebirths = Vec::new(alloc);
     let mut packets = acknowledged(alloc, ack)?;
     let first = packets.len();

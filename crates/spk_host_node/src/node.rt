@@ -99,6 +99,15 @@ impl HostNode {
         ensures enough { spec.requests_of self.now (numbered_view message.now) now ≤ result }
         ensures few { result ≤ 256 }
     {
+        most_heard(self.step_of(message, now))
+    }
+
+    /// How many rebirths may be asked for at a message, at most; where the view hears one event, and it costs little to tell, it says in
+    /// fact whether one is. Takes no memory.
+    pub fn requests_at(&self, message: &Numbered, now: u64) -> usize
+        ensures enough { spec.requests_of self.now (numbered_view message.now) now ≤ result }
+        ensures few { result ≤ 256 }
+    {
         let step = self.step_of(message, now);
         match step {
             Step::Consumed(1) if self.is_soon_told(message) => {

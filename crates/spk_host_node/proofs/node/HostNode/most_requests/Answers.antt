@@ -4,7 +4,7 @@ use Rattle.spk_host_node.specs.Room.{most_heard}
 use Rattle.spk_host_node.proofs.Heard.{few_asked}
 use Rattle.spk_host_node.proofs.node.HostNode.most_requests.Goals as goal
 
-pub returns-in_default-clause-enough : goal.returns-in_default-clause-enough
-returns-in_default-clause-enough c =
+pub returns-clause-enough : goal.returns-clause-enough
+returns-clause-enough c =
     few_asked c.args.self.now (numbered_view c.args.message.now) c.args.now c.most_heard.result
-    (c.most_heard.ensures.most ∙ ap most_heard c.step_of-step.ensures)
+    (c.most_heard.ensures.most ∙ ap most_heard c.step_of.ensures)
