@@ -1,6 +1,6 @@
 -- Nodes that hold no message, and what is kept beside the nodes.
 use Rattle.std.proofs.Common.{◌≡◌, ◌⊎◌, inl, inr, ◌∙◌, sym, ap, refl, subst, ℕ, zero, suc, Bool, true, false, List, [], ◌∷◌, ◌++◌, map, set, get_or, Some, true≢false}
-use Rattle.std.specs.Prelude.{◌&&◌, slice_get, not, if◌then◌else◌, None}
+use Rattle.std.specs.Prelude.{◌&&◌, slice_get, if◌then◌else◌, None}
 use Rattle.spk_sequence.specs.declared.answer.Step.{Step}
 use Rattle.spk_sequence.specs.declared.answer.Step.TheVariants as step
 use Rattle.spk_host_rules.specs.Data.{Gap}
@@ -89,6 +89,6 @@ order-set entries index k new old before after so at same idle = record {
 pub held-so : {entries : List Entry} {index : IndexData} → IsIndexed (map names_of entries) index → IsInOrder entries index true
 held-so indexed = record { indexed = indexed; idle = λ e. absurd (true≢false e) }
 
-pub turned-back : (b : Bool) → not b ≡ false → b ≡ true
-turned-back true h = refl
-turned-back false h = sym h
+pub held-where : {entries : List Entry} {index : IndexData} {may_hold : Bool} → may_hold ≡ true → IsIndexed (map names_of entries) index
+    → IsInOrder entries index may_hold
+held-where is indexed = record { indexed = indexed; idle = λ e. absurd (true≢false (sym is ∙ e)) }

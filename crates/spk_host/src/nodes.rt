@@ -1,10 +1,11 @@
 //! The nodes that a host heard, in the order in which they were first heard.
-ghost use Rattle.std.specs.Prelude.{◌≡◌, true, false, ◌++◌, ◌∷◌, ℕ, List, [], None, Some, map, length, IfOk, OnOk, OnErr, if◌then◌else◌};
+ghost use Rattle.std.specs.Prelude.{◌≡◌, ◌<◌, false, ◌++◌, ◌∷◌, ℕ, List, [], None, Some, map, length, slice_get, IfOk, OnOk, OnErr, if◌then◌else◌};
 ghost use Rattle.std.specs.List.{position};
 ghost use Rattle.spk_reading.specs.View.{numbered_view};
 ghost use Rattle.spk_host_node.specs.Data.{fresh_node};
 ghost use Rattle.spk_host_node.specs.Step as one_node;
 ghost use Rattle.spk_host_node.specs.Idle.{IsIdle};
+ghost use Rattle.spk_host.specs.Data.{Entry};
 ghost use Rattle.spk_host.specs.Idle.{AreIdle};
 ghost use Rattle.spk_host.specs.Index.{place_in};
 ghost use Rattle.spk_host.specs.Inputs.{is_same};
@@ -30,6 +31,8 @@ pub(crate) struct Nodes {
     index: Index,
     /// A node may hold a message. While none does, no moment changes anything.
     may_hold: bool,
+    /// The place of the node that was last seen to hold a message. A moment looks there first whether one still does.
+    holder: usize,
 }
 
 impl Model for Nodes {
@@ -90,6 +93,7 @@ impl Nodes {
             entries: Vec::new(alloc),
             index: Index::new(alloc),
             may_hold: false,
+            holder: 0,
         }
     }
 
@@ -158,8 +162,9 @@ impl Nodes {
     {
         match self.place_of(group, node) {
             Some(place) => {
-                self.may_hold = true;
-                self.entries[place].death(bd);
+                let entry = &mut self.entries[place];
+                entry.death(bd);
+                self.may_hold = may_hold(self.may_hold, entry);
             }
             None => {}
         }
@@ -182,7 +187,13 @@ impl Nodes {
     {
         if self.may_hold {
             tick_all(&mut self.entries, now);
-            self.may_hold = !are_idle(&self.entries);
+            if holds_at(&self.entries, self.holder) {
+                return;
+            }
+            match first_holding(&self.entries) {
+                Some(place) => self.holder = place,
+                None => self.may_hold = false,
+            }
         }
     }
 
@@ -202,16 +213,28 @@ fn may_hold(others: bool, entry: &Entry) -> bool
     others || !entry.kept().is_idle()
 }
 
-/// Whether no node holds a message.
-fn are_idle(nodes: &[Entry]) -> bool
-    ensures { result ≡ true → AreIdle nodes.now }
+/// Whether the node at a place, if there is one, holds a message.
+fn holds_at(nodes: &[Entry], place: usize) -> bool
+    ensures { result ≡ false → (e : Entry) → slice_get nodes.now place ≡ Some e → IsIdle e.kept }
 {
-    for entry in nodes {
+    match nodes.get(place) {
+        Some(entry) => !entry.kept().is_idle(),
+        None => false,
+    }
+}
+
+/// The place of the first node that holds a message, if one does.
+fn first_holding(nodes: &[Entry]) -> Option<usize>
+    ensures none { result ≡ None → AreIdle nodes.now }
+    ensures first { (place k : ℕ) (e : Entry) → result ≡ Some place → k < place
+        → slice_get nodes.now k ≡ Some e → IsIdle e.kept }
+{
+    for (place, entry) in nodes.iter().enumerate() {
         if !entry.kept().is_idle() {
-            return false;
+            return Some(place);
         }
     }
-    true
+    None
 }
 
 /// What a moment hands out: the gaps, and the requests to the nodes that had one, in their order.

@@ -3,14 +3,14 @@ use Rattle.spk_host_node.specs.Step as one_node
 use Rattle.spk_host.specs.Data.{Entry}
 use Rattle.spk_host.specs.Index.{names_of}
 use Rattle.spk_host.proofs.Found.{absent, at, read_there}
-use Rattle.spk_host.proofs.Idle.{held-so}
-use Rattle.spk_host.proofs.Indexed.{first-place, indexed-set}
+use Rattle.spk_host.proofs.Idle.{order-set}
+use Rattle.spk_host.proofs.Indexed.{first-place}
 use Rattle.spk_host.proofs.nodes.Nodes.hear_death.Goals as goal
 
 pub invariant_of-self : goal.invariant_of-self
 invariant_of-self c =
-    held-so (indexed-set c.self.inside.entries.items c.self.inside.index c.in-Some.place c.death.new.self c.index_mut.result.now c.self.invariant.indexed
-    c.index_mut.ensures.value (ap names_of c.death.ensures))
+    order-set c.self.inside.entries.items c.self.inside.index c.in-Some.place c.death.new.self c.index_mut-entry.result.now
+    c.self.inside.may_hold c.may_hold-self-inside.result c.self.invariant c.index_mut-entry.ensures.value (ap names_of c.death.ensures) c.may_hold-self-inside.ensures
 
 pub returns-in-Some : goal.returns-in-Some
 returns-in-Some c =
@@ -19,8 +19,8 @@ returns-in-Some c =
     (first-place c.args.group.now c.args.node.now c.args.self.now c.place_of.result c.place_of.ensures ∙ c.in-Some.is) in
     ap (λ (xs : List Entry). set xs c.in-Some.place c.death.new.self) c.self.view_is
     ∙ ap (set l c.in-Some.place) (c.death.ensures ∙ ap (λ (e : Entry). record e { kept = one_node.death e.kept c.args.bd })
-    (read_there l c.in-Some.place c.index_mut.result.now found.0 found.1.there
-    (c.index_mut.ensures.value ∙ ap (λ (xs : List Entry). get_or xs c.in-Some.place c.index_mut.result.now) c.self.view_is)))
+    (read_there l c.in-Some.place c.index_mut-entry.result.now found.0 found.1.there
+    (c.index_mut-entry.ensures.value ∙ ap (λ (xs : List Entry). get_or xs c.in-Some.place c.index_mut-entry.result.now) c.self.view_is)))
     ∙ sym (found.1.change (λ n. one_node.death n c.args.bd))
 
 pub returns-in-None : goal.returns-in-None
