@@ -1,8 +1,7 @@
 -- A call as a whole: what it drafted stands for the rules' step, and is settled or taken back.
-use Rattle.std.proofs.Common.{◌≡◌, ◌≤◌, ℕ, Bool, true, false, List, Option, None, length, map, refl, sym, ap, subst, ◌∙◌, Result, Ok, Err}
+use Rattle.std.proofs.Common.{◌≡◌, ℕ, Bool, true, false, List, Option, None, map, refl, sym, ap, subst, ◌∙◌, Result, Ok, Err}
 use Rattle.std.specs.Result.{IfOk, OnErr, OnOk, is_ok, result_unwrap_or}
 use Rattle.std.specs.declared.alloc.AllocError.{AllocError}
-use Rattle.indexmap.specs.IndexMap.{spare}
 use Rattle.spk_broker_rules.specs.Data as plain
 use Rattle.spk_broker_rules.specs.Lawful.{IsLawful}
 use Rattle.spk_packets.specs.Message.{Message}
@@ -27,65 +26,9 @@ use Rattle.spk_broker.proofs.Quiet.{index-step}
 use Rattle.spk_broker.proofs.Standing.{begun-stands}
 use Rattle.spk_broker.proofs.Turned.{but-index, turned-index}
 
--- what the parts of a call say of it
-pub record Call (e : Event) (b : plain.Broker) (d0 d1 : Desk) (x0 x1 : Draft) (drafted : Result (Unit {0}) AllocError) : Type 0 where
-  pub is : desk_was d0 ≡ b
-  pub kept : IsSound d0
-  pub empty : draft_view x0 ≡ empty_draft
-  pub done : OnOk drafted ((t : Turn) → Stands d0 x0 t → Stands d1 x1 (stepped e t))
-  pub same : desk_was d1 ≡ desk_was d0
-
-pub record Finished (d1 d2 : Desk) (x1 : Draft) (drafted : Result (Unit {0}) AllocError) (r : Result Out BrokerFault) : Type 0 where
-  pub done : OnOk r ((t : Turn) → Stands d1 x1 t → desk_was d2 ≡ t.broker)
-  pub sends : IfOk r (λ out. map sent_view out.sends.items ≡ (draft_view x1).sends)
-  pub closes : IfOk r (λ out. out.closes.items ≡ (draft_view x1).closes)
-  pub variant : is_ok r ≡ is_ok drafted
-  pub same : OnErr r (desk_was d2 ≡ desk_was d1)
-  pub settled : IsSettled d2
-
 pub stepped-is : (e : Event) (b : plain.Broker) → stepped e (begun b) ≡ step b e
 unfolding step
 stepped-is e b = refl
-
--- what was drafted stands for the step
-pub stands-for : (e : Event) (b : plain.Broker) (d0 d1 : Desk) (x0 x1 : Draft) (drafted : Result (Unit {0}) AllocError) → Call e b d0 d1 x0 x1 drafted → OnOk drafted (Stands d1 x1 (step b e))
-stands-for e b d0 d1 x0 x1 (Ok u) k =
-    subst (λ t. Stands d1 x1 t) (stepped-is e b)
-    (k.done (begun b) (begun-stands d0 x0 b (k.kept.settled ∙ k.is) k.empty (subst IsLawful k.is k.kept.lawful)))
-stands-for e b d0 d1 x0 x1 (Err x) k = tt
-
-pub room-for : (e : Event) (b : plain.Broker) (d0 d1 : Desk) (x0 x1 : Draft) (drafted : Result (Unit {0}) AllocError) → Call e b d0 d1 x0 x1 drafted
-    → OnOk drafted (length (draft_view x1).keeps ≤ spare d1.retained)
-room-for e b d0 d1 x0 x1 (Ok u) k = (stands-for e b d0 d1 x0 x1 (Ok u) k).room
-room-for e b d0 d1 x0 x1 (Err x) k = tt
-
--- where it went well, what was drafted stands for the step
-stands-ok : (e : Event) (b : plain.Broker) (d0 d1 d2 : Desk) (x0 x1 : Draft) (drafted : Result (Unit {0}) AllocError) (out : Out)
-    → Call e b d0 d1 x0 x1 drafted → Finished d1 d2 x1 drafted (Ok out) → Stands d1 x1 (step b e)
-stands-ok e b d0 d1 d2 x0 x1 (Ok u) out k f = stands-for e b d0 d1 x0 x1 (Ok u) k
-stands-ok e b d0 d1 d2 x0 x1 (Err x) out k f = absurd (let v = f.variant in let z : ⊥ = cc in z)
-
-pub sends-are : (e : Event) (b : plain.Broker) (d0 d1 d2 : Desk) (x0 x1 : Draft) (drafted : Result (Unit {0}) AllocError) (r : Result Out BrokerFault)
-    → Call e b d0 d1 x0 x1 drafted → Finished d1 d2 x1 drafted r → IfOk r (λ out. map sent_view out.sends.items ≡ map outgoing (step b e).sends)
-sends-are e b d0 d1 d2 x0 x1 drafted (Ok out) k f = f.sends ∙ (stands-ok e b d0 d1 d2 x0 x1 drafted out k f).sends
-sends-are e b d0 d1 d2 x0 x1 drafted (Err x) k f = tt
-
-pub closes-are : (e : Event) (b : plain.Broker) (d0 d1 d2 : Desk) (x0 x1 : Draft) (drafted : Result (Unit {0}) AllocError) (r : Result Out BrokerFault)
-    → Call e b d0 d1 x0 x1 drafted → Finished d1 d2 x1 drafted r → IfOk r (λ out. out.closes.items ≡ (step b e).closes)
-closes-are e b d0 d1 d2 x0 x1 drafted (Ok out) k f = f.closes ∙ (stands-ok e b d0 d1 d2 x0 x1 drafted out k f).closes
-closes-are e b d0 d1 d2 x0 x1 drafted (Err x) k f = tt
-
-pub done-is : (e : Event) (b : plain.Broker) (d0 d1 d2 : Desk) (x0 x1 : Draft) (drafted : Result (Unit {0}) AllocError) (r : Result Out BrokerFault)
-    → Call e b d0 d1 x0 x1 drafted → Finished d1 d2 x1 drafted r → OnOk r (desk_was d2 ≡ (step b e).broker)
-done-is e b d0 d1 d2 x0 x1 drafted (Ok out) k f = f.done (step b e) (stands-ok e b d0 d1 d2 x0 x1 drafted out k f)
-done-is e b d0 d1 d2 x0 x1 drafted (Err x) k f = tt
-
-pub kept-is : (e : Event) (b : plain.Broker) (d0 d1 d2 : Desk) (x0 x1 : Draft) (drafted : Result (Unit {0}) AllocError) (r : Result Out BrokerFault)
-    → Call e b d0 d1 x0 x1 drafted → Finished d1 d2 x1 drafted r → IsSound d2
-kept-is e b d0 d1 d2 x0 x1 drafted (Ok out) k f =
-    let s = stands-ok e b d0 d1 d2 x0 x1 drafted out k f in
-    record { settled = f.settled; lawful = subst IsLawful (sym (f.done (step b e) s)) s.lawful }
-kept-is e b d0 d1 d2 x0 x1 drafted (Err x) k f = record { settled = f.settled; lawful = subst IsLawful (sym (f.same ∙ k.same)) k.kept.lawful }
 
 -- ---- a call after which something follows
 
@@ -149,11 +92,6 @@ kept-to e b d0 d1 d2 x0 x1 drafted (Err x) k f = record { settled = f.settled; l
 on-step : (i : Option Grants) (e : Event) (b c d : plain.Broker) → takes_grants e ≡ false → c ≡ b → d ≡ (step b e).broker → IsIndex i c.seats → IsIndex i d.seats
 on-step i e b c d quiet from to h =
     subst (λ (x : plain.Broker). IsIndex i x.seats) (sym to) (index-step i b e quiet (subst (λ (x : plain.Broker). IsIndex i x.seats) from h))
-
-pub index-is : (i : Option Grants) (e : Event) (b : plain.Broker) (d0 d1 d2 : Desk) (x0 x1 : Draft) (drafted : Result (Unit {0}) AllocError) (r : Result Out BrokerFault)
-    → takes_grants e ≡ false → Call e b d0 d1 x0 x1 drafted → Finished d1 d2 x1 drafted r → IsIndex i (desk_was d0).seats → IsIndex i (desk_was d2).seats
-index-is i e b d0 d1 d2 x0 x1 drafted (Ok out) quiet k f h = on-step i e b (desk_was d0) (desk_was d2) quiet k.is (done-is e b d0 d1 d2 x0 x1 drafted (Ok out) k f) h
-index-is i e b d0 d1 d2 x0 x1 drafted (Err x) quiet k f h = subst (λ (y : plain.Broker). IsIndex i y.seats) (sym (f.same ∙ k.same)) h
 
 pub index-to : (i : Option Grants) (e : Event) (b : plain.Broker) (d0 d1 d2 : Desk) (x0 x1 : Draft) (drafted : Result Ending AllocError) (r : Result Out BrokerFault)
     → (takes_grants e ≡ true → i ≡ None) → CallTo e b d0 d1 x0 x1 drafted → Concluded d1 d2 x1 drafted r → IsIndex i (desk_was d0).seats → IsIndex i (desk_was d2).seats

@@ -1,5 +1,5 @@
 -- A connection that leaves takes no grants of a session that stays, and no session gets another number.
-use Rattle.std.proofs.Common.{◌≡◌, ℕ, zero, suc, Bool, true, false, cond, List, [], ◌∷◌, ◌++◌, map, get_or, set, refl, sym, ap, subst, Option, Some, None}
+use Rattle.std.proofs.Common.{◌≡◌, ℕ, zero, suc, Bool, true, false, cond, List, [], ◌∷◌, ◌++◌, get_or, set, sym, ap, subst, Option, Some, None}
 use Rattle.std.specs.List.{flat_map}
 use Rattle.spk_topics.specs.Grants.{Grants}
 use Rattle.spk_broker_rules.specs.Data as plain

@@ -42,6 +42,16 @@ tick-stands d1 d2 x1 x2 now conns t s e done =
     (ap (λ l. act Route (acts (flat_map ends l) (act (At now) t))) same
     ∙ sym (acts-append (flat_map ends (flat_map (silent_at (act (At now) t).broker.clock) (act (At now) t).broker.seats)) (Route ∷ []) (act (At now) t))) done
 
+pub tick-leads : (d1 d2 : Desk) (x1 x2 : Draft) (e : Ending) (now : ℕ) (conns : List ℕ) (t : Turn) → Stands d1 x1 (act (At now) t)
+    → conns ≡ flat_map (silent_at d1.clock) (seats_now d1.seats.items) → Leads d2 x2 e (act Route (acts (flat_map ends conns) (act (At now) t)))
+    → Leads d2 x2 e (stepped (Tick now) t)
+tick-leads d1 d2 x1 x2 e now conns t s is done =
+    let same : conns ≡ flat_map (silent_at (act (At now) t).broker.clock) (act (At now) t).broker.seats =
+    is ∙ ap (λ (b : plain.Broker). flat_map (silent_at b.clock) b.seats) s.broker in
+    subst (λ u. Leads d2 x2 e u)
+    (ap (λ l. act Route (acts (flat_map ends l) (act (At now) t))) same
+    ∙ sym (acts-append (flat_map ends (flat_map (silent_at (act (At now) t).broker.clock) (act (At now) t).broker.seats)) (Route ∷ []) (act (At now) t))) done
+
 -- ---- drops
 
 pub dropped-leads : (d1 d2 : Desk) (x1 x2 : Draft) (e : Ending) (conn now : ℕ) (t : Turn) (b : Bool) → Stands d1 x1 (act (Drop conn) (act (At now) t))

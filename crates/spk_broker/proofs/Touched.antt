@@ -96,6 +96,23 @@ settled-alone d conn (Some p) e f = record {
     first (suc k) lt = absurd (omega (arith, lt))
 
 -- the same of a desk with the same sessions and connections
+-- a place among some is one among the same
+pub low-as : (o : Option ℕ) (l m : List Both) → l ≡ m → IfSome o (λ p. (p ≡ 0) × (p < length l)) → IfSome o (λ p. p < length m)
+low-as None l m e h = tt
+low-as (Some p) l m e h = subst (λ (xs : List Both). p < length xs) e h.1
+
+-- of a settled desk none has changed, so not the one at a place
+pub settled-at : (d : Desk) (o : Option ℕ) → IsSettled d → IfSome o (λ p. p < length d.seats.items) → IsAlone o d
+settled-at d None e low = tt
+settled-at d (Some p) e low = record {
+  seats = record { low = first; rest = λ i x lt out. whole-at d.seats.items i x (ap (λ (b : plain.Broker). b.seats) e) lt };
+  guests = ap (λ (b : plain.Broker). b.guests) e;
+}
+  where
+    first : (k : ℕ) → k < length (p ∷ []) → get_or (p ∷ []) k 0 < length d.seats.items
+    first zero lt = low
+    first (suc k) lt = absurd (omega (arith, lt))
+
 pub alone-as : (o : Option ℕ) (d0 d1 : Desk) → d1.seats ≡ d0.seats → d1.guests ≡ d0.guests → IsAlone o d0 → IsAlone o d1
 alone-as None d0 d1 seats guests h = tt
 alone-as (Some p) d0 d1 seats guests h = record {

@@ -82,9 +82,9 @@ impl Broker {
         let before = self.desk.seats.len();
         let drafted = self.desk.draft_tick(&mut draft, &self.index.tree, now);
         let lost = draft.lost;
-        let finished = self.desk.finish(drafted, draft);
+        let concluded = self.desk.conclude(drafted, draft);
         self.index.shed(&self.desk.seats, before, lost);
-        finished
+        concluded
     }
 
     /// A send to a connection couldn't be taken: a PUBLISH of QoS 0 is dropped, and drop number `limit` closes the

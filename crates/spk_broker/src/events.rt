@@ -1,5 +1,5 @@
 //! What each event drafts, but for packets.
-ghost use Rattle.std.specs.Prelude.{◌≡◌, ◌≤◌, ◌∷◌, [], IfOk, OnOk, Option, true, false, ◌&&◌, is_none};
+ghost use Rattle.std.specs.Prelude.{◌≡◌, ◌≤◌, ◌<◌, ◌∷◌, [], IfOk, IfSome, None, OnOk, Option, length, true, false, ◌&&◌, is_none};
 ghost use Rattle.std.specs.List.{flat_map};
 ghost use Rattle.spk_packets.specs.Message.{ConnAck};
 ghost use Rattle.spk_topics.specs.Grants.{Grants};
@@ -11,12 +11,13 @@ ghost use Rattle.spk_broker.specs.Called.{AreInOrder, AreKeyed};
 ghost use Rattle.spk_broker.specs.Endings.{IsReady, Leads};
 ghost use Rattle.spk_broker.specs.Filing.{IsIndex};
 ghost use Rattle.spk_broker.specs.Touched.{IsAlone};
-ghost use Rattle.spk_broker.specs.View.{Stands, desk_now, desk_was, ends, stepped};
+ghost use Rattle.spk_broker.specs.View.{IsSettled, Stands, desk_now, desk_was, ends, stepped};
 
 use crate::asking::silent;
 use crate::desk::Desk;
 use crate::ending::Ending;
 use crate::out::{Conn, Draft};
+use crate::seat::Seat;
 use spk_packets::{Packet, PacketFault};
 use spk_session::Sort;
 use spk_topics::Tree;
@@ -37,6 +38,14 @@ fn is_of_other_level(fault: PacketFault, place: Option<usize>) -> bool
     ensures { result ≡ (is_bad_level fault && is_none place) }
 {
     is_bad_level(fault) && place.is_none()
+}
+
+/// Where the first session stands, if there is one.
+fn first_place(seats: &[Seat]) -> Option<usize>
+    ensures none { result ≡ None → length seats.now ≡ 0 }
+    ensures some { IfSome result (λ p. (p ≡ 0) × (p < length seats.now)) }
+{
+    if seats.is_empty() { None } else { Some(0) }
 }
 
 impl Desk {
@@ -131,24 +140,32 @@ impl Desk {
         Ok(())
     }
 
-    /// All that are silent for too long are ended, then their wills are routed in that order (section 3.1.2.10).
+    /// All that are silent for too long are ended, then their wills are routed in that order (section 3.1.2.10). Where nobody is, no
+    /// session changes.
     pub(crate) fn draft_tick(
         &mut self,
         draft: &mut Draft,
         tree: &Option<Tree>,
         now: u64,
-    ) -> Result<(), AllocError>
+    ) -> Result<Ending, AllocError>
         requires index { IsIndex tree.now (desk_now self.old).seats }
         requires order { AreInOrder tree.now self.old.seats.items }
-        ensures done { OnOk result ((t : Turn) → Stands self.old draft.old t
-            → Stands self.new draft.new (stepped (Tick now) t)) }
+        requires settled { IsSettled self.old }
+        ensures done { IfOk result (λ e. (t : Turn) → Stands self.old draft.old t
+            → Leads self.new draft.new e (stepped (Tick now) t)) }
+        ensures ready { IfOk result (λ e. IsReady e self.new) }
         ensures same { desk_was self.new ≡ desk_was self.old }
     {
         self.at(now);
         let conns = silent(self.alloc, &self.seats, self.clock)?;
+        if conns.is_empty() {
+            let first = first_place(&self.seats);
+            let ending = self.route_near(draft, tree, first)?;
+            return Ok(ending);
+        }
         self.end_all(draft, &conns)?;
         self.route(draft, tree)?;
-        Ok(())
+        Ok(Ending::Nothing)
     }
 
     /// A PUBLISH of QoS 0 is dropped, and as many drops as close the connection close it (own rule).

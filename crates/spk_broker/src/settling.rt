@@ -1,19 +1,16 @@
 //! How a call ends: what was drafted stands, or is taken back.
-ghost use Rattle.std.specs.Prelude.{◌≡◌, ◌≤◌, ◌∷◌, ◌++◌, [], length, map, is_ok, IfErr, IfOk, OnErr, OnOk, vec_capacity, vec_len};
+ghost use Rattle.std.specs.Prelude.{◌≡◌, ◌≤◌, ◌∷◌, ◌++◌, [], length, map, vec_capacity, vec_len};
 ghost use Rattle.indexmap.specs.IndexMap.{spare};
 ghost use Rattle.spk_broker_rules.specs.Step.{Turn};
-ghost use Rattle.spk_broker.specs.declared.fault.BrokerFault.TheVariants as BrokerFault;
 ghost use Rattle.spk_broker.specs.Drafts.{draft_view};
 ghost use Rattle.spk_broker.specs.Sent.{sent_view};
 ghost use Rattle.spk_broker.specs.Touched.{OnlyAt};
 ghost use Rattle.spk_broker.specs.View.{IsSettled, Stands, desk_was};
 
 use crate::desk::Desk;
-use crate::fault::BrokerFault;
 use crate::out::{Draft, Out};
 use crate::retaining::retain_all;
 use crate::{guest, turning};
-use std::alloc::AllocError;
 
 impl Desk {
     /// What was drafted stands. It takes no memory.
@@ -63,29 +60,5 @@ impl Desk {
         guest::undo(&mut self.guests);
         turning::undo(&mut self.seats);
         self.clock = self.clock_before;
-    }
-
-    /// What was drafted stands, or is taken back where a growth was refused.
-    pub(crate) fn finish(
-        &mut self,
-        drafted: Result<(), AllocError>,
-        draft: Draft,
-    ) -> Result<Out, BrokerFault>
-        requires { OnOk drafted (length (draft_view draft).keeps ≤ spare self.old.retained) }
-        ensures done { OnOk result
-            ((t : Turn) → Stands self.old draft t → desk_was self.new ≡ t.broker) }
-        ensures sends { IfOk result
-            (λ out. map sent_view out.sends.items ≡ (draft_view draft).sends) }
-        ensures closes { IfOk result (λ out. out.closes.items ≡ (draft_view draft).closes) }
-        ensures variant { is_ok result ≡ is_ok drafted }
-        ensures fault { IfErr result (λ e. e ≡ BrokerFault.NoMemory) }
-        ensures same { OnErr result (desk_was self.new ≡ desk_was self.old) }
-        ensures settled { IsSettled self.new }
-    {
-        if drafted.is_ok() {
-            return Ok(self.settle(draft));
-        }
-        self.undo();
-        Err(BrokerFault::NoMemory)
     }
 }

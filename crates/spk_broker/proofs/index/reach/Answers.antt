@@ -1,7 +1,7 @@
 use Rattle.std.proofs.Common.{subst}
 use Rattle.spk_topics.specs.Grants.{Finds}
 use Rattle.spk_broker.specs.Filing.{IsIndex}
-use Rattle.spk_broker.proofs.Passing.{passed-all, passed-none}
+use Rattle.spk_broker.proofs.Passing.{passed-all}
 use Rattle.spk_broker.proofs.index.reach.Goals as goal
 
 pub returns-in-Ok-find-clause-passed : goal.returns-in-Ok-find-clause-passed

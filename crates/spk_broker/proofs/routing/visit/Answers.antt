@@ -1,11 +1,7 @@
-use Rattle.std.proofs.Common.{◌≡◌, true, None, ◌<◌, ◌∙◌, ap, get_or, sym, refl, length, arith}
+use Rattle.std.proofs.Common.{◌<◌, ◌∙◌, ap, get_or, sym, refl, length, arith}
 use Rattle.spk_broker_rules.specs.Step.{serve}
 use Rattle.spk_broker.specs.Drafts.{draft_view, left_by, served_by}
 use Rattle.spk_broker.specs.Parts.{post_view}
-use Rattle.spk_broker_rules.specs.Data as plain
-use Rattle.spk_broker_rules.specs.Words.{best}
-use Rattle.spk_broker.specs.Filing.{is_passed}
-use Rattle.spk_broker.proofs.Passing.{passed-at, passed-next}
 use Rattle.spk_broker.proofs.Rounds.{was-step, round-step, left-end, left-whole, drafted-end, drafted-whole}
 use Rattle.spk_broker.proofs.Visits.{keyed-set}
 use Rattle.spk_broker.proofs.routing.visit.Goals as goal
