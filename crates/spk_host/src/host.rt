@@ -1,5 +1,5 @@
 //! A host application.
-ghost use Rattle.std.specs.Prelude.{◌≡◌, ◌⊎◌, ℕ, [], ◌∷◌, true, false, All, map, is_some, IfOk, IfErr, OnOk, OnErr, Ok, Err, None, Some, if◌then◌else◌, ◌==◌};
+ghost use Rattle.std.specs.Prelude.{◌≡◌, ◌⊎◌, ℕ, List, [], ◌∷◌, true, false, All, map, is_some, IfOk, IfErr, OnOk, OnErr, Ok, Err, None, Some, if◌then◌else◌, ◌==◌};
 ghost use Rattle.std.specs.List.{find};
 ghost use Rattle.std.specs.Option.{option_copied, option_map};
 ghost use Rattle.spk_reading.specs.Data.{HeardData};
@@ -231,6 +231,24 @@ impl Host {
             Ok(heard) => self.hear(heard, now),
             Err(fault) => Err(fault_of(fault)),
         }
+    }
+
+    /// What the bytes of a packet say came at a moment, in milliseconds: all is done that `packet` does of such bytes. Refused with
+    /// WrongPhase (75) outside a session.
+    pub fn heard(&mut self, heard: Heard, now: u64) -> Result<Out, HostFault>
+        ensures outside { self.old.session.began ≡ None → result ≡ Err HostFault.WrongPhase }
+        ensures answer { is_some self.old.session.began ≡ true
+            → Gives out_view result (Ok (step.packet_out self.old (heard_view heard) now)) }
+        ensures whole { (bytes : List ℕ) → Says bytes (heard_view heard)
+            → IfOk result (λ o. AreWhole o) }
+        ensures data { OnOk result
+            (self.new ≡ calls.host_with self.old (calls.Heard (heard_view heard) now)) }
+        ensures unchanged { OnErr result (self.new ≡ self.old) }
+    {
+        if !self.session.is_open() {
+            return Err(HostFault::WrongPhase);
+        }
+        self.hear(heard, now)
     }
 
     /// A moment, in milliseconds: a gap at each node of which a held message has waited long enough for one before it, with the

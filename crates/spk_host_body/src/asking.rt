@@ -1,13 +1,14 @@
 //! What a host answers.
-ghost use Rattle.std.specs.Prelude.{◌≡◌, IfErr, IfOk, IfSome, OnOk};
-ghost use Rattle.spk_reading.specs.Data.{HeardData};
+ghost use Rattle.std.specs.Prelude.{◌≡◌, ℕ, List, IfErr, IfOk, IfSome, OnOk};
 ghost use Rattle.spk_reading.specs.Meaning.{Says};
+ghost use Rattle.spk_reading.specs.View.{heard_view};
 ghost use Rattle.spk_host.specs.Inputs as calls;
 ghost use Rattle.spk_host.specs.View.{AreWhole};
 ghost use Rattle.spk_host_body.specs.Steps as step;
 
 use crate::fault::HostCause;
 use spk_host::{Host, HostFault, Out};
+use spk_reading::Heard;
 
 /// A call that was refused hands out nothing; want of memory ends the run.
 fn answered(answer: Result<Out, HostFault>) -> Result<Option<Out>, HostCause>
@@ -30,14 +31,15 @@ pub(crate) fn begin(host: &mut Host, now: u64) -> Result<Option<Out>, HostCause>
     answered(host.connected(now))
 }
 
-/// A packet came that says something.
-pub(crate) fn hear(host: &mut Host, bytes: &[u8], now: u64) -> Result<Option<Out>, HostCause>
-    ensures answers { (h : HeardData) → Says bytes.now h
-        → IfOk result (λ out. step.Answers (calls.Heard h now) host.old host.new out) }
+/// A packet came that says this.
+pub(crate) fn hear(host: &mut Host, heard: Heard, now: u64) -> Result<Option<Out>, HostCause>
+    requires { (bytes : List ℕ) × Says bytes (heard_view heard) }
+    ensures answers { IfOk result
+        (λ out. step.Answers (calls.Heard (heard_view heard) now) host.old host.new out) }
     ensures whole { IfOk result (λ out. IfSome out (λ o. AreWhole o)) }
     ensures memory { IfErr result (λ e. e ≡ HostCause.NoMemory) }
 {
-    answered(host.packet(bytes, now))
+    answered(host.heard(heard, now))
 }
 
 /// A moment passed.

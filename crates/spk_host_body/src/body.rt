@@ -52,7 +52,10 @@ fn tell<R: Wait, G: Gate>(
             });
         }
     };
-    let consumed = match desk.hear(rt, ingress, gate, bytes, now) {
+    let Ok(told) = heard.copy(desk.alloc) else {
+        return Err(HostCause::NoMemory);
+    };
+    let consumed = match desk.hear(rt, ingress, gate, told, now) {
         Ok(consumed) => consumed,
         Err(fault) => return Err(fault),
     };

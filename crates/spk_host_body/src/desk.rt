@@ -1,9 +1,8 @@
 //! The host at work.
-ghost use Rattle.std.specs.Prelude.{◌≡◌, ◌∷◌, [], ◌++◌, map, IfOk, IfSome, OnOk};
+ghost use Rattle.std.specs.Prelude.{◌≡◌, ◌∷◌, [], ◌++◌, ℕ, List, map, IfOk, IfSome, OnOk};
 ghost use Rattle.spk_ingress.specs.Passes.{PutsInto, frames_put};
-ghost use Rattle.spk_reading.specs.Data.{HeardData};
 ghost use Rattle.spk_reading.specs.Meaning.{Says};
-ghost use Rattle.spk_reading.specs.View.{numbered_view};
+ghost use Rattle.spk_reading.specs.View.{heard_view, numbered_view};
 ghost use Rattle.spk_host.specs.Inputs as calls;
 ghost use Rattle.spk_host.specs.View.{AreWhole};
 ghost use Rattle.spk_host_body.specs.Steps.{SamePass, Took, handed};
@@ -15,6 +14,7 @@ use crate::watch::Watch;
 use spk_host::{Host, Out, Taken};
 use spk_ingress::{Frame, Ingress};
 use spk_plan::Gate;
+use spk_reading::Heard;
 use std::alloc::Global;
 use std::sync::Wait;
 
@@ -90,23 +90,24 @@ impl Desk {
         )
     }
 
-    /// A packet came that says something.
+    /// A packet came that says this.
     pub(crate) fn hear<R: Wait, G: Gate>(
         &mut self,
         rt: &R,
         ingress: &Ingress,
         gate: &G,
-        bytes: &[u8],
+        heard: Heard,
         now: u64,
     ) -> Result<Vec<Taken>, HostCause>
-        requires { PutsInto ingress.now self.old.line.pass }
+        requires into { PutsInto ingress.now self.old.line.pass }
+        requires said { (bytes : List ℕ) × Says bytes (heard_view heard) }
         ensures pass { SamePass ingress.now self.old.line.pass self.new.line.pass }
-        ensures took { (h : HeardData) → Says bytes.now h
-            → IfOk result (λ v. Took (calls.Heard h now) self.old.host self.new.host
+        ensures took { IfOk result
+            (λ v. Took (calls.Heard (heard_view heard) now) self.old.host self.new.host
             (frames_put self.old.line.pass) (frames_put self.new.line.pass)
             (map numbered_view v.items)) }
     {
-        let out = match asking::hear(&mut self.host, bytes, now) {
+        let out = match asking::hear(&mut self.host, heard, now) {
             Ok(out) => out,
             Err(fault) => return Err(fault),
         };

@@ -2,6 +2,7 @@
 //! acknowledged (Sparkplug 3.0.0, chapter 4 on topics, chapter 6 on payloads).
 #![tactic(auto)]
 
+mod copying;
 mod fault;
 mod numbers;
 mod published;
