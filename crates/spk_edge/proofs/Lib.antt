@@ -13,3 +13,4 @@ mod Drains
 mod Along
 mod Placed
 mod Called
+mod Told

@@ -94,7 +94,7 @@ rules-are c a i r fit now is =
     ∙ ap (λ b. cond (not b) (Err fault.ClockEnd) (on_ok (acts c a i.now i.act) (λ g. timely (acked i.ack g)))) now
     ∙ ap (λ r. on_ok r (λ g. timely (acked i.ack g))) is
 
-abbrev answered : NodeData → Result rule.Given EdgeFault → Result Answer EdgeFault
+abbrev pub answered : NodeData → Result rule.Given EdgeFault → Result Answer EdgeFault
 answered n r = on_ok r (λ g. checked g (g.plain ++ step.wires n.config n.standing.seq g.drafts))
 
 abbrev gave : rule.Given → Result rule.Given EdgeFault
@@ -115,7 +115,7 @@ acked-timely : (ack : Option ℕ) (g : rule.Given) → is_timely (acked ack g) �
 acked-timely None g = refl
 acked-timely (Some id) g = refl
 
-late : (n : NodeData) (i : inputs.Input) (g : rule.Given) → fits n.standing.asked.phase i.act ≡ true → nat_lt i.now (2 ^ 63) ≡ true
+pub late : (n : NodeData) (i : inputs.Input) (g : rule.Given) → fits n.standing.asked.phase i.act ≡ true → nat_lt i.now (2 ^ 63) ≡ true
     → acts n.config n.standing.asked i.now i.act ≡ Ok g → is_timely g ≡ false → IsRefusal n i fault.ClockEnd
 late n i g fit now is never = inr (
     ap (answered n) (rules-are n.config n.standing.asked i (gave g) fit now is)
@@ -126,7 +126,7 @@ act_refused n i e fit now (inl memory) = inl memory
 act_refused n i e fit now (inr (inl is)) = inr (ap (answered n) (rules-are n.config n.standing.asked i (refused e) fit now is))
 act_refused n i e fit now (inr (inr (end, (g, is, never)))) = subst (IsRefusal n i) (sym end) (late n i g fit now is never)
 
-abbrev answer-ok : Answer → Result Answer EdgeFault
+abbrev pub answer-ok : Answer → Result Answer EdgeFault
 answer-ok a = Ok a
 
 -- ---- what was given, acknowledged and sealed
@@ -145,7 +145,7 @@ same-data n i g g' given is =
 sent : (n : NodeData) (heard : Option ℕ) (r : rule.Given) → packets_of n (given_of n.config heard r) ≡ r.plain ++ step.wires n.config n.standing.seq r.drafts
 sent n heard r = ap (λ (l : List packets.Message). r.plain ++ l) (wires-are n.config n.standing.seq r.drafts)
 
-all-timely : (n : NodeData) (i : inputs.Input) (r : rule.Given) (b : Bool) → is_timely (acked i.ack r) ≡ b → fits n.standing.asked.phase i.act ≡ true → nat_lt i.now (2 ^ 63) ≡ true
+pub all-timely : (n : NodeData) (i : inputs.Input) (r : rule.Given) (b : Bool) → is_timely (acked i.ack r) ≡ b → fits n.standing.asked.phase i.act ≡ true → nat_lt i.now (2 ^ 63) ≡ true
     → acts n.config n.standing.asked i.now i.act ≡ Ok r → step.answer_at n.config n.standing i ≡ answered n (cond b (Ok (acked i.ack r)) (Err fault.ClockEnd))
 all-timely n i r b is fit now acted =
     ap (answered n) (rules-are n.config n.standing.asked i (gave r) fit now acted) ∙ ap (λ b. answered n (cond b (Ok (acked i.ack r)) (Err fault.ClockEnd))) is

@@ -5,3 +5,4 @@ pub mod Patch
 pub mod Ordered
 pub mod Along
 pub mod Calls
+pub mod Changing

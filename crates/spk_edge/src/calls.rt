@@ -11,7 +11,7 @@ ghost use Rattle.spk_edge.specs.View.{input_view};
 use crate::input::{Act, Input};
 use crate::message::Out;
 use crate::node::EdgeNode;
-use crate::plan::Taken;
+use crate::plan::{END, Taken};
 use spk_device::Alias;
 use spk_edge_rules::{EdgeFault, Phase};
 use spk_packets::Packet;
@@ -76,11 +76,10 @@ impl EdgeNode {
             (patch.plain_input now (inputs.Change alias (option_map typed_view value.now)))) }
         ensures err { OnErr result (self.new ≡ self.old) }
     {
-        self.tell(Input {
-            now,
-            ack: None,
-            act: Act::Change(alias, value),
-        })
+        if now >= END {
+            return Err(EdgeFault::ClockEnd);
+        }
+        self.changed(now, alias, value)
     }
 
     /// A device is up or down: a DBIRTH or a DDEATH when Born. Nothing where it is so already. Taken in every phase.

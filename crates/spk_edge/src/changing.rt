@@ -53,7 +53,7 @@ impl EdgeNode {
     }
 
     /// The owner of an alias, the node where there is none.
-    fn owner(&self, alias: Alias) -> Owner
+    pub(crate) fn owner(&self, alias: Alias) -> Owner
         ensures { result ≡ births.owner_at self.now.standing.asked.book alias }
     {
         match self.registry.metric(alias) {
@@ -141,7 +141,7 @@ impl EdgeNode {
     }
 
     /// The data message of one change.
-    fn change_message(
+    pub(crate) fn change_message(
         &self,
         now: u64,
         alias: Alias,
@@ -162,7 +162,7 @@ impl EdgeNode {
     }
 
     /// A change that is kept.
-    fn kept_change(
+    pub(crate) fn kept_change(
         &self,
         now: u64,
         alias: Alias,

@@ -17,6 +17,7 @@ mod message;
 mod node;
 mod plan;
 mod sealing;
+mod telling;
 mod texts;
 mod values;
 

@@ -29,7 +29,7 @@ use std::alloc::{AllocError, Global};
 use std::fmt;
 
 /// The first moment that isn't one.
-const END: u64 = 1 << 63;
+pub(crate) const END: u64 = 1 << 63;
 
 /// What is set in the registry.
 #[derive(Drop)]
@@ -136,7 +136,7 @@ fn is_open(act: &Act<'_>) -> bool
 }
 
 /// Sets what is to be set.
-fn set(registry: &mut Registry, setting: Setting)
+pub(crate) fn set(registry: &mut Registry, setting: Setting)
     ensures { registry.new ≡ patch.setting_book registry.old setting }
 {
     match setting {
@@ -154,7 +154,7 @@ fn set(registry: &mut Registry, setting: Setting)
 }
 
 /// Does to the kept changes what is to be done.
-fn keep(store: &mut Store, keeping: Keeping)
+pub(crate) fn keep(store: &mut Store, keeping: Keeping)
     ensures { kept_view store.new ≡ patch.kept_after (kept_view store.old) keeping }
 {
     match keeping {
