@@ -14,3 +14,4 @@ mod Along
 mod Placed
 mod Called
 mod Told
+mod Packed

@@ -6,3 +6,4 @@ pub mod Ordered
 pub mod Along
 pub mod Calls
 pub mod Changing
+pub mod Saying

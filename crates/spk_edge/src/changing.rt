@@ -1,11 +1,11 @@
 //! Changes of metrics, and devices that come and go.
 ghost use Rattle.std.specs.Prelude.{◌≡◌, ◌⊎◌, ◌∷◌, [], IfOk, IfErr, OnOk, map, string_bytes, Some, None, false};
-ghost use Rattle.std.specs.Option.{option_map, option_map_or};
+ghost use Rattle.std.specs.Option.{option_and_then, option_map, option_map_or};
 ghost use Rattle.spk_topics.specs.Spark.{topic_of};
 ghost use Rattle.spk_edge_rules.specs.Messages.{spark_of};
 ghost use Rattle.spk_device.specs.declared.fault.Refusal.{Refusal};
-ghost use Rattle.spk_payload.specs.Typing.{typed_view};
-ghost use Rattle.spk_payload.specs.View.{metric_view};
+ghost use Rattle.spk_payload.specs.Typing.{typed_view, written_of};
+ghost use Rattle.spk_payload.specs.View.{content_of, metric_view};
 ghost use Rattle.spk_device.specs.Book as book;
 ghost use Rattle.spk_device.specs.Step.{set_refusal, turn_refusal};
 ghost use Rattle.spk_edge_rules.specs.Births as births;
@@ -18,7 +18,7 @@ use crate::texts::{device_topic, node_topic};
 use crate::values::{copied, written_value};
 use spk_device::{Alias, Outcome, Owner};
 use spk_edge_rules::{EdgeFault, Phase};
-use spk_payload::{Metric, Payload, Value};
+use spk_payload::{Metric, Payload, Raw, Value};
 use spk_store::Change;
 use spk_topics::Verb;
 use std::alloc::{AllocError, Global};
@@ -72,6 +72,23 @@ impl EdgeNode {
         }
     }
 
+    /// A value as the datatype of an alias writes it.
+    pub(crate) fn value_written(
+        &self,
+        alias: Alias,
+        value: &Option<Value>,
+    ) -> Result<Option<Raw>, AllocError>
+        ensures { IfOk result (λ raw. option_map content_of raw
+            ≡ option_and_then (written_of (option_map_or (λ g. g.datatype)
+            (book.gauge_at self.now.standing.asked.book alias) 0))
+            (option_map typed_view value.now)) }
+    {
+        match value {
+            Some(value) => written_value(self.alloc, self.datatype(alias), value),
+            None => Ok(None),
+        }
+    }
+
     /// A metric of a data message.
     pub(crate) fn data_metric(
         &self,
@@ -85,10 +102,7 @@ impl EdgeNode {
             (option_map typed_view value.now)) }
     {
         let null = if value.is_none() { Some(true) } else { None };
-        let value = match value {
-            Some(value) => written_value(self.alloc, self.datatype(alias), value)?,
-            None => None,
-        };
+        let value = self.value_written(alias, value)?;
         Ok(Metric {
             name: None,
             alias: Some(alias),
@@ -102,7 +116,7 @@ impl EdgeNode {
     }
 
     /// The topic of an owner's data.
-    fn data_topic(&self, owner: Owner) -> Result<String, AllocError>
+    pub(crate) fn data_topic(&self, owner: Owner) -> Result<String, AllocError>
         ensures { IfOk result (λ t. string_bytes t
             ≡ topic_of (spark_of self.now.config Verb.Data
             (births.device_of self.now.standing.asked.book owner))) }
@@ -141,7 +155,7 @@ impl EdgeNode {
     }
 
     /// The data message of one change.
-    pub(crate) fn change_message(
+    fn change_message(
         &self,
         now: u64,
         alias: Alias,

@@ -15,6 +15,7 @@ mod input;
 pub mod laws;
 mod message;
 mod node;
+mod packet;
 mod plan;
 mod sealing;
 mod telling;

@@ -70,7 +70,7 @@ fn published(alloc: Global, topic: &str, payload: &[u8]) -> Result<Vec<u8>, Edge
 }
 
 /// A message's bytes.
-pub(crate) fn written_message(alloc: Global, message: &Published) -> Result<Vec<u8>, EdgeFault>
+fn written_message(alloc: Global, message: &Published) -> Result<Vec<u8>, EdgeFault>
     requires { seal.AreKnown (message_view message.now).payload.metrics }
     ensures bytes { IfOk result (λ v. seal.bytes_of v
         ≡ spelling (seal.wire_of (message_view message.now))) }

@@ -15,11 +15,12 @@ ghost use Rattle.spk_edge.specs.View.{change_view};
 
 use crate::message::{Keeping, Out};
 use crate::node::EdgeNode;
+use crate::packet::Saying;
 use crate::plan::{END, Setting, keep, set};
-use crate::sealing::written_message;
 use crate::values::copied;
 use spk_device::{Alias, Outcome};
 use spk_edge_rules::{EdgeFault, Phase};
+use spk_packets::laws::spelling_spells;
 use spk_payload::Value;
 use spk_store::Change;
 
@@ -89,9 +90,18 @@ impl EdgeNode {
             × (is_writable (done.change_wire self.now now alias (option_map typed_view value.now))
             ≡ false))) }
     {
-        let mut message = self.change_message(now, alias, value)?;
-        message.payload.seq = Some(u64::from(self.tally.seq));
-        written_message(self.alloc, &message)
+        spelling_spells();
+        let topic = self.data_topic(self.owner(alias))?;
+        let raw = self.value_written(alias, value)?;
+        let saying = Saying {
+            topic: topic.as_str(),
+            alias,
+            stamp: self.later_stamp(now),
+            seq: self.tally.seq,
+            null: value.is_none(),
+            value: &raw,
+        };
+        saying.packet(self.alloc)
     }
 
     /// A change of a Born node is sent, and its value is set.
