@@ -482,6 +482,64 @@ fn the_birth_of_a_device_comes_back_where_there_is_no_room(rt: HostRuntime) {
     assert_plays(&rt, Case::Lines(&ROOMS));
 }
 
+/// Names that have one key: the bytes 17 to 24 are what the hasher is at by then, and so the last eight count for nothing.
+static ONE_KEY: [Line; 4] = [
+    (
+        0,
+        0,
+        Heard::NodeBirth(&[
+            (Some("Pump 00000064263diY4XGbP/Speed 1"), Some(1), 10),
+            (Some("Pump 00000064263diY4XGbP/Speed 2"), None, 20),
+            (Some("Pump 00000064263diY4XGbP/Torque1"), Some(2), 30),
+            (Some("Pump 00000064263diY4XGbP/Speed 1"), Some(3), 11),
+        ]),
+        NOT,
+        &[
+            Seen::Own("Pump 00000064263diY4XGbP/Speed 1", Some(11)),
+            Seen::Own("Pump 00000064263diY4XGbP/Speed 2", Some(20)),
+            Seen::Own("Pump 00000064263diY4XGbP/Torque1", Some(30)),
+            Seen::Own("Pump 00000064263diY4XGbP/Torque2", None),
+        ],
+    ),
+    (
+        1,
+        0,
+        Heard::NodeData(&[
+            (Some("Pump 00000064263diY4XGbP/Speed 2"), None, 21),
+            (Some("Pump 00000064263diY4XGbP/Torque2"), None, 41),
+            (None, Some(3), 12),
+        ]),
+        NOT,
+        &[
+            Seen::Own("Pump 00000064263diY4XGbP/Speed 1", Some(12)),
+            Seen::Own("Pump 00000064263diY4XGbP/Speed 2", Some(21)),
+            Seen::Own("Pump 00000064263diY4XGbP/Torque1", Some(30)),
+        ],
+    ),
+    (
+        2,
+        0,
+        Heard::NodeData(&[(None, Some(1), 13)]),
+        ASKS,
+        &[Seen::Own("Pump 00000064263diY4XGbP/Speed 1", Some(12))],
+    ),
+    (
+        3,
+        0,
+        Heard::NodeBirth(&[(Some("Pump 00000064263diY4XGbP/Torque2"), None, 1)]),
+        NOT,
+        &[
+            Seen::Own("Pump 00000064263diY4XGbP/Speed 1", None),
+            Seen::Own("Pump 00000064263diY4XGbP/Torque2", Some(1)),
+        ],
+    ),
+];
+
+#[test]
+fn names_of_one_key_are_told_apart(rt: HostRuntime) {
+    assert_plays(&rt, Case::Lines(&ONE_KEY));
+}
+
 /// Puts a metric that is named by its number, with it as alias and so much more as value, behind others.
 fn put_named(
     alloc: Global,

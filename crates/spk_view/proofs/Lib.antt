@@ -1,5 +1,7 @@
+pub mod Chains
 pub mod Devices
 pub mod Places
+pub mod PlacesIn
 pub mod Rows
 pub mod Worked
 pub mod Showing

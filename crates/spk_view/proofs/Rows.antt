@@ -1,123 +1,86 @@
 -- Tables with their indexes: what a metric changes, and what it leads to.
-use Rattle.std.proofs.Common.{◌≡◌, ◌⊎◌, ◌∙◌, sym, ap, refl, inl, inr, arith, ℕ, zero, suc, Bool, true, false, cond, List, [], ◌∷◌, ◌++◌, map, length, set, Option, Some, None, true≢false}
-use Rattle.std.specs.Option.{option_map, option_or}
+use Rattle.std.proofs.Common.{◌≡◌, ◌⊎◌, ◌∙◌, sym, ap, refl, inl, inr, arith, ℕ, Bool, true, false, cond, List, [], ◌∷◌, ◌++◌, map, length, set, Option, Some, None, true≢false}
+use Rattle.std.specs.Option.{option_map}
 use Rattle.std.specs.Prelude.{◌==◌, ◌&&◌, not, slice_get, if◌then◌else◌}
 use Rattle.std.specs.Str.{bytes_eq}
 use Rattle.std.proofs.lemmas.Bool.Decides.{nat_tests}
 use Rattle.spk_payload.specs.Meaning.{MetricData}
-use Rattle.spk_names.specs.Names.{number_in}
 use Rattle.spk_host_rules.specs.Data.{Row}
 use Rattle.spk_host_rules.specs.Step.{show}
 use Rattle.spk_host_rules.specs.Table.{changed, changes, is_alias, is_name, is_set, name_by, name_of, placed, released, replaced}
+use Rattle.std.proofs.lemmas.List.{map-append}
+use Rattle.std.proofs.lemmas.Option.{get_or_from_slice_get}
+use Rattle.std.proofs.Math.Seq.{map-set_same}
+use Rattle.spk_view.specs.Keyed.{key_of_name, key_of_row}
 use Rattle.spk_view.specs.Indexed.{place_in, IsAliased, IsApart, IsNamed, IsPlaceOf}
-use Rattle.spk_view.proofs.Places.{none≢some, same-some, same-text, text-itself, not-true, true-not, map-still, map-at, set-sees, set-there, set-other, append-sees, append-old, append-new, map-sees, find-none, find-at, any-none, any-at}
+use Rattle.spk_view.proofs.Places.{none≢some, same-some, same-text, text-itself, not-true, true-not, map-still, map-at, set-sees, append-sees, map-sees, find-none, find-at, any-none, any-at}
 
 -- ---- names
 
-module _ (rows : List Row) (names : List (List ℕ × ℕ)) (is : IsNamed rows names) where
-  pub row-apart : (k j : ℕ) (r s : Row) → slice_get rows k ≡ Some r → slice_get rows j ≡ Some s → r.name ≡ s.name → k ≡ j
-  row-apart k j r s at there same = same-some (sym (is.found k r at) ∙ ap (number_in names) same ∙ is.found j s there)
-
-  -- the row that a name leads to
-  pub row-led : (name : List ℕ) (k : ℕ) → number_in names name ≡ Some k → (r : Row) × (slice_get rows k ≡ Some r) × (r.name ≡ name)
-  row-led name k h = by (slice_get rows k) refl (is.leads name k h)
-    where
-      by : (o : Option Row) → slice_get rows k ≡ o → option_map name_of o ≡ Some name → (r : Row) × (slice_get rows k ≡ Some r) × (r.name ≡ name)
-      by None at e = absurd (none≢some e)
-      by (Some r) at e = (r, at, same-some e)
-
-  pub named-place : (name : List ℕ) (o : Option ℕ) → o ≡ number_in names name → IsPlaceOf (λ (r : Row). bytes_eq name r.name) rows o
-  named-place name None h = λ k r at. not-true (bytes_eq name r.name) (λ e. none≢some (h ∙ ap (number_in names) (same-text name r.name e) ∙ is.found k r at))
-  named-place name (Some k) h = let led = row-led name k (sym h) in (led.0, led.1, text-itself name led.0.name (sym led.2))
-
+module _ (rows : List Row) (apart : IsApart name_of rows) where
   -- ---- a row is put in
 
-  pub placed-there : (row : Row) (k : ℕ) → number_in names row.name ≡ Some k → placed row rows ≡ set rows k row
-  placed-there row k h =
-      let led = row-led row.name k h in
-      let one = text-itself row.name led.0.name (sym led.2) in
-      ap (λ b. cond b (map (replaced row) rows) (rows ++ row ∷ [])) (any-at (λ (r : Row). bytes_eq row.name r.name) rows k led.0 led.1 one)
+  pub placed-there : (row : Row) (k : ℕ) → IsPlaceOf (λ (r : Row). bytes_eq row.name r.name) rows (Some k) → placed row rows ≡ set rows k row
+  placed-there row k led =
+      ap (λ b. cond b (map (replaced row) rows) (rows ++ row ∷ [])) (any-at (λ (r : Row). bytes_eq row.name r.name) rows k led.0 led.1 led.2)
       ∙ map-at (replaced row) rows k led.0 led.1 (λ j s there off. by s (not-true (bytes_eq row.name s.name)
-      (λ e. off (row-apart j k s led.0 there led.1 (sym (same-text row.name s.name e) ∙ sym led.2)))))
-      ∙ ap (λ b. set rows k (cond b row led.0)) one
+      (λ e. off (apart j k s led.0 there led.1 (sym (same-text row.name s.name e) ∙ same-text row.name led.0.name led.2)))))
+      ∙ ap (λ b. set rows k (cond b row led.0)) led.2
     where
       by : (s : Row) → bytes_eq row.name s.name ≡ false → replaced row s ≡ s
       by s e = ap (λ b. cond b row s) e
 
-  pub placed-last : (row : Row) → number_in names row.name ≡ None → placed row rows ≡ rows ++ row ∷ []
+  pub placed-last : (row : Row) → IsPlaceOf (λ (r : Row). bytes_eq row.name r.name) rows None → placed row rows ≡ rows ++ row ∷ []
   placed-last row h =
-      ap (λ b. cond b (map (replaced row) rows) (rows ++ row ∷ [])) (any-none (λ (r : Row). bytes_eq row.name r.name) rows (named-place row.name None (sym h)))
+      ap (λ b. cond b (map (replaced row) rows) (rows ++ row ∷ [])) (any-none (λ (r : Row). bytes_eq row.name r.name) rows h)
 
-  pub named-there : (row : Row) (k : ℕ) → number_in names row.name ≡ Some k → IsNamed (set rows k row) names
-  named-there row k h = record {
-    found = λ j s there. by j s (set-sees rows k row j s there);
-    leads = λ name j e. other name j e (cases name j e);
-  }
+  apart-set : (k : ℕ) (r new : Row) → slice_get rows k ≡ Some r → new.name ≡ r.name → IsApart name_of (set rows k new)
+  apart-set k r new at same i j x y seen there eq = by (set-sees rows k new i x seen) (set-sees rows k new j y there)
     where
-      by : (j : ℕ) (s : Row) → ((j ≡ k) × (s ≡ row)) ⊎ ((j ≡ k → ⊥) × (slice_get rows j ≡ Some s)) → number_in names s.name ≡ Some j
-      by j s (inl (e, same)) = ap (λ (x : Row). number_in names x.name) same ∙ h ∙ ap Some (sym e)
-      by j s (inr (off, there)) = is.found j s there
+      Seen : ℕ → Row → Type 0
+      Seen i x = ((i ≡ k) × (x ≡ new)) ⊎ ((i ≡ k → ⊥) × (slice_get rows i ≡ Some x))
 
-      cases : (name : List ℕ) (j : ℕ) → number_in names name ≡ Some j → (name ≡ row.name) ⊎ (j ≡ k → ⊥)
-      cases name j e = with (bytes_eq name row.name) refl
-        where
-          one : j ≡ k → name ≡ row.name
-          one at =
-              let first = row-led name j e in
-              let second = row-led row.name k h in
-              sym first.2 ∙ ap (λ (x : Row). x.name) (same-some (sym first.1 ∙ ap (slice_get rows) at ∙ second.1)) ∙ second.2
+      by : Seen i x → Seen j y → i ≡ j
+      by (inl a) (inl b) = a.0 ∙ sym b.0
+      by (inl a) (inr b) = a.0 ∙ apart k j r y at b.1 (sym same ∙ sym (ap name_of a.1) ∙ eq)
+      by (inr a) (inl b) = apart i k x r a.1 at (eq ∙ ap name_of b.1 ∙ same) ∙ sym b.0
+      by (inr a) (inr b) = apart i j x y a.1 b.1 eq
 
-          with : (b : Bool) → bytes_eq name row.name ≡ b → (name ≡ row.name) ⊎ (j ≡ k → ⊥)
-          with true t = inl (same-text name row.name t)
-          with false t = inr (λ at. true-not (bytes_eq name row.name) t (text-itself name row.name (one at)))
-
-      other : (name : List ℕ) (j : ℕ) → number_in names name ≡ Some j → (name ≡ row.name) ⊎ (j ≡ k → ⊥) → option_map name_of (slice_get (set rows k row) j) ≡ Some name
-      other name j e (inl same) =
-          let at : j ≡ k = same-some (sym e ∙ ap (number_in names) same ∙ h) in
-          ap (λ i. option_map name_of (slice_get (set rows k row) i)) at
-          ∙ ap (option_map name_of) (set-there rows k row (row-led row.name k h).0 (row-led row.name k h).1)
-          ∙ ap Some (sym same)
-      other name j e (inr off) = ap (option_map name_of) (set-other rows k row j off) ∙ is.leads name j e
-
-  pub named-last : (row : Row) (more : List (List ℕ × ℕ)) → number_in names row.name ≡ None
-      → ((other : List ℕ) → number_in more other ≡ option_or (number_in names other) (if bytes_eq other row.name then Some (length rows) else None))
-      → IsNamed (rows ++ row ∷ []) more
-  named-last row more new h = record {
-    found = λ j s there. by j s (append-sees rows row j s there);
-    leads = λ name j e. leads name j (number_in names name) refl (bytes_eq name row.name) refl (sym (h name) ∙ e);
-  }
+  apart-last : (new : Row) → IsPlaceOf (λ (r : Row). bytes_eq new.name r.name) rows None → IsApart name_of (rows ++ new ∷ [])
+  apart-last new absent i j x y seen there eq = by (append-sees rows new i x seen) (append-sees rows new j y there)
     where
-      by : (j : ℕ) (s : Row) → ((j ≡ length rows) × (s ≡ row)) ⊎ (slice_get rows j ≡ Some s) → number_in more s.name ≡ Some j
-      by j s (inl (e, same)) =
-          ap (λ (x : Row). number_in more x.name) same ∙ h row.name
-          ∙ ap (λ (o : Option ℕ). option_or o (cond (bytes_eq row.name row.name) (Some (length rows)) None)) new
-          ∙ ap (λ b. option_or None (cond b (Some (length rows)) None)) (text-itself row.name row.name refl)
-          ∙ ap Some (sym e)
-      by j s (inr there) =
-          h s.name ∙ ap (λ (o : Option ℕ). option_or o (cond (bytes_eq s.name row.name) (Some (length rows)) None)) (is.found j s there)
+      Seen : ℕ → Row → Type 0
+      Seen i x = ((i ≡ length rows) × (x ≡ new)) ⊎ (slice_get rows i ≡ Some x)
 
-      leads : (name : List ℕ) (j : ℕ) (o : Option ℕ) → number_in names name ≡ o → (b : Bool) → bytes_eq name row.name ≡ b
-          → option_or (number_in names name) (cond (bytes_eq name row.name) (Some (length rows)) None) ≡ Some j
-          → option_map name_of (slice_get (rows ++ row ∷ []) j) ≡ Some name
-      leads name j (Some k) o b t e =
-          let led = row-led name k o in
-          let at : k ≡ j = same-some (sym (ap (λ (x : Option ℕ). option_or x (cond (bytes_eq name row.name) (Some (length rows)) None)) o) ∙ e) in
-          ap (λ i. option_map name_of (slice_get (rows ++ row ∷ []) i)) (sym at)
-          ∙ ap (option_map name_of) (append-old rows row k led.0 led.1) ∙ ap Some led.2
-      leads name j None o true t e =
-          let at : length rows ≡ j = same-some (sym (ap (λ (x : Option ℕ). option_or x (cond (bytes_eq name row.name) (Some (length rows)) None)) o
-          ∙ ap (λ b. option_or None (cond b (Some (length rows)) None)) t) ∙ e) in
-          ap (λ i. option_map name_of (slice_get (rows ++ row ∷ []) i)) (sym at)
-          ∙ ap (option_map name_of) (append-new rows row) ∙ ap Some (sym (same-text name row.name t))
-      leads name j None o false t e =
-          absurd (none≢some (sym (ap (λ (x : Option ℕ). option_or x (cond (bytes_eq name row.name) (Some (length rows)) None)) o
-          ∙ ap (λ b. option_or None (cond b (Some (length rows)) None)) t) ∙ e))
+      never : (i : ℕ) (x : Row) → slice_get rows i ≡ Some x → new.name ≡ x.name → ⊥
+      never i x at same = true-not (bytes_eq new.name x.name) (absent i x at) (text-itself new.name x.name same)
+
+      by : Seen i x → Seen j y → i ≡ j
+      by (inl a) (inl b) = a.0 ∙ sym b.0
+      by (inl a) (inr b) = absurd (never j y b (sym (ap name_of a.1) ∙ eq))
+      by (inr a) (inl b) = absurd (never i x a (sym (ap name_of b.1) ∙ sym eq))
+      by (inr a) (inr b) = apart i j x y a b eq
+
+-- a row of the same name leads as before
+pub named-shown : (rows : List Row) (keys : List ℕ) (k : ℕ) (r new : Row) → IsNamed rows keys → slice_get rows k ≡ Some r
+    → new.name ≡ r.name → IsNamed (set rows k new) keys
+named-shown rows keys k r new is at same = record {
+  apart = apart-set rows is.apart k r new at same;
+  keyed = map-set_same key_of_row rows k new r (ap key_of_name (same ∙ sym (ap name_of (get_or_from_slice_get rows k r r at)))) ∙ is.keyed;
+}
+
+pub named-there : (rows : List Row) (keys : List ℕ) → IsNamed rows keys → (row : Row) (k : ℕ)
+    → IsPlaceOf (λ (r : Row). bytes_eq row.name r.name) rows (Some k) → IsNamed (set rows k row) keys
+named-there rows keys is row k led = named-shown rows keys k led.0 row is led.1 (same-text row.name led.0.name led.2)
+
+pub named-last : (rows : List Row) (keys : List ℕ) → IsNamed rows keys → (row : Row) (key : ℕ) → key ≡ key_of_name row.name
+    → IsPlaceOf (λ (r : Row). bytes_eq row.name r.name) rows None → IsNamed (rows ++ row ∷ []) (keys ++ key ∷ [])
+named-last rows keys is row key mine absent = record {
+  apart = apart-last rows is.apart row absent;
+  keyed = map-append key_of_row rows (row ∷ []) ∙ ap (λ l. l ++ key_of_row row ∷ []) is.keyed ∙ ap (λ k. keys ++ k ∷ []) (sym mine);
+}
 
 -- ---- data
-
--- names lead to one row each
-pub named-apart : (rows : List Row) (names : List (List ℕ × ℕ)) → IsNamed rows names → IsApart name_of rows
-named-apart rows names is i j r s at there same = row-apart rows names is i j r s at there same
 
 pub same-name : (n : Option (List ℕ)) (a b : List ℕ) → is_name n a ≡ true → is_name n b ≡ true → a ≡ b
 same-name None a b h k = absurd (true≢false (sym h))
@@ -141,11 +104,6 @@ shown-by-place rows new m (Some k) apart h none there =
     (and-second (not (is_set m.historical)) (is_name (name_by rows m.alias m.name) s.name) e)
     (and-second (not (is_set m.historical)) (is_name (name_by rows m.alias m.name) h.0.name) h.2))))))
     ∙ ap (λ b. set rows k (cond b (changed m h.0) h.0)) h.2)
-
--- a row that shows something else leads as before
-pub named-shown : (rows : List Row) (names : List (List ℕ × ℕ)) (k : ℕ) (r new : Row) → IsNamed rows names → slice_get rows k ≡ Some r
-    → new.name ≡ r.name → IsNamed (set rows k new) names
-named-shown rows names k r new is at same = named-there rows names is new k (ap (number_in names) same ∙ is.found k r at)
 
 pub aliased-shown : (rows : List Row) (aliases : List (ℕ × ℕ)) (k : ℕ) (r new : Row) → IsAliased rows aliases → slice_get rows k ≡ Some r
     → new.alias ≡ r.alias → IsAliased (set rows k new) aliases
@@ -203,21 +161,23 @@ released-nowhere rows aliases is alias never =
     (λ e. never k s (is k s alias there (alias-is s.alias alias e)) there)))
 
 -- the rows are led to by name as before
-pub named-released : (rows : List Row) (names : List (List ℕ × ℕ)) (alias : Option ℕ) → IsNamed rows names → IsNamed (map (released alias) rows) names
-named-released rows names alias is = record {
-  found = λ k r at. let seen = map-sees (released alias) rows k r at in
-      ap (λ (x : Row). number_in names x.name) seen.2 ∙ ap (number_in names) (same alias seen.0) ∙ is.found k seen.0 seen.1;
-  leads = λ name k h. names-kept rows k ∙ is.leads name k h;
+pub named-released : (rows : List Row) (keys : List ℕ) (alias : Option ℕ) → IsNamed rows keys → IsNamed (map (released alias) rows) keys
+named-released rows keys alias is = record {
+  apart = λ i j x y at there eq.
+      let one = map-sees (released alias) rows i x at in
+      let two = map-sees (released alias) rows j y there in
+      is.apart i j one.0 two.0 one.1 two.1
+      (sym (same alias one.0) ∙ sym (ap name_of one.2) ∙ eq ∙ ap name_of two.2 ∙ same alias two.0);
+  keyed = keys-kept rows ∙ is.keyed;
 }
   where
     same : (alias : Option ℕ) (r : Row) → (released alias r).name ≡ r.name
     same None r = refl
     same (Some a) r = refl
 
-    names-kept : (rows : List Row) (k : ℕ) → option_map name_of (slice_get (map (released alias) rows) k) ≡ option_map name_of (slice_get rows k)
-    names-kept [] k = refl
-    names-kept (r ∷ rows) zero = ap Some (same alias r)
-    names-kept (r ∷ rows) (suc k) = names-kept rows k
+    keys-kept : (rows : List Row) → map key_of_row (map (released alias) rows) ≡ map key_of_row rows
+    keys-kept [] = refl
+    keys-kept (r ∷ rows) = ap (λ k. k ∷ map key_of_row (map (released alias) rows)) (ap key_of_name (same alias r)) ∙ ap (λ l. key_of_row r ∷ l) (keys-kept rows)
 
 -- after a row with an alias was put in, each is led to by its alias
 pub aliased-placed : (rows new : List Row) (aliases more : List (ℕ × ℕ)) (alias : Option ℕ) (row : Row) (p : ℕ) → IsAliased rows aliases → row.alias ≡ alias

@@ -1,3 +1,4 @@
+pub mod Keyed
 pub mod Data
 pub mod Indexed
 pub mod Prepared

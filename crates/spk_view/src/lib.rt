@@ -4,6 +4,7 @@
 
 mod aliases;
 mod device;
+mod keys;
 mod metric;
 mod node;
 mod plain;

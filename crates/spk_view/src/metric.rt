@@ -1,6 +1,7 @@
 //! A metric that is shown.
 ghost use Rattle.std.specs.Prelude.{◌≡◌, Some, IfOk, string_bytes, ◌==◌};
 ghost use Rattle.std.specs.Option.{option_map};
+ghost use Rattle.std.specs.Str.{bytes_eq};
 ghost use Rattle.spk_payload.specs.View.{content_of, metric_view};
 ghost use Rattle.spk_host_rules.specs.Table.{is_alias, released, row_of, shown_with};
 ghost use Rattle.spk_host_rules.specs.View.{shown_view};
@@ -90,6 +91,13 @@ impl MetricView {
             datatype: metric.datatype,
             shown,
         })
+    }
+
+    /// Whether its name is this one.
+    pub(crate) fn is_named(&self, name: &str) -> bool
+        ensures { result ≡ bytes_eq name.now self.now.name }
+    {
+        name == self.name.as_str()
     }
 
     /// Whether it has this alias.

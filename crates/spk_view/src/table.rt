@@ -1,23 +1,22 @@
 //! The metrics of a node's own or of a device, found by name and by alias.
-ghost use Rattle.std.specs.Prelude.{◌≡◌, ◌⊎◌, ℕ, [], map, length, IfOk, OnOk, Some, None, is_some, not, ◌&&◌, ◌||◌, false, string_bytes, slice_get, set, if◌then◌else◌};
+ghost use Rattle.std.specs.Prelude.{◌≡◌, ◌≤◌, ◌⊎◌, ℕ, [], map, length, IfOk, OnOk, Some, None, is_some, not, ◌&&◌, ◌||◌, false, string_bytes, slice_get, set, if◌then◌else◌};
 ghost use Rattle.std.specs.List.{find, list_any};
 ghost use Rattle.std.specs.Option.{option_map, option_copied};
 ghost use Rattle.std.specs.Str.{bytes_eq};
 ghost use Rattle.spk_payload.specs.Meaning.{has_text_or_bytes};
 ghost use Rattle.spk_payload.specs.View.{content_of, metric_view};
-ghost use Rattle.spk_names.specs.Names.{number_in};
 ghost use Rattle.spk_host_rules.specs.Data.{Row};
 ghost use Rattle.spk_host_rules.specs.Step.{show, show_all};
 ghost use Rattle.spk_host_rules.specs.Table.{changes, is_alias, is_lacking, is_name, is_set, lacks, name_by, name_of, placed, released, shown_with, table_of, with_metric};
 ghost use Rattle.spk_view.specs.Plain.{has_texts};
 ghost use Rattle.spk_view.specs.Prepared.{meaning};
+ghost use Rattle.spk_view.specs.Keyed.{key_of_name, key_of_row};
 ghost use Rattle.spk_view.specs.Indexed.{place_in, IsAliased, IsApart, IsIndexed, IsNamed, IsPlaceOf};
 
 use crate::aliases::Aliases;
+use crate::keys::{Keys, key_of_name};
 use crate::metric::MetricView;
 use crate::plain::same_value;
-use spk_names::Names;
-use spk_names::laws::found_again;
 use spk_payload::{Metric, Raw};
 use std::alloc::{AllocError, Global};
 use std::fmt;
@@ -27,8 +26,8 @@ use std::marker::Model;
 #[derive(Drop)]
 pub(crate) struct Table {
     rows: Vec<MetricView>,
-    /// The place of each row, by name.
-    names: Names,
+    /// The key of each row's name, by which it is found.
+    names: Keys,
     /// The place of each row that has an alias, by alias.
     aliases: Aliases,
 }
@@ -42,7 +41,7 @@ impl Model for Table {
 
     ghost view = { λ a. a.rows.items };
 
-    ghost invariant = { λ a. IsIndexed a.rows.items a.names a.aliases };
+    ghost invariant = { λ a. IsIndexed a.rows.items a.names.keys a.aliases };
 }
 
 impl fmt::Debug for Table {
@@ -67,21 +66,32 @@ fn release(rows: &mut Vec<MetricView>, aliases: &Aliases, alias: Option<u64>)
     }
 }
 
+/// The place of the row of a name, which has this key.
+fn place_named(rows: &Vec<MetricView>, names: &Keys, name: &str, key: u64) -> Option<usize>
+    requires key { key ≡ key_of_name name.now }
+    requires keyed { map key_of_row rows.now.items ≡ names.now.keys }
+    ensures { IsPlaceOf (λ r. bytes_eq name.now r.name) rows.now.items result }
+{
+    let mut found = names.last(key);
+    while let Some(place) = found {
+        if rows[place].is_named(name) {
+            return Some(place);
+        }
+        found = names.before(place);
+    }
+    None
+}
+
 /// Puts a row at the place of the row of its name, or else last, and answers its place.
-fn place(
-    rows: &mut Vec<MetricView>,
-    names: &mut Names,
-    key: String,
-    row: MetricView,
-) -> Result<usize, AllocError>
-    requires key { string_bytes key ≡ row.name }
-    requires named { IsNamed rows.old.items names.old }
+fn place(rows: &mut Vec<MetricView>, names: &mut Keys, row: MetricView) -> Result<usize, AllocError>
+    requires { IsNamed rows.old.items names.old.keys }
     ensures rows { OnOk result (rows.new.items ≡ placed row rows.old.items) }
-    ensures named { OnOk result (IsNamed rows.new.items names.new) }
+    ensures named { OnOk result (IsNamed rows.new.items names.new.keys) }
     ensures others { IfOk result (λ place. (k : ℕ) (r : Row) → slice_get rows.new.items k ≡ Some r
         → ((k ≡ place) × (r ≡ row)) ⊎ (slice_get rows.old.items k ≡ Some r)) }
 {
-    match names.find(key.as_str()) {
+    let key = key_of_name(row.name());
+    match place_named(rows, names, row.name(), key) {
         Some(place) => {
             rows[place] = row;
             Ok(place)
@@ -89,8 +99,7 @@ fn place(
         None => {
             let place = rows.len();
             rows.reserve(1)?;
-            found_again();
-            names.enter(key, place)?;
+            names.push(key)?;
             rows.push_reserved(row);
             Ok(place)
         }
@@ -101,24 +110,36 @@ fn place(
 fn put(
     alloc: Global,
     rows: &mut Vec<MetricView>,
-    names: &mut Names,
+    names: &mut Keys,
     aliases: &mut Aliases,
     metric: &Metric,
 ) -> Result<(), AllocError>
-    requires { IsIndexed rows.old.items names.old aliases.old }
+    requires { IsIndexed rows.old.items names.old.keys aliases.old }
     ensures rows { OnOk result
         (rows.new.items ≡ with_metric rows.old.items (metric_view metric.now)) }
-    ensures indexed { OnOk result (IsIndexed rows.new.items names.new aliases.new) }
+    ensures indexed { OnOk result (IsIndexed rows.new.items names.new.keys aliases.new) }
 {
     let Some(name) = &metric.name else {
         return Ok(());
     };
     let row = MetricView::born(alloc, name, metric)?;
-    let key = String::from_str(alloc, name.as_str())?;
     release(rows, aliases, metric.alias);
-    let place = place(rows, names, key, row)?;
+    let place = place(rows, names, row)?;
     aliases.enter(metric.alias, place)?;
     Ok(())
+}
+
+/// How many metrics have an alias.
+fn aliases_in(metrics: &[Metric]) -> usize
+    ensures { result ≤ length metrics.now }
+{
+    let mut count = 0;
+    for metric in metrics {
+        if metric.alias.is_some() {
+            count += 1;
+        }
+    }
+    count
 }
 
 impl Table {
@@ -128,7 +149,7 @@ impl Table {
     {
         Table {
             rows: Vec::new(alloc),
-            names: Names::new(alloc),
+            names: Keys::new(alloc),
             aliases: Aliases::new(alloc),
         }
     }
@@ -138,8 +159,8 @@ impl Table {
         ensures { IfOk result (λ table. table ≡ table_of (map metric_view metrics.now)) }
     {
         let mut rows = Vec::with_capacity(alloc, metrics.len())?;
-        let mut names = Names::new(alloc);
-        let mut aliases = Aliases::new(alloc);
+        let mut names = Keys::with_room(alloc, metrics.len())?;
+        let mut aliases = Aliases::with_room(alloc, aliases_in(metrics))?;
         for metric in metrics {
             put(alloc, &mut rows, &mut names, &mut aliases, metric)?;
         }
@@ -179,7 +200,7 @@ impl Table {
         ensures place { IsPlaceOf (λ r. bytes_eq name.now r.name) self.now result }
         ensures apart { IsApart name_of self.now }
     {
-        self.names.find(name)
+        place_named(&self.rows, &self.names, name, key_of_name(name))
     }
 
     /// The place of the metric of an alias.
@@ -204,7 +225,10 @@ impl Table {
     {
         match (alias, name) {
             (Some(alias), _) => self.place_of_alias(alias),
-            (None, Some(name)) => self.names.find(name.as_str()),
+            (None, Some(name)) => {
+                let name = name.as_str();
+                place_named(&self.rows, &self.names, name, key_of_name(name))
+            }
             (None, None) => None,
         }
     }

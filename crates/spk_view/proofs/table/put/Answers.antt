@@ -5,10 +5,10 @@ use Rattle.spk_view.specs.Indexed.{IsNamed}
 use Rattle.spk_view.proofs.Rows.{aliased-placed, named-released}
 use Rattle.spk_view.proofs.table.put.Goals as goal
 
-pub place-requires-clause-named : goal.place-requires-clause-named
-place-requires-clause-named c =
-    subst (λ rows. IsNamed rows c.args.names.now) (sym c.release.ensures)
-    (named-released c.args.rows.now.items c.args.names.now c.args.metric.now.alias c.requires.named)
+pub place-requires : goal.place-requires
+place-requires c =
+    subst (λ rows. IsNamed rows c.args.names.now.keys) (sym c.release.ensures)
+    (named-released c.args.rows.now.items c.args.names.now.keys c.args.metric.now.alias c.requires.named)
 
 pub returns-clause-indexed : goal.returns-clause-indexed
 returns-clause-indexed c = record {

@@ -1,11 +1,10 @@
-use Rattle.std.proofs.Common.{◌∙◌, sym, ap, subst, List, Option, ℕ, string_bytes}
+use Rattle.std.proofs.Common.{sym, subst, List, Option, ℕ, string_bytes}
 use Rattle.std.specs.Option.{option_map}
 use Rattle.std.specs.Str.{bytes_eq}
 use Rattle.spk_host_rules.specs.Data.{Row}
 use Rattle.spk_host_rules.specs.Table.{is_alias, is_name, name_by, name_of}
-use Rattle.spk_names.specs.Names.{number_in}
 use Rattle.spk_view.specs.Indexed.{IsApart, IsPlaceOf}
-use Rattle.spk_view.proofs.Rows.{alias-means, named-apart, named-place}
+use Rattle.spk_view.proofs.Rows.{alias-means}
 use Rattle.spk_view.proofs.table.Table.place_of.Goals as goal
 
 pub returns-in-Some-default-clause-place : goal.returns-in-Some-default-clause-place
@@ -19,20 +18,19 @@ returns-in-Some-default-clause-place c =
     (subst (λ (a : Option ℕ). IsPlaceOf (λ (r : Row). is_name (name_by rows a name) r.name) rows c.place_of_alias.result) (sym c.in-Some-default.is-0) means)
 
 pub returns-in-Some-default-clause-apart : goal.returns-in-Some-default-clause-apart
-returns-in-Some-default-clause-apart c = subst (IsApart name_of) c.self.view_is (named-apart c.self.inside.rows.items c.self.inside.names c.self.invariant.named)
+returns-in-Some-default-clause-apart c = subst (IsApart name_of) c.self.view_is c.self.invariant.named.apart
 
 pub returns-in-None-Some-clause-place : goal.returns-in-None-Some-clause-place
 returns-in-None-Some-clause-place c =
     let rows = c.self.inside.rows.items in
-    let found : IsPlaceOf (λ (r : Row). bytes_eq (string_bytes c.in-None-Some.name) r.name) rows c.find.result =
-    named-place rows c.self.inside.names c.self.invariant.named (string_bytes c.in-None-Some.name) c.find.result
-    (c.find.ensures ∙ ap (number_in c.self.inside.names) c.as_str.ensures.value) in
-    subst (λ (l : List Row). IsPlaceOf (λ (r : Row). is_name (name_by l c.args.alias (option_map string_bytes c.args.name.now)) r.name) l c.find.result) c.self.view_is
-    (subst (λ (a : Option ℕ). IsPlaceOf (λ (r : Row). is_name (name_by rows a (option_map string_bytes c.args.name.now)) r.name) rows c.find.result) (sym c.in-None-Some.is-0)
-    (subst (λ n. IsPlaceOf (λ (r : Row). is_name (option_map string_bytes n) r.name) rows c.find.result) (sym c.in-None-Some.is-1) found))
+    let found : IsPlaceOf (λ (r : Row). bytes_eq (string_bytes c.in-None-Some.name) r.name) rows c.place_named.result =
+    subst (λ (n : List ℕ). IsPlaceOf (λ (r : Row). bytes_eq n r.name) rows c.place_named.result) c.as_str-name.ensures.value c.place_named.ensures in
+    subst (λ (l : List Row). IsPlaceOf (λ (r : Row). is_name (name_by l c.args.alias (option_map string_bytes c.args.name.now)) r.name) l c.place_named.result) c.self.view_is
+    (subst (λ (a : Option ℕ). IsPlaceOf (λ (r : Row). is_name (name_by rows a (option_map string_bytes c.args.name.now)) r.name) rows c.place_named.result) (sym c.in-None-Some.is-0)
+    (subst (λ n. IsPlaceOf (λ (r : Row). is_name (option_map string_bytes n) r.name) rows c.place_named.result) (sym c.in-None-Some.is-1) found))
 
 pub returns-in-None-Some-clause-apart : goal.returns-in-None-Some-clause-apart
-returns-in-None-Some-clause-apart c = subst (IsApart name_of) c.self.view_is (named-apart c.self.inside.rows.items c.self.inside.names c.self.invariant.named)
+returns-in-None-Some-clause-apart c = subst (IsApart name_of) c.self.view_is c.self.invariant.named.apart
 
 pub returns-in-None-None-clause-apart : goal.returns-in-None-None-clause-apart
-returns-in-None-None-clause-apart c = subst (IsApart name_of) c.self.view_is (named-apart c.self.inside.rows.items c.self.inside.names c.self.invariant.named)
+returns-in-None-None-clause-apart c = subst (IsApart name_of) c.self.view_is c.self.invariant.named.apart

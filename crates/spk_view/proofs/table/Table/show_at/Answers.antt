@@ -16,7 +16,7 @@ invariant_of-self c =
     let at : slice_get rows c.in-Some.place ≡ Some c.index_mut.result.now =
     slice_get_read rows (length rows) c.in-Some.place c.index_mut.result.now refl low c.index_mut.ensures.value in
     record {
-      named = named-shown rows c.self.inside.names c.in-Some.place c.index_mut.result.now c.show.new.self c.self.invariant.named at
+      named = named-shown rows c.self.inside.names.keys c.in-Some.place c.index_mut.result.now c.show.new.self c.self.invariant.named at
           (ap (λ (r : Row). r.name) c.show.ensures);
       aliased = aliased-shown rows c.self.inside.aliases c.in-Some.place c.index_mut.result.now c.show.new.self c.self.invariant.aliased at
           (ap (λ (r : Row). r.alias) c.show.ensures);

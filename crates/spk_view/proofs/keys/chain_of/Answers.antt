@@ -1,0 +1,8 @@
+use Rattle.std.proofs.Common.{◌∙◌, ap}
+use Rattle.std.specs.Prelude.{min}
+use Rattle.spk_view.specs.Keyed.{chain_of}
+use Rattle.spk_view.proofs.keys.chain_of.Goals as goal
+
+pub returns : goal.returns
+unfolding chain_of
+returns c = c.min.ensures ∙ ap (min _) c.saturating_sub.ensures
