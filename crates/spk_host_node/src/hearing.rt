@@ -43,7 +43,7 @@ pub(crate) fn is_dropped(step: Step) -> bool
 }
 
 /// A message is shown, for which there is room. Answers whether a rebirth is asked for.
-fn show(watch: &mut Watch, wait: u64, ready: Ready, now: u64) -> bool
+pub(crate) fn show(watch: &mut Watch, wait: u64, ready: Ready, now: u64) -> bool
     requires { 0 < watch.old.room }
     ensures asks { (m : Message) → prepared m ≡ ready
         → result ≡ rules.asks wait watch.old.watch (Consumed m now) }

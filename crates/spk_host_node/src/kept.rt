@@ -37,7 +37,7 @@ impl Model for Kept {
 }
 
 /// What a message will show.
-fn ready_of(alloc: Global, message: &Numbered) -> Result<Ready, AllocError>
+pub(crate) fn ready_of(alloc: Global, message: &Numbered) -> Result<Ready, AllocError>
     ensures { IfOk result (λ r. r ≡ prepared (message_of (numbered_view message.now))) }
 {
     let metrics = &message.payload.metrics;

@@ -12,8 +12,8 @@ ghost use Rattle.spk_host_node.specs.Plain.{IsPlain};
 ghost use Rattle.spk_host_node.specs.Room.{IsDropped};
 ghost use Rattle.spk_host_node.specs.Step as spec;
 
-use crate::hearing::{Handed, hear, is_dropped, most_heard};
-use crate::kept::Kept;
+use crate::hearing::{Handed, hear, is_dropped, most_heard, show};
+use crate::kept::{Kept, ready_of};
 use crate::plain::{is_plain, show_plain};
 use spk_order::Order;
 use spk_reading::{Numbered, Subject};
@@ -181,8 +181,11 @@ impl HostNode {
         ensures unchanged { OnErr result (self.new ≡ self.old) }
     {
         let step = self.step_of(&message, now);
-        if step == Step::Consumed(1) && is_plain(&message) {
-            return self.hand_plain(message, now);
+        if step == Step::Consumed(1) {
+            if is_plain(&message) {
+                return self.hand_plain(message, now);
+            }
+            return self.hand_alone(message, now);
         }
         if is_dropped(step) {
             return Ok(self.hand_dropped(&message, step, now));
@@ -245,6 +248,36 @@ impl HostNode {
             step: Step::Consumed(1),
             consumed,
             requests: usize::from(asks),
+        })
+    }
+
+    /// Any message that is consumed alone: it is made ready, and shown without being kept between. All memory is asked for before
+    /// anything changes.
+    fn hand_alone(&mut self, message: Numbered, now: u64) -> Result<Handed, AllocError>
+        requires { spec.step_of self.old.order (numbered_view message) now ≡ Step.Consumed 1 }
+        ensures step { IfOk result (λ h. h.step ≡ Step.Consumed 1) }
+        ensures consumed { IfOk result (λ h.
+            map numbered_view h.consumed.items ≡ numbered_view message ∷ []) }
+        ensures requests { IfOk result (λ h. h.requests
+            ≡ (if rules.asks self.old.order.standing.wait self.old.watch
+            (spec.consumed_at now (numbered_view message)) then 1 else 0)) }
+        ensures order { OnOk result (self.new.order ≡ handed self.old.order
+            message.number message.kind (numbered_view message) now) }
+        ensures watch { OnOk result (self.new.watch ≡ rules.step self.old.order.standing.wait
+            self.old.watch (spec.consumed_at now (numbered_view message))) }
+        ensures unchanged { OnErr result (self.new ≡ self.old) }
+    {
+        self.watch.reserve(1)?;
+        let mut consumed = Vec::with_capacity(self.alloc, 1)?;
+        let ready = ready_of(self.alloc, &message)?;
+        let wait = self.order.sequence().wait();
+        self.order.pass(message.number, message.kind, now);
+        let requests = usize::from(show(&mut self.watch, wait, ready, now));
+        consumed.push_reserved(message);
+        Ok(Handed {
+            step: Step::Consumed(1),
+            consumed,
+            requests,
         })
     }
 
