@@ -4,9 +4,8 @@ ghost use Rattle.std.specs.List.{position};
 ghost use Rattle.spk_reading.specs.View.{numbered_view};
 ghost use Rattle.spk_host_node.specs.Data.{fresh_node};
 ghost use Rattle.spk_host_node.specs.Step as one_node;
-ghost use Rattle.spk_host_node.specs.Idle.{IsIdle};
 ghost use Rattle.spk_host.specs.Data.{Entry};
-ghost use Rattle.spk_host.specs.Idle.{AreIdle};
+ghost use Rattle.spk_host.specs.Idle.{AreStillUntil, IsStillUntil};
 ghost use Rattle.spk_host.specs.Index.{place_in};
 ghost use Rattle.spk_host.specs.Inputs.{is_same};
 ghost use Rattle.spk_host.specs.Nodes as spec;
@@ -29,10 +28,8 @@ pub(crate) struct Nodes {
     entries: Vec<Entry>,
     /// The place of each node, by its names.
     index: Index,
-    /// A node may hold a message. While none does, no moment changes anything.
-    may_hold: bool,
-    /// The place of the node that was last seen to hold a message. A moment looks there first whether one still does.
-    holder: usize,
+    /// No moment before this one is a gap of any node, or changes anything.
+    due: u64,
 }
 
 impl Model for Nodes {
@@ -44,7 +41,7 @@ impl Model for Nodes {
 
     ghost view = { λ a. a.entries.items };
 
-    ghost invariant = { λ a. IsInOrder a.entries.items a.index a.may_hold };
+    ghost invariant = { λ a. IsInOrder a.entries.items a.index a.due };
 }
 
 /// A message of a node that was never heard. All memory is asked for before anything changes.
@@ -92,8 +89,7 @@ impl Nodes {
         Nodes {
             entries: Vec::new(alloc),
             index: Index::new(alloc),
-            may_hold: false,
-            holder: 0,
+            due: u64::MAX,
         }
     }
 
@@ -136,11 +132,11 @@ impl Nodes {
             Some(place) => {
                 let entry = &mut self.entries[place];
                 let out = hear_message(alloc, entry, ack, message, now);
-                self.may_hold = may_hold(self.may_hold, entry);
+                self.due = self.due.min(due_of(entry));
                 out
             }
             None => {
-                self.may_hold = true;
+                self.due = 0;
                 hear_first(
                     alloc,
                     &mut self.entries,
@@ -164,7 +160,7 @@ impl Nodes {
             Some(place) => {
                 let entry = &mut self.entries[place];
                 entry.death(bd);
-                self.may_hold = may_hold(self.may_hold, entry);
+                self.due = self.due.min(due_of(entry));
             }
             None => {}
         }
@@ -175,7 +171,7 @@ impl Nodes {
         ensures out { IfOk result (λ o. out_view o ≡ step.tick_out self.now now) }
         ensures whole { IfOk result (λ o. AreWhole o) }
     {
-        if !self.may_hold {
+        if now < self.due {
             return ask_at(alloc, &[], now);
         }
         ask_at(alloc, &self.entries, now)
@@ -185,15 +181,9 @@ impl Nodes {
     pub(crate) fn tick(&mut self, now: u64)
         ensures { self.new ≡ map (step.tick_entry now) self.old }
     {
-        if self.may_hold {
+        if now >= self.due {
             tick_all(&mut self.entries, now);
-            if holds_at(&self.entries, self.holder) {
-                return;
-            }
-            match first_holding(&self.entries) {
-                Some(place) => self.holder = place,
-                None => self.may_hold = false,
-            }
+            self.due = earliest(&self.entries);
         }
     }
 
@@ -201,40 +191,30 @@ impl Nodes {
     pub(crate) fn over(&mut self)
         ensures { self.new ≡ map step.over_entry self.old }
     {
-        self.may_hold = true;
+        self.due = 0;
         end_all(&mut self.entries);
     }
 }
 
-/// Whether a node may hold a message, where it was so of others and this one changed.
-fn may_hold(others: bool, entry: &Entry) -> bool
-    ensures { result ≡ false → (others ≡ false) × IsIdle entry.now.kept }
+/// The moment before which a node has no gap.
+fn due_of(entry: &Entry) -> u64
+    ensures { IsStillUntil result entry.now.kept }
 {
-    others || !entry.kept().is_idle()
-}
-
-/// Whether the node at a place, if there is one, holds a message.
-fn holds_at(nodes: &[Entry], place: usize) -> bool
-    ensures { result ≡ false → (e : Entry) → slice_get nodes.now place ≡ Some e → IsIdle e.kept }
-{
-    match nodes.get(place) {
-        Some(entry) => !entry.kept().is_idle(),
-        None => false,
+    match entry.kept().due() {
+        Some(due) => due,
+        None => u64::MAX,
     }
 }
 
-/// The place of the first node that holds a message, if one does.
-fn first_holding(nodes: &[Entry]) -> Option<usize>
-    ensures none { result ≡ None → AreIdle nodes.now }
-    ensures first { (place k : ℕ) (e : Entry) → result ≡ Some place → k < place
-        → slice_get nodes.now k ≡ Some e → IsIdle e.kept }
+/// The moment before which none of them has a gap.
+fn earliest(nodes: &[Entry]) -> u64
+    ensures { AreStillUntil result nodes.now }
 {
-    for (place, entry) in nodes.iter().enumerate() {
-        if !entry.kept().is_idle() {
-            return Some(place);
-        }
+    let mut due = u64::MAX;
+    for entry in nodes {
+        due = due.min(due_of(entry));
     }
-    None
+    due
 }
 
 /// What a moment hands out: the gaps, and the requests to the nodes that had one, in their order.

@@ -11,7 +11,7 @@ use Rattle.spk_host_rules.specs.Data.{Gap, Over, Watch}
 use Rattle.spk_host_rules.specs.Step as rules
 use Rattle.spk_host_node.specs.Data.{NodeData}
 use Rattle.spk_host_node.specs.Idle.{IsIdle}
-use Rattle.spk_host_node.specs.Step.{death}
+use Rattle.spk_host_node.specs.Step.{death, tick}
 
 abbrev pub node_of : Ordered NumberedData → Watch → NodeData
 node_of o w = record { order = o; watch = w }
@@ -36,3 +36,8 @@ pub idle_node : (n : NodeData) → order.IsIdle n.order → IsIdle n
 idle_node n idle now =
     let still = idle now in
     (still.0, same_node still.1 (ap (λ b. if b then rules.step n.order.standing.wait n.watch (Gap now) else n.watch) still.0))
+
+-- a node whose order stays as it is does so
+pub still_node : (n : NodeData) (now : ℕ) → sequence.is_over n.order.standing now ≡ false → stands_so (sequence.tick n.order.standing now) n.order.kept ≡ n.order → tick n now ≡ n
+still_node n now still same =
+    same_node same (ap (λ b. if b then rules.step n.order.standing.wait n.watch (Gap now) else n.watch) still)

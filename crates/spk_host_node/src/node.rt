@@ -1,7 +1,8 @@
 //! What a host keeps of one node.
-ghost use Rattle.std.specs.Prelude.{◌≡◌, ◌+◌, ◌≤◌, ◌∷◌, [], true, ℕ, map, length, IfOk, OnOk, OnErr, is_some, if◌then◌else◌};
+ghost use Rattle.std.specs.Prelude.{◌≡◌, ◌+◌, ◌^◌, ◌<◌, ◌≤◌, ◌∷◌, [], true, false, ℕ, map, length, IfOk, OnOk, OnErr, is_some, if◌then◌else◌};
 ghost use Rattle.std.specs.Option.{option_map};
 ghost use Rattle.spk_reading.specs.View.{numbered_view};
+ghost use Rattle.spk_sequence.specs.Due.{has_come};
 ghost use Rattle.spk_sequence.specs.Step as sequence;
 ghost use Rattle.spk_host_rules.specs.Data.{Gap};
 ghost use Rattle.spk_host_rules.specs.Step as rules;
@@ -293,6 +294,17 @@ impl HostNode {
         ensures { result ≡ true → IsIdle self.now }
     {
         self.order.is_idle()
+    }
+
+    /// The moment from which on `tick` is a gap, as long as nothing else happens. None where no moment is. At any other moment nothing
+    /// changes. Takes no memory.
+    pub fn due(&self) -> Option<u64>
+        ensures due { (now : ℕ) → now < 2 ^ 64
+            → sequence.is_over self.now.order.standing now ≡ has_come result now }
+        ensures still { (now : ℕ) → sequence.is_over self.now.order.standing now ≡ false
+            → spec.tick self.now now ≡ self.now }
+    {
+        self.order.due()
     }
 
     /// Whether `tick` would be a gap at which a rebirth is asked for. Takes no memory.

@@ -1,8 +1,9 @@
-ghost use Rattle.std.specs.Prelude.{◌⊎◌, true, false, ◌≡◌, ℕ, ◌+◌, ◌<◌, ◌≤◌, map, length, Some, is_some, replicate, IfOk, IfErr, OnOk, OnErr};
+ghost use Rattle.std.specs.Prelude.{◌⊎◌, true, false, ◌≡◌, ℕ, ◌+◌, ◌^◌, ◌<◌, ◌≤◌, map, length, Some, is_some, replicate, IfOk, IfErr, OnOk, OnErr};
 ghost use Rattle.spk_sequence.specs.declared.message.Kind.{Kind};
 ghost use Rattle.spk_sequence.specs.declared.answer.Step.{Step};
 ghost use Rattle.spk_sequence.specs.declared.answer.Match.{Match};
 ghost use Rattle.spk_sequence.specs.Data.{IsWhole};
+ghost use Rattle.spk_sequence.specs.Due.{has_come};
 ghost use Rattle.spk_sequence.specs.Numbers.{held_count};
 ghost use Rattle.spk_sequence.specs.Step.{is_any_held as is_any_held_in, hand, is_over, tick, match_of, death, fresh_standing};
 ghost use Rattle.spk_order.specs.Ordered.{IsKept};
@@ -164,6 +165,17 @@ impl<T: Drop> Order<T> {
         ensures { result ≡ true → IsIdle self.now }
     {
         !self.sequence.is_any_held()
+    }
+
+    /// The moment from which on `tick` is a gap, as long as nothing else happens. None where no moment is. At any other moment nothing
+    /// changes.
+    pub fn due(&self) -> Option<u64>
+        ensures due { (now : ℕ) → now < 2 ^ 64
+            → is_over self.now.standing now ≡ has_come result now }
+        ensures still { (now : ℕ) → is_over self.now.standing now ≡ false
+            → stands_so (tick self.now.standing now) self.now.kept ≡ self.now }
+    {
+        self.sequence.due()
     }
 
     /// How many messages are held, with their payloads.

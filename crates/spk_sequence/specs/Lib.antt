@@ -1,6 +1,7 @@
 pub mod Calls
 pub mod Claims
 pub mod Data
+pub mod Due
 pub mod Following
 pub mod HostRecord
 pub mod InLine

@@ -1,5 +1,6 @@
-ghost use Rattle.std.specs.Prelude.{◌≡◌, ℕ, ◌+◌, ◌<◌, ◌≤◌, ◌==◌, nat_le, is_some, if◌then◌else◌, Option, None};
+ghost use Rattle.std.specs.Prelude.{◌≡◌, ℕ, ◌+◌, ◌^◌, ◌<◌, ◌≤◌, ◌==◌, nat_le, is_some, if◌then◌else◌, Option, None};
 ghost use Rattle.spk_sequence.specs.Data.{Standing, IsWhole, held_at};
+ghost use Rattle.spk_sequence.specs.Due.{has_come};
 ghost use Rattle.spk_sequence.specs.Numbers.{held_as, held_count};
 ghost use Rattle.spk_sequence.specs.Step.{is_any_held, ahead, is_below, places_from, places_after, kept_places, run_of, after_consumed, after_stop, after_held, hand_birth, hand_other, hand_ahead, hand, is_over, tick, match_of, death, fresh_standing, next_of};
 
@@ -151,6 +152,20 @@ impl Sequence {
         ensures whole { IsWhole self.now }
     {
         self.is_any_held() && self.wait <= now.saturating_sub(self.since)
+    }
+
+    /// The moment from which on `is_over` holds. None while no message is held, or where no moment is late enough.
+    pub fn due(&self) -> Option<u64>
+        ensures { (now : ℕ) → now < 2 ^ 64 → is_over self.now now ≡ has_come result now }
+    {
+        let is_held = self.is_any_held();
+        if is_held && self.wait == 0 {
+            Some(0)
+        } else if is_held {
+            self.since.checked_add(self.wait)
+        } else {
+            None
+        }
     }
 
     /// How long a held message waits for the ones before it, in milliseconds.

@@ -5,7 +5,7 @@ use Rattle.spk_host_node.specs.Step as one_node
 use Rattle.spk_host.specs.Data.{Entry}
 use Rattle.spk_host.specs.Step.{message_out}
 use Rattle.spk_host.proofs.Found.{absent, at, if_ok, node_there, on_ok, place_is, read_there}
-use Rattle.spk_host.proofs.Idle.{held-so, order-set}
+use Rattle.spk_host.proofs.Idle.{at-once, order-set}
 use Rattle.spk_host.proofs.Indexed.{absent-in, indexed-first}
 use Rattle.spk_host.proofs.Parts.{entry_of}
 use Rattle.spk_host.proofs.nodes.Nodes.hear.Goals as goal
@@ -60,7 +60,7 @@ returns-in-None-clause-nodes c =
 pub invariant_of-self : goal.invariant_of-self
 invariant_of-self c =
     order-set c.self.inside.entries.items c.self.inside.index c.in-Some.place c.hear_message-out.new.entry c.index_mut-entry.result.now
-    c.self.inside.may_hold c.may_hold-self-inside.result c.self.invariant c.index_mut-entry.ensures.value c.hear_message-out.ensures.names c.may_hold-self-inside.ensures
+    c.self.inside.due c.due_of.result c.min-self-inside.result c.self.invariant c.index_mut-entry.ensures.value c.hear_message-out.ensures.names c.due_of.ensures c.min-self-inside.ensures
 
 pub hear_first-requires : goal.hear_first-requires
 hear_first-requires c =
@@ -69,7 +69,7 @@ hear_first-requires c =
 
 pub invariant_of-self-in-None : goal.invariant_of-self-in-None
 invariant_of-self-in-None c =
-    held-so (indexed-first c.hear_first.result c.self.inside.entries.items c.hear_first.new.entries.items c.self.inside.index c.hear_first.new.index
+    at-once (indexed-first c.hear_first.result c.self.inside.entries.items c.hear_first.new.entries.items c.self.inside.index c.hear_first.new.index
     (entry_of (numbered_view c.args.message).group (numbered_view c.args.message).node
     (one_node.hand (fresh_node c.args.wait c.args.width) (numbered_view c.args.message) c.args.now)) c.self.invariant.indexed
     (absent-in (numbered_view c.args.message).group (numbered_view c.args.message).node c.self.inside.entries.items c.self.inside.index c.self.invariant.indexed

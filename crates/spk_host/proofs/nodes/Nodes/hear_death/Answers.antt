@@ -10,7 +10,7 @@ use Rattle.spk_host.proofs.nodes.Nodes.hear_death.Goals as goal
 pub invariant_of-self : goal.invariant_of-self
 invariant_of-self c =
     order-set c.self.inside.entries.items c.self.inside.index c.in-Some.place c.death.new.self c.index_mut-entry.result.now
-    c.self.inside.may_hold c.may_hold-self-inside.result c.self.invariant c.index_mut-entry.ensures.value (ap names_of c.death.ensures) c.may_hold-self-inside.ensures
+    c.self.inside.due c.due_of.result c.min-self-inside.result c.self.invariant c.index_mut-entry.ensures.value (ap names_of c.death.ensures) c.due_of.ensures c.min-self-inside.ensures
 
 pub returns-in-Some : goal.returns-in-Some
 returns-in-Some c =
