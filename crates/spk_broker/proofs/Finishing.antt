@@ -1,12 +1,12 @@
 -- A call as a whole: what it drafted stands for the rules' step, and is settled or taken back.
-use Rattle.std.proofs.Common.{◌≡◌, ℕ, Bool, true, false, List, Option, None, map, refl, sym, ap, subst, ◌∙◌, Result, Ok, Err}
+use Rattle.std.proofs.Common.{◌≡◌, ℕ, Bool, true, false, List, Option, None, map, refl, sym, ap, subst, ◌∙◌, Result, Ok, Err, cond}
 use Rattle.std.specs.Result.{IfOk, OnErr, OnOk, is_ok, result_unwrap_or}
 use Rattle.std.specs.declared.alloc.AllocError.{AllocError}
 use Rattle.spk_broker_rules.specs.Data as plain
 use Rattle.spk_broker_rules.specs.Lawful.{IsLawful}
 use Rattle.spk_packets.specs.Message.{Message}
-use Rattle.spk_broker_rules.specs.Plan.{Event, Packet}
-use Rattle.spk_broker_rules.specs.Step.{Turn, begun, seat_at, step}
+use Rattle.spk_broker_rules.specs.Plan.{Event, Packet, Tick}
+use Rattle.spk_broker_rules.specs.Step.{Turn, begun, noted, seat_at, step}
 use Rattle.spk_broker.specs.declared.desk.Desk.{Desk}
 use Rattle.spk_broker.specs.declared.fault.BrokerFault.{BrokerFault}
 use Rattle.spk_broker.specs.declared.out.Draft.{Draft}
@@ -14,6 +14,7 @@ use Rattle.spk_broker.specs.declared.out.Out.{Out}
 use Rattle.spk_broker.specs.Asking.{seats_now}
 use Rattle.spk_broker.specs.Both.{Both}
 use Rattle.spk_broker.specs.Called.{AreOrdered}
+use Rattle.spk_broker.specs.Calm.{IsCalm}
 use Rattle.spk_broker.specs.Drafts.{draft_view, empty_draft}
 use Rattle.spk_broker.specs.Sent.{outgoing, sent_view}
 use Rattle.spk_broker.specs.View.{IsSound, IsSettled, Stands, desk_now, desk_was, seat_was, stepped}
@@ -23,6 +24,7 @@ use Rattle.spk_broker.specs.declared.ending.Ending.{Ending}
 use Rattle.spk_topics.specs.Grants.{Grants}
 use Rattle.spk_broker.specs.Filing.{IsIndex, IsIndexBut, regrants, takes_grants, turned_of}
 use Rattle.spk_broker.proofs.Quiet.{index-step}
+use Rattle.spk_broker.proofs.Silence.{calm-step, calm-tick}
 use Rattle.spk_broker.proofs.Standing.{begun-stands}
 use Rattle.spk_broker.proofs.Turned.{but-index, turned-index}
 
@@ -86,6 +88,28 @@ pub kept-to : (e : Event) (b : plain.Broker) (d0 d1 d2 : Desk) (x0 x1 : Draft) (
 kept-to e b d0 d1 d2 x0 x1 drafted (Ok out) k f =
     record { settled = f.settled; lawful = subst IsLawful (sym (done-to e b d0 d1 d2 x0 x1 drafted (Ok out) k f)) (step-lawful b e (subst IsLawful k.is k.kept.lawful)) }
 kept-to e b d0 d1 d2 x0 x1 drafted (Err x) k f = record { settled = f.settled; lawful = subst IsLawful (sym (f.same ∙ k.same)) k.kept.lawful }
+
+-- ---- silence
+
+calm-was : (m : ℕ) (b c : plain.Broker) → b ≡ c → IsCalm m b → IsCalm m c
+calm-was m b c is h = subst (IsCalm m) is h
+
+pub calm-to : (m : ℕ) (e : Event) (b : plain.Broker) (d0 d1 d2 : Desk) (x0 x1 : Draft) (drafted : Result Ending AllocError) (r : Result Out BrokerFault)
+    → CallTo e b d0 d1 x0 x1 drafted → Concluded d1 d2 x1 drafted r → IsCalm m (desk_was d0) → IsCalm m (desk_was d2)
+calm-to m e b d0 d1 d2 x0 x1 drafted (Err x) k f h = calm-was m (desk_was d0) (desk_was d2) (sym (f.same ∙ k.same)) h
+calm-to m e b d0 d1 d2 x0 x1 drafted (Ok out) k f h =
+    calm-was m (step b e).broker (desk_was d2) (sym (done-to e b d0 d1 d2 x0 x1 drafted (Ok out) k f)) (calm-step m b e (calm-was m (desk_was d0) b k.is h))
+
+-- a tick that is done may have found the moment anew
+pub calm-found : (m n moment : ℕ) (b : plain.Broker) (d0 d1 d2 : Desk) (x0 x1 : Draft) (drafted : Result Ending AllocError) (r : Result Out BrokerFault) (ok : Bool)
+    → CallTo (Tick moment) b d0 d1 x0 x1 drafted → Concluded d1 d2 x1 drafted r → ok ≡ is_ok r → IsCalm m (noted (desk_was d0) (Tick moment)).broker → IsCalm n (desk_was d0)
+    → IsCalm (cond ok m n) (desk_was d2)
+calm-found m n moment b d0 d1 d2 x0 x1 drafted (Err x) ok k f is found h =
+    subst (λ c. IsCalm (cond c m n) (desk_was d2)) (sym is) (calm-was n (desk_was d0) (desk_was d2) (sym (f.same ∙ k.same)) h)
+calm-found m n moment b d0 d1 d2 x0 x1 drafted (Ok out) ok k f is found h =
+    subst (λ c. IsCalm (cond c m n) (desk_was d2)) (sym is)
+    (calm-was m (step b (Tick moment)).broker (desk_was d2) (sym (done-to (Tick moment) b d0 d1 d2 x0 x1 drafted (Ok out) k f))
+    (calm-tick m moment b (subst (λ (c : plain.Broker). IsCalm m (noted c (Tick moment)).broker) k.is found)))
 
 -- ---- the index
 

@@ -30,6 +30,7 @@ pub mod Routes
 pub mod Ruled
 pub mod Sendables
 pub mod Sending
+pub mod Silence
 pub mod Sizes
 pub mod Standing
 pub mod Stayers

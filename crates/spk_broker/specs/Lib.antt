@@ -1,6 +1,7 @@
 pub mod Asking
 pub mod Both
 pub mod Called
+pub mod Calm
 pub mod Changes
 pub mod Connecting
 pub mod Counting

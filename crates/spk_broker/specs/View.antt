@@ -9,6 +9,7 @@ use Rattle.spk_broker_rules.specs.Step.{Turn, acts, retained_with, seen}
 use Rattle.spk_broker_rules.specs.Table.{Table, has}
 use Rattle.spk_broker_rules.specs.Words.{most_topics, option_list}
 use Rattle.spk_broker.specs.Both.{Both}
+use Rattle.spk_broker.specs.Calm.{IsCalm}
 use Rattle.spk_broker.specs.Drafts.{draft_view}
 use Rattle.spk_broker.specs.Filing.{IsIndex}
 use Rattle.spk_broker.specs.Parts.{retained_view}
@@ -83,10 +84,11 @@ pub record IsSound (d : Desk) : Type 0 where
   pub settled : IsSettled d
   pub lawful : IsLawful (desk_was d)
 
--- the index, where there is one, has all grants
+-- the index, where there is one, has all grants, and nobody is silent for too long up to the moment that is noted
 pub record IsKept (b : Inside) : Type 0 where
   pub sound : IsSound b.desk
   pub index : IsIndex b.index.tree (desk_was b.desk).seats
+  pub calm : IsCalm b.calm (desk_was b.desk)
 
 -- how many messages wait and how many sessions there are
 abbrev pub how_many : Desk → Draft → ℕ

@@ -1,5 +1,5 @@
 //! What the rules ask of connections and sessions by now.
-ghost use Rattle.std.specs.Prelude.{◌≡◌, ◌≤◌, Some, None, is_some, count_by, length, IfOk, true};
+ghost use Rattle.std.specs.Prelude.{◌≡◌, ◌≤◌, Some, None, is_some, count_by, length, true};
 ghost use Rattle.std.specs.List.{filter, find, flat_map, list_any, position};
 ghost use Rattle.std.specs.Option.{option_and_then, option_map_or};
 ghost use Rattle.spk_session.specs.Step.{is_spent};
@@ -14,7 +14,6 @@ use crate::guest::Guest;
 use crate::out::Conn;
 use crate::seat::Seat;
 use spk_broker_rules::is_silent;
-use std::alloc::{AllocError, Global};
 
 /// The most kept sessions (own rule).
 const MOST_KEPT: usize = 1_000;
@@ -59,7 +58,7 @@ impl Seat {
     }
 
     /// Its connection, where that is silent for too long (section 3.1.2.10).
-    fn silent(&self, clock: u64) -> Option<Conn>
+    pub(crate) fn silent(&self, clock: u64) -> Option<Conn>
         ensures { option_list result ≡ flat_map (silent_at clock) (seat_now self.now) }
     {
         match &self.here {
@@ -168,19 +167,6 @@ pub(crate) fn older(seats: &[Seat], client: &str) -> Option<Conn>
         Some(place) => seats[place].conn(),
         None => None,
     }
-}
-
-/// The connections that are silent for too long, in the order of connecting.
-pub(crate) fn silent(alloc: Global, seats: &[Seat], clock: u64) -> Result<Vec<Conn>, AllocError>
-    ensures { IfOk result (λ v. v.items ≡ flat_map (silent_at clock) (seats_now seats.now)) }
-{
-    let mut silent = Vec::new(alloc);
-    for seat in seats {
-        if let Some(conn) = seat.silent(clock) {
-            silent.push(conn)?;
-        }
-    }
-    Ok(silent)
 }
 
 /// Whether a guest is this connection.

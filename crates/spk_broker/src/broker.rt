@@ -27,6 +27,8 @@ pub struct Broker {
     pub(crate) index: GrantIndex,
     /// Where connections sat.
     pub(crate) hints: Hints,
+    /// Up to this moment no connection is silent for too long.
+    pub(crate) calm: u64,
 }
 
 impl fmt::Debug for Broker {
@@ -67,6 +69,7 @@ impl Broker {
             },
             index: GrantIndex::new(),
             hints: Hints::new(alloc),
+            calm: 0,
         }
     }
 

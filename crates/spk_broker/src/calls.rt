@@ -7,6 +7,7 @@ ghost use Rattle.spk_broker_rules.specs.Plan.{Closed, Fault, Refused, Tick};
 ghost use Rattle.spk_broker_rules.specs.Step.{knows, step};
 
 use crate::broker::Broker;
+use crate::calm::next;
 use crate::fault::BrokerFault;
 use crate::out::{Conn, Draft, Out};
 use spk_packets::PacketFault;
@@ -80,10 +81,14 @@ impl Broker {
     {
         let mut draft = Draft::new(self.desk.alloc);
         let before = self.desk.seats.len();
-        let drafted = self.desk.draft_tick(&mut draft, &self.index.tree, now);
+        let mut calm = self.calm;
+        let drafted = self
+            .desk
+            .draft_tick(&mut draft, &self.index.tree, &mut calm, now);
         let lost = draft.lost;
         let concluded = self.desk.conclude(drafted, draft);
         self.index.shed(&self.desk.seats, before, lost);
+        self.calm = next(concluded.is_ok(), calm, self.calm);
         concluded
     }
 

@@ -4,16 +4,17 @@ ghost use Rattle.std.specs.List.{flat_map};
 ghost use Rattle.spk_packets.specs.Message.{ConnAck};
 ghost use Rattle.spk_topics.specs.Grants.{Grants};
 ghost use Rattle.spk_broker_rules.specs.Plan.{Closed, Fault, Leave, Refused, Route, Say, Tell, Tick, is_bad_level, shut, turn_away};
-ghost use Rattle.spk_broker_rules.specs.Step.{Turn, acts};
+ghost use Rattle.spk_broker_rules.specs.Step.{Turn, acts, noted};
 ghost use Rattle.spk_session.specs.declared.answer.Sort.TheVariants as Sort;
 ghost use Rattle.spk_broker.specs.Asking.{place_in};
 ghost use Rattle.spk_broker.specs.Called.{AreInOrder, AreKeyed};
+ghost use Rattle.spk_broker.specs.Calm.{IsCalm};
 ghost use Rattle.spk_broker.specs.Endings.{IsReady, Leads};
 ghost use Rattle.spk_broker.specs.Filing.{IsIndex};
 ghost use Rattle.spk_broker.specs.Touched.{IsAlone};
 ghost use Rattle.spk_broker.specs.View.{IsSettled, Stands, desk_now, desk_was, ends, stepped};
 
-use crate::asking::silent;
+use crate::calm::silent;
 use crate::desk::Desk;
 use crate::ending::Ending;
 use crate::out::{Conn, Draft};
@@ -141,23 +142,26 @@ impl Desk {
     }
 
     /// All that are silent for too long are ended, then their wills are routed in that order (section 3.1.2.10). Where nobody is, no
-    /// session changes.
+    /// session changes. Up to the moment `calm` nobody is, which is found anew behind it.
     pub(crate) fn draft_tick(
         &mut self,
         draft: &mut Draft,
         tree: &Option<Tree>,
+        calm: &mut u64,
         now: u64,
     ) -> Result<Ending, AllocError>
         requires index { IsIndex tree.now (desk_now self.old).seats }
         requires order { AreInOrder tree.now self.old.seats.items }
         requires settled { IsSettled self.old }
+        requires calm { IsCalm calm.old (desk_was self.old) }
         ensures done { IfOk result (λ e. (t : Turn) → Stands self.old draft.old t
             → Leads self.new draft.new e (stepped (Tick now) t)) }
+        ensures calm { IsCalm calm.new (noted (desk_was self.old) (Tick now)).broker }
         ensures ready { IfOk result (λ e. IsReady e self.new) }
         ensures same { desk_was self.new ≡ desk_was self.old }
     {
         self.at(now);
-        let conns = silent(self.alloc, &self.seats, self.clock)?;
+        let conns = silent(self.alloc, &self.seats, self.clock, calm)?;
         if conns.is_empty() {
             let first = first_place(&self.seats);
             let ending = self.route_near(draft, tree, first)?;

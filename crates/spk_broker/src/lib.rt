@@ -6,6 +6,7 @@ mod asking;
 mod broker;
 mod calling;
 mod calls;
+mod calm;
 mod connecting;
 mod counting;
 mod desk;

@@ -1,5 +1,5 @@
 //! Drafted acts: the clock, what was heard and dropped, and connections that leave.
-ghost use Rattle.std.specs.Prelude.{◌≡◌, ◌∷◌, ◌++◌, [], IfOk, OnOk, Option, Some, true};
+ghost use Rattle.std.specs.Prelude.{◌≡◌, ◌∷◌, ◌++◌, [], IfOk, OnOk, Option, Some, max, true};
 ghost use Rattle.spk_topics.specs.Grants.{Grants};
 ghost use Rattle.spk_broker_rules.specs.Plan.{At, Drop, Hear, Leave, Say, Tell, shut};
 ghost use Rattle.spk_broker_rules.specs.Step.{Turn, act, acts};
@@ -27,6 +27,7 @@ impl Desk {
         ensures same { desk_was self.new ≡ desk_was self.old }
         ensures seats { self.new.seats ≡ self.old.seats }
         ensures guests { self.new.guests ≡ self.old.guests }
+        ensures clock { self.new.clock ≡ max self.old.clock now }
     {
         self.clock = self.clock.max(now);
     }

@@ -1,6 +1,6 @@
 use Rattle.std.proofs.Common.{◌≡◌, sym, false, true}
 use Rattle.spk_broker_rules.specs.Plan.{Fault}
-use Rattle.spk_broker.proofs.Finishing.{closes-to, done-to, index-to, kept-to, now-index, sends-to, stands-to}
+use Rattle.spk_broker.proofs.Finishing.{calm-to, closes-to, done-to, index-to, kept-to, now-index, sends-to, stands-to}
 use Rattle.spk_broker.proofs.Leaving.{sound-order}
 use Rattle.spk_broker.proofs.broker.Broker.fault.Goals as goal
 
@@ -30,6 +30,10 @@ invariant_of-self-2 c =
           (record { is = c.self.view_is; kept = c.self.invariant.sound; empty = c.new-draft.ensures; done = c.draft_fault-drafted.ensures.done; same = c.draft_fault-drafted.ensures.same })
           (record { done = c.conclude-concluded.ensures.done; sends = c.conclude-concluded.ensures.sends; closes = c.conclude-concluded.ensures.closes; variant = c.conclude-concluded.ensures.variant; same = c.conclude-concluded.ensures.same; settled = c.conclude-concluded.ensures.settled })
           c.self.invariant.index);
+      calm = calm-to c.self.inside.calm (Fault c.args.conn c.args.fault c.args.now) c.args.self.now c.self.inside.desk c.draft_fault-drafted.new.self c.conclude-concluded.new.self c.new-draft.result c.draft_fault-drafted.new.draft c.draft_fault-drafted.result c.conclude-concluded.result
+          (record { is = c.self.view_is; kept = c.self.invariant.sound; empty = c.new-draft.ensures; done = c.draft_fault-drafted.ensures.done; same = c.draft_fault-drafted.ensures.same })
+          (record { done = c.conclude-concluded.ensures.done; sends = c.conclude-concluded.ensures.sends; closes = c.conclude-concluded.ensures.closes; variant = c.conclude-concluded.ensures.variant; same = c.conclude-concluded.ensures.same; settled = c.conclude-concluded.ensures.settled })
+          c.self.invariant.calm;
     }
 
 pub returns-clause-sends : goal.returns-clause-sends

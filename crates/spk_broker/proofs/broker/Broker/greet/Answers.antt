@@ -1,4 +1,4 @@
-use Rattle.std.proofs.Common.{◌≡◌, ◌∙◌, ap, sym, subst, map, refl}
+use Rattle.std.proofs.Common.{◌≡◌, ◌∙◌, ap, sym, subst, map, refl, arith}
 use Rattle.std.proofs.lemmas.List.{map_push}
 use Rattle.spk_broker_rules.specs.Data as plain
 use Rattle.spk_broker_rules.specs.Lawful.{IsLawful}
@@ -23,6 +23,7 @@ invariant_of-self-2 c =
         lawful = subst IsLawful (sym all) (step-lawful (desk_was d) (Open c.args.now) c.self.invariant.sound.lawful);
       };
       index = c.self.invariant.index;
+      calm = record { seats = c.self.invariant.calm.seats; soon = omega (arith, c.self.invariant.calm.soon, c.max-clock.ensures) };
     }
 
 pub returns-clause-done : goal.returns-clause-done

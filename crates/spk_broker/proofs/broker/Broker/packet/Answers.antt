@@ -1,7 +1,7 @@
 use Rattle.std.proofs.Common.{sym}
 use Rattle.spk_packets.specs.View.{view}
 use Rattle.spk_broker_rules.specs.Plan.{Packet}
-use Rattle.spk_broker.proofs.Finishing.{CallTo, Concluded, begun-for, closes-to, done-to, followed, index-but, kept-to, now-index, was-index, sends-to, stands-to}
+use Rattle.spk_broker.proofs.Finishing.{CallTo, Concluded, begun-for, calm-to, closes-to, done-to, followed, index-but, kept-to, now-index, was-index, sends-to, stands-to}
 use Rattle.spk_broker.proofs.Touched.{settled-keyed}
 use Rattle.spk_broker.proofs.broker.Broker.packet.Goals as goal
 
@@ -11,7 +11,7 @@ conclude-concluded-requires-clause-stands c =
     (record { is = c.self.view_is; kept = c.self.invariant.sound; empty = c.new-draft.ensures; done = c.draft_packet-drafted.ensures.done; same = c.draft_packet-drafted.ensures.same })
 
 pub invariant_of-self : goal.invariant_of-self
-invariant_of-self c = record { sound = c.self.invariant.sound; index = c.self.invariant.index }
+invariant_of-self c = record { sound = c.self.invariant.sound; index = c.self.invariant.index; calm = c.self.invariant.calm }
 
 pub invariant_of-self-2 : goal.invariant_of-self-2
 invariant_of-self-2 c =
@@ -25,6 +25,7 @@ invariant_of-self-2 c =
       index = c.shed.ensures _ (followed c.ready.new.self.tree c.follow.new.self.tree c.holder-holder.result c.conclude-concluded.new.self c.deref.result.now c.deref.ensures.value sound c.follow.ensures.index
           (index-but c.ready.new.self.tree c.holder-holder.result c.args.conn (view c.args.packet.now) c.args.now c.args.self.now c.self.inside.desk c.draft_packet-drafted.new.self c.conclude-concluded.new.self c.new-draft.result c.draft_packet-drafted.new.draft c.draft_packet-drafted.result c.conclude-concluded.result
           c.holder-holder.ensures.quiet c.holder-holder.ensures.turned call end (was-index c.ready.new.self.tree c.self.inside.desk c.self.invariant.sound c.ready.ensures.index)));
+      calm = calm-to c.self.inside.calm (Packet c.args.conn (view c.args.packet.now) c.args.now) c.args.self.now c.self.inside.desk c.draft_packet-drafted.new.self c.conclude-concluded.new.self c.new-draft.result c.draft_packet-drafted.new.draft c.draft_packet-drafted.result c.conclude-concluded.result call end c.self.invariant.calm;
     }
 
 pub returns-clause-sends : goal.returns-clause-sends

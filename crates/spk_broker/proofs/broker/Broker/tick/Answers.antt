@@ -1,6 +1,8 @@
-use Rattle.std.proofs.Common.{◌≡◌, false, true}
+use Rattle.std.proofs.Common.{◌≡◌, subst, sym, false, true}
 use Rattle.spk_broker_rules.specs.Plan.{Tick}
-use Rattle.spk_broker.proofs.Finishing.{closes-to, done-to, index-to, kept-to, now-index, sends-to, stands-to}
+use Rattle.spk_broker.specs.Calm.{IsCalm}
+use Rattle.spk_broker.specs.View.{desk_was}
+use Rattle.spk_broker.proofs.Finishing.{calm-found, closes-to, done-to, index-to, kept-to, now-index, sends-to, stands-to}
 use Rattle.spk_broker.proofs.Leaving.{sound-order}
 use Rattle.spk_broker.proofs.broker.Broker.tick.Goals as goal
 
@@ -21,6 +23,10 @@ invariant_of-self c =
           (record { is = c.self.view_is; kept = c.self.invariant.sound; empty = c.new-draft.ensures; done = c.draft_tick-drafted.ensures.done; same = c.draft_tick-drafted.ensures.same })
           (record { done = c.conclude-concluded.ensures.done; sends = c.conclude-concluded.ensures.sends; closes = c.conclude-concluded.ensures.closes; variant = c.conclude-concluded.ensures.variant; same = c.conclude-concluded.ensures.same; settled = c.conclude-concluded.ensures.settled })
           c.self.invariant.index);
+      calm = subst (λ m. IsCalm m (desk_was c.conclude-concluded.new.self)) (sym c.next-self-inside.ensures) (calm-found c.draft_tick-drafted.new.calm c.self.inside.calm c.args.now c.args.self.now c.self.inside.desk c.draft_tick-drafted.new.self c.conclude-concluded.new.self c.new-draft.result c.draft_tick-drafted.new.draft c.draft_tick-drafted.result c.conclude-concluded.result c.is_ok.result
+          (record { is = c.self.view_is; kept = c.self.invariant.sound; empty = c.new-draft.ensures; done = c.draft_tick-drafted.ensures.done; same = c.draft_tick-drafted.ensures.same })
+          (record { done = c.conclude-concluded.ensures.done; sends = c.conclude-concluded.ensures.sends; closes = c.conclude-concluded.ensures.closes; variant = c.conclude-concluded.ensures.variant; same = c.conclude-concluded.ensures.same; settled = c.conclude-concluded.ensures.settled })
+          c.is_ok.ensures.value c.draft_tick-drafted.ensures.calm c.self.invariant.calm);
     }
 
 pub returns-clause-sends : goal.returns-clause-sends

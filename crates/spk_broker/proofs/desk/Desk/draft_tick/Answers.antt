@@ -16,7 +16,7 @@ returns-clause-done c t s =
     let s1 = c.at.ensures.done c.args.draft.now t s in
     leads-plain c.route.new.self c.route.new.draft _
     (tick-stands c.at.new.self c.route.new.self c.args.draft.now c.route.new.draft c.args.now c.deref-2.result.now t s1
-    (c.deref-2.ensures.value ∙ c.in_ok-conns.ensures ∙ ap (λ l. flat_map (silent_at c.at.new.self.clock) (seats_now l)) c.deref.ensures.value)
+    (c.deref-2.ensures.value ∙ c.in_ok-conns.ensures.silent ∙ ap (λ l. flat_map (silent_at c.at.new.self.clock) (seats_now l)) c.deref.ensures.value)
     (c.in_ok-route.ensures.done _ (c.in_ok-end_all.ensures.done (act (At c.args.now) t) s1)))
 
 pub route_near-requires-clause-alone : goal.route_near-requires-clause-alone

@@ -1,8 +1,0 @@
-use Rattle.std.proofs.Common.{◌≡◌, take}
-use Rattle.std.specs.List.{flat_map}
-use Rattle.spk_broker_rules.specs.Step.{silent_at}
-use Rattle.spk_broker.specs.Asking.{seats_now}
-use Rattle.spk_broker.proofs.asking.silent.Given as goal
-
-abbrev pub invariant-loop-seat : goal.invariant-loop-seat
-invariant-loop-seat l = l.silent.items ≡ flat_map (silent_at l.clock) (seats_now (take l.seat-index l.seats))
