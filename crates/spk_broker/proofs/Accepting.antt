@@ -59,7 +59,7 @@ is-lower d conn alive will x e l = by d.guests.items e l.made
 -- ---- retained messages are left alone
 
 entered-keeps : (e : Entry) (b : plain.Broker) (r : List (List ℕ × plain.Stored)) → entered e (record b { retained = r }) ≡ record (entered e b) { retained = r }
-entered-keeps (Made conn seat) b r = refl
+entered-keeps (Made key client kept line ids) b r = refl
 entered-keeps (Back client line) b r = refl
 
 pub record Keeps (client : List ℕ) (kept : Bool) (l : plain.Line) (b : plain.Broker) (r : List (List ℕ × plain.Stored)) : Type 0 where

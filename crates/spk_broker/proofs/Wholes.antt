@@ -4,6 +4,7 @@ use Rattle.std.proofs.lemmas.List.{take_all}
 use Rattle.std.specs.Option.{option_map, option_map_or}
 use Rattle.std.specs.List.{filter}
 use Rattle.std.specs.declared.alloc.Global.{Global}
+use Rattle.std.specs.Global.{Box}
 use Rattle.spk_session.specs.Data.{Ids}
 use Rattle.spk_session.specs.Step.{without}
 use Rattle.spk_session.specs.Parts.{ids_after_acked}
@@ -24,8 +25,8 @@ pub record Stays (s : Inside) : Type 0 where
   pub open' : s.ended ≡ false
   pub here : option_map line_now s.here ≡ here_was s.left s.here
   pub grants : option_map_or (λ (g : Vec Grant Global). map grant_view g.items) s.regrant (map grant_view s.grants.items) ≡ map grant_view s.grants.items
-  pub used : s.ids.used ≡ take s.used_before s.ids.used
-  pub last : s.ids.last ≡ s.last_before
+  pub used : s.ids.value.used ≡ take s.used_before s.ids.value.used
+  pub last : s.ids.value.last ≡ s.last_before
   pub copies : map copy_view s.copies.items ≡ map copy_view (take s.copies_before s.copies.items)
 
 pub stays : (s : Inside) → seat_both s ≡ whole (seat_was s) → Stays s
@@ -60,25 +61,25 @@ made : (ended : Bool) (a b x : plain.Seat) → ended ≡ false → a ≡ x → b
 made ended a b x e f g = ap (λ t. make t a b) e ∙ ap (λ y. make false y b) f ∙ ap (λ y. make false x y) g
 
 -- after an acknowledgement
-pub acked-whole : (s : Inside) (id : ℕ) (ids : Ids) (copies : Vec Copy Global) (used last most : ℕ) → seat_both s ≡ whole (seat_was s)
-    → ids ≡ ids_after_acked s.ids id → copies.items ≡ filter (λ c. not (c.id == id)) s.copies.items
-    → used ≡ length ids.used → last ≡ ids.last → most ≡ length copies.items
+pub acked-whole : (s : Inside) (id : ℕ) (ids : Box Ids) (copies : Vec Copy Global) (used last most : ℕ) → seat_both s ≡ whole (seat_was s)
+    → ids.value ≡ ids_after_acked s.ids.value id → copies.items ≡ filter (λ c. not (c.id == id)) s.copies.items
+    → used ≡ length ids.value.used → last ≡ ids.value.last → most ≡ length copies.items
     → seat_both (record s { ids = ids; copies = copies; used_before = used; last_before = last; copies_before = most }) ≡ whole (acked id (seat_was s))
 acked-whole s id ids copies used last most e is_ids is_copies is_used is_last is_most =
     let p = stays s e in
-    let ids_same : ids.used ≡ without id (take s.used_before s.ids.used) = ap (λ (i : Ids). i.used) is_ids ∙ ap (without id) p.used in
-    let last_same : ids.last ≡ s.last_before = ap (λ (i : Ids). i.last) is_ids ∙ p.last in
+    let ids_same : ids.value.used ≡ without id (take s.used_before s.ids.value.used) = ap (λ (i : Ids). i.used) is_ids ∙ ap (without id) p.used in
+    let last_same : ids.value.last ≡ s.last_before = ap (λ (i : Ids). i.last) is_ids ∙ p.last in
     let copies_same : map copy_view copies.items ≡ without_id id (map copy_view (take s.copies_before s.copies.items)) =
     ap (map copy_view) is_copies ∙ copies-without id s.copies.items ∙ ap (without_id id) p.copies in
     made s.ended _ _ (acked id (seat_was s)) p.open'
-    (alike (seat_was s) _ _ _ _ _ _ _ _ _ _ refl refl (ap (λ n. take n ids.used) is_used ∙ take_all (length ids.used) ids.used (omega arith) ∙ ids_same) (is_last ∙ last_same)
+    (alike (seat_was s) _ _ _ _ _ _ _ _ _ _ refl refl (ap (λ n. take n ids.value.used) is_used ∙ take_all (length ids.value.used) ids.value.used (omega arith) ∙ ids_same) (is_last ∙ last_same)
     (ap (λ n. map copy_view (take n copies.items)) is_most ∙ ap (map copy_view) (take_all (length copies.items) copies.items (omega arith)) ∙ copies_same))
     (alike (seat_was s) _ _ _ _ _ _ _ _ _ _ p.here p.grants ids_same last_same copies_same)
 
 -- after it is taken up
 pub taken-whole : (s : Inside) (line : Line) (copies : Vec Copy Global) (used last most : ℕ) → seat_both s ≡ whole (seat_was s) → line_was line ≡ line_now line
     → map copy_view copies.items ≡ map handed_out (map copy_view s.copies.items)
-    → used ≡ length s.ids.used → last ≡ s.ids.last → most ≡ length copies.items
+    → used ≡ length s.ids.value.used → last ≡ s.ids.value.last → most ≡ length copies.items
     → seat_both (record s { here = Some line; left = None; copies = copies; used_before = used; last_before = last; copies_before = most })
     ≡ whole (taken_up (line_now line) (seat_was s))
 taken-whole s line copies used last most e is_line is_copies is_used is_last is_most =
@@ -86,6 +87,6 @@ taken-whole s line copies used last most e is_line is_copies is_used is_last is_
     let copies_same : map copy_view copies.items ≡ map handed_out (map copy_view (take s.copies_before s.copies.items)) =
     is_copies ∙ ap (map handed_out) p.copies in
     made s.ended _ _ (taken_up (line_now line) (seat_was s)) p.open'
-    (alike (seat_was s) _ _ _ _ _ _ _ _ _ _ (ap (λ l. Some l) is_line) refl (ap (λ n. take n s.ids.used) is_used ∙ take_all (length s.ids.used) s.ids.used (omega arith) ∙ p.used) (is_last ∙ p.last)
+    (alike (seat_was s) _ _ _ _ _ _ _ _ _ _ (ap (λ l. Some l) is_line) refl (ap (λ n. take n s.ids.value.used) is_used ∙ take_all (length s.ids.value.used) s.ids.value.used (omega arith) ∙ p.used) (is_last ∙ p.last)
     (ap (λ n. map copy_view (take n copies.items)) is_most ∙ ap (map copy_view) (take_all (length copies.items) copies.items (omega arith)) ∙ copies_same))
     (alike (seat_was s) _ _ _ _ _ _ _ _ _ _ refl p.grants p.used p.last copies_same)

@@ -2,9 +2,10 @@
 use Rattle.std.specs.Prelude.{◌≡◌, ◌<◌, ℕ, Bool, List, [], ◌∷◌, ◌++◌, map, string_bytes, Vec, vec_capacity, vec_len, Some}
 use Rattle.std.specs.declared.alloc.Global.{Global}
 use Rattle.std.specs.List.{find}
+use Rattle.spk_session.specs.Parts.{fresh_ids}
 use Rattle.spk_session.specs.Step.{without}
 use Rattle.spk_broker_rules.specs.Data as plain
-use Rattle.spk_broker_rules.specs.Step.{Turn, away_for, begun, is_away, other_guests, take_up}
+use Rattle.spk_broker_rules.specs.Step.{Turn, away_for, begun, is_away, new_seat, other_guests, take_up}
 use Rattle.spk_broker_rules.specs.Words.{handed_out, numbered_packet, without_id}
 use Rattle.spk_broker.specs.Both.{Both}
 use Rattle.spk_broker.specs.Drafts.{Drafted}
@@ -28,20 +29,24 @@ acked id s = record s { used = without id s.used; copies = without_id id s.copie
 
 -- the data with the session that was made, or with the line of the one that is taken up
 abbrev pub entered : Entry → plain.Broker → plain.Broker
-entered (Made conn seat) b = record b { made = seat.value.was.key; guests = other_guests conn b.guests; seats = b.seats ++ seat.value.was ∷ [] }
+entered (Made key client kept line ids) b = record b {
+  made = key;
+  guests = other_guests line.conn b.guests;
+  seats = b.seats ++ new_seat key (string_bytes client) kept (line_now line) ∷ [];
+}
 entered (Back client line) b = record b {
   guests = other_guests line.conn b.guests;
   seats = changed_at (find (is_away (string_bytes client)) b.seats) (taken_up (line_now line)) b.seats;
 }
 
--- it is as before the call
+-- it is as before the call, and what a session is made of has no past
 abbrev pub IsWhole : Entry → Type 0
-IsWhole (Made conn seat) = seat.value ≡ whole seat.value.was
+IsWhole (Made key client kept line ids) = (line_was line ≡ line_now line) × (ids.value ≡ fresh_ids)
 IsWhole (Back client line) = line_was line ≡ line_now line
 
 -- a session that was made finds room
 abbrev pub HasRoom : Entry → Vec Seat Global → Type 0
-HasRoom (Made conn seat) seats = vec_len seats < vec_capacity seats
+HasRoom (Made key client kept line ids) seats = vec_len seats < vec_capacity seats
 HasRoom (Back client line) seats = Unit {0}
 
 -- a copy as it is sent again

@@ -19,7 +19,7 @@ seat_was s = record {
   kept = s.kept;
   here = here_was s.left s.here;
   grants = map grant_view s.grants.items;
-  used = take s.used_before s.ids.used;
+  used = take s.used_before s.ids.value.used;
   last = s.last_before;
   copies = map copy_view (take s.copies_before s.copies.items);
 }
@@ -31,8 +31,8 @@ seat_now s = record {
   kept = s.kept;
   here = option_map line_now s.here;
   grants = option_map_or (λ g. map grant_view g.items) s.regrant (map grant_view s.grants.items);
-  used = s.ids.used;
-  last = s.ids.last;
+  used = s.ids.value.used;
+  last = s.ids.value.last;
   copies = map copy_view s.copies.items;
 }
 
@@ -41,5 +41,5 @@ seat_both s = record { was = seat_was s; now = if s.ended then None else Some (s
 
 -- what is new stands behind what was there
 pub record IsDrafted (s : Inside) : Type 0 where
-  pub used : s.used_before ≤ length s.ids.used
+  pub used : s.used_before ≤ length s.ids.value.used
   pub copies : s.copies_before ≤ length s.copies.items

@@ -1,6 +1,7 @@
 //! A CONNECT is accepted (sections 3.1.2.4 and 3.1.4): all memory is asked for first, and what enters then needs none.
 ghost use Rattle.std.specs.Prelude.{ℕ, ◌≡◌, ◌==◌, not, ◌++◌, ◌<◌, ◌≤◌, ◌∷◌, [], length, IfOk, IfSome, OnOk, None, Some, false, true, map, string_bytes, vec_capacity, vec_len};
 ghost use Rattle.std.specs.List.{filter, find, position};
+ghost use Rattle.spk_session.specs.Parts.{fresh_ids};
 ghost use Rattle.spk_broker_rules.specs.Lawful.{IsLawful, Rises};
 ghost use Rattle.spk_broker_rules.specs.Plan.{Ack, Forget};
 ghost use Rattle.spk_broker_rules.specs.Step.{Turn, act, away_for, begun, is_away, new_seat, other_guests, sits, take_up};
@@ -23,12 +24,20 @@ use spk_packets::Packet;
 use spk_session::Identifiers;
 use std::alloc::{AllocError, Global};
 
-/// What enters once a call is settled: a session that was made, or the line of the kept one that is taken up. A session is large, and
-/// each function that has one in its frame clears so much memory in each call.
+/// What enters once a call is settled: what a new session is made of, or the line of the kept one that is taken up.
 #[derive(Debug, Drop)]
 pub(crate) enum Entry {
-    Made { conn: Conn, seat: Box<Seat> },
-    Back { client: String, line: Line },
+    Made {
+        key: u64,
+        client: String,
+        kept: bool,
+        line: Line,
+        ids: Box<Identifiers>,
+    },
+    Back {
+        client: String,
+        line: Line,
+    },
 }
 
 /// All copies were handed out.
@@ -72,9 +81,17 @@ impl Seat {
         self.key
     }
 
-    /// A session without a past.
-    fn new(alloc: Global, key: u64, client: String, kept: bool, line: Line) -> Seat
-        requires { line_was line ≡ line_now line }
+    /// A session without a past. It takes no memory.
+    fn new(
+        alloc: Global,
+        key: u64,
+        client: String,
+        kept: bool,
+        line: Line,
+        ids: Box<Identifiers>,
+    ) -> Seat
+        requires line { line_was line ≡ line_now line }
+        requires ids { ids.value ≡ fresh_ids }
         ensures { result ≡ whole (new_seat key (string_bytes client) kept (line_now line)) }
     {
         Seat {
@@ -86,7 +103,7 @@ impl Seat {
             ended: false,
             grants: Vec::new(alloc),
             regrant: None,
-            ids: Identifiers::new(),
+            ids,
             copies: Vec::new(alloc),
             used_before: 0,
             last_before: 0,
@@ -222,10 +239,17 @@ impl Desk {
         ensures settled { IsSettled self.new }
     {
         match entry {
-            Entry::Made { conn, seat } => {
-                take_guest(&mut self.guests, conn);
-                self.made = seat.key();
-                self.seats.push_reserved(Box::into_inner(seat));
+            Entry::Made {
+                key,
+                client,
+                kept,
+                line,
+                ids,
+            } => {
+                take_guest(&mut self.guests, line.conn);
+                self.made = key;
+                let seat = Seat::new(self.alloc, key, client, kept, line, ids);
+                self.seats.push_reserved(seat);
             }
             Entry::Back { client, line } => {
                 take_guest(&mut self.guests, line.conn);
@@ -266,9 +290,8 @@ impl Desk {
         ensures same { desk_was self.new ≡ desk_was self.old }
     {
         let key = self.made + 1;
-        let conn = line.conn;
         draft.say(
-            conn,
+            line.conn,
             &Packet::ConnAck {
                 present: false,
                 code: 0,
@@ -276,8 +299,14 @@ impl Desk {
         )?;
         self.seats.reserve(1)?;
         let client = String::from_str(self.alloc, client)?;
-        let seat = Box::new(self.alloc, Seat::new(self.alloc, key, client, kept, line))?;
-        Ok(Entry::Made { conn, seat })
+        let ids = Box::new(self.alloc, Identifiers::new())?;
+        Ok(Entry::Made {
+            key,
+            client,
+            kept,
+            line,
+            ids,
+        })
     }
 
     /// A kept session is about to be taken up: CONNACK, and what it keeps is sent again.

@@ -63,7 +63,8 @@ pub(crate) struct Seat {
     pub(crate) grants: Vec<Grant>,
     /// The grants after this call, where it changes them.
     pub(crate) regrant: Option<Vec<Grant>>,
-    pub(crate) ids: Identifiers,
+    /// Apart, since its table is much larger than all else here.
+    pub(crate) ids: Box<Identifiers>,
     /// Of a kept session: what stands behind the identifiers in use.
     pub(crate) copies: Vec<Copy>,
     /// How many identifiers were in use before the call, the one given last, and how many copies there were.

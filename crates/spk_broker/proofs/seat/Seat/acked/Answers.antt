@@ -1,4 +1,6 @@
 use Rattle.std.proofs.Common.{◌≡◌, ◌∙◌, ap, sym, length, rules}
+use Rattle.spk_session.specs.Data.{Ids}
+use Rattle.spk_session.specs.Parts.{ids_after_acked}
 use Rattle.spk_broker.specs.Both.{Both}
 use Rattle.spk_broker.specs.Entering.{acked, whole}
 use Rattle.spk_broker.specs.Sitting.{seat_both, seat_was}
@@ -9,6 +11,6 @@ pub returns : goal.returns
 returns c =
     let settled : seat_both c.self.inside ≡ whole (seat_was c.self.inside) = c.self.view_is ∙ c.requires ∙ ap (λ (b : Both). whole b.was) (sym c.self.view_is) in
     let most : c.len-self-inside.result ≡ length c.drop_copies.new.copies.items = search rules in
-    acked-whole c.self.inside c.args.id c.acked.new.self c.drop_copies.new.copies (length c.waiting.result.now) c.last-self-inside.result c.len-self-inside.result settled
-    c.acked.ensures.data c.drop_copies.ensures (ap length c.waiting.ensures.ids) c.last-self-inside.ensures.value most
+    acked-whole c.self.inside c.args.id (record c.self.inside.ids { value = c.acked.new.self }) c.drop_copies.new.copies (length c.waiting.result.now) c.last-self-inside.result c.len-self-inside.result settled
+    (c.acked.ensures.data ∙ ap (λ (i : Ids). ids_after_acked i c.args.id) c.deref_mut.ensures.value) c.drop_copies.ensures (ap length c.waiting.ensures.ids ∙ ap (λ (i : Ids). length i.used) c.deref.ensures) (c.last-self-inside.ensures.value ∙ ap (λ (i : Ids). i.last) c.deref-2.ensures) most
     ∙ ap (λ (b : Both). whole (acked c.args.id b.was)) c.self.view_is
