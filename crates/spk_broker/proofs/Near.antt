@@ -331,3 +331,25 @@ pub drops-nowhere : (conn : ℕ) (d : Desk) → place_in conn d.seats.items ≡ 
 drops-nowhere conn d none =
     ap (λ n. option_map_or (λ (g : plain.Guest). g.drops) (find (is_guest conn) (flat_map guest_now d.guests.items)) n)
     (sym (ap (λ o. option_map_or drops_at o 0) (lost-alive seat_here (sits conn) d.seats.items none)))
+
+-- who is there without an accepted CONNECT sits nowhere
+any-some : {X : Type 0} (p : X → Bool) (xs : List X) → list_any p xs ≡ true → 1 ≤ length (filter p xs)
+any-some p [] e = absurd (let z : ⊥ = cc in z)
+any-some p (x ∷ xs) e = by (p x) e (any-some p xs)
+  where
+    by : (b : Bool) → b || list_any p xs ≡ true → (list_any p xs ≡ true → 1 ≤ length (filter p xs)) → 1 ≤ length (cond b (x ∷ filter p xs) (filter p xs))
+    by true f rest = omega arith
+    by false f rest = rest f
+
+pub guest-nowhere : (conn : ℕ) (b : plain.Broker) (bs : List Both) → b.seats ≡ seats_now bs → places conn b ≤ 1 → list_any (is_guest conn) b.guests ≡ true → None ≡ place_in conn bs
+guest-nowhere conn b [] same few any = refl
+guest-nowhere conn b (x ∷ xs) same few any = by (place_in conn (x ∷ xs)) refl
+  where
+    by : (o : Option ℕ) → place_in conn (x ∷ xs) ≡ o → None ≡ o
+    by None e = refl
+    by (Some i) e =
+        let at = found-sits conn (x ∷ xs) i e in
+        let one = some-sits conn (x ∷ xs) i x at.0 (at.1 x) in
+        let other = any-some (is_guest conn) b.guests any in
+        let here : length (filter (sits conn) b.seats) ≡ length (filter (sits conn) (seats_now (x ∷ xs))) = ap (λ ss. length (filter (sits conn) ss)) same in
+        absurd (omega (arith, few, one, other, here))

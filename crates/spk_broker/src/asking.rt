@@ -229,6 +229,6 @@ impl Desk {
         requires { place_in conn self.now.seats.items ≡ place }
         ensures { result ≡ knows (desk_now self.now) conn }
     {
-        is_guest(&self.guests, conn) || place.is_some()
+        place.is_some() || is_guest(&self.guests, conn)
     }
 }

@@ -1,15 +1,15 @@
 //! Where connections sit: what is kept here is looked at first and never believed, so that it may be out of date.
-ghost use Rattle.std.specs.Prelude.{◌≡◌, ◌≤◌, length};
-ghost use Rattle.std.specs.List.{filter};
-ghost use Rattle.spk_broker_rules.specs.Step.{sits};
-ghost use Rattle.spk_broker.specs.Asking.{place_in, seats_now};
+ghost use Rattle.std.specs.Prelude.{◌≡◌, ◌≤◌};
+ghost use Rattle.spk_broker_rules.specs.Lawful.{places};
+ghost use Rattle.spk_broker.specs.Asking.{place_in};
 ghost use Rattle.spk_broker.specs.Touched.{IsAlone};
-ghost use Rattle.spk_broker.specs.View.{IsSound};
+ghost use Rattle.spk_broker.specs.View.{IsSound, desk_now};
 
-use crate::asking::place_near;
+use crate::asking::{is_guest, place_near};
 use crate::desk::Desk;
 use crate::out::Conn;
 use crate::seat::Seat;
+use spk_packets::Packet;
 use std::alloc::Global;
 
 /// The most connections that are kept here, twice as many as may be open: those that ended stay until there are so many.
@@ -61,19 +61,35 @@ impl Hints {
         }
     }
 
-    /// Where the connection sits, if it does.
-    fn seek_in(&mut self, seats: &[Seat], conn: Conn) -> Option<usize>
-        requires { length (filter (sits conn) (seats_now seats.now)) ≤ 1 }
-        ensures { result ≡ place_in conn seats.now }
+    /// Where the connection sits, if it does: where nothing is known of it and it has no accepted CONNECT, no session is looked at.
+    fn seek_in(&mut self, desk: &Desk, conn: Conn) -> Option<usize>
+        requires { places conn (desk_now desk.now) ≤ 1 }
+        ensures { result ≡ place_in conn desk.now.seats.items }
     {
-        let near = self.guess(seats, conn);
-        let place = place_near(seats, conn, near);
+        let near = self.guess(&desk.seats, conn);
+        if near >= desk.seats.len() && is_guest(&desk.guests, conn) {
+            return None;
+        }
+        let place = place_near(&desk.seats, conn, near);
         if let Some(place) = place {
             if place != near {
-                self.learn(conn, seats[place].key());
+                self.learn(conn, desk.seats[place].key());
             }
         }
         place
+    }
+
+    /// After a packet: a CONNECT may have made a session for this connection, which then stands last.
+    pub(crate) fn meet(&mut self, seats: &[Seat], conn: Conn, packet: &Packet) {
+        let Packet::Connect { .. } = packet else {
+            return;
+        };
+        let Some(last) = seats.last() else {
+            return;
+        };
+        if last.sits(conn) {
+            self.learn(conn, last.key());
+        }
     }
 
     /// Where the connection sits between calls, if it does.
@@ -82,6 +98,6 @@ impl Hints {
         ensures place { result ≡ place_in conn desk.now.seats.items }
         ensures alone { IsAlone result desk.now }
     {
-        self.seek_in(&desk.seats, conn)
+        self.seek_in(desk, conn)
     }
 }

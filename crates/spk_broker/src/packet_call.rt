@@ -42,6 +42,7 @@ impl Broker {
         let concluded = self.desk.conclude(drafted, draft);
         self.index.follow(&self.desk.seats, holder);
         self.index.shed(&self.desk.seats, before, lost);
+        self.hints.meet(&self.desk.seats, conn, packet);
         concluded
     }
 }
