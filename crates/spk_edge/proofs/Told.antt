@@ -12,6 +12,7 @@ use Rattle.spk_device.specs.Step.{set_refusal, with_value}
 use Rattle.spk_device.specs.declared.fault.Refusal.{Refusal}
 use Rattle.spk_sequence.specs.NodeRecord.{Numbering, RunsOn, Restarts}
 use Rattle.spk_store.specs.Step.{after_push}
+use Rattle.spk_store.specs.declared.change.Change.{Change}
 use Rattle.spk_edge_rules.specs.declared.fault.EdgeFault.{EdgeFault}
 use Rattle.spk_edge_rules.specs.declared.fault.EdgeFault.TheVariants as fault
 use Rattle.spk_edge_rules.specs.Answers.{Answer, is_writable}
@@ -23,12 +24,15 @@ use Rattle.spk_edge_rules.specs.Messages.{Draft, opens, wire}
 use Rattle.spk_edge_rules.specs.Rules as rule
 use Rattle.spk_edge_rules.specs.Rules.{Given, is_timely}
 use Rattle.spk_edge_rules.specs.Step as step
-use Rattle.spk_edge.specs.Changing.{Asks, change_at, change_draft, change_message, change_of, change_wire, kept, sent, with_book, with_sent, with_store}
-use Rattle.spk_edge.specs.Patch.{IsDone, IsRefusal, setting_book}
+use Rattle.spk_edge.specs.Changing.{Asks, IsSentTally, IsTally, change_at, change_draft, change_message, change_of, change_wire, kept, sent, with_book, with_sent, with_store}
+use Rattle.spk_edge.specs.Patch.{IsDone, IsPlan, IsRefusal, kept_after, patched, setting_book}
 use Rattle.spk_edge.specs.Sealing.{AreWhole, IsWhole, bytes_of, number_in, numbered, with_number}
-use Rattle.spk_edge.specs.View.{NodeData, unnumbered, write_view}
+use Rattle.spk_edge.specs.View.{NodeData, change_view, message_view, unnumbered, write_view}
 use Rattle.spk_edge.specs.declared.message.Out.{Out}
-use Rattle.spk_edge.specs.declared.plan.Setting.TheVariants.{Value as Valued}
+use Rattle.spk_edge.specs.declared.message.Keeping.TheVariants as Keeping
+use Rattle.spk_edge.specs.declared.plan.Plan.{Plan}
+use Rattle.spk_edge.specs.declared.plan.Setting.{Setting}
+use Rattle.spk_edge.specs.declared.plan.Setting.TheVariants.{Nothing as Unset, Value as Valued}
 use Rattle.spk_edge.proofs.Plans.{act_refused, all-timely, answer-ok, late, same-number}
 use Rattle.spk_edge.proofs.Still.{same-book}
 
@@ -196,3 +200,89 @@ same-done n now alias v out moment none same packets writes close =
     let a = n.standing.asked in
     done-so n now alias v (rule.nothing a) n out moment (asks-same n now alias v none same) refl refl (ap (map bytes_of) packets) (ap (map write_view) writes) close tt
     (ap (with_book n) (sym (same-book a.book alias v same)))
+
+-- ---- what is planned
+
+plan-so : (n : NodeData) (now alias : ℕ) (v : Option Typed) (r : Given) (p : Plan) → nat_lt now (2 ^ 63) ≡ true → Asks n now alias v r → is_timely r ≡ true
+    → list_all is_writable (r.plain ++ step.wires n.config n.standing.seq r.drafts) ≡ true
+    → map bytes_of p.out.packets.items ≡ map spelling (r.plain ++ step.wires n.config n.standing.seq r.drafts) → map write_view p.out.writes.items ≡ r.writes → p.out.close ≡ r.close
+    → map message_view p.messages.items ≡ numbered n.config.numbering n.standing.seq (map (unnumbered n.config) r.drafts)
+    → AreWhole (numbered n.config.numbering n.standing.seq (map (unnumbered n.config) r.drafts))
+    → patched n p ≡ record n { standing = step.stepped n.config n.standing (change_of now alias v) r } → IsPlan n (change_of now alias v) p
+plan-so n now alias v r p moment asked timely writable packets writes close messages whole after =
+    let a : Answer = record { given = r; packets = r.plain ++ step.wires n.config n.standing.seq r.drafts } in
+    record {
+      answer = a;
+      answered = all-timely n (change_of now alias v) r true timely refl moment asked ∙ ap (λ b. cond b (answer-ok a) (Err fault.TooLarge)) writable;
+      packets = packets;
+      writes = writes;
+      close = close;
+      messages = messages;
+      whole = whole;
+      after = after;
+    }
+
+pub sent-planned : (n : NodeData) (now alias : ℕ) (value : Option Value) (v : Option Typed) (stamp : ℕ) (p : Plan) → nat_lt now (2 ^ 63) ≡ true
+    → set_refusal n.standing.asked.book alias v ≡ None → Asks n now alias v (sent n.standing.asked now alias v)
+    → option_map typed_view value ≡ v → stamp ≡ later_stamp n.standing.asked.stamp now → nat_lt stamp (2 ^ 63) ≡ true → is_writable (change_wire n now alias v) ≡ true
+    → map bytes_of p.out.packets.items ≡ spelling (change_wire n now alias v) ∷ [] → p.out.writes.items ≡ [] → p.out.close ≡ false
+    → map message_view p.messages.items ≡ change_message n now alias v ∷ [] → IsWhole (change_message n now alias v)
+    → IsSentTally n stamp p.tally → p.setting ≡ Valued alias value → p.kept ≡ Keeping.Nothing → IsPlan n (change_of now alias v) p
+sent-planned n now alias value v stamp p moment none asked same at timely writable packets writes close messages whole tally set kept =
+    let a = n.standing.asked in
+    let r = sent a now alias v in
+    let wires = change-wires n now alias v in
+    let numbers = change-numbered n now alias v in
+    let book : setting_book a.book p.setting ≡ with_value a.book alias v = ap (setting_book a.book) set ∙ value-set a.book alias value v none same in
+    let store : kept_after a.store p.kept ≡ a.store = ap (kept_after a.store) kept in
+    let last : p.tally.stamp ≡ Some (later_stamp a.stamp now) = tally.stamp ∙ ap (λ s. Some s) at in
+    let seq : p.tally.seq ≡ step.seq_after n.config n.standing.seq (change_draft a now alias v ∷ []) = tally.seq ∙ ap (λ k. (k + 1) % 256) (sym (change-number n now alias v)) in
+    plan-so n now alias v r p moment asked
+    (ap (λ s. nat_lt s (2 ^ 63) && true) (sym at) ∙ ap (λ b. b && true) timely)
+    (ap (list_all is_writable) wires ∙ ap (λ b. b && true) writable)
+    (packets ∙ ap (map spelling) (sym wires))
+    (ap (map write_view) writes)
+    close
+    (messages ∙ sym numbers)
+    (subst AreWhole (sym numbers) (whole, tt))
+    (rw (tally.phase, book, store, tally.heard, last, tally.bd, tally.will_bd, tally.will_time, seq) refl)
+
+still-so : (n : NodeData) (now alias : ℕ) (v : Option Typed) (r : Given) (p : Plan) → nat_lt now (2 ^ 63) ≡ true → Asks n now alias v r
+    → r ≡ record (rule.nothing n.standing.asked) { store = r.store }
+    → p.out.packets.items ≡ [] → p.out.writes.items ≡ [] → p.out.close ≡ false → p.messages.items ≡ [] → IsTally n p.tally
+    → setting_book n.standing.asked.book p.setting ≡ with_value n.standing.asked.book alias v
+    → kept_after n.standing.asked.store p.kept ≡ step.store_after n.standing.asked.store r.store → IsPlan n (change_of now alias v) p
+still-so n now alias v r p moment asked bare packets writes close messages tally book store =
+    let r' : Given = record (rule.nothing n.standing.asked) { store = r.store } in
+    plan-so n now alias v r' p moment (asked ∙ ap gave bare) refl refl (ap (map bytes_of) packets) (ap (map write_view) writes) close (ap (map message_view) messages) tt
+    (rw (tally.phase, book, store, tally.heard, tally.stamp, tally.bd, tally.will_bd, tally.will_time, tally.seq) refl)
+
+pub still-planned : (n : NodeData) (now alias : ℕ) (v : Option Typed) (p : Plan) → nat_lt now (2 ^ 63) ≡ true → Asks n now alias v (rule.nothing n.standing.asked)
+    → p.out.packets.items ≡ [] → p.out.writes.items ≡ [] → p.out.close ≡ false → p.messages.items ≡ [] → IsTally n p.tally
+    → setting_book n.standing.asked.book p.setting ≡ with_value n.standing.asked.book alias v → p.kept ≡ Keeping.Nothing → IsPlan n (change_of now alias v) p
+still-planned n now alias v p moment asked packets writes close messages tally book kept =
+    still-so n now alias v (rule.nothing n.standing.asked) p moment asked refl packets writes close messages tally book (ap (kept_after n.standing.asked.store) kept)
+
+pub kept-planned : (n : NodeData) (now alias : ℕ) (value : Option Value) (v : Option Typed) (x : Change) (p : Plan) → nat_lt now (2 ^ 63) ≡ true
+    → set_refusal n.standing.asked.book alias v ≡ None → Asks n now alias v (kept n.standing.asked now alias v)
+    → option_map typed_view value ≡ v → change_view x ≡ change_at n.standing.asked.book now alias v
+    → p.out.packets.items ≡ [] → p.out.writes.items ≡ [] → p.out.close ≡ false → p.messages.items ≡ [] → IsTally n p.tally
+    → p.setting ≡ Valued alias value → p.kept ≡ Keeping.Push x → IsPlan n (change_of now alias v) p
+kept-planned n now alias value v x p moment none asked same is packets writes close messages tally set held =
+    let a = n.standing.asked in
+    still-so n now alias v (kept a now alias v) p moment asked refl packets writes close messages tally
+    (ap (setting_book a.book) set ∙ value-set a.book alias value v none same)
+    (ap (kept_after a.store) held ∙ ap (after_push a.store) is)
+
+-- a value that is set, and one that is so already
+pub set-book : (n : NodeData) (alias : ℕ) (value : Option Value) (v : Option Typed) (s : Setting) → set_refusal n.standing.asked.book alias v ≡ None → option_map typed_view value ≡ v
+    → s ≡ Valued alias value → setting_book n.standing.asked.book s ≡ with_value n.standing.asked.book alias v
+set-book n alias value v s none same is = ap (setting_book n.standing.asked.book) is ∙ value-set n.standing.asked.book alias value v none same
+
+pub same-planned : (n : NodeData) (now alias : ℕ) (v : Option Typed) (p : Plan) → nat_lt now (2 ^ 63) ≡ true
+    → set_refusal n.standing.asked.book alias v ≡ None → rule.is_same_value n.standing.asked.book alias v ≡ true
+    → p.out.packets.items ≡ [] → p.out.writes.items ≡ [] → p.out.close ≡ false → p.messages.items ≡ [] → IsTally n p.tally
+    → p.setting ≡ Unset → p.kept ≡ Keeping.Nothing → IsPlan n (change_of now alias v) p
+same-planned n now alias v p moment none same packets writes close messages tally set kept =
+    let b = n.standing.asked.book in
+    still-planned n now alias v p moment (asks-same n now alias v none same) packets writes close messages tally (ap (setting_book b) set ∙ sym (same-book b alias v same)) kept

@@ -12,6 +12,7 @@ use Rattle.spk_edge_rules.specs.Rules.{Asked, Given, acts, nothing}
 use Rattle.spk_edge.specs.Patch.{plain_input}
 use Rattle.spk_edge.specs.Sealing.{with_number}
 use Rattle.spk_edge.specs.View.{MessageData, NodeData, unnumbered}
+use Rattle.spk_edge.specs.declared.node.Tally.{Tally}
 
 abbrev pub change_of : ℕ → ℕ → Option Typed → Input
 change_of now alias value = plain_input now (Change alias value)
@@ -61,3 +62,23 @@ abbrev pub with_sent : NodeData → ℕ → NodeData
 with_sent n stamp = record n {
   standing = record { asked = record n.standing.asked { stamp = Some stamp }; seq = (n.standing.seq + 1) % 256 };
 }
+
+-- the counts of a node, as they are
+pub record IsTally (n : NodeData) (t : Tally) : Type 0 where
+  pub phase : t.phase ≡ n.standing.asked.phase
+  pub heard : t.heard ≡ n.standing.asked.heard
+  pub stamp : t.stamp ≡ n.standing.asked.stamp
+  pub seq : t.seq ≡ n.standing.seq
+  pub bd : t.bd ≡ n.standing.asked.bd
+  pub will_bd : t.will_bd ≡ n.standing.asked.will_bd
+  pub will_time : t.will_time ≡ n.standing.asked.will_time
+
+-- and behind a message with this stamp
+pub record IsSentTally (n : NodeData) (last : ℕ) (t : Tally) : Type 0 where
+  pub phase : t.phase ≡ n.standing.asked.phase
+  pub heard : t.heard ≡ n.standing.asked.heard
+  pub stamp : t.stamp ≡ Some last
+  pub seq : t.seq ≡ (n.standing.seq + 1) % 256
+  pub bd : t.bd ≡ n.standing.asked.bd
+  pub will_bd : t.will_bd ≡ n.standing.asked.will_bd
+  pub will_time : t.will_time ≡ n.standing.asked.will_time

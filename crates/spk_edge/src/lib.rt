@@ -17,6 +17,7 @@ mod message;
 mod node;
 mod packet;
 mod plan;
+mod planning;
 mod sealing;
 mod telling;
 mod texts;

@@ -342,6 +342,11 @@ impl EdgeNode {
         if input.now >= END {
             return Err(EdgeFault::ClockEnd);
         }
+        if let Act::Change(alias, value) = input.act {
+            if input.ack.is_none() {
+                return self.change_plan(input.now, alias, value);
+            }
+        }
         let given = self.given(input)?;
         let given = acked(given, input.ack)?;
         let setting = self.set_by(&input.act)?;
