@@ -1,7 +1,5 @@
 -- What a good configuration and a lawful registry come to.
-use Rattle.std.proofs.Common.{◌≡◌, ℕ, Bool, true, ◌&&◌}
-use Rattle.std.specs.Prelude.{nat_le}
-use Rattle.std.specs.Option.{option_map_or}
+use Rattle.std.proofs.Common.{◌≡◌, ℕ, true}
 use Rattle.std.proofs.lemmas.Bool.{and_parts}
 use Rattle.spk_topics.specs.Spark.{is_name}
 use Rattle.spk_device.specs.Book.{Book}

@@ -2,9 +2,6 @@
 use Rattle.std.proofs.Common.{◌⊎◌, ◌≡◌, inl, inr, ◌∙◌, ap, sym, refl, subst, ℕ, ◌+◌, ◌%◌, ◌^◌, min, length, arith, nat_lt, Bool, true, false, not, ◌&&◌, cond, List, [], ◌∷◌, ◌++◌, map, Option, Some, None, Result, Ok, Err}
 use Rattle.std.specs.Prelude.{IfOk, IfErr}
 use Rattle.std.specs.List.{last_or, list_all}
-use Rattle.std.specs.Option.{option_map}
-use Rattle.std.specs.String.{string_bytes}
-use Rattle.spk_payload.specs.Typing.{Typed, typed_view}
 use Rattle.spk_packets.specs.Message as packets
 use Rattle.spk_packets.specs.Spelling.{spelling}
 use Rattle.spk_device.specs.Book.{Book}
@@ -37,7 +34,6 @@ use Rattle.spk_edge.specs.declared.message.Keeping.{Keeping}
 use Rattle.spk_edge.specs.declared.message.Out.{Out}
 use Rattle.spk_edge.specs.declared.plan.Plan.{Plan}
 use Rattle.spk_edge.specs.declared.plan.Setting.{Setting}
-use Rattle.spk_edge.specs.declared.plan.Setting.TheVariants.{Nothing, Value, Turn}
 
 -- ---- messages
 

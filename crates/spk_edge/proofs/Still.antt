@@ -1,7 +1,6 @@
 -- What gives nothing and sets nothing takes no memory.
 use Rattle.std.proofs.Common.{◌≡◌, ◌∙◌, ap, sym, refl, subst, ℕ, zero, suc, ◌+◌, ◌-◌, ◌<◌, Bool, true, false, not, ◌&&◌, cond, List, [], ◌∷◌, length, map, Option, Some, None, is_none, Result, Ok, Err, arith}
 use Rattle.std.specs.Prelude.{◌==◌, IfErr, OnErr, slice_get}
-use Rattle.std.specs.List.{enumerate_from}
 use Rattle.std.specs.Option.{option_map_or}
 use Rattle.std.proofs.lemmas.Bool.{true≢false, and_parts, eqb-true}
 use Rattle.spk_payload.specs.Typing.{Typed}

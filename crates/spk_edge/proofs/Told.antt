@@ -1,10 +1,9 @@
 -- A change that is done at once does what the rules ask.
-use Rattle.std.proofs.Common.{◌≡◌, inl, inr, ◌∙◌, ap, sym, refl, subst, ℕ, ◌+◌, ◌%◌, ◌^◌, nat_lt, Bool, true, false, not, ◌&&◌, cond, List, [], ◌∷◌, ◌++◌, map, Option, Some, None, Result, Ok, Err}
+use Rattle.std.proofs.Common.{◌≡◌, inl, inr, ◌∙◌, ap, sym, refl, subst, ℕ, ◌+◌, ◌%◌, ◌^◌, nat_lt, Bool, true, false, not, ◌&&◌, cond, [], ◌∷◌, ◌++◌, map, Option, Some, None, Result, Ok, Err}
 use Rattle.std.specs.List.{list_all}
 use Rattle.std.specs.Option.{option_map}
 use Rattle.spk_payload.specs.Typing.{Typed, typed_view}
 use Rattle.spk_payload.specs.declared.typing.Value.{Value}
-use Rattle.spk_packets.specs.Message as packets
 use Rattle.spk_packets.specs.Spelling.{spelling}
 use Rattle.spk_device.specs.Book.{Book}
 use Rattle.spk_device.specs.Calls.{unless_refused}
@@ -18,7 +17,6 @@ use Rattle.spk_edge_rules.specs.declared.fault.EdgeFault.TheVariants as fault
 use Rattle.spk_edge_rules.specs.Answers.{Answer, is_writable}
 use Rattle.spk_edge_rules.specs.Births.{later_stamp, owner_at, owner_is_up}
 use Rattle.spk_edge_rules.specs.Config.{Config}
-use Rattle.spk_edge_rules.specs.Inputs as inputs
 use Rattle.spk_edge_rules.specs.Inputs.{ChangeData}
 use Rattle.spk_edge_rules.specs.Messages.{Draft, opens, wire}
 use Rattle.spk_edge_rules.specs.Rules as rule
@@ -26,7 +24,7 @@ use Rattle.spk_edge_rules.specs.Rules.{Given, is_timely}
 use Rattle.spk_edge_rules.specs.Step as step
 use Rattle.spk_edge.specs.Changing.{Asks, IsSentTally, IsTally, change_at, change_draft, change_message, change_of, change_wire, kept, sent, with_book, with_sent, with_store}
 use Rattle.spk_edge.specs.Patch.{IsDone, IsPlan, IsRefusal, kept_after, patched, setting_book}
-use Rattle.spk_edge.specs.Sealing.{AreWhole, IsWhole, bytes_of, number_in, numbered, with_number}
+use Rattle.spk_edge.specs.Sealing.{AreWhole, IsWhole, bytes_of, numbered, with_number}
 use Rattle.spk_edge.specs.View.{NodeData, change_view, message_view, unnumbered, write_view}
 use Rattle.spk_edge.specs.declared.message.Out.{Out}
 use Rattle.spk_edge.specs.declared.message.Keeping.TheVariants as Keeping

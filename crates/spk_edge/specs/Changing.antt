@@ -1,5 +1,5 @@
 -- A change of a metric that is done at once, and what it makes of a node's data.
-use Rattle.std.specs.Prelude.{◌≡◌, ℕ, ◌+◌, ◌%◌, List, [], ◌∷◌, Option, Some, None, Ok}
+use Rattle.std.specs.Prelude.{◌≡◌, ℕ, ◌+◌, ◌%◌, [], ◌∷◌, Option, Some, None, Ok}
 use Rattle.spk_packets.specs.Message as packets
 use Rattle.spk_payload.specs.Typing.{Typed}
 use Rattle.spk_device.specs.Book.{Book}

@@ -1,5 +1,5 @@
 //! Changes of metrics, and devices that come and go.
-ghost use Rattle.std.specs.Prelude.{◌≡◌, ◌⊎◌, ◌∷◌, [], IfOk, IfErr, OnOk, map, string_bytes, Some, None, false};
+ghost use Rattle.std.specs.Prelude.{◌≡◌, ◌⊎◌, ◌∷◌, [], IfOk, IfErr, OnOk, map, string_bytes, option_copied, Some, None, false};
 ghost use Rattle.std.specs.Option.{option_and_then, option_map, option_map_or};
 ghost use Rattle.spk_topics.specs.Spark.{topic_of};
 ghost use Rattle.spk_edge_rules.specs.Messages.{spark_of};
@@ -113,6 +113,16 @@ impl EdgeNode {
             null,
             value,
         })
+    }
+
+    /// The name of an owner that is a device.
+    pub(crate) fn device_of(&self, owner: Owner) -> Option<&str>
+        ensures { option_copied result ≡ births.device_of self.now.standing.asked.book owner }
+    {
+        match owner {
+            Owner::Node => None,
+            Owner::Device(number) => self.registry.device_name(number),
+        }
     }
 
     /// The topic of an owner's data.

@@ -1,4 +1,4 @@
-//! The packet of one change, written at once (MQTT 3.1.1, section 3.3): no metric and no payload of it is made before.
+//! The packet of one change, written at once (MQTT 3.1.1, section 3.3): no metric, payload or topic of it is made before.
 ghost use Rattle.std.specs.Prelude.{◌≡◌, ◌⊎◌, ◌∷◌, ◌+◌, ◌-◌, ◌*◌, ◌%◌, ◌^◌, ◌<◌, ◌≤◌, ◌++◌, length, min, None, Some, IfOk, IfErr, IfSome, OnOk, true, false, if◌then◌else◌};
 ghost use Rattle.std.specs.Option.{option_map};
 ghost use Rattle.std.specs.Str.{IsUtf8};
@@ -6,10 +6,10 @@ ghost use Rattle.spk_protobuf.specs.Spelling.{bytes_field};
 ghost use Rattle.spk_payload.specs.Meaning.{Other};
 ghost use Rattle.spk_payload.specs.Spelling as payload;
 ghost use Rattle.spk_payload.specs.View.{content_of};
-ghost use Rattle.spk_packets.specs.Grammar.{largest};
+ghost use Rattle.spk_packets.specs.Grammar.{has_zero, largest};
 ghost use Rattle.spk_packets.specs.Spelling as packet;
 ghost use Rattle.spk_edge_rules.specs.Answers.{is_writable};
-ghost use Rattle.spk_edge.specs.Saying.{metric_said, null_said, payload_said, said};
+ghost use Rattle.spk_edge.specs.Saying.{metric_said, null_said, payload_said, said, topic_said};
 
 use spk_edge_rules::EdgeFault;
 use spk_payload::Raw;
@@ -22,7 +22,10 @@ const LARGEST: usize = 1_048_576;
 /// What the message of one change says.
 #[derive(Clone, Copy)]
 pub(crate) struct Saying<'a> {
-    pub(crate) topic: &'a str,
+    /// Its names: of the group, of the node, and of the device whose metric it is, if it isn't the node's.
+    pub(crate) group: &'a str,
+    pub(crate) node: &'a str,
+    pub(crate) device: Option<&'a str>,
     pub(crate) alias: u64,
     /// The message's stamp, and the metric's.
     pub(crate) stamp: u64,
@@ -191,24 +194,83 @@ fn put_length(out: &mut Vec<u8>, len: usize) -> Result<(), AllocError>
     Ok(())
 }
 
-/// The topic behind its length.
-fn put_topic(out: &mut Vec<u8>, topic: &str) -> Result<(), AllocError>
-    ensures { OnOk result (out.new.items ≡ out.old.items ++ packet.counted topic.now) }
+/// A number of two bytes.
+#[inline(always)]
+fn put_two(out: &mut Vec<u8>, number: usize) -> Result<(), AllocError>
+    ensures { OnOk result (out.new.items ≡ out.old.items ++ packet.number number) }
 {
-    let len = topic.len();
-    out.push((len / 256 % 256) as u8)?;
-    out.push((len % 256) as u8)?;
-    out.extend_from_slice(topic.as_bytes())
+    out.push((number / 256 % 256) as u8)?;
+    out.push((number % 256) as u8)?;
+    Ok(())
 }
 
-/// Over 65,535 bytes, or U+0000 is there.
-fn is_bad(topic: &str) -> bool
-    ensures { result ≡ packet.is_bad_text topic.now }
+/// A name.
+#[inline(always)]
+fn put_name(out: &mut Vec<u8>, name: &str) -> Result<(), AllocError>
+    ensures ok { OnOk result (out.new.items ≡ out.old.items ++ name.now) }
+    ensures text { IsUtf8 name.now }
 {
-    topic.len() > 65_535 || topic.as_bytes().contains(&0)
+    out.extend_from_slice(name.as_bytes())
+}
+
+/// Whether U+0000 is in a text.
+#[inline(always)]
+fn has_zero(text: &str) -> bool
+    ensures { result ≡ has_zero text.now }
+{
+    text.as_bytes().contains(&0)
 }
 
 impl<'a> Saying<'a> {
+    /// How many bytes its topic has, or the greatest number.
+    fn topic_size(&self) -> usize
+        ensures { result ≡ min (length (topic_said self.now)) (2 ^ 64 - 1) }
+    {
+        let size = self
+            .group
+            .len()
+            .saturating_add(self.node.len())
+            .saturating_add(15);
+        match self.device {
+            Some(device) => size.saturating_add(device.len()).saturating_add(1),
+            None => size,
+        }
+    }
+
+    /// Whether U+0000 is in its topic.
+    fn has_zero(&self) -> bool
+        ensures { result ≡ has_zero (topic_said self.now) }
+    {
+        if has_zero(self.group) || has_zero(self.node) {
+            return true;
+        }
+        match self.device {
+            Some(device) => has_zero(device),
+            None => false,
+        }
+    }
+
+    /// Its topic.
+    fn put_topic(&self, out: &mut Vec<u8>) -> Result<(), AllocError>
+        ensures ok { OnOk result (out.new.items ≡ out.old.items ++ topic_said self.now) }
+        ensures text { OnOk result (IsUtf8 (topic_said self.now)) }
+    {
+        out.extend_from_slice(b"spBv1.0/")?;
+        put_name(out, self.group)?;
+        match self.device {
+            Some(device) => {
+                out.extend_from_slice(b"/DDATA/")?;
+                put_name(out, self.node)?;
+                out.push(b'/')?;
+                put_name(out, device)
+            }
+            None => {
+                out.extend_from_slice(b"/NDATA/")?;
+                put_name(out, self.node)
+            }
+        }
+    }
+
     /// How many bytes its metric has, or the greatest number.
     #[tactic(auto, unfolding(spk_payload::specs::Spelling::metric_spelling))]
     fn metric_size(&self) -> usize
@@ -265,18 +327,27 @@ impl<'a> Saying<'a> {
     }
 
     /// The header, the topic and the payload.
-    fn join(&self, alloc: Global, metric: usize, len: usize) -> Result<Vec<u8>, AllocError>
+    fn join(
+        &self,
+        alloc: Global,
+        topic: usize,
+        metric: usize,
+        len: usize,
+    ) -> Result<Vec<u8>, AllocError>
         requires known { (metric_said self.now).value ≡ Some Other → ⊥ }
+        requires topic { topic ≡ length (topic_said self.now) }
         requires size { metric ≡ length (payload.metric_spelling (metric_said self.now)) }
         requires body { len ≡ length (packet.body (said self.now)) }
         requires small { len < 1048576 }
         ensures bytes { IfOk result (λ v. v.items ≡ packet.spelling (said self.now)) }
+        ensures text { OnOk result (IsUtf8 (topic_said self.now)) }
         ensures fits { OnOk result (payload.PayloadFits (payload_said self.now)) }
     {
         let mut out = Vec::with_capacity(alloc, 1 + length_size(len) + len)?;
         out.push(0x30)?;
         put_length(&mut out, len)?;
-        put_topic(&mut out, self.topic)?;
+        put_two(&mut out, topic)?;
+        self.put_topic(&mut out)?;
         self.put_payload(&mut out, metric)?;
         Ok(out)
     }
@@ -285,22 +356,24 @@ impl<'a> Saying<'a> {
     pub(crate) fn packet(&self, alloc: Global) -> Result<Vec<u8>, EdgeFault>
         requires { (metric_said self.now).value ≡ Some Other → ⊥ }
         ensures bytes { IfOk result (λ v. v.items ≡ packet.spelling (said self.now)) }
+        ensures text { OnOk result (IsUtf8 (topic_said self.now)) }
         ensures fits { OnOk result (payload.PayloadFits (payload_said self.now)) }
         ensures writable { OnOk result (is_writable (said self.now) ≡ true) }
         ensures fault { IfErr result (λ e. (e ≡ EdgeFault.NoMemory) ⊎ ((e ≡ EdgeFault.TooLarge)
             × (is_writable (said self.now) ≡ false))) }
     {
-        if is_bad(self.topic) {
+        let topic = self.topic_size();
+        if topic > 65_535 || self.has_zero() {
             return Err(EdgeFault::TooLarge);
         }
         let metric = self.metric_size();
         if metric > LARGEST {
             return Err(EdgeFault::TooLarge);
         }
-        let len = self.topic.len() + self.payload_size(metric) + 2;
+        let len = topic + self.payload_size(metric) + 2;
         if 1 + length_size(len) + len > LARGEST {
             return Err(EdgeFault::TooLarge);
         }
-        Ok(self.join(alloc, metric, len)?)
+        Ok(self.join(alloc, topic, metric, len)?)
     }
 }

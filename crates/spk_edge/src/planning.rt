@@ -57,12 +57,15 @@ impl EdgeNode {
             ≡ false))) }
     {
         spelling_spells();
-        let topic = self.data_topic(self.owner(alias))?;
+        let owner = self.owner(alias);
+        let topic = self.data_topic(owner)?;
         let raw = self.value_written(alias, value)?;
         let stamp = self.later_stamp(now);
         let null = value.is_none();
         let saying = Saying {
-            topic: topic.as_str(),
+            group: self.config.group.as_str(),
+            node: self.config.node.as_str(),
+            device: self.device_of(owner),
             alias,
             stamp,
             seq: self.tally.seq,

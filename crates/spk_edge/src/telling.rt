@@ -91,10 +91,11 @@ impl EdgeNode {
             ≡ false))) }
     {
         spelling_spells();
-        let topic = self.data_topic(self.owner(alias))?;
         let raw = self.value_written(alias, value)?;
         let saying = Saying {
-            topic: topic.as_str(),
+            group: self.config.group.as_str(),
+            node: self.config.node.as_str(),
+            device: self.device_of(self.owner(alias)),
             alias,
             stamp: self.later_stamp(now),
             seq: self.tally.seq,

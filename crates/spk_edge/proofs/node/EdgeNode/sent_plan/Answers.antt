@@ -1,4 +1,4 @@
-use Rattle.std.proofs.Common.{◌∙◌, ◌^◌, ap, sym, refl, map, List, [], ◌∷◌, ◌++◌, ℕ, Vec}
+use Rattle.std.proofs.Common.{◌∙◌, ◌^◌, ap, refl, map, List, [], ◌∷◌, ◌++◌, ℕ, Vec}
 use Rattle.std.specs.Option.{option_map}
 use Rattle.std.specs.declared.alloc.Global.{Global}
 use Rattle.std.proofs.lemmas.Bool.{lt-ltb}
