@@ -90,6 +90,10 @@ impl Slots {
         ensures count { result ≡ run_of (places_of self.now from width) }
         ensures bounded { result ≤ width }
     {
+        let first = self.get(from % 128);
+        if first.is_none() {
+            return 0;
+        }
         for place in 0..width {
             if self.get(from.wrapping_add(place) % 128).is_none() {
                 return place;
