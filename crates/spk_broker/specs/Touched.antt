@@ -4,7 +4,7 @@ use Rattle.std.specs.List.{flat_map}
 use Rattle.spk_broker.specs.Both.{Both}
 use Rattle.spk_broker.specs.Called.{is_place}
 use Rattle.spk_broker.specs.Entering.{whole}
-use Rattle.spk_broker.specs.View.{guest_now, guest_was}
+use Rattle.spk_broker.specs.View.{desk_now, desk_was, guest_now, guest_was}
 use Rattle.spk_broker.specs.declared.desk.Desk.{Desk}
 
 -- sessions stand at these places, and each one that stands elsewhere is as before the call
@@ -22,6 +22,10 @@ pub record AreVisited (places : List ℕ) (old new : List Both) : Type 0 where
 pub record OnlyAt (places : List ℕ) (desk : Desk) : Type 0 where
   pub seats : AreTouched places desk.seats.items
   pub guests : flat_map guest_now desk.guests.items ≡ map guest_was desk.guests.items
+
+-- the call has changed no session
+abbrev pub IsStill : Desk → Type 0
+IsStill desk = (desk_now desk).seats ≡ (desk_was desk).seats
 
 -- where a connection sits in a session, the call has changed that one alone
 abbrev pub IsAlone : Option ℕ → Desk → Type 0

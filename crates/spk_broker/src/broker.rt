@@ -1,10 +1,11 @@
 //! The broker: its data, and how a connection is opened.
-ghost use Rattle.std.specs.Prelude.{◌≡◌, ◌+◌, false, IfOk, IfErr, OnOk, OnErr};
+ghost use Rattle.std.specs.Prelude.{◌≡◌, ◌+◌, nat_le, false, IfOk, IfErr, OnOk, OnErr};
 ghost use Rattle.spk_broker.specs.declared.fault.BrokerFault.TheVariants as BrokerFault;
 ghost use Rattle.spk_broker.specs.Fault.{IsLimit};
 ghost use Rattle.spk_broker_rules.specs.Data.{fresh_broker};
 ghost use Rattle.spk_broker_rules.specs.Plan.{Open};
 ghost use Rattle.spk_broker_rules.specs.Step.{is_full, open_count, step};
+ghost use Rattle.spk_broker_rules.specs.Words.{most_open};
 
 use crate::desk::Desk;
 use crate::fault::BrokerFault;
@@ -82,10 +83,20 @@ impl Broker {
         ensures fault { IfErr result (IsLimit (is_full self.old)) }
         ensures err { OnErr result (self.new ≡ self.old) }
     {
-        if self.open_count() >= MOST_OPEN || self.desk.given == u64::MAX {
+        if self.has_most_open() || self.desk.given == u64::MAX {
             return Err(BrokerFault::Limit);
         }
         self.greet(now)
+    }
+
+    /// Whether as many connections are open as may be. They are counted only where there are as many sessions and connections without CONNECT.
+    fn has_most_open(&self) -> bool
+        ensures { result ≡ nat_le most_open (open_count self.now) }
+    {
+        if self.desk.guests.len().saturating_add(self.desk.seats.len()) < MOST_OPEN {
+            return false;
+        }
+        self.open_count() >= MOST_OPEN
     }
 
     /// How many connections are open.

@@ -1,5 +1,5 @@
 //! A CONNECT (sections 3.1 and 3.1.4): judged, and then the client's older connection is taken over.
-ghost use Rattle.std.specs.Prelude.{ℕ, ◌≡◌, ◌∷◌, ◌++◌, [], IfOk, IfSome, OnOk, true, not, if◌then◌else◌};
+ghost use Rattle.std.specs.Prelude.{ℕ, ◌≡◌, ◌∷◌, ◌++◌, [], IfOk, IfSome, None, OnOk, false, true, not, if◌then◌else◌};
 ghost use Rattle.std.specs.List.{find};
 ghost use Rattle.std.specs.Option.{option_map};
 ghost use Rattle.spk_packets.specs.View.{will_view};
@@ -13,7 +13,8 @@ ghost use Rattle.spk_broker.specs.Drafts.{draft_view};
 ghost use Rattle.spk_broker.specs.Entering.{HasRoom, IsWhole};
 ghost use Rattle.spk_broker.specs.Parts.{line_now, line_was, post_view};
 ghost use Rattle.spk_broker.specs.Sendable.{is_sendable};
-ghost use Rattle.spk_broker.specs.View.{Stands, desk_was};
+ghost use Rattle.spk_broker.specs.Touched.{IsStill};
+ghost use Rattle.spk_broker.specs.View.{Stands, desk_now, desk_was};
 ghost use Rattle.spk_broker.specs.declared.out.Draft.{Draft};
 
 use crate::asking::{guest_place, is_welcome, older};
@@ -117,6 +118,7 @@ impl Desk {
             (act (Accept conn client.now kept alive (option_map post_view will)) t)) }
         ensures whole { IfOk result (λ e. IfSome e IsWhole) }
         ensures room { IfOk result (λ e. IfSome e (λ x. HasRoom x self.new.seats)) }
+        ensures now { desk_now self.new ≡ desk_now self.old }
         ensures same { desk_was self.new ≡ desk_was self.old }
     {
         match self.line(conn, alive, will) {
@@ -130,6 +132,7 @@ impl Desk {
         ensures done { OnOk result
             ((t : Turn) → Stands self.old draft.old t
             → Stands self.new draft.new (acts (take_over older) t)) }
+        ensures none { older ≡ None → self.new ≡ self.old }
         ensures same { desk_was self.new ≡ desk_was self.old }
     {
         if let Some(older) = older {
@@ -139,15 +142,14 @@ impl Desk {
         Ok(())
     }
 
-    /// A clean session ends the kept one of its client.
-    fn clean_up(&mut self, client: &str, clean: bool)
+    /// A clean session ends the kept one of its client. Whether there was one.
+    fn clean_up(&mut self, client: &str, clean: bool) -> bool
+        ensures still { result ≡ false → IsStill self.old → IsStill self.new }
         ensures done { (x : Draft) (t : Turn) → Stands self.old x t
             → Stands self.new x (acts (if clean then Forget client.now ∷ [] else []) t) }
         ensures same { desk_was self.new ≡ desk_was self.old }
     {
-        if clean {
-            self.forget(client);
-        }
+        if clean { self.forget(client) } else { false }
     }
 
     /// The client's older connection is taken over (section 3.1.4), and the newer one is about to enter.
@@ -167,13 +169,16 @@ impl Desk {
             (option_map post_view will)) t)) }
         ensures whole { IfOk result (λ e. IfSome e IsWhole) }
         ensures room { IfOk result (λ e. IfSome e (λ x. HasRoom x self.new.seats)) }
+        ensures still { OnOk result
+            (draft.new.is_still ≡ true → IsStill self.old → IsStill self.new) }
         ensures same { desk_was self.new ≡ desk_was self.old }
     {
         let older = older(&self.seats, client);
         self.take_over(draft, older)?;
-        self.clean_up(client, clean);
+        let was_kept = self.clean_up(client, clean);
         let entry = self.accept(draft, conn, client, !clean, alive, will)?;
         draft.tell_older(older)?;
+        draft.is_still = older.is_none() && !was_kept;
         Ok(entry)
     }
 
@@ -197,6 +202,8 @@ impl Desk {
             (acts (connect seen conn client.now clean alive (option_map will_view will.now)) t)) }
         ensures whole { IfOk result (λ e. IfSome e IsWhole) }
         ensures room { IfOk result (λ e. IfSome e (λ x. HasRoom x self.new.seats)) }
+        ensures still { IfOk result (λ e. IfSome e
+            (λ x. draft.new.is_still ≡ true → IsStill self.old → IsStill self.new)) }
         ensures same { desk_was self.new ≡ desk_was self.old }
     {
         match judge(&self.seats, client, clean, will) {

@@ -28,6 +28,8 @@ pub(crate) enum Ending {
     /// Nothing, and only the sessions at these places and the sender's may have changed.
     Few { places: Vec<usize>, sender: usize },
     Enters(Entry),
+    /// This enters, and no session has changed.
+    Joins(Entry),
     /// The connection at this place acknowledged a message. Only its session may have changed.
     Acked { conn: Conn, place: usize, id: u16 },
 }
@@ -76,6 +78,7 @@ impl Desk {
         match ending {
             Ending::Nothing | Ending::One(_) | Ending::Few { .. } => {}
             Ending::Enters(entry) => self.enter(entry),
+            Ending::Joins(entry) => self.enter(entry),
             Ending::Acked { conn, place, id } => self.ack(conn, place, id),
         }
     }
@@ -97,6 +100,7 @@ impl Desk {
                 sender: place,
             } => self.settle_at(draft, places, *place),
             Ending::Acked { place, .. } => self.settle_at(draft, &[], *place),
+            Ending::Joins(_) => self.settle_guests(draft),
             _ => self.settle(draft),
         }
     }

@@ -1,5 +1,5 @@
 //! Which packet it is: the first one of a connection, or a further one.
-ghost use Rattle.std.specs.Prelude.{◌≡◌, ◌∷◌, [], Some, is_some, IfOk};
+ghost use Rattle.std.specs.Prelude.{◌≡◌, ◌∷◌, [], None, Some, is_some, IfOk};
 ghost use Rattle.spk_packets.specs.View.{view};
 ghost use Rattle.spk_broker_rules.specs.Lawful.{IsLawful};
 ghost use Rattle.spk_broker_rules.specs.Plan.{Seen, client_in, first_packet, next_packet, packet as packet_acts};
@@ -11,7 +11,7 @@ ghost use Rattle.spk_broker.specs.Endings.{IsReady, Leads};
 ghost use Rattle.spk_broker.specs.Called.{AreInOrder, AreKeyed};
 ghost use Rattle.spk_broker.specs.Filing.{IsIndex};
 ghost use Rattle.spk_broker.specs.Sendable.{IsWritable};
-ghost use Rattle.spk_broker.specs.Touched.{IsAlone, OnlyAt};
+ghost use Rattle.spk_broker.specs.Touched.{IsAlone, IsStill, OnlyAt};
 ghost use Rattle.spk_broker.specs.View.{Stands, desk_now, desk_was, stepped};
 
 use crate::desk::Desk;
@@ -32,6 +32,7 @@ impl Desk {
     ) -> Result<Ending, AllocError>
         requires writable { IsWritable (view packet.now) }
         requires lawful { IsLawful (desk_was self.old) }
+        requires still { IsStill self.old }
         ensures done { IfOk result (λ e. (seen : Seen) (t : Turn)
             → seen.older ≡ older_in (client_in (view packet.now)) t.broker.seats
             → seen.welcome ≡ welcome_in (client_in (view packet.now)) t.broker.seats
@@ -53,6 +54,9 @@ impl Desk {
         let Some(entry) = self.connect(draft, conn, client.as_str(), *clean, *keep, will)? else {
             return Ok(Ending::Nothing);
         };
+        if draft.is_still {
+            return Ok(Ending::Joins(entry));
+        }
         Ok(Ending::Enters(entry))
     }
 
@@ -116,6 +120,7 @@ impl Desk {
         requires order { AreInOrder tree.now self.old.seats.items }
         requires keeps { (draft_view draft.old).keeps ≡ [] }
         requires lawful { IsLawful (desk_was self.old) }
+        requires still { place ≡ None → IsStill self.old }
         ensures done { IfOk result (λ e. (seen : Seen) (t : Turn)
             → seen.joined ≡ is_some (seat_at conn t.broker.seats)
             → seen.older ≡ older_in (client_in (view packet.now)) t.broker.seats
@@ -154,6 +159,7 @@ impl Desk {
         requires stands { (t : Turn) × Stands self.old draft.old t }
         requires keeps { (draft_view draft.old).keeps ≡ [] }
         requires lawful { IsLawful (desk_was self.old) }
+        requires still { IsStill self.old }
         ensures done { IfOk result (λ e. (t : Turn) → Stands self.old draft.old t
             → Leads self.new draft.new e (stepped (PacketEvent conn (view packet.now) now) t)) }
         ensures ready { IfOk result (λ e. IsReady e self.new) }

@@ -13,6 +13,7 @@ ghost use Rattle.spk_broker.specs.declared.out.Draft.{Draft};
 ghost use Rattle.spk_broker.specs.Entering.{HasRoom, IsWhole, acked, again, entered, taken, taken_up, whole, with_sends};
 ghost use Rattle.spk_broker.specs.Parts.{copy_view, line_now, line_was};
 ghost use Rattle.spk_broker.specs.Sent.{outgoing};
+ghost use Rattle.spk_broker.specs.Touched.{IsStill};
 ghost use Rattle.spk_broker.specs.View.{IsSettled, Stands, desk_now, desk_was, guest_was, seat_was};
 
 use crate::asking::{away_place, place_near};
@@ -205,16 +206,20 @@ impl Seat {
     }
 }
 
-/// The kept session of a client without a connection ends.
-fn end_away(seats: &mut [Seat], client: &str)
+/// The kept session of a client without a connection ends. Whether there was one.
+fn end_away(seats: &mut [Seat], client: &str) -> bool
+    ensures none { result ≡ false → seats.new ≡ seats.old }
     ensures now { (low top : ℕ) → Rises low top (seats_now seats.old)
         → seats_now seats.new
         ≡ forgot (find (is_away client.now) (seats_now seats.old)) (seats_now seats.old) }
     ensures was { map seat_was seats.new ≡ map seat_was seats.old }
 {
     match away_place(seats, client) {
-        Some(place) => seats[place].end(),
-        None => {}
+        Some(place) => {
+            seats[place].end();
+            true
+        }
+        None => false,
     }
 }
 
@@ -258,13 +263,14 @@ impl Desk {
         }
     }
 
-    /// A kept session of this client ends.
-    pub(crate) fn forget(&mut self, client: &str)
+    /// A kept session of this client ends. Whether there was one.
+    pub(crate) fn forget(&mut self, client: &str) -> bool
+        ensures still { result ≡ false → IsStill self.old → IsStill self.new }
         ensures done { (draft : Draft) (t : Turn) → Stands self.old draft t
             → Stands self.new draft (act (Forget client.now) t) }
         ensures same { desk_was self.new ≡ desk_was self.old }
     {
-        end_away(&mut self.seats, client);
+        end_away(&mut self.seats, client)
     }
 
     /// A new session is prepared: CONNACK, and room for it.

@@ -1,5 +1,5 @@
 //! Drafted acts: the clock, what was heard and dropped, and connections that leave.
-ghost use Rattle.std.specs.Prelude.{◌≡◌, ◌∷◌, ◌++◌, [], IfOk, OnOk, Option, Some, max, true};
+ghost use Rattle.std.specs.Prelude.{◌≡◌, ◌∷◌, ◌++◌, [], IfOk, None, OnOk, Option, Some, max, true};
 ghost use Rattle.spk_topics.specs.Grants.{Grants};
 ghost use Rattle.spk_broker_rules.specs.Plan.{At, Drop, Hear, Leave, Say, Tell, shut};
 ghost use Rattle.spk_broker_rules.specs.Step.{Turn, act, acts};
@@ -7,7 +7,7 @@ ghost use Rattle.spk_broker.specs.Asking.{place_in};
 ghost use Rattle.spk_broker.specs.Called.{AreInOrder, AreKeyed};
 ghost use Rattle.spk_broker.specs.Endings.{IsReady, Leads};
 ghost use Rattle.spk_broker.specs.Filing.{IsIndex};
-ghost use Rattle.spk_broker.specs.Touched.{IsAlone, OnlyAt};
+ghost use Rattle.spk_broker.specs.Touched.{IsAlone, IsStill, OnlyAt};
 ghost use Rattle.spk_broker.specs.View.{Stands, desk_now, desk_was};
 ghost use Rattle.spk_broker.specs.declared.out.Draft.{Draft};
 
@@ -54,6 +54,7 @@ impl Desk {
             → Stands self.new x (act (Hear conn) t) }
         ensures same { desk_was self.new ≡ desk_was self.old }
         ensures place { place_in conn self.new.seats.items ≡ place }
+        ensures still { place ≡ None → IsStill self.old → IsStill self.new }
         ensures alone { IsAlone place self.old → IsAlone place self.new }
         ensures keyed { AreKeyed self.old.seats.items → AreKeyed self.new.seats.items }
     {

@@ -44,6 +44,8 @@ pub(crate) struct Draft {
     pub(crate) keeps: VecDeque<Post>,
     /// How many of those that the index found weren't there any more.
     pub(crate) lost: usize,
+    /// Where this is set, a CONNECT has changed no session.
+    pub(crate) is_still: bool,
 }
 
 /// Whether a PUBLISH of this QoS may be dropped.
@@ -102,6 +104,7 @@ impl Draft {
             waiting: VecDeque::new(alloc),
             keeps: VecDeque::new(alloc),
             lost: 0,
+            is_still: false,
         }
     }
 

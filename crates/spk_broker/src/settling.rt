@@ -4,7 +4,7 @@ ghost use Rattle.indexmap.specs.IndexMap.{spare};
 ghost use Rattle.spk_broker_rules.specs.Step.{Turn};
 ghost use Rattle.spk_broker.specs.Drafts.{draft_view};
 ghost use Rattle.spk_broker.specs.Sent.{sent_view};
-ghost use Rattle.spk_broker.specs.Touched.{OnlyAt};
+ghost use Rattle.spk_broker.specs.Touched.{IsStill, OnlyAt};
 ghost use Rattle.spk_broker.specs.View.{IsSettled, Stands, desk_was};
 
 use crate::desk::Desk;
@@ -44,6 +44,25 @@ impl Desk {
         ensures closes { result.closes.items ≡ (draft_view draft).closes }
     {
         turning::settle_at(&mut self.seats, places, place);
+        retain_all(&mut self.retained, draft.keeps);
+        self.clock_before = self.clock;
+        Out {
+            sends: draft.sends,
+            closes: draft.closes,
+        }
+    }
+
+    /// What was drafted stands, where the call has changed no session. It takes no memory.
+    pub(crate) fn settle_guests(&mut self, draft: Draft) -> Out
+        requires room { length (draft_view draft).keeps ≤ spare self.old.retained }
+        requires still { IsStill self.old }
+        ensures done { (t : Turn) → Stands self.old draft t → desk_was self.new ≡ t.broker }
+        ensures settled { IsSettled self.new }
+        ensures sends { map sent_view result.sends.items ≡ (draft_view draft).sends }
+        ensures closes { result.closes.items ≡ (draft_view draft).closes }
+        ensures seats { self.new.seats ≡ self.old.seats }
+    {
+        guest::settle(&mut self.guests);
         retain_all(&mut self.retained, draft.keeps);
         self.clock_before = self.clock;
         Out {

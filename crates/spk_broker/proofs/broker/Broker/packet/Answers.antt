@@ -1,5 +1,6 @@
-use Rattle.std.proofs.Common.{sym}
+use Rattle.std.proofs.Common.{ap, sym}
 use Rattle.spk_packets.specs.View.{view}
+use Rattle.spk_broker_rules.specs.Data as plain
 use Rattle.spk_broker_rules.specs.Plan.{Packet}
 use Rattle.spk_broker.proofs.Finishing.{CallTo, Concluded, begun-for, calm-to, closes-to, done-to, followed, index-but, kept-to, now-index, was-index, sends-to, stands-to}
 use Rattle.spk_broker.proofs.Touched.{settled-keyed}
@@ -66,3 +67,6 @@ knows-requires c = sym c.seek-place.ensures.place
 
 pub draft_packet-drafted-requires-clause-keyed : goal.draft_packet-drafted-requires-clause-keyed
 draft_packet-drafted-requires-clause-keyed c = settled-keyed c.self.inside.desk c.self.invariant.sound.settled
+
+pub draft_packet-drafted-requires-clause-still : goal.draft_packet-drafted-requires-clause-still
+draft_packet-drafted-requires-clause-still c = ap (λ (b : plain.Broker). b.seats) c.self.invariant.sound.settled

@@ -1,4 +1,5 @@
-use Rattle.std.proofs.Common.{Global, Vec, refl, subst, sym, ap, ◌∙◌}
+use Rattle.std.proofs.Common.{◌≡◌, Global, Vec, map, refl, subst, sym, ap, ◌∙◌}
+use Rattle.std.specs.List.{flat_map}
 use Rattle.spk_packets.specs.View.{view}
 use Rattle.spk_broker_rules.specs.Data as plain
 use Rattle.spk_broker_rules.specs.Lawful.{IsLawful, Rises}
@@ -6,7 +7,7 @@ use Rattle.spk_broker_rules.specs.Plan.{At, Hear, Packet}
 use Rattle.spk_broker_rules.specs.Step.{act, seen}
 use Rattle.spk_broker.specs.Asking.{place_in}
 use Rattle.spk_broker.specs.Called.{AreKeyed}
-use Rattle.spk_broker.specs.View.{desk_was}
+use Rattle.spk_broker.specs.View.{desk_was, seat_now, seat_was}
 use Rattle.spk_broker.specs.declared.seat.Seat.{Seat}
 use Rattle.spk_broker.proofs.Finishing.{index-on}
 use Rattle.spk_broker.proofs.Quiet.{heard-index}
@@ -43,3 +44,6 @@ judge_packet-requires-clause-order c =
 pub judge_packet-requires-clause-alone : goal.judge_packet-requires-clause-alone
 judge_packet-requires-clause-alone c =
     c.hear.ensures.alone (alone-as c.args.place c.args.self.now c.at.new.self c.at.ensures.seats c.at.ensures.guests c.requires.alone)
+
+pub judge_packet-requires-clause-still : goal.judge_packet-requires-clause-still
+judge_packet-requires-clause-still c = λ none. c.hear.ensures.still none (subst (λ (v : Vec Seat Global). flat_map seat_now v.items ≡ map seat_was v.items) (sym c.at.ensures.seats) c.requires.still)

@@ -1,12 +1,14 @@
-use Rattle.std.proofs.Common.{◌≡◌, ◌∙◌, ap, sym, subst, length, rules}
+use Rattle.std.proofs.Common.{◌≡◌, ◌∙◌, List, ap, map, sym, subst, length, rules}
 use Rattle.std.proofs.lemmas.List.{with_items_is}
-use Rattle.std.specs.List.{find}
+use Rattle.std.specs.List.{find, flat_map}
 use Rattle.std.specs.Vec.{with_items}
 use Rattle.spk_broker_rules.specs.Data as plain
 use Rattle.spk_broker_rules.specs.Lawful.{Rises}
 use Rattle.spk_broker_rules.specs.Step.{is_away}
 use Rattle.spk_broker.specs.Asking.{seats_now}
+use Rattle.spk_broker.specs.Both.{Both}
 use Rattle.spk_broker.specs.Changes.{forgot}
+use Rattle.spk_broker.specs.View.{seat_now, seat_was}
 use Rattle.spk_broker.proofs.Desks.{forgets}
 use Rattle.spk_broker.proofs.desk.Desk.forget.Goals as goal
 
@@ -18,3 +20,9 @@ returns-clause-done c = λ draft t s.
     forgets c.args.self.now draft t c.args.client.now (with_items c.args.self.now.seats c.end_away.new.seats) _ s
     (ap seats_now same ∙ c.end_away.ensures.now 0 t.broker.made rises
     ∙ ap (λ xs. forgot (find (is_away c.args.client.now) (seats_now xs)) (seats_now xs)) c.deref_mut.ensures.value)
+
+pub returns-clause-still : goal.returns-clause-still
+returns-clause-still c none still =
+    let len : length c.end_away.new.seats ≡ c.args.self.now.seats.len = search rules in
+    let same = with_items_is c.args.self.now.seats c.end_away.new.seats len in
+    subst (λ (bs : List Both). flat_map seat_now bs ≡ map seat_was bs) (sym (same ∙ c.end_away.ensures.none none ∙ c.deref_mut.ensures.value)) still

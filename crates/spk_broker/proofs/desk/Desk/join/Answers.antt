@@ -8,21 +8,23 @@ use Rattle.spk_broker_rules.specs.Words.{option_list}
 use Rattle.spk_broker.specs.Asking.{seats_now}
 use Rattle.spk_broker.specs.Connecting.{Comes}
 use Rattle.spk_broker.specs.Parts.{post_view}
+use Rattle.spk_broker.specs.declared.out.Draft.{Draft}
 use Rattle.spk_broker.proofs.Accepting.{joins, tells-older}
 use Rattle.spk_broker.proofs.desk.Desk.join.Goals as goal
 
 pub returns-clause-done : goal.returns-clause-done
 returns-clause-done c t s =
+    let last : Draft = record c.tell_older.new.self { is_still = c.if-is_none.draft } in
     let over = c.in_ok-take_over.ensures.done t s in
-    let clean = c.clean_up.ensures.done _ _ over in
+    let clean = c.clean_up-was_kept.ensures.done _ _ over in
     let comes = c.in_ok-entry.ensures.done _ clean in
-    let told = tells-older c.older-older.result c.accept.new.self c.accept.new.draft c.tell_older.new.self c.in_ok-entry.entry _ (option_list c.older-older.result) refl c.in_ok-tell_older.ensures comes in
+    let told = tells-older c.older-older.result c.accept.new.self c.accept.new.draft last c.in_ok-entry.entry _ (option_list c.older-older.result) refl c.in_ok-tell_older.ensures comes in
     let found : c.older-older.result ≡ older_in c.args.client.now t.broker.seats =
     c.older-older.ensures ∙ ap (λ ss. older_in c.args.client.now (seats_now ss)) c.deref.ensures.value ∙ ap (λ (b : plain.Broker). older_in c.args.client.now b.seats) s.broker in
-    subst (λ (u : Turn). Comes c.accept.new.self c.tell_older.new.self c.in_ok-entry.entry u)
+    subst (λ (u : Turn). Comes c.accept.new.self last c.in_ok-entry.entry u)
     (joins c.older-older.result c.args.conn c.args.client.now c.args.clean c.args.alive (option_map post_view c.args.will) t
     ∙ ap (λ o. acts (join o c.args.conn c.args.client.now c.args.clean c.args.alive (option_map post_view c.args.will)) t) found)
     told
 
 pub accept-requires : goal.accept-requires
-accept-requires c = record { lawful = subst IsLawful (sym (c.clean_up.ensures.same ∙ c.take_over.ensures.same)) c.requires.lawful }
+accept-requires c = record { lawful = subst IsLawful (sym (c.clean_up-was_kept.ensures.same ∙ c.take_over.ensures.same)) c.requires.lawful }
