@@ -44,21 +44,24 @@ impl Server {
         ensures settled { OnOk result (IsSettled self.old.clients → IsSettled self.new.clients) }
     {
         for _ in 0..self.clients.len() {
-            self.call_next()?;
+            if !self.call_next()? {
+                break;
+            }
         }
         self.soonest = self.clients.soonest();
         Ok(())
     }
 
-    /// Calls the next one whose moment has come, if there is one.
-    fn call_next(&mut self) -> Result<(), ServerFault>
+    /// Calls the next one whose moment has come. Whether there was one: where there is none, nothing changes.
+    fn call_next(&mut self) -> Result<bool, ServerFault>
+        ensures none { result ≡ Ok false → self.new ≡ self.old }
         ensures settled { OnOk result (IsSettled self.old.clients → IsSettled self.new.clients) }
     {
         let Some(conn) = self.clients.next_due(self.now) else {
-            return Ok(());
+            return Ok(false);
         };
         self.call(conn)?;
-        Ok(())
+        Ok(true)
     }
 
     /// Calls those whose moment has come, where one has.
