@@ -8,9 +8,11 @@ ghost use Rattle.spk_broker_rules.specs.Plan.{Accept, Forget, Seen, connect, has
 ghost use Rattle.spk_broker_rules.specs.Step.{Turn, act, acts, is_guest, line_of, older_in, welcome_in};
 ghost use Rattle.spk_broker_rules.specs.Words.{option_list, will_post};
 ghost use Rattle.spk_broker.specs.Asking.{guests_now, seats_now};
+ghost use Rattle.spk_broker.specs.Called.{AreInOrder};
 ghost use Rattle.spk_broker.specs.Connecting.{Comes, judged};
 ghost use Rattle.spk_broker.specs.Drafts.{draft_view};
 ghost use Rattle.spk_broker.specs.Entering.{HasRoom, IsWhole};
+ghost use Rattle.spk_broker.specs.Filing.{IsIndex};
 ghost use Rattle.spk_broker.specs.Parts.{line_now, line_was, post_view};
 ghost use Rattle.spk_broker.specs.Sendable.{is_sendable};
 ghost use Rattle.spk_broker.specs.Touched.{IsStill};
@@ -24,7 +26,7 @@ use crate::out::{Conn, Draft};
 use crate::post::Post;
 use crate::seat::{Line, Seat};
 use spk_packets::{Packet, Will};
-use spk_topics::Topic;
+use spk_topics::{Topic, Tree};
 use std::alloc::AllocError;
 
 /// What a CONNECT comes to.
@@ -128,7 +130,14 @@ impl Desk {
     }
 
     /// The older connection's will and what follows it are routed.
-    fn take_over(&mut self, draft: &mut Draft, older: Option<Conn>) -> Result<(), AllocError>
+    fn take_over(
+        &mut self,
+        draft: &mut Draft,
+        tree: &Option<Tree>,
+        older: Option<Conn>,
+    ) -> Result<(), AllocError>
+        requires index { IsIndex tree.now (desk_now self.old).seats }
+        requires order { AreInOrder tree.now self.old.seats.items }
         ensures done { OnOk result
             ((t : Turn) → Stands self.old draft.old t
             → Stands self.new draft.new (acts (take_over older) t)) }
@@ -137,7 +146,7 @@ impl Desk {
     {
         if let Some(older) = older {
             self.leave(draft, older, true)?;
-            self.route(draft, &None)?;
+            self.route(draft, tree)?;
         }
         Ok(())
     }
@@ -156,12 +165,15 @@ impl Desk {
     fn join(
         &mut self,
         draft: &mut Draft,
+        tree: &Option<Tree>,
         conn: Conn,
         client: &str,
         clean: bool,
         alive: u16,
         will: Option<Post>,
     ) -> Result<Option<Entry>, AllocError>
+        requires index { IsIndex tree.now (desk_now self.old).seats }
+        requires order { AreInOrder tree.now self.old.seats.items }
         requires lawful { IsLawful (desk_was self.old) }
         ensures done { IfOk result
             (λ e. (t : Turn) → Stands self.old draft.old t → Comes self.new draft.new e
@@ -174,7 +186,7 @@ impl Desk {
         ensures same { desk_was self.new ≡ desk_was self.old }
     {
         let older = older(&self.seats, client);
-        self.take_over(draft, older)?;
+        self.take_over(draft, tree, older)?;
         let was_kept = self.clean_up(client, clean);
         let entry = self.accept(draft, conn, client, !clean, alive, will)?;
         draft.tell_older(older)?;
@@ -186,6 +198,7 @@ impl Desk {
     pub(crate) fn connect(
         &mut self,
         draft: &mut Draft,
+        tree: &Option<Tree>,
         conn: Conn,
         client: &str,
         clean: bool,
@@ -194,6 +207,8 @@ impl Desk {
     ) -> Result<Option<Entry>, AllocError>
         requires will { IfSome (option_map will_view will.now)
             (λ w. is_sendable w.topic w.message w.qos ≡ true) }
+        requires index { IsIndex tree.now (desk_now self.old).seats }
+        requires order { AreInOrder tree.now self.old.seats.items }
         requires lawful { IsLawful (desk_was self.old) }
         ensures done { IfOk result
             (λ e. (seen : Seen) (t : Turn) → seen.older ≡ older_in client.now t.broker.seats
@@ -217,7 +232,7 @@ impl Desk {
             }
             Judged::Joins => {
                 let will = post_of(will)?;
-                Ok(self.join(draft, conn, client, clean, alive, will)?)
+                Ok(self.join(draft, tree, conn, client, clean, alive, will)?)
             }
         }
     }

@@ -27,10 +27,13 @@ impl Desk {
     fn first_packet(
         &mut self,
         draft: &mut Draft,
+        tree: &Option<Tree>,
         conn: Conn,
         packet: &Packet,
     ) -> Result<Ending, AllocError>
         requires writable { IsWritable (view packet.now) }
+        requires index { IsIndex tree.now (desk_now self.old).seats }
+        requires order { AreInOrder tree.now self.old.seats.items }
         requires lawful { IsLawful (desk_was self.old) }
         requires still { IsStill self.old }
         ensures done { IfOk result (λ e. (seen : Seen) (t : Turn)
@@ -51,7 +54,8 @@ impl Desk {
             self.shut(draft, conn)?;
             return Ok(Ending::Nothing);
         };
-        let Some(entry) = self.connect(draft, conn, client.as_str(), *clean, *keep, will)? else {
+        let Some(entry) = self.connect(draft, tree, conn, client.as_str(), *clean, *keep, will)?
+        else {
             return Ok(Ending::Nothing);
         };
         if draft.is_still {
@@ -138,7 +142,7 @@ impl Desk {
             let ending = self.further_packet(draft, tree, conn, place, packet)?;
             return Ok(ending);
         }
-        let ending = self.first_packet(draft, conn, packet)?;
+        let ending = self.first_packet(draft, tree, conn, packet)?;
         Ok(ending)
     }
 
