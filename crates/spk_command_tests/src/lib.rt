@@ -2,11 +2,15 @@
 #![tactic(auto)]
 
 #[cfg(test)]
+mod events_tests;
+#[cfg(test)]
 mod fixtures;
 #[cfg(test)]
 mod packets_tests;
 #[cfg(test)]
 mod plant_tests;
+#[cfg(test)]
+mod start_files;
 #[cfg(test)]
 mod tests;
 #[cfg(test)]

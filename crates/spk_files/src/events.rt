@@ -1,11 +1,15 @@
 //! The events of a world's file.
-ghost use Rattle.std.specs.Prelude.{◌≤◌, IfOk, length};
+ghost use Rattle.std.specs.Prelude.{◌≡◌, ◌≤◌, IfOk, length, slice_get};
+ghost use Rattle.std.specs.Option.{option_and_then};
+ghost use Rattle.serde_json.specs.Find.{as_bool, as_number, as_u64};
+ghost use Rattle.serde_json.specs.View.{view};
 
 use crate::metrics::datatype_of;
 use crate::misfit::{Cause, Misfit};
 use crate::nodes::Setup;
 use crate::part::Part;
-use crate::values::value_of;
+use crate::values::{plain_value, value_of};
+use serde_json::Value as Json;
 use spk_world::Event;
 use std::alloc::Global;
 
@@ -138,6 +142,91 @@ fn event_of(alloc: Global, nodes: &[Setup], part: Part<'_>) -> Result<Event, Mis
     }
 }
 
+/// A number of an event, where there is one.
+fn plain_number(items: &[Json], place: usize) -> Option<u64>
+    ensures { result ≡ option_and_then (λ v. option_and_then as_u64 (as_number (view v)))
+        (slice_get items.now place) }
+{
+    items.get(place)?.as_u64()
+}
+
+/// True or false in an event, where it is there.
+fn plain_flag(items: &[Json], place: usize) -> Option<bool>
+    ensures { result ≡ option_and_then (λ v. as_bool (view v)) (slice_get items.now place) }
+{
+    items.get(place)?.as_bool()
+}
+
+/// A metric has a value, as `set_of` says, where that takes no memory and nothing is wrong.
+fn plain_set(nodes: &[Setup], items: &[Json]) -> Option<Event> {
+    let node = plain_number(items, 1)? as usize;
+    let now = plain_number(items, 2)?;
+    let alias = plain_number(items, 3)?;
+    let value = plain_value(items.get(4)?, datatype_at(nodes, node, alias))?;
+    Some(Event::Set {
+        node,
+        now,
+        alias,
+        value,
+    })
+}
+
+/// What comes to a node at a moment, by its kind alone, where nothing is wrong.
+fn plain_moment(kind: &str, items: &[Json]) -> Option<Event> {
+    let node = plain_number(items, 1)? as usize;
+    let now = plain_number(items, 2)?;
+    match kind {
+        "open" => Some(Event::Open { node, now }),
+        "accepted" => Some(Event::Accepted { node, now }),
+        "drain" => Some(Event::Drain { node, now }),
+        "stop" => Some(Event::Stop { node, now }),
+        "rebirth" => Some(Event::Rebirth { node, now }),
+        "tick" => Some(Event::Tick { host: node, now }),
+        "session" => Some(Event::Session { host: node, now }),
+        _ => None,
+    }
+}
+
+/// What is handed to a host, or a STATE that comes to a node, where nothing is wrong.
+fn plain_handed(kind: &str, items: &[Json]) -> Option<Event> {
+    let first = plain_number(items, 1)? as usize;
+    let second = plain_number(items, 2)?;
+    let last = plain_number(items, 4)?;
+    match kind {
+        "hand" => Some(Event::Hand {
+            host: first,
+            node: second as usize,
+            position: plain_number(items, 3)?,
+            now: last,
+        }),
+        "death" => Some(Event::Death {
+            host: first,
+            node: second as usize,
+            session: plain_number(items, 3)?,
+            now: last,
+        }),
+        "state" => Some(Event::State {
+            node: first,
+            now: second,
+            online: plain_flag(items, 3)?,
+            timestamp: last,
+        }),
+        _ => None,
+    }
+}
+
+/// An event, as `event_of` says, where that takes no memory and nothing is wrong. No place is made.
+fn plain_event_of(nodes: &[Setup], json: &Json) -> Option<Event> {
+    let items = json.as_array()?.as_slice();
+    let kind = items.first()?.as_str()?;
+    match items.len() {
+        3 => plain_moment(kind, items),
+        5 if kind == "set" => plain_set(nodes, items),
+        5 => plain_handed(kind, items),
+        _ => None,
+    }
+}
+
 /// The events of a file, 0 to 100,000, in order. The nodes say of which datatype the values that are set are.
 pub(crate) fn events_of(
     alloc: Global,
@@ -147,8 +236,13 @@ pub(crate) fn events_of(
     ensures { IfOk result (λ es. length es.items ≤ 100000) }
 {
     let mut events = Vec::new(alloc);
-    for index in 0..part.items(MOST_EVENTS)?.len() {
-        events.push(event_of(alloc, nodes, part.item(index)?)?)?;
+    let items = part.items(MOST_EVENTS)?;
+    for index in 0..items.len() {
+        let event = match plain_event_of(nodes, &items[index]) {
+            Some(event) => event,
+            None => event_of(alloc, nodes, part.item(index)?)?,
+        };
+        events.push(event)?;
     }
     Ok(events)
 }

@@ -16,16 +16,23 @@ pub(crate) fn is_signed(datatype: u32) -> bool {
     matches!(datatype, 1..=4)
 }
 
-/// A number: Signed where the datatype is a signed one, else Unsigned, as far as it fits there.
-fn number_of(part: Part<'_>, datatype: u32) -> Result<Value, Misfit> {
-    let signed = part.json.as_i64().map(Value::Signed);
-    let unsigned = part.json.as_u64().map(Value::Unsigned);
-    let found = if is_signed(datatype) {
+/// A whole number: Signed where the datatype is a signed one, else Unsigned, as far as it fits there.
+fn whole_number(json: &Json, datatype: u32) -> Option<Value> {
+    let signed = json.as_i64().map(Value::Signed);
+    let unsigned = json.as_u64().map(Value::Unsigned);
+    if is_signed(datatype) {
         signed.or(unsigned)
     } else {
         unsigned.or(signed)
-    };
-    found.ok_or(part.wrong(Cause::Not(VALUE)))
+    }
+}
+
+/// A number: Signed where the datatype is a signed one, else Unsigned, as far as it fits there.
+fn number_of(part: Part<'_>, datatype: u32) -> Result<Value, Misfit> {
+    match whole_number(part.json, datatype) {
+        Some(value) => Ok(value),
+        None => Err(part.wrong(Cause::Not(VALUE))),
+    }
 }
 
 /// Bytes, by their hexadecimal digits.
@@ -52,5 +59,15 @@ pub(crate) fn value_of(
         Json::String(_) => Ok(Some(Value::Words(part.owned_text(alloc)?))),
         Json::Object(_) => Ok(Some(octets_of(alloc, part)?)),
         Json::Array(_) => Err(part.wrong(Cause::Not(VALUE))),
+    }
+}
+
+/// What `value_of` says, where that takes no memory and nothing is wrong.
+pub(crate) fn plain_value(json: &Json, datatype: u32) -> Option<Option<Value>> {
+    match json {
+        Json::Null => Some(None),
+        Json::Bool(flag) => Some(Some(Value::Flag(*flag))),
+        Json::Number(_) => Some(Some(whole_number(json, datatype)?)),
+        Json::String(_) | Json::Object(_) | Json::Array(_) => None,
     }
 }
