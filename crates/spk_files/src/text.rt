@@ -1,7 +1,7 @@
 //! A file's text, as JSON.
 
 use crate::misfit::Misfit;
-use crate::twice::refuse_twice;
+use crate::twice::{is_each_once, refuse_twice};
 use serde_json::Value as Json;
 use std::alloc::Global;
 
@@ -11,6 +11,8 @@ pub(crate) fn json_of(alloc: Global, text: &str) -> Result<Json, Misfit> {
         Ok(json) => json,
         Err(error) => return Err(Misfit::of_json(&error)),
     };
-    refuse_twice(alloc, text)?;
+    if !is_each_once(text, &json) {
+        refuse_twice(alloc, text)?;
+    }
     Ok(json)
 }
