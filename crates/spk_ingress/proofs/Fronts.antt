@@ -4,7 +4,8 @@ use Rattle.std.proofs.Math.Seq.{take-length}
 use Rattle.spk_packets.specs.Message.{Message}
 use Rattle.spk_packets.specs.Grammar.{Spells}
 use Rattle.spk_packets.specs.Fault.{Fails, Gives}
-use Rattle.spk_packets.specs.View.{front_view, view}
+use Rattle.spk_packets.specs.View.{front_view, lent_view, view}
+use Rattle.spk_packets.specs.declared.borrowed.PublishRef.{PublishRef}
 use Rattle.spk_packets.specs.declared.packet.Packet.{Packet}
 use Rattle.spk_packets.specs.declared.fault.PacketFault.{PacketFault}
 use Rattle.spk_packets.specs.declared.fault.PacketFault.TheVariants.{NoMemory, More, BadLength, BadFlags, BadType, BadText, BadBody, TooLarge, QosTwo, BadLevel}
@@ -18,6 +19,10 @@ whole_view bytes p packet n s g = (let e : (p, length bytes) ≡ front_view (pac
 
 pub front_count : (p : Message) (packet : Packet) (m n : ℕ) → Gives front_view (Ok (packet, m)) (Ok (p, n)) → m ≡ n
 front_count p packet m n g = (let e : (p, n) ≡ front_view (packet, m) = cc in sym (ap (λ (y : Message × ℕ). y.1) e))
+
+-- the same of a PUBLISH that is lent
+pub lent_count : (p : Message) (packet : PublishRef) (m n : ℕ) → Gives lent_view (Ok (packet, m)) (Ok (p, n)) → m ≡ n
+lent_count p packet m n g = (let e : (p, n) ≡ lent_view (packet, m) = cc in sym (ap (λ (y : Message × ℕ). y.1) e))
 
 -- where there is an answer, want of memory alone may stand in its place
 pub memory_alone : (e : PacketFault) (y : Message × ℕ) → Fails e (Ok y) → e ≡ NoMemory

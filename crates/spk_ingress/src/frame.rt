@@ -8,7 +8,7 @@ ghost use Rattle.spk_packets.specs.View.{view};
 ghost use Rattle.spk_ingress.specs.Frame.{IsOnePacket, NamesFault, HasMore};
 
 use crate::fault::{FrameFault, Refused};
-use spk_packets::{Packet, PacketFault, decode};
+use spk_packets::{Packet, PacketFault, begins_publish, decode, decode_publish};
 use std::alloc::Global;
 use std::marker::Model;
 
@@ -92,6 +92,13 @@ fn count_of(alloc: Global, bytes: &[u8]) -> Result<usize, PacketFault>
         → Spells (take n bytes.now) p → IfErr result (λ e. e ≡ PacketFault.NoMemory) }
     ensures refused { IfErr result (λ e. IsNamed e (first_of (refusals bytes.now))) }
 {
+    // a PUBLISH is counted without a copy of it
+    if begins_publish(bytes) {
+        return match decode_publish(bytes) {
+            Ok((_, whole)) => Ok(whole),
+            Err(fault) => Err(fault),
+        };
+    }
     match decode(alloc, bytes) {
         Ok((_, count)) => Ok(count),
         Err(fault) => Err(fault),

@@ -4,13 +4,11 @@ use Rattle.std.specs.Prelude.{IfOk, IfErr, OnOk}
 use Rattle.std.proofs.lemmas.List.{take_at, take-append-drop, length-append, length-take}
 use Rattle.spk_packets.specs.declared.fault.PacketFault.{PacketFault}
 use Rattle.spk_packets.specs.declared.fault.PacketFault.TheVariants.{NoMemory, More, BadLength, BadFlags, BadType, BadText, BadBody, TooLarge, QosTwo, BadLevel}
-use Rattle.spk_packets.specs.declared.packet.Packet.{Packet}
 use Rattle.spk_packets.specs.Fault.{first_of, IsNamed, Fails, Gives}
 use Rattle.spk_packets.specs.Message.{Message}
 use Rattle.spk_packets.specs.Grammar.{IsLength, Spells}
 use Rattle.spk_packets.specs.Refusals.{refusals, length_refusals}
 use Rattle.spk_packets.specs.Reading.{length_at, packet_at}
-use Rattle.spk_packets.specs.View.{view, front_view}
 use Rattle.spk_packets.proofs.Bytes.{IsBytes}
 use Rattle.spk_packets.proofs.PacketLaws.{packet_takes, packet_again, length_takes, length_again}
 use Rattle.spk_packets.proofs.Agreement.{fault_of, packet_refused, length_refused}
@@ -42,21 +40,22 @@ front_is bytes front rest n len parts =
     let total : length bytes ≡ length front + length rest = ap (λ (r : List ℕ). length r) parts ∙ length-append front rest in
     (omega arith, ap (take n) parts ∙ take_at front rest n len)
 
-pub is_found : (bytes : List ℕ) (r : Result (Packet × ℕ) PacketFault) → IsBytes bytes → Gives front_view r (packet_at bytes) → IfOk r (λ x. (x.1 ≤ length bytes) × Spells (take x.1 bytes) (view x.0))
-is_found bytes (Ok x) fits given =
-    let t = packet_takes bytes (view x.0) x.1 fits given in
-    let f = front_is bytes t.front t.rest x.1 t.len t.parts in
-    (f.0, subst (λ (b : List ℕ). Spells b (view x.0)) (sym f.1) t.spells)
-is_found bytes (Err e) fits given = tt
+-- what was read, seen by a view
+pub is_found : {A : Type 0} (see : A → Message × ℕ) (bytes : List ℕ) (r : Result A PacketFault) → IsBytes bytes → Gives see r (packet_at bytes) → IfOk r (λ x. ((see x).1 ≤ length bytes) × Spells (take (see x).1 bytes) (see x).0)
+is_found see bytes (Ok x) fits given =
+    let t = packet_takes bytes (see x).0 (see x).1 fits given in
+    let f = front_is bytes t.front t.rest (see x).1 t.len t.parts in
+    (f.0, subst (λ (b : List ℕ). Spells b (see x).0) (sym f.1) t.spells)
+is_found see bytes (Err e) fits given = tt
 
 pub is_only : (bytes : List ℕ) (p : Message) (n : ℕ) → n ≤ length bytes → Spells (take n bytes) p → packet_at bytes ≡ Ok (p, n)
 is_only bytes p n le is =
     let len : length (take n bytes) ≡ n = omega (arith, length-take n bytes) in
     ap packet_at (sym (take-append-drop n bytes)) ∙ packet_again (take n bytes) p (drop n bytes) is ∙ read_len p (length (take n bytes)) n len
 
-pub is_named : (bytes : List ℕ) (r : Result (Packet × ℕ) PacketFault) → IsBytes bytes → Gives front_view r (packet_at bytes) → IfErr r (λ e. IsNamed e (first_of (refusals bytes)))
-is_named bytes (Ok x) fits given = tt
-is_named bytes (Err e) fits given = named_from e (packet_at bytes) (first_of (refusals bytes)) (packet_refused bytes) given
+pub is_named : {A : Type 0} (see : A → Message × ℕ) (bytes : List ℕ) (r : Result A PacketFault) → IsBytes bytes → Gives see r (packet_at bytes) → IfErr r (λ e. IsNamed e (first_of (refusals bytes)))
+is_named see bytes (Ok x) fits given = tt
+is_named see bytes (Err e) fits given = named_from e (packet_at bytes) (first_of (refusals bytes)) (packet_refused bytes) given
 
 pub length_found : (bytes : List ℕ) (r : Result (ℕ × ℕ) PacketFault) → r ≡ length_at bytes → IfOk r (λ x. (x.1 ≤ length bytes) × IsLength (take x.1 bytes) x.0)
 length_found bytes (Ok x) given =
@@ -75,9 +74,9 @@ length_named bytes (Ok x) given = tt
 length_named bytes (Err e) given = sym (length_refused bytes) ∙ ap fault_of (sym given)
 
 -- what is read has no refusal
-pub is_clear : (bytes : List ℕ) (r : Result (Packet × ℕ) PacketFault) → Gives front_view r (packet_at bytes) → OnOk r (first_of (refusals bytes) ≡ None)
-is_clear bytes (Ok x) given = sym (packet_refused bytes) ∙ ap fault_of given
-is_clear bytes (Err e) given = tt
+pub is_clear : {A : Type 0} (see : A → Message × ℕ) (bytes : List ℕ) (r : Result A PacketFault) → Gives see r (packet_at bytes) → OnOk r (first_of (refusals bytes) ≡ None)
+is_clear see bytes (Ok x) given = sym (packet_refused bytes) ∙ ap fault_of given
+is_clear see bytes (Err e) given = tt
 
 pub length_clear : (bytes : List ℕ) (r : Result (ℕ × ℕ) PacketFault) → r ≡ length_at bytes → OnOk r (first_of (length_refusals bytes) ≡ None)
 length_clear bytes (Ok x) given = sym (length_refused bytes) ∙ ap fault_of (sym given)

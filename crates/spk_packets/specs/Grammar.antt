@@ -48,6 +48,11 @@ abbrev pub keeps : List ℕ → Bool
 keeps [] = false
 keeps (first ∷ rest) = is_keeping (first / 16)
 
+-- whether bytes begin a PUBLISH (section 2.2.1), whole or not
+abbrev pub begins_publish : List ℕ → Bool
+begins_publish [] = false
+begins_publish (first ∷ rest) = first / 16 == 3
+
 -- One after the other, each spelled.
 abbrev pub AreEach : {X : Type 0} → (List ℕ → X → Type 0) → List ℕ → List X → Type 0
 AreEach Is text [] = text ≡ []

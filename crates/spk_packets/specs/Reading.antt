@@ -59,6 +59,20 @@ keeps_kind kinds.PingReq = false
 keeps_kind kinds.PingResp = false
 keeps_kind kinds.Disconnect = false
 
+-- whether a packet of this kind is a PUBLISH
+abbrev pub is_publish_kind : Kind → Bool
+is_publish_kind kinds.Connect = false
+is_publish_kind kinds.ConnAck = false
+is_publish_kind (kinds.Publish dup qos retain) = true
+is_publish_kind kinds.PubAck = false
+is_publish_kind kinds.Subscribe = false
+is_publish_kind kinds.SubAck = false
+is_publish_kind kinds.Unsubscribe = false
+is_publish_kind kinds.UnsubAck = false
+is_publish_kind kinds.PingReq = false
+is_publish_kind kinds.PingResp = false
+is_publish_kind kinds.Disconnect = false
+
 -- ---- the remaining length
 
 -- the number and how many bytes it takes, of at most this many

@@ -41,3 +41,7 @@ flags_view flags = record { user = flags.user; password = flags.password; will =
 -- what a PUBLISH says whose topic and payload are borrowed
 abbrev pub publish_view : PublishRef → Message
 publish_view p = Publish p.dup p.qos p.retain p.topic.now p.id p.payload.now
+
+-- such a PUBLISH, and how many bytes it takes
+abbrev pub lent_view : PublishRef × ℕ → Message × ℕ
+lent_view x = (publish_view x.0, x.1)

@@ -22,5 +22,5 @@ pub use borrowed::PublishRef;
 pub use fault::PacketFault;
 pub use feed::Feed;
 pub use packet::{Packet, Request, Will};
-pub use read::{decode, read_length};
+pub use read::{begins_publish, decode, decode_publish, read_length};
 pub use write::{encode, is_writable};

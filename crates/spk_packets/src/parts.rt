@@ -34,7 +34,8 @@ pub(crate) fn id(bytes: &[u8]) -> Result<(u16, &[u8]), PacketFault>
 /// As many bytes as the number in front of them says.
 #[tactic(auto, unfolding(crate::specs::Reading::counted_at))]
 pub(crate) fn counted(bytes: &[u8]) -> Result<(&[u8], &[u8]), PacketFault>
-    ensures { Gives (λ x. (x.0.now, x.1.now)) result (counted_at bytes.now) }
+    ensures given { Gives (λ x. (x.0.now, x.1.now)) result (counted_at bytes.now) }
+    ensures bytes { IfErr result (λ e. IsTrue (is_of_bytes e)) }
 {
     let (len, rest) = number(bytes)?;
     let len = usize::from(len);
@@ -47,7 +48,8 @@ pub(crate) fn counted(bytes: &[u8]) -> Result<(&[u8], &[u8]), PacketFault>
 /// Counted bytes that are UTF-8 without U+0000.
 #[tactic(auto, unfolding(crate::specs::Reading::text_at))]
 pub(crate) fn text(bytes: &[u8]) -> Result<(&str, &[u8]), PacketFault>
-    ensures { Gives (λ x. (x.0.now, x.1.now)) result (text_at bytes.now) }
+    ensures given { Gives (λ x. (x.0.now, x.1.now)) result (text_at bytes.now) }
+    ensures bytes { IfErr result (λ e. IsTrue (is_of_bytes e)) }
 {
     let (text, rest) = counted(bytes)?;
     let Ok(read) = str::from_utf8(text) else {

@@ -1,18 +1,19 @@
 //! Reading a packet at the front of bytes (chapter 2).
 
-ghost use Rattle.std.specs.Prelude.{◌≡◌, ℕ, ◌≤◌, length, take, IfOk, IfErr, IsTrue, OnOk, Ok, None, false};
+ghost use Rattle.std.specs.Prelude.{◌≡◌, ℕ, ◌≤◌, length, take, IfOk, IfErr, IsTrue, OnOk, Ok, None, false, true};
 ghost use Rattle.spk_packets.specs.Fault.{Gives, IsNamed, first_of, is_of_bytes};
 ghost use Rattle.spk_packets.specs.Message.{Message};
-ghost use Rattle.spk_packets.specs.Grammar.{IsLength, Spells, keeps};
+ghost use Rattle.spk_packets.specs.Grammar.{IsLength, Spells, begins_publish, keeps};
 ghost use Rattle.spk_packets.specs.Refusals.{refusals, length_refusals};
-ghost use Rattle.spk_packets.specs.Reading.{length_at, cut_at, body_at, packet_at, ended, keeps_kind};
-ghost use Rattle.spk_packets.specs.View.{view, front_view};
+ghost use Rattle.spk_packets.specs.Reading.{length_at, cut_at, body_at, packet_at, ended, is_publish_kind, keeps_kind};
+ghost use Rattle.spk_packets.specs.View.{view, front_view, lent_view, publish_view};
 
+use crate::borrowed::PublishRef;
 use crate::connect::connect;
 use crate::fault::PacketFault;
 use crate::packet::Packet;
 use crate::parts::end;
-use crate::publish::publish;
+use crate::publish::{lent_publish, publish};
 use crate::small::{connack, id_alone};
 use crate::subscribe::{suback, subscribe, unsubscribe};
 use crate::table::{Kind, judged};
@@ -50,6 +51,7 @@ fn sevens(bytes: &[u8]) -> Result<(u32, usize), PacketFault>
 fn cut(bytes: &[u8]) -> Result<(Kind, &[u8], usize), PacketFault>
     ensures given { Gives (λ x. (x.0, (x.1.now, x.2))) result (cut_at bytes.now) }
     ensures kept { IfOk result (λ x. keeps_kind x.0 ≡ keeps bytes.now) }
+    ensures publish { IfOk result (λ x. is_publish_kind x.0 ≡ begins_publish bytes.now) }
     ensures bytes { IfErr result (λ e. IsTrue (is_of_bytes e)) }
 {
     let [first, rest @ ..] = bytes else {
@@ -113,6 +115,39 @@ fn front(alloc: Global, bytes: &[u8]) -> Result<(Packet, usize), PacketFault>
     Ok((packet(alloc, kind, body)?, whole))
 }
 
+/// The PUBLISH with this body.
+#[tactic(auto, unfolding(crate::specs::Reading::body_at))]
+fn lent(kind: Kind, body: &[u8]) -> Result<PublishRef<'_>, PacketFault>
+    requires { is_publish_kind kind ≡ true }
+    ensures given { Gives publish_view result (body_at kind body.now) }
+    ensures bytes { IfErr result (λ e. IsTrue (is_of_bytes e)) }
+{
+    match kind {
+        Kind::Publish { dup, qos, retain } => lent_publish(dup, qos, retain, body),
+        _ => unreachable!(),
+    }
+}
+
+#[tactic(auto, unfolding(crate::specs::Reading::packet_at))]
+fn lent_front(bytes: &[u8]) -> Result<(PublishRef<'_>, usize), PacketFault>
+    requires { begins_publish bytes.now ≡ true }
+    ensures given { Gives lent_view result (packet_at bytes.now) }
+    ensures bytes { IfErr result (λ e. IsTrue (is_of_bytes e)) }
+{
+    let (kind, body, whole) = cut(bytes)?;
+    Ok((lent(kind, body)?, whole))
+}
+
+/// Whether the bytes begin a PUBLISH (section 2.2.1), whole or not, right or wrong.
+pub fn begins_publish(bytes: &[u8]) -> bool
+    ensures { result ≡ begins_publish bytes.now }
+{
+    match bytes {
+        [first, ..] => *first / 16 == 3,
+        _ => false,
+    }
+}
+
 /// The remaining length at the front of the bytes, and how many bytes it takes (section 2.2.3). A form longer than
 /// needed is read too (own rule). It takes no memory. Refused are bytes that end within it, `More`, and a fourth byte
 /// that says that a fifth follows, `BadLength`.
@@ -144,4 +179,24 @@ pub fn decode(alloc: Global, bytes: &[u8]) -> Result<(Packet, usize), PacketFaul
     ensures memory { IfErr result (λ e. is_of_bytes e ≡ false → IsTrue (keeps bytes.now)) }
 {
     front(alloc, bytes)
+}
+
+/// The PUBLISH at the front of the bytes, with its topic and its payload lent from them, and how many bytes it takes (section 3.3). More
+/// may follow. It takes no memory. Refused as `decode` refuses the bytes.
+pub fn decode_publish(bytes: &[u8]) -> Result<(PublishRef<'_>, usize), PacketFault>
+    requires { begins_publish bytes.now ≡ true }
+    // The bytes that it takes spell the packet.
+    ensures found { IfOk result
+        (λ x. (x.1 ≤ length bytes.now) × Spells (take x.1 bytes.now) (publish_view x.0)) }
+    // Where the first n bytes spell a packet, that is the answer.
+    ensures only { (p : Message) (n : ℕ) → n ≤ length bytes.now → Spells (take n bytes.now) p
+        → Gives lent_view result (Ok (p, n)) }
+    // A fault is the first of the order that holds.
+    ensures refused { IfErr result (λ e. IsNamed e (first_of (refusals bytes.now))) }
+    // What is read has none: where one holds, nothing is read.
+    ensures not_refused { OnOk result (first_of (refusals bytes.now) ≡ None) }
+    // It takes no memory.
+    ensures memory { IfErr result (λ e. IsTrue (is_of_bytes e)) }
+{
+    lent_front(bytes)
 }

@@ -1,10 +1,10 @@
 //! The first byte of each packet: its type and its flags (sections 2.2.1 and 2.2.2).
 
-ghost use Rattle.std.specs.Prelude.{◌≡◌, ◌/◌, Ok, IfOk, IfErr, IsTrue};
+ghost use Rattle.std.specs.Prelude.{◌≡◌, ◌/◌, ◌==◌, Ok, IfOk, IfErr, IsTrue};
 ghost use Rattle.spk_packets.specs.declared.table.Kind.TheVariants.{Publish};
 ghost use Rattle.spk_packets.specs.Fault.{Gives, is_of_bytes};
 ghost use Rattle.spk_packets.specs.Grammar.{is_keeping};
-ghost use Rattle.spk_packets.specs.Reading.{keeps_kind, kind_of};
+ghost use Rattle.spk_packets.specs.Reading.{is_publish_kind, keeps_kind, kind_of};
 
 use crate::fault::PacketFault;
 
@@ -35,6 +35,7 @@ fn publish(dup: bool, qos: u8, retain: bool) -> Result<Kind, PacketFault>
 pub(crate) fn judged(first: u8) -> Result<Kind, PacketFault>
     ensures given { Gives (λ x. x) result (kind_of first) }
     ensures kept { IfOk result (λ k. keeps_kind k ≡ is_keeping (first / 16)) }
+    ensures publish { IfOk result (λ k. is_publish_kind k ≡ (first / 16 == 3)) }
     ensures bytes { IfErr result (λ e. IsTrue (is_of_bytes e)) }
 {
     match first {

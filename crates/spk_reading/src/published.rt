@@ -94,19 +94,22 @@ fn death_in(group: String, node: String, payload: &Payload) -> Result<Content, R
 /// What a message of the names says.
 fn content_in(
     alloc: Global,
-    topic: String,
+    topic: &str,
     bytes: &[u8],
     names: Spark,
 ) -> Result<Content, ReadFault>
-    ensures { Gives content_view result (spec.content_in (string_bytes topic) bytes.now
-        (named names)) }
+    ensures { Gives content_view result (spec.content_in topic.now bytes.now (named names)) }
 {
     match names {
         Spark::Node { group, kind, node } => match kind {
-            Verb::Birth => birth_in(topic, group, node, payload_in(alloc, bytes)?),
+            Verb::Birth => {
+                let payload = payload_in(alloc, bytes)?;
+                birth_in(String::from_str(alloc, topic)?, group, node, payload)
+            }
             Verb::Death => death_in(group, node, &payload_in(alloc, bytes)?),
             Verb::Data => {
                 let payload = payload_in(alloc, bytes)?;
+                let topic = String::from_str(alloc, topic)?;
                 other_in(topic, group, node, Subject::NodeData, payload)
             }
             Verb::Command => Ok(Content::Nothing),
@@ -123,7 +126,8 @@ fn content_in(
                 Verb::Data => Subject::DeviceData(device),
                 Verb::Command => return Ok(Content::Nothing),
             };
-            other_in(topic, group, node, subject, payload_in(alloc, bytes)?)
+            let payload = payload_in(alloc, bytes)?;
+            other_in(String::from_str(alloc, topic)?, group, node, subject, payload)
         }
         Spark::State { .. } => Ok(Content::Nothing),
     }
@@ -131,10 +135,10 @@ fn content_in(
 
 /// What a message on a topic says.
 #[tactic(auto, unfolding(crate::specs::Meaning::content_at))]
-pub(crate) fn content_at(alloc: Global, topic: String, bytes: &[u8]) -> Result<Content, ReadFault>
-    ensures { Gives content_view result (spec.content_at (string_bytes topic) bytes.now) }
+pub(crate) fn content_at(alloc: Global, topic: &str, bytes: &[u8]) -> Result<Content, ReadFault>
+    ensures { Gives content_view result (spec.content_at topic.now bytes.now) }
 {
-    match Spark::read(alloc, topic.as_str()) {
+    match Spark::read(alloc, topic) {
         Ok(names) => content_in(alloc, topic, bytes, names),
         Err(TopicFault::NoMemory) => Err(ReadFault::NoMemory),
         Err(_) => Err(ReadFault::NotSparkplug),

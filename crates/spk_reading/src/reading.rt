@@ -1,8 +1,8 @@
 //! Reading a packet.
-ghost use Rattle.std.specs.Prelude.{◌≡◌, ◌≢◌, ◌⊎◌, IfOk, IfErr, Ok, Err};
-ghost use Rattle.spk_packets.specs.Grammar.{Spells};
+ghost use Rattle.std.specs.Prelude.{◌≡◌, ◌≢◌, ◌⊎◌, IfOk, IfErr, Ok, Err, true};
+ghost use Rattle.spk_packets.specs.Grammar.{Spells, begins_publish};
 ghost use Rattle.spk_packets.specs.Message.{Message};
-ghost use Rattle.spk_packets.specs.View.{view};
+ghost use Rattle.spk_packets.specs.View.{publish_view, view};
 ghost use Rattle.spk_reading.specs.Answer.{Gives};
 ghost use Rattle.spk_reading.specs.Data.{HeardData};
 ghost use Rattle.spk_reading.specs.Meaning.{IsReadFault, Says, heard};
@@ -12,7 +12,7 @@ use crate::fault::ReadFault;
 use crate::published::content_at;
 use crate::said::Heard;
 use spk_packets::laws::prefix_free;
-use spk_packets::{Packet, PacketFault, decode};
+use spk_packets::{Packet, PacketFault, PublishRef, begins_publish, decode, decode_publish};
 use std::alloc::Global;
 
 /// Bytes that aren't a packet at their front.
@@ -44,6 +44,33 @@ fn packet_in(alloc: Global, bytes: &[u8]) -> Result<Packet, ReadFault>
     }
 }
 
+/// The PUBLISH that all the bytes spell, lent from them.
+fn publish_in(bytes: &[u8]) -> Result<PublishRef<'_>, ReadFault>
+    requires { begins_publish bytes.now ≡ true }
+    ensures found { IfOk result (λ p. Spells bytes.now (publish_view p)) }
+    ensures fault { IfErr result (λ f. (f ≡ ReadFault.NoMemory)
+        ⊎ ((f ≡ ReadFault.BadPayload) × ((p : Message) → Spells bytes.now p → ⊥))) }
+{
+    match decode_publish(bytes) {
+        Ok((packet, size)) => {
+            if size < bytes.len() {
+                return Err(ReadFault::BadPayload);
+            }
+            Ok(packet)
+        }
+        Err(fault) => Err(fault_of(fault)),
+    }
+}
+
+/// What a PUBLISH says.
+fn published(alloc: Global, packet: PublishRef<'_>) -> Result<Heard, ReadFault>
+    ensures { Gives heard_view result (heard (publish_view packet.entry)) }
+{
+    let content = content_at(alloc, packet.topic, packet.payload)?;
+    let ack = if packet.qos == 1 { packet.id } else { None };
+    Ok(Heard::Published { ack, content })
+}
+
 /// What a packet says.
 fn heard_of(alloc: Global, packet: Packet) -> Result<Heard, ReadFault>
     ensures { Gives heard_view result (heard (view packet)) }
@@ -56,7 +83,7 @@ fn heard_of(alloc: Global, packet: Packet) -> Result<Heard, ReadFault>
             payload,
             ..
         } => {
-            let content = content_at(alloc, topic, &payload)?;
+            let content = content_at(alloc, topic.as_str(), &payload)?;
             let ack = if qos == 1 { id } else { None };
             Ok(Heard::Published { ack, content })
         }
@@ -82,6 +109,12 @@ pub fn read(alloc: Global, bytes: &[u8]) -> Result<Heard, ReadFault>
         → Gives heard_view result (Err f) }
 {
     prefix_free();
+    if begins_publish(bytes) {
+        return match publish_in(bytes) {
+            Ok(packet) => published(alloc, packet),
+            Err(fault) => Err(fault),
+        };
+    }
     match packet_in(alloc, bytes) {
         Ok(packet) => heard_of(alloc, packet),
         Err(fault) => Err(fault),
