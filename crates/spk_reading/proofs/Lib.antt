@@ -1,3 +1,4 @@
 pub mod Sessions
 pub mod Wholes
 pub mod Told
+pub mod Payloads

@@ -1,6 +1,6 @@
 -- What a packet says to a host (Sparkplug 3.0.0, chapter 4 on topics, chapter 6 on payloads), and why one is refused: the
 -- topic, then the payload, then its seq, its timestamp and its bdSeq, each where the message has to carry it.
-use Rattle.std.specs.Prelude.{◌≡◌, ℕ, ◌==◌, Bool, false, nat_lt, List, reverse, Option, Some, None, Result, Ok, Err, option_and_then, codes, if◌then◌else◌}
+use Rattle.std.specs.Prelude.{◌≡◌, ℕ, ◌==◌, Bool, false, true, nat_lt, List, reverse, Option, Some, None, Result, Ok, Err, option_and_then, codes, if◌then◌else◌}
 use Rattle.std.specs.List.{find}
 use Rattle.std.specs.Option.{option_map_or}
 use Rattle.std.specs.Str.{bytes_eq}
@@ -100,6 +100,18 @@ content_in topic bytes (of_device group verb.Death node device) = payload_in byt
 content_in topic bytes (of_device group verb.Data node device) = payload_in bytes >>= other_in topic group node (DeviceData device)
 content_in topic bytes (of_device group verb.Command node device) = Ok Nothing
 content_in topic bytes (of_state host) = Ok Nothing
+
+-- whether it is read
+abbrev pub is_read : Named → Bool
+is_read (of_node group verb.Birth node) = true
+is_read (of_node group verb.Death node) = true
+is_read (of_node group verb.Data node) = true
+is_read (of_node group verb.Command node) = false
+is_read (of_device group verb.Birth node device) = true
+is_read (of_device group verb.Death node device) = true
+is_read (of_device group verb.Data node device) = true
+is_read (of_device group verb.Command node device) = false
+is_read (of_state host) = false
 
 -- what a message on a topic says
 unfoldable pub content_at : List ℕ → List ℕ → Result ContentData ReadFault

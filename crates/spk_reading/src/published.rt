@@ -1,7 +1,8 @@
 //! What a PUBLISH says, by its topic and its payload.
-ghost use Rattle.std.specs.Prelude.{◌≡◌, string_bytes};
+ghost use Rattle.std.specs.Prelude.{◌≡◌, string_bytes, List, ℕ, Ok};
+ghost use Rattle.spk_payload.specs.Reading.{payload_at};
 ghost use Rattle.spk_payload.specs.View.{payload_view};
-ghost use Rattle.spk_topics.specs.Spark.{named};
+ghost use Rattle.spk_topics.specs.Spark.{named, named_at};
 ghost use Rattle.spk_reading.specs.Answer.{Gives};
 ghost use Rattle.spk_reading.specs.Meaning as spec;
 ghost use Rattle.spk_reading.specs.View.{content_view, subject_view};
@@ -91,24 +92,21 @@ fn death_in(group: String, node: String, payload: &Payload) -> Result<Content, R
     }
 }
 
-/// What a message of the names says.
-fn content_in(
+/// What a message of the names says, whose payload's bytes mean this payload.
+fn content_with(
     alloc: Global,
     topic: &str,
-    bytes: &[u8],
+    payload: Payload,
     names: Spark,
 ) -> Result<Content, ReadFault>
-    ensures { Gives content_view result (spec.content_in topic.now bytes.now (named names)) }
+    ensures { (bytes : List ℕ) → payload_at bytes ≡ Ok (payload_view payload)
+        → Gives content_view result (spec.content_in topic.now bytes (named names)) }
 {
     match names {
         Spark::Node { group, kind, node } => match kind {
-            Verb::Birth => {
-                let payload = payload_in(alloc, bytes)?;
-                birth_in(String::from_str(alloc, topic)?, group, node, payload)
-            }
-            Verb::Death => death_in(group, node, &payload_in(alloc, bytes)?),
+            Verb::Birth => birth_in(String::from_str(alloc, topic)?, group, node, payload),
+            Verb::Death => death_in(group, node, &payload),
             Verb::Data => {
-                let payload = payload_in(alloc, bytes)?;
                 let topic = String::from_str(alloc, topic)?;
                 other_in(topic, group, node, Subject::NodeData, payload)
             }
@@ -126,10 +124,48 @@ fn content_in(
                 Verb::Data => Subject::DeviceData(device),
                 Verb::Command => return Ok(Content::Nothing),
             };
-            let payload = payload_in(alloc, bytes)?;
-            other_in(String::from_str(alloc, topic)?, group, node, subject, payload)
+            other_in(
+                String::from_str(alloc, topic)?,
+                group,
+                node,
+                subject,
+                payload,
+            )
         }
         Spark::State { .. } => Ok(Content::Nothing),
+    }
+}
+
+/// Whether the payload of a message of the names is read.
+fn is_read(names: &Spark) -> bool
+    ensures { result ≡ spec.is_read (named names.now) }
+{
+    match names {
+        Spark::Node { kind, .. } | Spark::Device { kind, .. } => *kind != Verb::Command,
+        Spark::State { .. } => false,
+    }
+}
+
+/// What a message of the names says.
+fn content_in(alloc: Global, topic: &str, bytes: &[u8], names: Spark) -> Result<Content, ReadFault>
+    ensures { Gives content_view result (spec.content_in topic.now bytes.now (named names)) }
+{
+    if !is_read(&names) {
+        return Ok(Content::Nothing);
+    }
+    let payload = payload_in(alloc, bytes)?;
+    content_with(alloc, topic, payload, names)
+}
+
+/// What a topic names.
+fn names_in(alloc: Global, topic: &str) -> Result<Spark, ReadFault>
+    ensures { Gives (λ names. named names) result
+        (spec.or_fault ReadFault.NotSparkplug (named_at topic.now)) }
+{
+    match Spark::read(alloc, topic) {
+        Ok(names) => Ok(names),
+        Err(TopicFault::NoMemory) => Err(ReadFault::NoMemory),
+        Err(_) => Err(ReadFault::NotSparkplug),
     }
 }
 
@@ -138,9 +174,16 @@ fn content_in(
 pub(crate) fn content_at(alloc: Global, topic: &str, bytes: &[u8]) -> Result<Content, ReadFault>
     ensures { Gives content_view result (spec.content_at topic.now bytes.now) }
 {
-    match Spark::read(alloc, topic) {
-        Ok(names) => content_in(alloc, topic, bytes, names),
-        Err(TopicFault::NoMemory) => Err(ReadFault::NoMemory),
-        Err(_) => Err(ReadFault::NotSparkplug),
-    }
+    let names = names_in(alloc, topic)?;
+    content_in(alloc, topic, bytes, names)
+}
+
+/// What a message on a topic says, whose payload's bytes mean this payload.
+#[tactic(auto, unfolding(crate::specs::Meaning::content_at))]
+pub(crate) fn content_of(alloc: Global, topic: &str, payload: Payload) -> Result<Content, ReadFault>
+    ensures { (bytes : List ℕ) → payload_at bytes ≡ Ok (payload_view payload)
+        → Gives content_view result (spec.content_at topic.now bytes) }
+{
+    let names = names_in(alloc, topic)?;
+    content_with(alloc, topic, payload, names)
 }

@@ -1,18 +1,21 @@
 //! Reading a packet.
-ghost use Rattle.std.specs.Prelude.{◌≡◌, ◌≢◌, ◌⊎◌, IfOk, IfErr, Ok, Err, true};
+ghost use Rattle.std.specs.Prelude.{◌≡◌, ◌≢◌, ◌⊎◌, IfOk, IfErr, Ok, Err, None, true, Bool, List, ℕ};
 ghost use Rattle.spk_packets.specs.Grammar.{Spells, begins_publish};
-ghost use Rattle.spk_packets.specs.Message.{Message};
+ghost use Rattle.spk_packets.specs.Message.{Message, Publish};
 ghost use Rattle.spk_packets.specs.View.{publish_view, view};
+ghost use Rattle.spk_payload.specs.Reading.{payload_at};
+ghost use Rattle.spk_payload.specs.View.{payload_view};
 ghost use Rattle.spk_reading.specs.Answer.{Gives};
 ghost use Rattle.spk_reading.specs.Data.{HeardData};
 ghost use Rattle.spk_reading.specs.Meaning.{IsReadFault, Says, heard};
 ghost use Rattle.spk_reading.specs.View.{heard_view};
 
 use crate::fault::ReadFault;
-use crate::published::content_at;
+use crate::published::{content_at, content_of};
 use crate::said::Heard;
 use spk_packets::laws::prefix_free;
 use spk_packets::{Packet, PacketFault, PublishRef, begins_publish, decode, decode_publish};
+use spk_payload::Payload;
 use std::alloc::Global;
 
 /// Bytes that aren't a packet at their front.
@@ -118,5 +121,17 @@ pub fn read(alloc: Global, bytes: &[u8]) -> Result<Heard, ReadFault>
     match packet_in(alloc, bytes) {
         Ok(packet) => heard_of(alloc, packet),
         Err(fault) => Err(fault),
+    }
+}
+
+impl Heard {
+    /// What a PUBLISH at QoS 0 on this topic says, whose payload's bytes mean this payload: as `read` says of its bytes, without them
+    /// (Sparkplug 3.0.0, chapters 4 and 6). Refused as there, but for bytes that aren't a packet, or a payload that can't be read.
+    pub fn of(alloc: Global, topic: &str, payload: Payload) -> Result<Heard, ReadFault>
+        ensures { (dup retain : Bool) (bytes : List ℕ) → payload_at bytes ≡ Ok (payload_view payload)
+            → Gives heard_view result (heard (Publish dup 0 retain topic.now None bytes)) }
+    {
+        let content = content_of(alloc, topic, payload)?;
+        Ok(Heard::Published { ack: None, content })
     }
 }

@@ -5,6 +5,7 @@ pub mod Nodes
 pub mod Heard
 pub mod Unheard
 pub mod Whole
+pub mod Readable
 pub mod Running
 pub mod Listed
 pub mod Asked

@@ -11,7 +11,7 @@ use crate::answer::Done;
 use crate::fault::WorldFault;
 use crate::member::{Member, follows};
 use crate::node::Node;
-use crate::packets::come;
+use crate::packets::tell;
 use crate::records::Published;
 use crate::track::Track;
 use crate::world::World;
@@ -96,9 +96,12 @@ fn hand(
         return Err(WorldFault::NotPublished);
     };
     judge(host, node, track, position, message)?;
-    let bytes = message.packet(alloc)?;
+    let heard = message.heard(alloc)?;
     track.reserve()?;
-    let out = come(host, &bytes, now)?;
+    let out = match tell(host, heard, now) {
+        Ok(out) => out,
+        Err(fault) => return Err(fault),
+    };
     let step = only(&out.steps);
     is_few(step);
     track.take(

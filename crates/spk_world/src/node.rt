@@ -1,5 +1,5 @@
 //! A node of a world.
-ghost use Rattle.std.specs.Prelude.{◌≡◌, ◌⊎◌, slice_get, IfOk, IfErr, OnErr, OnSome, option_map, ◌<◌, ◌^◌};
+ghost use Rattle.std.specs.Prelude.{◌≡◌, ◌⊎◌, slice_get, IfOk, IfErr, IfSome, OnErr, OnSome, option_map, ◌<◌, ◌^◌};
 ghost use Rattle.spk_edge.specs.View.{act_view, config_view, input_view};
 ghost use Rattle.spk_edge_rules.specs.Step.{answer_at, is_open};
 ghost use Rattle.spk_world_rules.specs.Refusals.{edge_refusal};
@@ -21,6 +21,7 @@ pub(crate) struct Node {
 impl Model for Node {
     ghost use Rattle.std.specs.Prelude.{map};
     ghost use Rattle.spk_world_run.specs.Data.{NodePart};
+    ghost use Rattle.spk_world.specs.Parts.{AreReadable};
     ghost use Rattle.spk_world.specs.View.{published_view};
 
     ghost Value = { NodePart };
@@ -32,6 +33,9 @@ impl Model for Node {
       births = n.log.births;
       opened = n.log.opened.items;
     } };
+
+    // what it published can be read
+    ghost invariant = { λ n. AreReadable (map published_view n.log.published.items) };
 }
 
 /// Whether a connection is to be opened.
@@ -46,7 +50,7 @@ fn is_open(act: &Act<'_>) -> bool
 
 impl Node {
     ghost use Rattle.spk_world.specs.Fault.{IsRefusal};
-    ghost use Rattle.spk_world.specs.Parts.{IsTaken};
+    ghost use Rattle.spk_world.specs.Parts.{IsReadable, IsTaken};
     ghost use Rattle.spk_world.specs.View.{published_view};
 
     /// What the node is.
@@ -60,6 +64,7 @@ impl Node {
     pub(crate) fn message_at(&self, position: u64) -> Option<&Published>
         ensures is { option_map (λ m. published_view m.now) result
             ≡ slice_get self.now.published position }
+        ensures readable { IfSome result (λ m. IsReadable (published_view m.now)) }
         ensures few { OnSome result (position < 2 ^ 63) }
     {
         self.log.published.get(position as usize)

@@ -1,20 +1,27 @@
 //! Packets as bytes, and how a host hears them.
-ghost use Rattle.std.specs.Prelude.{◌≡◌, ◌⊎◌, false, None, IfOk, IfErr, OnErr};
-ghost use Rattle.spk_payload.specs.Spelling.{HoldsOther};
+ghost use Rattle.std.specs.Prelude.{◌≡◌, ◌⊎◌, false, None, IfOk, IfErr, OnErr, OnOk};
 ghost use Rattle.spk_packets.specs.Message.{Publish};
 ghost use Rattle.spk_packets.specs.Spelling.{spelling};
 ghost use Rattle.spk_edge_rules.specs.Answers.{is_writable};
 ghost use Rattle.spk_edge.specs.View.{config_view};
 ghost use Rattle.spk_reading.specs.Data.{HeardData};
-ghost use Rattle.spk_world.specs.Outcome.{IsHeard, IsUnheard};
+ghost use Rattle.spk_reading.specs.Meaning.{Says};
+ghost use Rattle.spk_reading.specs.View.{heard_view};
+ghost use Rattle.spk_host.specs.Step.{after_packet, packet_out};
+ghost use Rattle.spk_host.specs.View.{fault_of, out_view};
+ghost use Rattle.spk_world.specs.Fault.{host_fault};
+ghost use Rattle.spk_host.specs.Data.{HostData};
+ghost use Rattle.spk_world.specs.Outcome.{IsHeard, IsUnheard, IsUnsendable};
+ghost use Rattle.spk_world_run.specs.Data.{PublishedData};
 ghost use Rattle.spk_world_run.specs.Step.{death_of, packet_of};
 
 use crate::fault::WorldFault;
 use crate::records::Published;
 use spk_edge::{EdgeConfig, EdgeFault, death_bytes, node_topic};
-use spk_host::{Host, Out};
+use spk_host::{Host, HostFault, Out};
 use spk_packets::{PacketFault, PublishRef};
-use spk_payload::{PayloadFault, encode};
+use spk_payload::laws::{canonical, reading};
+use spk_reading::{Heard, ReadFault};
 use spk_topics::Verb;
 use std::alloc::Global;
 
@@ -41,22 +48,38 @@ fn publish(alloc: Global, topic: &str, payload: &[u8]) -> Result<Vec<u8>, WorldF
     }
 }
 
+/// What a host refuses to read, as the world's refusal.
+fn unread(fault: ReadFault) -> WorldFault
+    ensures { result ≡ host_fault (fault_of fault) }
+{
+    match fault {
+        ReadFault::NoMemory => WorldFault::NoMemory,
+        ReadFault::NotSparkplug => WorldFault::Host(HostFault::NotSparkplug),
+        ReadFault::BadPayload => WorldFault::Host(HostFault::BadPayload),
+        ReadFault::NoSeq => WorldFault::Host(HostFault::NoSeq),
+        ReadFault::NoStamp => WorldFault::Host(HostFault::NoStamp),
+        ReadFault::NoBdSeq => WorldFault::Host(HostFault::NoBdSeq),
+    }
+}
+
 impl Published {
+    ghost use Rattle.spk_world.specs.Parts.{IsReadable};
     ghost use Rattle.spk_world.specs.View.{published_view};
 
-    /// Its packet, as the node sent it. TooLarge where it has none.
-    pub(crate) fn packet(&self, alloc: Global) -> Result<Vec<u8>, WorldFault>
-        ensures bytes { IfOk result
-            (λ v. v.items ≡ spelling (packet_of (published_view self.now))) }
-        ensures fault { IfErr result
-            (λ e. (e ≡ WorldFault.NoMemory) ⊎ ((e ≡ WorldFault.Edge EdgeFault.TooLarge)
-            × (HoldsOther (published_view self.now).payload.metrics
-            ⊎ (is_writable (packet_of (published_view self.now)) ≡ false)))) }
+    /// What the bytes of its packet, as the node sent it, say to a host. They aren't written for it: who reads them reads this message.
+    pub(crate) fn heard(&self, alloc: Global) -> Result<Heard, WorldFault>
+        requires { IsReadable (published_view self.now) }
+        ensures says { IfOk result
+            (λ h. Says (spelling (packet_of (published_view self.now))) (heard_view h)) }
+        ensures fault { IfErr result (λ e. (e ≡ WorldFault.NoMemory)
+            ⊎ ((h : HostData) → IsUnsendable h (published_view self.now) e)) }
     {
-        match encode(alloc, &self.payload) {
-            Ok(payload) => publish(alloc, self.topic.as_str(), &payload),
-            Err(PayloadFault::NoMemory) => Err(WorldFault::NoMemory),
-            Err(_) => Err(WorldFault::Edge(EdgeFault::TooLarge)),
+        canonical();
+        reading();
+        let payload = self.payload.copy(alloc)?;
+        match Heard::of(alloc, self.topic.as_str(), payload) {
+            Ok(heard) => Ok(heard),
+            Err(fault) => Err(unread(fault)),
         }
     }
 }
@@ -87,6 +110,21 @@ pub(crate) fn come(host: &mut Host, bytes: &[u8], now: u64) -> Result<Out, World
     ensures unchanged { OnErr result (host.new ≡ host.old) }
 {
     match host.packet(bytes, now) {
+        Ok(out) => Ok(out),
+        Err(fault) => Err(WorldFault::from(fault)),
+    }
+}
+
+/// What a packet's bytes say comes to a host.
+pub(crate) fn tell(host: &mut Host, heard: Heard, now: u64) -> Result<Out, WorldFault>
+    ensures out { IfOk result
+        (λ o. out_view o ≡ packet_out host.old (heard_view heard) now) }
+    ensures after { OnOk result (host.new ≡ after_packet host.old (heard_view heard) now) }
+    ensures fault { IfErr result (λ e. (e ≡ WorldFault.NoMemory)
+        ⊎ ((m : PublishedData) → IsUnsendable host.old m e)) }
+    ensures unchanged { OnErr result (host.new ≡ host.old) }
+{
+    match host.heard(heard, now) {
         Ok(out) => Ok(out),
         Err(fault) => Err(WorldFault::from(fault)),
     }

@@ -1,4 +1,4 @@
-use Rattle.std.proofs.Common.{◌≡◌, ◌∙◌, sym, ap, subst, refl, map, length, ◌+◌, ◌-◌, ◌++◌, ◌∷◌, [], ℕ, List, None}
+use Rattle.std.proofs.Common.{◌∙◌, sym, ap, subst, map, length, ◌+◌, ◌-◌, ◌++◌, ◌∷◌, [], ℕ, List, None}
 use Rattle.std.proofs.lemmas.List.{length-map}
 use Rattle.std.specs.Prelude.{if◌then◌else◌}
 use Rattle.std.specs.List.{count_by, last_or}
@@ -6,7 +6,9 @@ use Rattle.spk_edge.specs.View.{MessageData, input_view, message_view}
 use Rattle.spk_edge.specs.declared.message.Published.{Published as Message}
 use Rattle.spk_world_run.specs.Data.{NodePart}
 use Rattle.spk_world_run.specs.Step.{or_zero, posts_from, starts_from}
-use Rattle.spk_world.specs.Parts.{IsTaken}
+use Rattle.spk_edge.specs.Sealing.{AreWhole}
+use Rattle.spk_world.specs.Parts.{AreReadable, IsTaken}
+use Rattle.spk_world.proofs.Readable.{both, posts}
 use Rattle.spk_world.specs.View.{published_view}
 use Rattle.spk_world.specs.declared.records.Published.{Published}
 use Rattle.spk_world.proofs.Nodes.{after-parts, count-messages, part_of}
@@ -83,3 +85,31 @@ returns-else-is_open-clause-done c =
           ∙ ap (λ (l : List MessageData). length l) planned.messages
           ∙ count-messages c.self.inside.edge.config.numbering c.self.inside.edge.standing.seq c.self.inside.edge.config given.given.drafts;
     })
+
+pub invariant_of-self-then-is_open : goal.invariant_of-self-then-is_open
+invariant_of-self-then-is_open c =
+    let log = c.self.inside.log in
+    let planned = c.in_ok-plan.ensures.planned in
+    let reserved = c.in_ok-reserve.ensures in
+    let room = c.reserve.new.self in
+    let ms = map message_view c.take_up-messages.result.messages.items in
+    let messages = ap (λ (m : List Message). map message_view m) (ap (λ v. v.items) c.take_up-messages.ensures.messages) ∙ planned.messages in
+    let published = ap (map published_view) (ap (λ v. v.items) c.open.ensures.published) ∙ c.add.ensures.published
+    ∙ ap (λ (l : List Published). map published_view l ++ posts_from c.session-session.result room.births ms) reserved.published in
+    subst AreReadable (sym published)
+    (both (map published_view log.published.items) (posts_from c.session-session.result room.births ms) c.self.invariant
+    (posts c.session-session.result room.births ms (subst AreWhole (sym messages) planned.whole)))
+
+pub invariant_of-self-else-is_open : goal.invariant_of-self-else-is_open
+invariant_of-self-else-is_open c =
+    let log = c.self.inside.log in
+    let planned = c.in_ok-plan.ensures.planned in
+    let reserved = c.in_ok-reserve.ensures in
+    let room = c.reserve.new.self in
+    let ms = map message_view c.take_up-messages.result.messages.items in
+    let messages = ap (λ (m : List Message). map message_view m) (ap (λ v. v.items) c.take_up-messages.ensures.messages) ∙ planned.messages in
+    let published = c.add.ensures.published
+    ∙ ap (λ (l : List Published). map published_view l ++ posts_from c.session-session.result room.births ms) reserved.published in
+    subst AreReadable (sym published)
+    (both (map published_view log.published.items) (posts_from c.session-session.result room.births ms) c.self.invariant
+    (posts c.session-session.result room.births ms (subst AreWhole (sym messages) planned.whole)))
