@@ -9,6 +9,7 @@ pub mod Filtering
 pub mod Finishing
 pub mod Fits
 pub mod Flats
+pub mod Fronts
 pub mod Gives
 pub mod Indexing
 pub mod Keepers

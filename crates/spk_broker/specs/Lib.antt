@@ -11,6 +11,7 @@ pub mod Entering
 pub mod Fault
 pub mod Filing
 pub mod Filters
+pub mod Fronts
 pub mod Granting
 pub mod Letters
 pub mod Offering

@@ -3,8 +3,8 @@ ghost use Rattle.std.specs.Prelude.{◌≡◌, map, Some, None};
 ghost use Rattle.spk_broker_rules.specs.Words.{best, level};
 ghost use Rattle.spk_broker.specs.Parts.{grant_view};
 
+use crate::fitting::is_match;
 use crate::seat::Grant;
-use spk_topics::matches_text;
 
 /// The greatest QoS granted by the filters that match a topic.
 pub(crate) fn best(grants: &[Grant], topic: &str) -> Option<u8>
@@ -15,7 +15,7 @@ pub(crate) fn best(grants: &[Grant], topic: &str) -> Option<u8>
     while left > 0 {
         left -= 1;
         let grant = &grants[left];
-        if matches_text(grant.filter.as_str(), topic) {
+        if is_match(grant.filter.as_str(), topic) {
             found = Some(grant.qos.max(found.unwrap_or(0)));
         }
     }

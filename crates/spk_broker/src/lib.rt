@@ -14,6 +14,7 @@ mod ending;
 mod events;
 mod fault;
 mod firsts;
+mod fitting;
 mod giving;
 mod granting;
 mod grants;

@@ -13,11 +13,11 @@ ghost use Rattle.spk_broker.specs.Touched.{OnlyAt};
 ghost use Rattle.spk_broker.specs.View.{desk_was};
 
 use crate::desk::{Desk, Stored};
+use crate::fitting::is_match;
 use crate::out::Draft;
 use crate::post::Post;
 use crate::seat::{Grant, Seat};
 use indexmap::IndexMap;
-use spk_topics::matches_text;
 use std::alloc::AllocError;
 
 /// A retained message as it is offered at a QoS.
@@ -36,7 +36,7 @@ fn offered_one(topic: &String, stored: &Stored, grant: &Grant) -> Result<Option<
         ≡ offers_to ((string_bytes topic.now, stored_view stored.now) ∷ [])
         (grant_view grant.now)) }
 {
-    if !matches_text(grant.filter.as_str(), topic.as_str()) {
+    if !is_match(grant.filter.as_str(), topic.as_str()) {
         return Ok(None);
     }
     Ok(Some(post_at(topic, stored, stored.qos.min(grant.qos))?))
