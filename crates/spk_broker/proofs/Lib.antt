@@ -15,6 +15,7 @@ pub mod Indexing
 pub mod Keepers
 pub mod Keeping
 pub mod Leaving
+pub mod Named
 pub mod Near
 pub mod Offers
 pub mod Opening

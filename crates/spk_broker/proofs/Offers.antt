@@ -168,7 +168,7 @@ pub fold-append : {A B : Type 0} (f : B → A → B) (b : B) (xs ys : List A) �
 fold-append f b [] ys = refl
 fold-append f b (x ∷ xs) ys = fold-append f (f b x) xs ys
 
-offers-cons : (g : List ℕ × ℕ) (e : List ℕ × plain.Stored) (es : List (List ℕ × plain.Stored)) → offers_to (e ∷ es) g ≡ offers_to (e ∷ []) g ++ offers_to es g
+pub offers-cons : (g : List ℕ × ℕ) (e : List ℕ × plain.Stored) (es : List (List ℕ × plain.Stored)) → offers_to (e ∷ es) g ≡ offers_to (e ∷ []) g ++ offers_to es g
 offers-cons g e es = by (is_match g.0 e.0)
   where
     by : (b : Bool) → map (offered g.1) (cond b (e ∷ filter (λ x. is_match g.0 x.0) es) (filter (λ x. is_match g.0 x.0) es)) ≡ map (offered g.1) (cond b (e ∷ []) []) ++ offers_to es g

@@ -74,7 +74,7 @@ unreplaced topic s (x ∷ t) e = by (bytes_eq x.0 topic) e (unreplaced topic s t
     by false h rest = ap (λ l. x ∷ l) (rest h)
 
 -- no later key is an earlier one
-no-other : (k : String Global) (topic : List ℕ) (es : Entries) → bytes_eq topic (string_bytes k) ≡ true → AllByRecursion (λ (y : String Global). string_eq k y ≡ false) (keys_of es) → has topic (table_of es) ≡ false
+pub no-other : (k : String Global) (topic : List ℕ) (es : Entries) → bytes_eq topic (string_bytes k) ≡ true → AllByRecursion (λ (y : String Global). string_eq k y ≡ false) (keys_of es) → has topic (table_of es) ≡ false
 no-other k topic [] same h = refl
 no-other k topic (e ∷ es) same h =
     ap (λ b. b || has topic (table_of es)) (bytes-flip (string_bytes e.0) topic ∙ ap (λ l. bytes_eq l (string_bytes e.0)) (same-bytes topic (string_bytes k) same) ∙ h.0)

@@ -1,7 +1,8 @@
 -- Retained messages are offered to the session at a place.
-use Rattle.std.specs.Prelude.{◌≡◌, ◌<◌, ℕ, List, true, [], ◌∷◌, length, Option, Some, None, slice_index_or}
+use Rattle.std.specs.Prelude.{◌≡◌, ◌<◌, ℕ, List, true, [], ◌∷◌, length, Option, Some, None, slice_index_or, slice_get}
 use Rattle.spk_broker_rules.specs.Data as plain
 use Rattle.spk_broker_rules.specs.Step.{Turn, with_key}
+use Rattle.spk_broker_rules.specs.Table.{Table}
 use Rattle.spk_broker_rules.specs.Words.{offers_to}
 use Rattle.spk_broker.specs.Both.{Both}
 use Rattle.spk_broker.specs.View.{Stands}
@@ -23,6 +24,11 @@ pub record Offering (desk : Desk) (draft : Draft) (place key : ℕ) (turn : Turn
 abbrev pub offers_at : Option (List ℕ × plain.Stored) → List ℕ × ℕ → List plain.Post
 offers_at None grant = []
 offers_at (Some e) grant = offers_to (e ∷ []) grant
+
+-- what the retained message at a place that is known, or none, offers to a grant
+abbrev pub offers_in : Option ℕ → Table plain.Stored → List ℕ × ℕ → List plain.Post
+offers_in None table grant = []
+offers_in (Some place) table grant = offers_at (slice_get table place) grant
 
 -- a retained message at a QoS
 abbrev pub retained_at : ℕ → List ℕ → plain.Stored → plain.Post

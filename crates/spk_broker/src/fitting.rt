@@ -2,6 +2,7 @@
 ghost use Rattle.std.specs.Prelude.{ℕ, ◌≡◌, ◌≤◌, ◌<◌, ◌∷◌, [], List, IfSome, drop, length, false, true};
 ghost use Rattle.spk_topics.specs.Fitting.{fits, is_barred, is_match};
 ghost use Rattle.spk_topics.specs.Levels.{levels};
+ghost use Rattle.spk_topics.specs.Text.{is_plain};
 ghost use Rattle.spk_broker.specs.Fronts.{begin_alike, begins_any, fits_from, fits_within, is_alike, is_start};
 
 use spk_topics::matches_text;
@@ -132,4 +133,12 @@ pub(crate) fn is_match(filter: &str, topic: &str) -> bool
         Some(is_match) => is_match,
         None => matches_text(filter, topic),
     }
+}
+
+/// Whether no wildcard stands in a filter: then it matches itself alone.
+pub(crate) fn is_plain(filter: &str) -> bool
+    ensures { result ≡ is_plain filter.now }
+{
+    let bytes = filter.as_bytes();
+    !bytes.contains(&b'+') && !bytes.contains(&b'#')
 }

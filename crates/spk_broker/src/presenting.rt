@@ -3,17 +3,18 @@ ghost use Rattle.std.specs.Prelude.{ℕ, ◌≡◌, ◌<◌, ◌∷◌, [], IfOk
 ghost use Rattle.std.specs.List.{flat_map, fold};
 ghost use Rattle.std.specs.Option.{option_map};
 ghost use Rattle.std.specs.List.{slice_get};
+ghost use Rattle.spk_topics.specs.Text.{is_plain};
 ghost use Rattle.spk_broker_rules.specs.Step.{Turn, hand, offer};
 ghost use Rattle.spk_broker_rules.specs.Words.{offers_to, option_list};
 ghost use Rattle.spk_broker.specs.Drafts.{draft_view, left_by, served_by};
-ghost use Rattle.spk_broker.specs.Offering.{Offering, offers_at, retained_at};
+ghost use Rattle.spk_broker.specs.Offering.{Offering, offers_at, offers_in, retained_at};
 ghost use Rattle.spk_broker.specs.Parts.{grant_view, post_view, retained_view, stored_view};
 ghost use Rattle.spk_broker.specs.Sendable.{are_sendable, is_sendable};
 ghost use Rattle.spk_broker.specs.Touched.{OnlyAt};
 ghost use Rattle.spk_broker.specs.View.{desk_was};
 
 use crate::desk::{Desk, Stored};
-use crate::fitting::is_match;
+use crate::fitting::{is_match, is_plain};
 use crate::out::Draft;
 use crate::post::Post;
 use crate::seat::{Grant, Seat};
@@ -59,6 +60,15 @@ fn offered(
     }
 }
 
+/// The place of the retained message on a topic; a filter without wildcards is offered that one alone.
+fn place_on(retained: &IndexMap<String, Stored>, topic: &str) -> Option<usize>
+    ensures { (qos : ℕ) → is_plain topic.now ≡ true
+        → offers_in result (map retained_view retained.now.entries) (topic.now, qos)
+        ≡ offers_to (map retained_view retained.now.entries) (topic.now, qos) }
+{
+    retained.get_index_of(topic)
+}
+
 impl Desk {
     /// One retained message is offered to the session at a place.
     fn offer_one(
@@ -89,8 +99,8 @@ impl Desk {
         }
     }
 
-    /// All retained messages that match a grant are offered, in the table's order.
-    fn offer_table(
+    /// All retained messages are looked at, and those that match a grant offered, in the table's order.
+    fn offer_each(
         &mut self,
         draft: &mut Draft,
         place: usize,
@@ -110,6 +120,60 @@ impl Desk {
         for from in 0..self.retained.len() {
             self.offer_one(draft, place, grant, from)?;
         }
+        Ok(())
+    }
+
+    /// The retained message on the topic that a grant's filter is, where there is one, is offered.
+    fn offer_named(
+        &mut self,
+        draft: &mut Draft,
+        place: usize,
+        grant: &Grant,
+    ) -> Result<(), AllocError>
+        requires low { place < vec_len self.old.seats }
+        requires plain { is_plain (string_bytes grant.now.filter) ≡ true }
+        ensures done { OnOk result
+            ((key : ℕ) (t : Turn) → Offering self.old draft.old place key t
+            → Offering self.new draft.new place key
+            (fold (offer key) t
+            (offers_to (map retained_view self.old.retained.entries) (grant_view grant.now)))) }
+        ensures only { OnOk result (OnlyAt (place ∷ []) self.old → OnlyAt (place ∷ []) self.new) }
+        ensures retained { self.new.retained ≡ self.old.retained }
+        ensures len { vec_len self.new.seats ≡ vec_len self.old.seats }
+        ensures same { desk_was self.new ≡ desk_was self.old }
+    {
+        match place_on(&self.retained, grant.filter.as_str()) {
+            Some(from) => {
+                self.offer_one(draft, place, grant, from)?;
+                Ok(())
+            }
+            None => Ok(()),
+        }
+    }
+
+    /// All retained messages that match a grant are offered, in the table's order.
+    fn offer_table(
+        &mut self,
+        draft: &mut Draft,
+        place: usize,
+        grant: &Grant,
+    ) -> Result<(), AllocError>
+        requires { place < vec_len self.old.seats }
+        ensures done { OnOk result
+            ((key : ℕ) (t : Turn) → Offering self.old draft.old place key t
+            → Offering self.new draft.new place key
+            (fold (offer key) t
+            (offers_to (map retained_view self.old.retained.entries) (grant_view grant.now)))) }
+        ensures only { OnOk result (OnlyAt (place ∷ []) self.old → OnlyAt (place ∷ []) self.new) }
+        ensures retained { self.new.retained ≡ self.old.retained }
+        ensures len { vec_len self.new.seats ≡ vec_len self.old.seats }
+        ensures same { desk_was self.new ≡ desk_was self.old }
+    {
+        if is_plain(grant.filter.as_str()) {
+            self.offer_named(draft, place, grant)?;
+            return Ok(());
+        }
+        self.offer_each(draft, place, grant)?;
         Ok(())
     }
 

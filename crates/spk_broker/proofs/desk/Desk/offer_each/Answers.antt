@@ -6,7 +6,7 @@ use Rattle.spk_broker_rules.specs.Words.{offers_to}
 use Rattle.spk_broker.specs.Offering.{offers_at}
 use Rattle.spk_broker.specs.Parts.{grant_view, retained_view}
 use Rattle.spk_broker.proofs.Offers.{offering-along, offers-step}
-use Rattle.spk_broker.proofs.desk.Desk.offer_table.Goals as goal
+use Rattle.spk_broker.proofs.desk.Desk.offer_each.Goals as goal
 
 pub loop-from-preserved : goal.loop-from-preserved
 loop-from-preserved c =

@@ -6,7 +6,7 @@ use Rattle.spk_broker.specs.Offering.{Offering}
 use Rattle.spk_broker.specs.Parts.{grant_view, retained_view}
 use Rattle.spk_broker.specs.Touched.{OnlyAt}
 use Rattle.spk_broker.specs.View.{desk_was}
-use Rattle.spk_broker.proofs.desk.Desk.offer_table.Given as goal
+use Rattle.spk_broker.proofs.desk.Desk.offer_each.Given as goal
 
 abbrev pub invariant-loop-from : goal.invariant-loop-from
 invariant-loop-from l = record {
