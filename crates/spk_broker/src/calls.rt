@@ -37,7 +37,7 @@ impl Broker {
             .draft_closed(&mut draft, &self.index.tree, conn, place, now);
         let lost = draft.lost;
         let concluded = self.desk.conclude(drafted, draft);
-        self.index.shed(&self.desk.seats, before, lost);
+        self.index.shed(&self.desk, before, lost);
         concluded
     }
 
@@ -65,7 +65,7 @@ impl Broker {
             .draft_fault(&mut draft, &self.index.tree, conn, place, fault, now);
         let lost = draft.lost;
         let concluded = self.desk.conclude(drafted, draft);
-        self.index.shed(&self.desk.seats, before, lost);
+        self.index.shed(&self.desk, before, lost);
         concluded
     }
 
@@ -87,7 +87,7 @@ impl Broker {
             .draft_tick(&mut draft, &self.index.tree, &mut calm, now);
         let lost = draft.lost;
         let concluded = self.desk.conclude(drafted, draft);
-        self.index.shed(&self.desk.seats, before, lost);
+        self.index.shed(&self.desk, before, lost);
         self.calm = next(concluded.is_ok(), calm, self.calm);
         concluded
     }
@@ -114,7 +114,7 @@ impl Broker {
         let drafted = self.desk.draft_refused(&mut draft, conn, place, sort, now);
         let lost = draft.lost;
         let concluded = self.desk.conclude(drafted, draft);
-        self.index.shed(&self.desk.seats, before, lost);
+        self.index.shed(&self.desk, before, lost);
         concluded
     }
 }

@@ -124,17 +124,30 @@ impl GrantIndex {
         }
     }
 
+    /// It is made anew, of the grants that stand. Where memory is refused there is none.
+    fn renew(&mut self, desk: &Desk)
+        ensures { IsIndex self.new.tree (desk_now desk.now).seats }
+    {
+        self.tree = None;
+        self.tree = index(desk.alloc, &desk.seats).unwrap_or(None);
+        self.tally = Tally::of(&desk.seats);
+    }
+
     /// After a call behind which there are so many sessions if none ended, and in which so many that it found weren't there any more. It
-    /// is dropped where a session ended and more entries are left over than grants stand, and some more, or where as many were
-    /// looked for in vain as it has entries, and some more.
-    pub(crate) fn shed(&mut self, seats: &[Seat], before: usize, lost: usize)
-        ensures { (ss : List plain.Seat) → IsIndex self.old.tree ss → IsIndex self.new.tree ss }
+    /// is made anew where a session ended and more entries are left over than grants stand, and some more: as many ended since it was
+    /// made. It is dropped where as many were looked for in vain as it has entries, and some more.
+    pub(crate) fn shed(&mut self, desk: &Desk, before: usize, lost: usize)
+        ensures { (ss : List plain.Seat) → (desk_now desk.now).seats ≡ ss
+            → IsIndex self.old.tree ss → IsIndex self.new.tree ss }
     {
         if self.tree.is_none() {
             return;
         }
-        let is_worn = seats.len() < before && self.tally.is_worn(seats);
-        if is_worn || (lost != 0 && self.tally.is_spent(lost)) {
+        if desk.seats.len() < before && self.tally.is_worn(&desk.seats) {
+            self.renew(desk);
+            return;
+        }
+        if lost != 0 && self.tally.is_spent(lost) {
             self.tree = None;
         }
     }

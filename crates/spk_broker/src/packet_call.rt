@@ -41,7 +41,7 @@ impl Broker {
         let lost = draft.lost;
         let concluded = self.desk.conclude(drafted, draft);
         self.index.follow(&self.desk.seats, holder);
-        self.index.shed(&self.desk.seats, before, lost);
+        self.index.shed(&self.desk, before, lost);
         self.hints.meet(&self.desk.seats, conn, packet);
         concluded
     }

@@ -23,7 +23,7 @@ invariant_of-self-2 c =
     let sound = kept-to (Packet c.args.conn (view c.args.packet.now) c.args.now) c.args.self.now c.self.inside.desk c.draft_packet-drafted.new.self c.conclude-concluded.new.self c.new-draft.result c.draft_packet-drafted.new.draft c.draft_packet-drafted.result c.conclude-concluded.result call end in
     record {
       sound = record { settled = sound.settled; lawful = sound.lawful };
-      index = c.shed.ensures _ (followed c.ready.new.self.tree c.follow.new.self.tree c.holder-holder.result c.conclude-concluded.new.self c.deref.result.now c.deref.ensures.value sound c.follow.ensures.index
+      index = c.shed.ensures _ (ap (λ (b : plain.Broker). b.seats) sound.settled) (followed c.ready.new.self.tree c.follow.new.self.tree c.holder-holder.result c.conclude-concluded.new.self c.deref.result.now c.deref.ensures.value sound c.follow.ensures.index
           (index-but c.ready.new.self.tree c.holder-holder.result c.args.conn (view c.args.packet.now) c.args.now c.args.self.now c.self.inside.desk c.draft_packet-drafted.new.self c.conclude-concluded.new.self c.new-draft.result c.draft_packet-drafted.new.draft c.draft_packet-drafted.result c.conclude-concluded.result
           c.holder-holder.ensures.quiet c.holder-holder.ensures.turned call end (was-index c.ready.new.self.tree c.self.inside.desk c.self.invariant.sound c.ready.ensures.index)));
       calm = calm-to c.self.inside.calm (Packet c.args.conn (view c.args.packet.now) c.args.now) c.args.self.now c.self.inside.desk c.draft_packet-drafted.new.self c.conclude-concluded.new.self c.new-draft.result c.draft_packet-drafted.new.draft c.draft_packet-drafted.result c.conclude-concluded.result call end c.self.invariant.calm;

@@ -1,4 +1,5 @@
-use Rattle.std.proofs.Common.{◌≡◌, sym, false, true}
+use Rattle.std.proofs.Common.{◌≡◌, sym, false, true, ap}
+use Rattle.spk_broker_rules.specs.Data as plain
 use Rattle.spk_broker_rules.specs.Plan.{Refused}
 use Rattle.spk_broker.proofs.Finishing.{calm-to, closes-to, done-to, index-to, kept-to, sends-to, stands-to}
 use Rattle.spk_broker.proofs.broker.Broker.refused.Goals as goal
@@ -24,7 +25,7 @@ invariant_of-self-2 c =
     (record { done = c.conclude-concluded.ensures.done; sends = c.conclude-concluded.ensures.sends; closes = c.conclude-concluded.ensures.closes; variant = c.conclude-concluded.ensures.variant; same = c.conclude-concluded.ensures.same; settled = c.conclude-concluded.ensures.settled }) in
     record {
       sound = record { settled = sound.settled; lawful = sound.lawful };
-      index = c.shed.ensures _ (index-to c.self.inside.index.tree (Refused c.args.conn c.args.sort c.args.now) c.args.self.now c.self.inside.desk c.draft_refused-drafted.new.self c.conclude-concluded.new.self c.new-draft.result c.draft_refused-drafted.new.draft c.draft_refused-drafted.result c.conclude-concluded.result
+      index = c.shed.ensures _ (ap (λ (b : plain.Broker). b.seats) sound.settled) (index-to c.self.inside.index.tree (Refused c.args.conn c.args.sort c.args.now) c.args.self.now c.self.inside.desk c.draft_refused-drafted.new.self c.conclude-concluded.new.self c.new-draft.result c.draft_refused-drafted.new.draft c.draft_refused-drafted.result c.conclude-concluded.result
           (λ (e : false ≡ true). absurd (let z : ⊥ = cc in z))
           (record { is = c.self.view_is; kept = c.self.invariant.sound; empty = c.new-draft.ensures; done = c.draft_refused-drafted.ensures.done; same = c.draft_refused-drafted.ensures.same })
           (record { done = c.conclude-concluded.ensures.done; sends = c.conclude-concluded.ensures.sends; closes = c.conclude-concluded.ensures.closes; variant = c.conclude-concluded.ensures.variant; same = c.conclude-concluded.ensures.same; settled = c.conclude-concluded.ensures.settled })
