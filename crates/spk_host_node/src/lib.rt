@@ -2,6 +2,7 @@
 //! node (Sparkplug 3.0.0, chapter 5 on the ordering of messages and on host applications).
 #![tactic(auto)]
 
+mod alone;
 mod hearing;
 mod kept;
 pub mod laws;

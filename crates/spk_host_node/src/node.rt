@@ -13,8 +13,9 @@ ghost use Rattle.spk_host_node.specs.Plain.{IsPlain};
 ghost use Rattle.spk_host_node.specs.Room.{IsDropped};
 ghost use Rattle.spk_host_node.specs.Step as spec;
 
-use crate::hearing::{Handed, hear, is_dropped, most_heard, show};
-use crate::kept::{Kept, ready_of};
+use crate::alone::show_alone;
+use crate::hearing::{Handed, hear, is_dropped, most_heard};
+use crate::kept::Kept;
 use crate::plain::{is_plain, show_plain};
 use spk_order::Order;
 use spk_reading::{Numbered, Subject};
@@ -252,8 +253,7 @@ impl HostNode {
         })
     }
 
-    /// Any message that is consumed alone: it is made ready, and shown without being kept between. All memory is asked for before
-    /// anything changes.
+    /// Any message that is consumed alone: it is shown without being kept between. All memory is asked for before anything changes.
     fn hand_alone(&mut self, message: Numbered, now: u64) -> Result<Handed, AllocError>
         requires { spec.step_of self.old.order (numbered_view message) now ≡ Step.Consumed 1 }
         ensures step { IfOk result (λ h. h.step ≡ Step.Consumed 1) }
@@ -268,17 +268,15 @@ impl HostNode {
             self.old.watch (spec.consumed_at now (numbered_view message))) }
         ensures unchanged { OnErr result (self.new ≡ self.old) }
     {
-        self.watch.reserve(1)?;
         let mut consumed = Vec::with_capacity(self.alloc, 1)?;
-        let ready = ready_of(self.alloc, &message)?;
         let wait = self.order.sequence().wait();
+        let is_asked = show_alone(self.alloc, &mut self.watch, wait, &message, now)?;
         self.order.pass(message.number, message.kind, now);
-        let requests = usize::from(show(&mut self.watch, wait, ready, now));
         consumed.push_reserved(message);
         Ok(Handed {
             step: Step::Consumed(1),
             consumed,
-            requests,
+            requests: usize::from(is_asked),
         })
     }
 

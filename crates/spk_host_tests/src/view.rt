@@ -64,6 +64,9 @@ enum Heard {
     DeviceBirth(&'static str, &'static [Row]),
     DeviceData(&'static str, &'static [Row]),
     DeviceDeath(&'static str),
+    /// Births that have the names and the aliases of what is shown, or haven't.
+    NodeRebirth(&'static [Row]),
+    DeviceRebirth(&'static str, &'static [Row]),
     Gap,
     NotLive,
     Over,
@@ -86,7 +89,7 @@ fn made(alloc: Global, heard: &Heard, metrics: &[Metric]) -> Option<Result<Ready
         Heard::DeviceBirth(name, _) => Some(Ready::device_birth(alloc, name, metrics)),
         Heard::DeviceData(name, _) => Some(Ready::device_data(alloc, name, metrics)),
         Heard::DeviceDeath(name) => Some(Ready::device_death(alloc, name)),
-        Heard::Gap | Heard::NotLive | Heard::Over => None,
+        _ => None,
     }
 }
 
@@ -105,6 +108,14 @@ trait Watches {
 
     /// Whether a rebirth is asked for, or None where a message came back.
     fn take(&mut self, ready: Ready, now: u64) -> Option<bool>;
+
+    /// Whether a birth, of the device that is named or of the node, has the names and the aliases of what is shown.
+    fn rebear(
+        &mut self,
+        alloc: Global,
+        device: Option<&str>,
+        metrics: &[Metric],
+    ) -> Result<bool, AllocError>;
 
     fn miss(&mut self, now: u64) -> bool;
 
@@ -132,6 +143,18 @@ impl Watches for Watch {
 
     fn take(&mut self, ready: Ready, now: u64) -> Option<bool> {
         self.consume(WAIT, ready, now).ok()
+    }
+
+    fn rebear(
+        &mut self,
+        alloc: Global,
+        device: Option<&str>,
+        metrics: &[Metric],
+    ) -> Result<bool, AllocError> {
+        match device {
+            Some(name) => self.consume_device_rebirth(alloc, name, metrics),
+            None => self.consume_node_rebirth(alloc, metrics),
+        }
     }
 
     fn miss(&mut self, now: u64) -> bool {
@@ -171,14 +194,23 @@ impl Watches for Watch {
     }
 }
 
-/// What is answered where no message is heard.
-fn turn(watch: &mut impl Watches, heard: &Heard, now: u64) -> Option<bool> {
+/// What is answered where no message is made ready.
+fn turn(
+    alloc: Global,
+    watch: &mut impl Watches,
+    heard: &Heard,
+    now: u64,
+) -> Result<bool, AllocError> {
     match heard {
-        Heard::Gap => Some(watch.miss(now)),
-        Heard::NotLive => Some(watch.wonder(now)),
+        Heard::Gap => Ok(watch.miss(now)),
+        Heard::NotLive => Ok(watch.wonder(now)),
+        Heard::NodeRebirth(rows) => watch.rebear(alloc, None, &metrics(alloc, rows)?),
+        Heard::DeviceRebirth(name, rows) => {
+            watch.rebear(alloc, Some(name), &metrics(alloc, rows)?)
+        }
         _ => {
             watch.end();
-            Some(false)
+            Ok(false)
         }
     }
 }
@@ -195,7 +227,7 @@ fn hear(
     match ready(alloc, heard) {
         Some(Ok(ready)) => Ok(watch.take(ready, now)),
         Some(Err(fault)) => Err(fault),
-        None => Ok(turn(watch, heard, now)),
+        None => Ok(Some(turn(alloc, watch, heard, now)?)),
     }
 }
 
@@ -410,6 +442,88 @@ static DEVICES: [Line; 9] = [
 #[test]
 fn two_devices_have_the_same_aliases(rt: HostRuntime) {
     assert_plays(&rt, Case::Lines(&DEVICES));
+}
+
+static REBIRTHS: [Line; 10] = [
+    (
+        0,
+        0,
+        Heard::NodeRebirth(&[(Some("a"), Some(1), 9)]),
+        NOT,
+        &[Seen::Node(None)],
+    ),
+    (
+        1,
+        0,
+        Heard::NodeBirth(&[(Some("a"), Some(1), 10), (Some("b"), None, 20)]),
+        NOT,
+        &[],
+    ),
+    (2, 0, Heard::Over, NOT, &[Seen::Node(Some((false, true)))]),
+    (
+        3,
+        0,
+        Heard::NodeRebirth(&[(Some("a"), Some(1), 11), (Some("b"), None, 21)]),
+        ASKS,
+        &[
+            Seen::Own("a", Some(11)),
+            Seen::Own("b", Some(21)),
+            Seen::Node(Some((true, false))),
+        ],
+    ),
+    (
+        4,
+        0,
+        Heard::NodeRebirth(&[(Some("a"), Some(2), 12), (Some("b"), None, 22)]),
+        NOT,
+        &[Seen::Own("a", Some(11)), Seen::Own("b", Some(21))],
+    ),
+    (
+        5,
+        0,
+        Heard::NodeRebirth(&[(Some("a"), Some(1), 13)]),
+        NOT,
+        &[Seen::Own("a", Some(11)), Seen::Own("b", Some(21))],
+    ),
+    (
+        6,
+        1,
+        Heard::DeviceBirth("D", &[(Some("t"), Some(1), 30)]),
+        NOT,
+        &[Seen::Of("D", "t", Some(30))],
+    ),
+    (
+        7,
+        0,
+        Heard::NodeRebirth(&[(Some("a"), Some(1), 14), (Some("b"), None, 24)]),
+        ASKS,
+        &[
+            Seen::Own("a", Some(14)),
+            Seen::Device("D", Some((false, true))),
+        ],
+    ),
+    (
+        8,
+        0,
+        Heard::DeviceRebirth("D", &[(Some("t"), Some(1), 31)]),
+        ASKS,
+        &[
+            Seen::Of("D", "t", Some(31)),
+            Seen::Device("D", Some((true, false))),
+        ],
+    ),
+    (
+        9,
+        0,
+        Heard::DeviceRebirth("E", &[(Some("t"), Some(1), 32)]),
+        NOT,
+        &[Seen::Of("D", "t", Some(31)), Seen::Device("E", None)],
+    ),
+];
+
+#[test]
+fn a_rebirth_of_the_same_names_sets_their_values(rt: HostRuntime) {
+    assert_plays(&rt, Case::Lines(&REBIRTHS));
 }
 
 static LOSSES: [Line; 7] = [

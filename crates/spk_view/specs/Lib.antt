@@ -4,3 +4,4 @@ pub mod Indexed
 pub mod Prepared
 pub mod Inside
 pub mod Plain
+pub mod Rebirth

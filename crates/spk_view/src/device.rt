@@ -5,15 +5,16 @@ ghost use Rattle.std.specs.Option.{option_copied};
 ghost use Rattle.std.specs.Prelude.{string_bytes};
 ghost use Rattle.std.specs.Str.{bytes_eq};
 ghost use Rattle.spk_payload.specs.View.{metric_view};
-ghost use Rattle.spk_host_rules.specs.Table.{is_name};
+ghost use Rattle.spk_host_rules.specs.Table.{is_name, table_of};
 ghost use Rattle.spk_view.specs.Plain.{has_texts};
 ghost use Rattle.spk_view.specs.Prepared.{meaning};
 ghost use Rattle.spk_host_rules.specs.Step.{dead_device, ended_device, is_device_lacking, rows_if_born, show_all, stale_device, unborn};
-ghost use Rattle.std.specs.Prelude.{true, false, Some, if◌then◌else◌};
+ghost use Rattle.std.specs.Prelude.{true, false, Some, IfOk, OnErr, if◌then◌else◌};
 
 use crate::metric::MetricView;
 use crate::table::Table;
 use spk_payload::Metric;
+use std::alloc::{AllocError, Global};
 use std::marker::Model;
 
 /// A device of a node that a host shows (Sparkplug 3.0.0, chapters 5 and 6). Contracts see a `Device`.
@@ -104,6 +105,35 @@ impl DeviceView {
             stale,
             table,
         }
+    }
+
+    /// A birth of it, where that has the names and the aliases of its metrics, in order. Answers whether it has them. Where it hasn't,
+    /// or memory is refused, nothing has changed.
+    pub(crate) fn bear(
+        &mut self,
+        alloc: Global,
+        metrics: &[Metric],
+        online: bool,
+        stale: bool,
+    ) -> Result<bool, AllocError>
+        ensures born { IfOk result (λ is. is ≡ true → self.new ≡ record {
+          name = self.old.name;
+          born = true;
+          online = online;
+          stale = stale;
+          rows = table_of (map metric_view metrics.now);
+        }) }
+        ensures name { self.new.name ≡ self.old.name }
+        ensures other { IfOk result (λ is. is ≡ false → self.new ≡ self.old) }
+        ensures unchanged { OnErr result (self.new ≡ self.old) }
+    {
+        let is_born = self.table.bear(alloc, metrics)?;
+        if is_born {
+            self.born = true;
+            self.online = online;
+            self.stale = stale;
+        }
+        Ok(is_born)
     }
 
     /// Whether its name is this one.

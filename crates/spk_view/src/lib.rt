@@ -9,6 +9,7 @@ mod metric;
 mod node;
 mod plain;
 mod ready;
+mod rebirth;
 mod table;
 mod watch;
 

@@ -1,10 +1,11 @@
 //! A metric that is shown.
-ghost use Rattle.std.specs.Prelude.{◌≡◌, Some, IfOk, string_bytes, ◌==◌};
+ghost use Rattle.std.specs.Prelude.{◌≡◌, true, Some, IfOk, string_bytes, ◌==◌};
 ghost use Rattle.std.specs.Option.{option_map};
 ghost use Rattle.std.specs.Str.{bytes_eq};
 ghost use Rattle.spk_payload.specs.View.{content_of, metric_view};
 ghost use Rattle.spk_host_rules.specs.Table.{is_alias, released, row_of, shown_with};
 ghost use Rattle.spk_host_rules.specs.View.{shown_view};
+ghost use Rattle.spk_view.specs.Rebirth.{heading, heading_of, own_shown};
 
 use spk_host_rules::{Shown, shown_value};
 use spk_payload::{Metric, Raw};
@@ -42,6 +43,14 @@ fn copied_value(alloc: Global, value: &Option<Raw>) -> Result<Option<Raw>, Alloc
         Some(raw) => Ok(Some(raw.copy(alloc)?)),
         None => Ok(None),
     }
+}
+
+/// What a metric of a birth shows.
+pub(crate) fn shown_in(alloc: Global, metric: &Metric) -> Result<Shown, AllocError>
+    ensures { IfOk result (λ shown. shown_view shown ≡ own_shown (metric_view metric.now)) }
+{
+    let value = copied_value(alloc, &metric.value)?;
+    Ok(shown_value(metric.datatype, metric.null, value))
 }
 
 impl MetricView {
@@ -83,8 +92,7 @@ impl MetricView {
             (λ row. row ≡ row_of (string_bytes name.now) (metric_view metric.now)) }
     {
         let name = String::from_str(alloc, name.as_str())?;
-        let value = copied_value(alloc, &metric.value)?;
-        let shown = shown_value(metric.datatype, metric.null, value);
+        let shown = shown_in(alloc, metric)?;
         Ok(MetricView {
             name,
             alias: metric.alias,
@@ -105,6 +113,25 @@ impl MetricView {
         ensures { result ≡ is_alias self.now.alias alias }
     {
         self.alias == Some(alias)
+    }
+
+    /// Whether a metric of a birth has its name and its alias.
+    pub(crate) fn is_like(&self, metric: &Metric) -> bool
+        ensures { result ≡ true → heading self.now ≡ heading_of (metric_view metric.now) }
+    {
+        match &metric.name {
+            Some(name) => metric.alias == self.alias && self.is_named(name.as_str()),
+            None => false,
+        }
+    }
+
+    /// A birth with its name and its alias.
+    pub(crate) fn bear(&mut self, datatype: Option<u32>, shown: Shown)
+        ensures { self.new
+            ≡ record self.old { datatype = datatype; shown = shown_view shown } }
+    {
+        self.datatype = datatype;
+        self.shown = shown;
     }
 
     /// Another metric took this alias.

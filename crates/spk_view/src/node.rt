@@ -1,11 +1,11 @@
 //! A node that is shown.
-ghost use Rattle.std.specs.Prelude.{◌≡◌, ◌+◌, ◌-◌, ◌≤◌, ◌<◌, [], false, true, map, not, OnOk, OnErr, IfSome, IfNone, Some, None, string_bytes, if◌then◌else◌};
+ghost use Rattle.std.specs.Prelude.{◌≡◌, ◌+◌, ◌-◌, ◌≤◌, ◌<◌, [], false, true, map, not, IfOk, OnOk, OnErr, IfSome, IfNone, Some, None, string_bytes, if◌then◌else◌};
 ghost use Rattle.std.specs.List.{find};
 ghost use Rattle.std.specs.Option.{option_copied};
 ghost use Rattle.std.specs.Str.{bytes_eq};
 ghost use Rattle.spk_payload.specs.View.{metric_view};
 ghost use Rattle.spk_host_rules.specs.Step as rules;
-ghost use Rattle.spk_host_rules.specs.Table.{is_lacking, is_name};
+ghost use Rattle.spk_host_rules.specs.Table.{is_lacking, is_name, table_of};
 ghost use Rattle.spk_view.specs.Indexed.{IsPlaceOf};
 ghost use Rattle.spk_view.specs.Inside.{body_view};
 ghost use Rattle.spk_view.specs.Plain.{has_texts};
@@ -163,10 +163,38 @@ impl NodeView {
         ensures view { self.new.view ≡ born_with table self.old.view.devices }
         ensures room { self.new.room ≡ self.old.room }
     {
+        self.table = table;
+        self.begin();
+    }
+
+    /// The node's metrics are those of its birth.
+    fn begin(&mut self)
+        ensures view { self.new.view ≡ born_with self.old.view.rows self.old.view.devices }
+        ensures room { self.new.room ≡ self.old.room }
+    {
         self.online = true;
         self.stale = false;
-        self.table = table;
         unbear_all(&mut self.devices);
+    }
+
+    /// The node had a birth, where that has the names and the aliases of its metrics, in order. Answers whether it has them. Where it
+    /// hasn't, or memory is refused, nothing has changed.
+    pub(crate) fn bear_again(
+        &mut self,
+        alloc: Global,
+        metrics: &[Metric],
+    ) -> Result<bool, AllocError>
+        ensures born { IfOk result (λ is. is ≡ true → self.new.view
+            ≡ born_with (table_of (map metric_view metrics.now)) self.old.view.devices) }
+        ensures room { self.new.room ≡ self.old.room }
+        ensures other { IfOk result (λ is. is ≡ false → self.new ≡ self.old) }
+        ensures unchanged { OnErr result (self.new ≡ self.old) }
+    {
+        let is_born = self.table.bear(alloc, metrics)?;
+        if is_born {
+            self.begin();
+        }
+        Ok(is_born)
     }
 
     /// Data of the node's own are shown.
@@ -204,6 +232,30 @@ impl NodeView {
         match place {
             Some(place) => self.devices[place] = device,
             None => self.devices.push_reserved(device),
+        }
+    }
+
+    /// A device had a birth, where the node shows it, and the birth has the names and the aliases of its metrics, in order. Answers
+    /// whether that is so. Where it isn't, or memory is refused, nothing has changed.
+    pub(crate) fn bear_device_again(
+        &mut self,
+        alloc: Global,
+        name: &str,
+        metrics: &[Metric],
+    ) -> Result<bool, AllocError>
+        ensures born { IfOk result (λ is. is ≡ true → self.new.view
+            ≡ device_with name.now (table_of (map metric_view metrics.now)) self.old.view) }
+        ensures room { self.new.room ≡ self.old.room }
+        ensures other { IfOk result (λ is. is ≡ false → self.new ≡ self.old) }
+        ensures unchanged { OnErr result (self.new ≡ self.old) }
+    {
+        match self.place_of(name) {
+            Some(place) => {
+                let (online, stale) = (self.online, self.stale);
+                let is_born = self.devices[place].bear(alloc, metrics, online, stale)?;
+                Ok(is_born)
+            }
+            None => Ok(false),
         }
     }
 

@@ -1,5 +1,5 @@
 //! The metrics of a node's own or of a device, found by name and by alias.
-ghost use Rattle.std.specs.Prelude.{◌≡◌, ◌≤◌, ◌⊎◌, ℕ, [], map, length, IfOk, OnOk, Some, None, is_some, not, ◌&&◌, ◌||◌, false, string_bytes, slice_get, set, if◌then◌else◌};
+ghost use Rattle.std.specs.Prelude.{◌≡◌, ◌≤◌, ◌⊎◌, ℕ, [], map, length, IfOk, OnOk, OnErr, true, Some, None, is_some, not, ◌&&◌, ◌||◌, false, string_bytes, slice_get, set, if◌then◌else◌};
 ghost use Rattle.std.specs.List.{find, list_any};
 ghost use Rattle.std.specs.Option.{option_map, option_copied};
 ghost use Rattle.std.specs.Str.{bytes_eq};
@@ -17,6 +17,7 @@ use crate::aliases::Aliases;
 use crate::keys::{Keys, key_of_name};
 use crate::metric::MetricView;
 use crate::plain::same_value;
+use crate::rebirth::{all_shown, are_alike, bear_all};
 use spk_payload::{Metric, Raw};
 use std::alloc::{AllocError, Global};
 use std::fmt;
@@ -169,6 +170,22 @@ impl Table {
             names,
             aliases,
         })
+    }
+
+    /// The metrics of a birth that has the names and the aliases of these rows, in order: the rows stay, with what leads to them, and
+    /// what they show is set. Answers whether it has them. Where it hasn't, or memory is refused, nothing has changed.
+    pub(crate) fn bear(&mut self, alloc: Global, metrics: &[Metric]) -> Result<bool, AllocError>
+        ensures born { IfOk result
+            (λ is. is ≡ true → self.new ≡ table_of (map metric_view metrics.now)) }
+        ensures other { IfOk result (λ is. is ≡ false → self.new ≡ self.old) }
+        ensures unchanged { OnErr result (self.new ≡ self.old) }
+    {
+        if !are_alike(&self.rows, metrics) {
+            return Ok(false);
+        }
+        let all = all_shown(alloc, metrics)?;
+        bear_all(&mut self.rows, metrics, all);
+        Ok(true)
     }
 
     /// The metrics, in the order of the birth.

@@ -2,7 +2,7 @@
 ghost use Rattle.std.specs.Prelude.{◌≡◌, ℕ, ◌+◌, ◌<◌, ◌≤◌, ◌||◌, true, false, map, IfOk, IfErr, OnOk, OnErr, Some, if◌then◌else◌};
 ghost use Rattle.std.specs.Option.{option_map};
 ghost use Rattle.spk_payload.specs.View.{metric_view};
-ghost use Rattle.spk_host_rules.specs.Data.{unheard, Message, NodeData, DeviceData, DeviceDeath, Consumed, Gap, NotLive, Over};
+ghost use Rattle.spk_host_rules.specs.Data.{unheard, Message, NodeBirth, NodeData, DeviceBirth, DeviceData, DeviceDeath, Consumed, Gap, NotLive, Over};
 ghost use Rattle.spk_host_rules.specs.Step as rules;
 ghost use Rattle.spk_view.specs.Data.{NodeChanges, DeviceChanges};
 ghost use Rattle.spk_view.specs.Plain.{has_texts};
@@ -136,6 +136,50 @@ impl Watch {
     {
         let is_unknown = self.show_device_data(name, metrics);
         self.ask(wait, is_unknown, false, now)
+    }
+
+    /// An NBIRTH with these metrics is consumed, where they have the names and the aliases of the node's metrics that are shown, in the
+    /// same order: what `consume` does with it made ready, but the metrics stay and their values are set. No rebirth is asked for.
+    ///
+    /// Answers whether they have them. Where they haven't, and where memory is refused, nothing has changed.
+    pub fn consume_node_rebirth(
+        &mut self,
+        alloc: Global,
+        metrics: &[Metric],
+    ) -> Result<bool, AllocError>
+        ensures watch { (wait now : ℕ) → IfOk result (λ is. is ≡ true → self.new.watch
+            ≡ rules.step wait self.old.watch
+            (Consumed (NodeBirth (map metric_view metrics.now)) now)) }
+        ensures room { self.new.room ≡ self.old.room }
+        ensures other { IfOk result (λ is. is ≡ false → self.new ≡ self.old) }
+        ensures unchanged { OnErr result (self.new ≡ self.old) }
+    {
+        let is_born = self.node.bear_again(alloc, metrics)?;
+        if is_born {
+            self.is_shown = true;
+            self.born_since = true;
+        }
+        Ok(is_born)
+    }
+
+    /// The same of a DBIRTH of a device that is shown, by the device's metrics.
+    pub fn consume_device_rebirth(
+        &mut self,
+        alloc: Global,
+        name: &str,
+        metrics: &[Metric],
+    ) -> Result<bool, AllocError>
+        ensures watch { (wait now : ℕ) → IfOk result (λ is. is ≡ true → self.new.watch
+            ≡ rules.step wait self.old.watch
+            (Consumed (DeviceBirth name.now (map metric_view metrics.now)) now)) }
+        ensures room { self.new.room ≡ self.old.room }
+        ensures other { IfOk result (λ is. is ≡ false → self.new ≡ self.old) }
+        ensures unchanged { OnErr result (self.new ≡ self.old) }
+    {
+        if !self.is_shown {
+            return Ok(false);
+        }
+        self.node.bear_device_again(alloc, name, metrics)
     }
 
     /// A gap in the node's order at `now`: its values are stale. Answers whether a rebirth is asked for, as `consume` does. Takes

@@ -1,7 +1,7 @@
 use Rattle.std.proofs.Common.{refl, arith}
 use Rattle.spk_host_rules.specs.Step.{unborn}
 use Rattle.spk_view.proofs.Devices.{apart-lent}
-use Rattle.spk_view.proofs.node.NodeView.bear.Goals as goal
+use Rattle.spk_view.proofs.node.NodeView.begin.Goals as goal
 
 pub invariant_of-self : goal.invariant_of-self
 invariant_of-self c =
