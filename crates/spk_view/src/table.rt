@@ -1,5 +1,5 @@
 //! The metrics of a node's own or of a device, found by name and by alias.
-ghost use Rattle.std.specs.Prelude.{◌≡◌, ◌≤◌, ◌⊎◌, ℕ, [], map, length, IfOk, OnOk, OnErr, true, Some, None, is_some, not, ◌&&◌, ◌||◌, false, string_bytes, slice_get, set, if◌then◌else◌};
+ghost use Rattle.std.specs.Prelude.{◌≡◌, ◌⊎◌, ℕ, [], map, count_by, IfOk, OnOk, OnErr, true, Some, None, is_some, not, ◌&&◌, ◌||◌, false, string_bytes, slice_get, set, if◌then◌else◌};
 ghost use Rattle.std.specs.List.{find, list_any};
 ghost use Rattle.std.specs.Option.{option_map, option_copied};
 ghost use Rattle.std.specs.Str.{bytes_eq};
@@ -130,13 +130,26 @@ fn put(
     Ok(())
 }
 
-/// How many metrics have an alias.
-fn aliases_in(metrics: &[Metric]) -> usize
-    ensures { result ≤ length metrics.now }
+/// How many metrics have a name.
+fn names_in(metrics: &[Metric]) -> usize
+    ensures { result ≡ count_by (λ m. is_some m.name) metrics.now }
 {
     let mut count = 0;
     for metric in metrics {
-        if metric.alias.is_some() {
+        if metric.name.is_some() {
+            count += 1;
+        }
+    }
+    count
+}
+
+/// How many metrics have a name and an alias.
+fn aliases_in(metrics: &[Metric]) -> usize
+    ensures { result ≡ count_by (λ m. is_some m.name && is_some m.alias) metrics.now }
+{
+    let mut count = 0;
+    for metric in metrics {
+        if metric.name.is_some() && metric.alias.is_some() {
             count += 1;
         }
     }
@@ -159,8 +172,9 @@ impl Table {
     pub(crate) fn born(alloc: Global, metrics: &[Metric]) -> Result<Table, AllocError>
         ensures { IfOk result (λ table. table ≡ table_of (map metric_view metrics.now)) }
     {
-        let mut rows = Vec::with_capacity(alloc, metrics.len())?;
-        let mut names = Keys::with_room(alloc, metrics.len())?;
+        let count = names_in(metrics);
+        let mut rows = Vec::with_capacity(alloc, count)?;
+        let mut names = Keys::with_room(alloc, count)?;
         let mut aliases = Aliases::with_room(alloc, aliases_in(metrics))?;
         for metric in metrics {
             put(alloc, &mut rows, &mut names, &mut aliases, metric)?;

@@ -1,5 +1,7 @@
-use Rattle.std.proofs.Common.{◌≤◌}
+use Rattle.std.proofs.Common.{◌≡◌, take}
+use Rattle.std.specs.Prelude.{◌&&◌, count_by, is_some}
 use Rattle.spk_view.proofs.table.aliases_in.Given as goal
 
+-- so many of the metrics so far
 abbrev pub invariant-loop-metric : goal.invariant-loop-metric
-invariant-loop-metric l = l.count ≤ l.metric-index
+invariant-loop-metric l = l.count ≡ count_by (λ m. is_some m.name && is_some m.alias) (take l.metric-index l.metrics)
