@@ -31,8 +31,8 @@ fn show_rebirth(alloc: Global, watch: &mut Watch, message: &Numbered) -> Result<
     }
 }
 
-/// A message is shown. Answers whether a rebirth is asked for. Refused only where memory is, before anything changes.
-pub(crate) fn show_alone(
+/// A birth or a death is shown. Answers whether a rebirth is asked for. Refused only where memory is, before anything changes.
+fn show_other(
     alloc: Global,
     watch: &mut Watch,
     wait: u64,
@@ -52,4 +52,28 @@ pub(crate) fn show_alone(
     watch.reserve(1)?;
     let ready = ready_of(alloc, message)?;
     Ok(show(watch, wait, ready, now))
+}
+
+/// A message is shown. Answers whether a rebirth is asked for. Refused only where memory is, before anything changes.
+pub(crate) fn show_alone(
+    alloc: Global,
+    watch: &mut Watch,
+    wait: u64,
+    message: &Numbered,
+    now: u64,
+) -> Result<bool, AllocError>
+    ensures asks { IfOk result (λ asks. asks
+        ≡ rules.asks wait watch.old.watch (spec.consumed_at now (numbered_view message.now))) }
+    ensures watch { OnOk result (watch.new.watch
+        ≡ rules.step wait watch.old.watch (spec.consumed_at now (numbered_view message.now))) }
+    ensures unchanged { OnErr result (watch.new.watch ≡ watch.old.watch) }
+{
+    let metrics = &message.payload.metrics;
+    match &message.subject {
+        Subject::NodeData => watch.consume_any_node_data(alloc, wait, metrics, now),
+        Subject::DeviceData(device) => {
+            watch.consume_any_device_data(alloc, wait, device.as_str(), metrics, now)
+        }
+        _ => show_other(alloc, watch, wait, message, now),
+    }
 }

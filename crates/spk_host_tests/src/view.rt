@@ -7,8 +7,22 @@ use std::process::Abort;
 /// How long no second rebirth is asked for, in milliseconds.
 const WAIT: u64 = 2000;
 
-/// A metric's name, alias and value. All are UInt32 (7).
+/// A metric's name, alias and value: a UInt32 (7), or from 1,000 on a String (12) of so many letters more.
 type Row = (Option<&'static str>, Option<u64>, u32);
+
+/// From this number on a row has a text.
+const TEXTS: u32 = 1000;
+
+fn raw(alloc: Global, value: u32) -> Result<Raw, AllocError> {
+    if value < TEXTS {
+        return Ok(Raw::Int(value));
+    }
+    let mut text = String::new(alloc);
+    for _letter in TEXTS..value {
+        text.push('x')?;
+    }
+    Ok(Raw::Words(text))
+}
 
 fn metric(
     alloc: Global,
@@ -24,11 +38,11 @@ fn metric(
         name,
         alias,
         timestamp: None,
-        datatype: Some(7),
+        datatype: Some(if value < TEXTS { 7 } else { 12 }),
         historical: None,
         transient: None,
         null: None,
-        value: Some(Raw::Int(value)),
+        value: Some(raw(alloc, value)?),
     })
 }
 
@@ -67,6 +81,9 @@ enum Heard {
     /// Births that have the names and the aliases of what is shown, or haven't.
     NodeRebirth(&'static [Row]),
     DeviceRebirth(&'static str, &'static [Row]),
+    /// Data that aren't made ready.
+    NodeValues(&'static [Row]),
+    DeviceValues(&'static str, &'static [Row]),
     Gap,
     NotLive,
     Over,
@@ -81,7 +98,7 @@ fn rows_of(heard: &Heard) -> &'static [Row] {
     }
 }
 
-/// A message of these metrics made ready, if it is one.
+/// A message of these metrics made ready, if it is one that is.
 fn made(alloc: Global, heard: &Heard, metrics: &[Metric]) -> Option<Result<Ready, AllocError>> {
     match heard {
         Heard::NodeBirth(_) => Some(Ready::node_birth(alloc, metrics)),
@@ -115,6 +132,15 @@ trait Watches {
         alloc: Global,
         device: Option<&str>,
         metrics: &[Metric],
+    ) -> Result<bool, AllocError>;
+
+    /// Whether a rebirth is asked for at data, of the device that is named or of the node.
+    fn change(
+        &mut self,
+        alloc: Global,
+        device: Option<&str>,
+        metrics: &[Metric],
+        now: u64,
     ) -> Result<bool, AllocError>;
 
     fn miss(&mut self, now: u64) -> bool;
@@ -154,6 +180,19 @@ impl Watches for Watch {
         match device {
             Some(name) => self.consume_device_rebirth(alloc, name, metrics),
             None => self.consume_node_rebirth(alloc, metrics),
+        }
+    }
+
+    fn change(
+        &mut self,
+        alloc: Global,
+        device: Option<&str>,
+        metrics: &[Metric],
+        now: u64,
+    ) -> Result<bool, AllocError> {
+        match device {
+            Some(name) => self.consume_any_device_data(alloc, WAIT, name, metrics, now),
+            None => self.consume_any_node_data(alloc, WAIT, metrics, now),
         }
     }
 
@@ -205,6 +244,10 @@ fn turn(
         Heard::Gap => Ok(watch.miss(now)),
         Heard::NotLive => Ok(watch.wonder(now)),
         Heard::NodeRebirth(rows) => watch.rebear(alloc, None, &metrics(alloc, rows)?),
+        Heard::NodeValues(rows) => watch.change(alloc, None, &metrics(alloc, rows)?, now),
+        Heard::DeviceValues(name, rows) => {
+            watch.change(alloc, Some(name), &metrics(alloc, rows)?, now)
+        }
         Heard::DeviceRebirth(name, rows) => {
             watch.rebear(alloc, Some(name), &metrics(alloc, rows)?)
         }
@@ -235,6 +278,7 @@ fn hear(
 fn number(shown: &Shown) -> u64 {
     match shown {
         Shown::Typed(Value::Unsigned(number)) => *number,
+        Shown::Typed(Value::Words(text)) => u64::from(TEXTS).saturating_add(text.len() as u64),
         _ => 0,
     }
 }
@@ -524,6 +568,72 @@ static REBIRTHS: [Line; 10] = [
 #[test]
 fn a_rebirth_of_the_same_names_sets_their_values(rt: HostRuntime) {
     assert_plays(&rt, Case::Lines(&REBIRTHS));
+}
+
+static VALUES: [Line; 6] = [
+    (
+        0,
+        0,
+        Heard::NodeBirth(&[
+            (Some("a"), Some(1), 1003),
+            (Some("b"), Some(2), 20),
+            (Some("c"), Some(3), 1001),
+        ]),
+        NOT,
+        &[Seen::Own("a", Some(1003)), Seen::Own("c", Some(1001))],
+    ),
+    (
+        1,
+        0,
+        Heard::NodeValues(&[
+            (None, Some(1), 1005),
+            (None, Some(2), 21),
+            (None, Some(3), 1002),
+        ]),
+        NOT,
+        &[
+            Seen::Own("a", Some(1005)),
+            Seen::Own("b", Some(21)),
+            Seen::Own("c", Some(1002)),
+        ],
+    ),
+    (
+        2,
+        0,
+        Heard::NodeValues(&[(Some("c"), None, 1004), (None, Some(1), 1006)]),
+        NOT,
+        &[Seen::Own("a", Some(1006)), Seen::Own("c", Some(1004))],
+    ),
+    (
+        3,
+        0,
+        Heard::NodeValues(&[(None, Some(9), 1007), (None, Some(1), 1008)]),
+        ASKS,
+        &[Seen::Own("a", Some(1008)), Seen::Own("c", Some(1004))],
+    ),
+    (
+        4,
+        1,
+        Heard::DeviceBirth("D", &[(Some("t"), Some(1), 1001), (Some("u"), Some(2), 5)]),
+        NOT,
+        &[Seen::Of("D", "t", Some(1001))],
+    ),
+    (
+        5,
+        0,
+        Heard::DeviceValues("D", &[(None, Some(2), 6), (None, Some(1), 1009)]),
+        NOT,
+        &[
+            Seen::Of("D", "u", Some(6)),
+            Seen::Of("D", "t", Some(1009)),
+            Seen::Own("a", Some(1008)),
+        ],
+    ),
+];
+
+#[test]
+fn data_with_texts_are_shown_without_being_made_ready(rt: HostRuntime) {
+    assert_plays(&rt, Case::Lines(&VALUES));
 }
 
 static LOSSES: [Line; 7] = [

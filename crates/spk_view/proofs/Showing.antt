@@ -1,14 +1,15 @@
 -- Data whose values are no texts: a metric is shown, and it is told whether its alias leads nowhere.
-use Rattle.std.proofs.Common.{◌≡◌, ◌∙◌, sym, ap, refl, ℕ, Bool, true, false, cond, List, [], ◌∷◌, map, Option, Some, None, is_some}
+use Rattle.std.proofs.Common.{◌≡◌, ◌∙◌, sym, ap, refl, ℕ, Bool, true, false, cond, List, [], ◌∷◌, ◌++◌, map, Option, Some, None, is_some}
 use Rattle.std.specs.List.{find, list_any}
 use Rattle.std.specs.Option.{option_map}
 use Rattle.std.specs.Prelude.{◌&&◌, ◌||◌, not, if◌then◌else◌}
 use Rattle.std.specs.Str.{bytes_eq}
-use Rattle.spk_payload.specs.Meaning.{MetricData}
+use Rattle.spk_payload.specs.Meaning.{MetricData, has_text_or_bytes}
 use Rattle.spk_host_rules.specs.Data.{Row}
 use Rattle.spk_host_rules.specs.Step.{show}
 use Rattle.spk_host_rules.specs.Table.{changed, changes, is_alias, is_lacking, is_name, is_set, lacks, name_by, name_of}
 use Rattle.spk_view.specs.Indexed.{IsPlaceOf}
+use Rattle.spk_view.specs.Plain.{has_texts, texts_in}
 use Rattle.spk_view.proofs.Places.{none≢some, same-some, text-itself, any-place}
 
 -- the place that a metric changes, of that which it means
@@ -102,3 +103,16 @@ or-grouped false b c = refl
 pub or-none : (a b : Bool) → (a || b) ≡ false → b ≡ false
 or-none true b e = absurd (cc)
 or-none false b e = e
+
+-- ---- texts
+
+or-first : (a b : Bool) → (a || b) ≡ false → a ≡ false
+or-first true b e = absurd (cc)
+or-first false b e = refl
+
+-- data without texts have none
+pub no-texts : (ms : List MetricData) → has_texts ms ≡ false → [] ≡ texts_in ms
+no-texts [] h = refl
+no-texts (m ∷ ms) h =
+    no-texts ms (or-none (has_text_or_bytes m.value) (has_texts ms) h)
+    ∙ ap (λ b. cond b (m.value ∷ []) [] ++ texts_in ms) (sym (or-first (has_text_or_bytes m.value) (has_texts ms) h))

@@ -1,19 +1,19 @@
 //! A device that is shown.
 ghost use Rattle.std.specs.Prelude.{◌≡◌, map};
 ghost use Rattle.std.specs.List.{find};
-ghost use Rattle.std.specs.Option.{option_copied};
+ghost use Rattle.std.specs.Option.{option_copied, option_map};
 ghost use Rattle.std.specs.Prelude.{string_bytes};
 ghost use Rattle.std.specs.Str.{bytes_eq};
-ghost use Rattle.spk_payload.specs.View.{metric_view};
+ghost use Rattle.spk_payload.specs.View.{content_of, metric_view};
 ghost use Rattle.spk_host_rules.specs.Table.{is_name, table_of};
-ghost use Rattle.spk_view.specs.Plain.{has_texts};
+ghost use Rattle.spk_view.specs.Plain.{texts_in};
 ghost use Rattle.spk_view.specs.Prepared.{meaning};
 ghost use Rattle.spk_host_rules.specs.Step.{dead_device, ended_device, is_device_lacking, rows_if_born, show_all, stale_device, unborn};
 ghost use Rattle.std.specs.Prelude.{true, false, Some, IfOk, OnErr, if◌then◌else◌};
 
 use crate::metric::MetricView;
 use crate::table::Table;
-use spk_payload::Metric;
+use spk_payload::{Metric, Raw};
 use std::alloc::{AllocError, Global};
 use std::marker::Model;
 
@@ -189,9 +189,9 @@ impl DeviceView {
         }
     }
 
-    /// The same of data without texts. Answers whether it wasn't born, or a metric names an alias that it lacks.
-    pub(crate) fn show_all_plain(&mut self, metrics: &[Metric]) -> bool
-        requires { has_texts (map metric_view metrics.now) ≡ false }
+    /// The same with these texts and bytes, the data's own. Answers whether it wasn't born, or a metric names an alias that it lacks.
+    pub(crate) fn show_each(&mut self, metrics: &[Metric], texts: &mut [Option<Raw>]) -> bool
+        requires { map (option_map content_of) texts.old ≡ texts_in (map metric_view metrics.now) }
         ensures lacking { result
             ≡ is_device_lacking (rows_if_born (Some self.old)) (map metric_view metrics.now) }
         ensures shown { self.new ≡ record self.old {
@@ -199,7 +199,7 @@ impl DeviceView {
               (map metric_view metrics.now) self.old.rows else self.old.rows;
         } }
     {
-        !self.born || self.table.show_all_plain(metrics)
+        !self.born || self.table.show_each(metrics, texts)
     }
 
     /// Whether it wasn't born, or a metric names an alias that it lacks.

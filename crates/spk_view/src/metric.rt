@@ -36,7 +36,8 @@ impl Model for MetricView {
     } };
 }
 
-fn copied_value(alloc: Global, value: &Option<Raw>) -> Result<Option<Raw>, AllocError>
+/// A copy of a value, if there is one.
+pub(crate) fn copied_value(alloc: Global, value: &Option<Raw>) -> Result<Option<Raw>, AllocError>
     ensures { IfOk result (λ v. option_map content_of v ≡ option_map content_of value.now) }
 {
     match value {

@@ -1,21 +1,21 @@
 //! A node that is shown.
 ghost use Rattle.std.specs.Prelude.{◌≡◌, ◌+◌, ◌-◌, ◌≤◌, ◌<◌, [], false, true, map, not, IfOk, OnOk, OnErr, IfSome, IfNone, Some, None, string_bytes, if◌then◌else◌};
 ghost use Rattle.std.specs.List.{find};
-ghost use Rattle.std.specs.Option.{option_copied};
+ghost use Rattle.std.specs.Option.{option_copied, option_map};
 ghost use Rattle.std.specs.Str.{bytes_eq};
-ghost use Rattle.spk_payload.specs.View.{metric_view};
+ghost use Rattle.spk_payload.specs.View.{content_of, metric_view};
 ghost use Rattle.spk_host_rules.specs.Step as rules;
 ghost use Rattle.spk_host_rules.specs.Table.{is_lacking, is_name, table_of};
 ghost use Rattle.spk_view.specs.Indexed.{IsPlaceOf};
 ghost use Rattle.spk_view.specs.Inside.{body_view};
-ghost use Rattle.spk_view.specs.Plain.{has_texts};
+ghost use Rattle.spk_view.specs.Plain.{texts_in};
 ghost use Rattle.spk_view.specs.Prepared.{meaning, born_with, device_with, has_device, is_new, view_by};
 
 use crate::device::{DeviceView, end_all, hear_death, lose_all, unbear_all};
 use crate::metric::MetricView;
 use crate::ready::Body;
 use crate::table::Table;
-use spk_payload::Metric;
+use spk_payload::{Metric, Raw};
 use std::alloc::{AllocError, Global};
 use std::marker::Model;
 
@@ -206,15 +206,15 @@ impl NodeView {
         self.table.show_all(metrics);
     }
 
-    /// The same of data without texts. Answers whether a metric names an alias that the node lacks.
-    pub(crate) fn show_all_plain(&mut self, metrics: &[Metric]) -> bool
-        requires { has_texts (map metric_view metrics.now) ≡ false }
+    /// The same with these texts and bytes, the data's own. Answers whether a metric names an alias that the node lacks.
+    pub(crate) fn show_each(&mut self, metrics: &[Metric], texts: &mut [Option<Raw>]) -> bool
+        requires { map (option_map content_of) texts.old ≡ texts_in (map metric_view metrics.now) }
         ensures lacking { result ≡ is_lacking self.old.view.rows (map metric_view metrics.now) }
         ensures view { self.new.view
             ≡ rules.node_changed (map metric_view metrics.now) self.old.view }
         ensures room { self.new.room ≡ self.old.room }
     {
-        self.table.show_all_plain(metrics)
+        self.table.show_each(metrics, texts)
     }
 
     /// A device had a birth.
@@ -270,9 +270,15 @@ impl NodeView {
         }
     }
 
-    /// The same of data without texts. Answers whether the device wasn't born, or a metric of it names an alias that it lacks.
-    pub(crate) fn show_all_plain_of(&mut self, name: &str, metrics: &[Metric]) -> bool
-        requires { has_texts (map metric_view metrics.now) ≡ false }
+    /// The same with these texts and bytes, the data's own. Answers whether the device wasn't born, or a metric of it names an alias that
+    /// it lacks.
+    pub(crate) fn show_each_of(
+        &mut self,
+        name: &str,
+        metrics: &[Metric],
+        texts: &mut [Option<Raw>],
+    ) -> bool
+        requires { map (option_map content_of) texts.old ≡ texts_in (map metric_view metrics.now) }
         ensures lacking { result
             ≡ rules.is_device_lacking (rules.device_rows name.now (Some self.old.view))
             (map metric_view metrics.now) }
@@ -281,7 +287,7 @@ impl NodeView {
         ensures room { self.new.room ≡ self.old.room }
     {
         match self.place_of(name) {
-            Some(place) => self.devices[place].show_all_plain(metrics),
+            Some(place) => self.devices[place].show_each(metrics, texts),
             None => true,
         }
     }

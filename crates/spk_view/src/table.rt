@@ -3,12 +3,11 @@ ghost use Rattle.std.specs.Prelude.{◌≡◌, ◌⊎◌, ℕ, [], map, count_by
 ghost use Rattle.std.specs.List.{find, list_any};
 ghost use Rattle.std.specs.Option.{option_map, option_copied};
 ghost use Rattle.std.specs.Str.{bytes_eq};
-ghost use Rattle.spk_payload.specs.Meaning.{has_text_or_bytes};
 ghost use Rattle.spk_payload.specs.View.{content_of, metric_view};
 ghost use Rattle.spk_host_rules.specs.Data.{Row};
 ghost use Rattle.spk_host_rules.specs.Step.{show, show_all};
 ghost use Rattle.spk_host_rules.specs.Table.{changes, is_alias, is_lacking, is_name, is_set, lacks, name_by, name_of, placed, released, shown_with, table_of, with_metric};
-ghost use Rattle.spk_view.specs.Plain.{has_texts};
+ghost use Rattle.spk_view.specs.Plain.{texts_in};
 ghost use Rattle.spk_view.specs.Prepared.{meaning};
 ghost use Rattle.spk_view.specs.Keyed.{key_of_name, key_of_row};
 ghost use Rattle.spk_view.specs.Indexed.{place_in, IsAliased, IsApart, IsIndexed, IsNamed, IsPlaceOf};
@@ -16,7 +15,7 @@ ghost use Rattle.spk_view.specs.Indexed.{place_in, IsAliased, IsApart, IsIndexed
 use crate::aliases::Aliases;
 use crate::keys::{Keys, key_of_name};
 use crate::metric::MetricView;
-use crate::plain::same_value;
+use crate::plain::next_value;
 use crate::rebirth::{all_shown, are_alike, bear_all};
 use spk_payload::{Metric, Raw};
 use std::alloc::{AllocError, Global};
@@ -331,27 +330,30 @@ impl Table {
         }
     }
 
-    /// A metric of data is shown, unless it is historical. Answers whether it names an alias that no row has.
-    fn show_plain(&mut self, metric: &Metric) -> bool
-        requires { has_text_or_bytes (metric_view metric.now).value ≡ false }
+    /// A metric of data is shown with this value, its own, unless it is historical. Answers whether it names an alias that no row has.
+    fn show_one(&mut self, metric: &Metric, value: Option<Raw>) -> bool
+        requires { option_map content_of value ≡ (metric_view metric.now).value }
         ensures lacks { result ≡ lacks self.old metric.now.alias }
         ensures rows { self.new ≡ show (metric_view metric.now) self.old }
     {
         let place = self.place_of(metric.alias, &metric.name);
         let changed = unless_historical(metric, place);
-        self.show_at(changed, metric.null, same_value(&metric.value));
+        self.show_at(changed, metric.null, value);
         is_lost(metric.alias, place)
     }
 
-    /// The metrics of data are shown, in turn. Answers whether any names an alias that no row has.
-    pub(crate) fn show_all_plain(&mut self, metrics: &[Metric]) -> bool
-        requires { has_texts (map metric_view metrics.now) ≡ false }
+    /// The metrics of data are shown, in turn, with these texts and bytes, their own. Answers whether any names an alias that no row has.
+    pub(crate) fn show_each(&mut self, metrics: &[Metric], texts: &mut [Option<Raw>]) -> bool
+        requires { map (option_map content_of) texts.old ≡ texts_in (map metric_view metrics.now) }
         ensures lacking { result ≡ is_lacking self.old (map metric_view metrics.now) }
         ensures rows { self.new ≡ show_all (map metric_view metrics.now) self.old }
     {
         let mut is_any_lost = false;
+        let mut place = 0;
         for metric in metrics {
-            is_any_lost = either(is_any_lost, self.show_plain(metric));
+            let (value, next) = next_value(&metric.value, texts, place);
+            place = next;
+            is_any_lost = either(is_any_lost, self.show_one(metric, value));
         }
         is_any_lost
     }

@@ -1,17 +1,18 @@
 //! What a host keeps of one node.
 ghost use Rattle.std.specs.Prelude.{◌≡◌, ℕ, ◌+◌, ◌<◌, ◌≤◌, ◌||◌, true, false, map, IfOk, IfErr, OnOk, OnErr, Some, if◌then◌else◌};
 ghost use Rattle.std.specs.Option.{option_map};
-ghost use Rattle.spk_payload.specs.View.{metric_view};
+ghost use Rattle.spk_payload.specs.View.{content_of, metric_view};
 ghost use Rattle.spk_host_rules.specs.Data.{unheard, Message, NodeBirth, NodeData, DeviceBirth, DeviceData, DeviceDeath, Consumed, Gap, NotLive, Over};
 ghost use Rattle.spk_host_rules.specs.Step as rules;
 ghost use Rattle.spk_view.specs.Data.{NodeChanges, DeviceChanges};
-ghost use Rattle.spk_view.specs.Plain.{has_texts};
+ghost use Rattle.spk_view.specs.Plain.{has_texts, texts_in};
 ghost use Rattle.spk_view.specs.Prepared.{asks_by, is_birth_by, is_unknown_by, kept_after, prepared, takes_room, view_by};
 
 use crate::node::NodeView;
+use crate::plain::texts_of;
 use crate::ready::{Body, Ready};
 use spk_host_rules::may_ask;
-use spk_payload::Metric;
+use spk_payload::{Metric, Raw};
 use std::alloc::{AllocError, Global};
 use std::marker::Model;
 
@@ -115,7 +116,7 @@ impl Watch {
             (Consumed (NodeData (map metric_view metrics.now)) now) }
         ensures room { self.new.room ≡ self.old.room }
     {
-        let is_unknown = self.show_node_data(metrics);
+        let is_unknown = self.show_node_data(metrics, &mut []);
         self.ask(wait, is_unknown, false, now)
     }
 
@@ -134,8 +135,50 @@ impl Watch {
             (Consumed (DeviceData name.now (map metric_view metrics.now)) now) }
         ensures room { self.new.room ≡ self.old.room }
     {
-        let is_unknown = self.show_device_data(name, metrics);
+        let is_unknown = self.show_device_data(name, metrics, &mut []);
         self.ask(wait, is_unknown, false, now)
+    }
+
+    /// An NDATA with these metrics is consumed at `now`, whatever its values are: what `consume` does with it made ready, with copies of
+    /// its texts and bytes alone. Answers whether a rebirth is asked for. Refused only where memory is, before anything changes.
+    pub fn consume_any_node_data(
+        &mut self,
+        alloc: Global,
+        wait: u64,
+        metrics: &[Metric],
+        now: u64,
+    ) -> Result<bool, AllocError>
+        ensures asks { IfOk result (λ asks. asks ≡ rules.asks wait self.old.watch
+            (Consumed (NodeData (map metric_view metrics.now)) now)) }
+        ensures watch { OnOk result (self.new.watch ≡ rules.step wait self.old.watch
+            (Consumed (NodeData (map metric_view metrics.now)) now)) }
+        ensures room { self.new.room ≡ self.old.room }
+        ensures unchanged { OnErr result (self.new ≡ self.old) }
+    {
+        let mut texts = texts_of(alloc, metrics)?;
+        let is_unknown = self.show_node_data(metrics, &mut texts);
+        Ok(self.ask(wait, is_unknown, false, now))
+    }
+
+    /// The same of a DDATA of a device.
+    pub fn consume_any_device_data(
+        &mut self,
+        alloc: Global,
+        wait: u64,
+        name: &str,
+        metrics: &[Metric],
+        now: u64,
+    ) -> Result<bool, AllocError>
+        ensures asks { IfOk result (λ asks. asks ≡ rules.asks wait self.old.watch
+            (Consumed (DeviceData name.now (map metric_view metrics.now)) now)) }
+        ensures watch { OnOk result (self.new.watch ≡ rules.step wait self.old.watch
+            (Consumed (DeviceData name.now (map metric_view metrics.now)) now)) }
+        ensures room { self.new.room ≡ self.old.room }
+        ensures unchanged { OnErr result (self.new ≡ self.old) }
+    {
+        let mut texts = texts_of(alloc, metrics)?;
+        let is_unknown = self.show_device_data(name, metrics, &mut texts);
+        Ok(self.ask(wait, is_unknown, false, now))
     }
 
     /// An NBIRTH with these metrics is consumed, where they have the names and the aliases of the node's metrics that are shown, in the
@@ -287,9 +330,9 @@ impl Watch {
         is_birth
     }
 
-    /// Data without texts are shown. Answers whether a metric names an alias that the birth didn't give.
-    fn show_node_data(&mut self, metrics: &[Metric]) -> bool
-        requires { has_texts (map metric_view metrics.now) ≡ false }
+    /// Data are shown with these texts and bytes, their own. Answers whether a metric names an alias that the birth didn't give.
+    fn show_node_data(&mut self, metrics: &[Metric], texts: &mut [Option<Raw>]) -> bool
+        requires { map (option_map content_of) texts.old ≡ texts_in (map metric_view metrics.now) }
         ensures unknown { result
             ≡ is_unknown_by self.old.watch.view (NodeChanges (map metric_view metrics.now)) }
         ensures watch { self.new.watch ≡ record self.old.watch
@@ -299,12 +342,17 @@ impl Watch {
         if !self.is_shown {
             return self.node.is_lacking(metrics);
         }
-        self.node.show_all_plain(metrics)
+        self.node.show_each(metrics, texts)
     }
 
     /// The same of data of a device. Answers whether the births didn't give the device or an alias.
-    fn show_device_data(&mut self, name: &str, metrics: &[Metric]) -> bool
-        requires { has_texts (map metric_view metrics.now) ≡ false }
+    fn show_device_data(
+        &mut self,
+        name: &str,
+        metrics: &[Metric],
+        texts: &mut [Option<Raw>],
+    ) -> bool
+        requires { map (option_map content_of) texts.old ≡ texts_in (map metric_view metrics.now) }
         ensures unknown { result ≡ is_unknown_by self.old.watch.view
             (DeviceChanges name.now (map metric_view metrics.now)) }
         ensures watch { self.new.watch ≡ record self.old.watch {
@@ -313,7 +361,7 @@ impl Watch {
         } }
         ensures room { self.new.room ≡ self.old.room }
     {
-        !self.is_shown || self.node.show_all_plain_of(name, metrics)
+        !self.is_shown || self.node.show_each_of(name, metrics, texts)
     }
 
     /// Whether a rebirth is asked for at an event, and what is kept of that.

@@ -7,7 +7,7 @@ use Rattle.spk_host_rules.specs.Table.{changes, shown_with}
 use Rattle.spk_view.specs.Indexed.{IsPlaceOf}
 use Rattle.spk_view.proofs.Showing.{changes-place, lost-alias}
 use Rattle.spk_view.proofs.Rows.{shown-by-place}
-use Rattle.spk_view.proofs.table.Table.show_plain.Goals as goal
+use Rattle.spk_view.proofs.table.Table.show_one.Goals as goal
 
 pub returns-clause-lacks : goal.returns-clause-lacks
 returns-clause-lacks c =
@@ -23,4 +23,4 @@ returns-clause-rows c =
     (changes-place rows m c.place_of-place.result c.place_of-place.ensures.place))
     c.show_at.ensures.none
     (λ k r is at. c.show_at.ensures.there k r is at
-    ∙ ap (λ (v : Option Content). set rows k (record r { shown = shown_with r.datatype m.null v })) c.same_value.ensures)
+    ∙ ap (λ (v : Option Content). set rows k (record r { shown = shown_with r.datatype m.null v })) c.requires)

@@ -9,7 +9,7 @@ use Rattle.spk_host_rules.specs.Step.{changed_device, each_device, is_device_lac
 use Rattle.spk_view.specs.Data.{Node}
 use Rattle.spk_view.proofs.Devices.{changed-nowhere, changed-there, device-found, find-turned}
 use Rattle.spk_view.proofs.Places.{find-none, same-some}
-use Rattle.spk_view.proofs.node.NodeView.show_all_plain_of.Goals as goal
+use Rattle.spk_view.proofs.node.NodeView.show_each_of.Goals as goal
 
 pub returns-in-Some-clause-lacking : goal.returns-in-Some-clause-lacking
 returns-in-Some-clause-lacking c =
@@ -20,7 +20,7 @@ returns-in-Some-clause-lacking c =
     ap (λ (n : Node). slice_get n.view.devices c.in-Some.place) c.self.view_is ∙ c.in-Some.ensures.1 in
     let read : c.index_mut.result.now ≡ device =
     same-some (sym (slice_get_read items (length items) c.in-Some.place c.index_mut.result.now refl (slice_get_within items c.in-Some.place device at) c.index_mut.ensures.value) ∙ at) in
-    c.show_all_plain.ensures.lacking
+    c.show_each.ensures.lacking
     ∙ ap (λ (d : Device). is_device_lacking (rows_if_born (Some d)) ms) read
     ∙ ap (λ (o : Option Device). is_device_lacking (rows_if_born o) ms)
     (sym (find-turned c.args.name.now items ∙ device-found c.args.name.now items c.in-Some.place device c.self.invariant at c.in-Some.ensures.2))
@@ -37,7 +37,7 @@ returns-in-Some-clause-view c =
     let read : c.index_mut.result.now ≡ device =
     same-some (sym (slice_get_read items (length items) c.in-Some.place c.index_mut.result.now refl (slice_get_within items c.in-Some.place device at) c.index_mut.ensures.value) ∙ at) in
     ap (λ (l : List Device). record was { devices = l })
-    (ap (set items c.in-Some.place) (c.show_all_plain.ensures.shown ∙ ap (λ (d : Device). record d { rows = cond d.born (show_all ms d.rows) d.rows }) read)
+    (ap (set items c.in-Some.place) (c.show_each.ensures.shown ∙ ap (λ (d : Device). record d { rows = cond d.born (show_all ms d.rows) d.rows }) read)
     ∙ sym (changed-there c.args.name.now ms items c.in-Some.place device c.self.invariant at c.in-Some.ensures.2))
     ∙ ap (λ (n : Node). each_device (changed_device c.args.name.now ms) n.view) c.self.view_is
 
