@@ -17,6 +17,7 @@ use Rattle.spk_device.specs.declared.owner.Owner.{Owner}
 use Rattle.spk_device.specs.declared.owner.Owner.TheVariants.{Node, Device as OfDevice}
 use Rattle.spk_device.specs.Book.{Book, DeviceData, GaugeData, birth_of, gauge_at, is_owner, is_there, is_up, owned, owner_number, number_of, place_of}
 use Rattle.spk_device.specs.Inside.{IsIndexedBy, book_by}
+use Rattle.spk_device.specs.Owned.{owned_at, with_alias}
 use Rattle.spk_device.specs.Lawful.{IsLawful, device_names, metric_names}
 use Rattle.spk_names.specs.Names.{number_in}
 use Rattle.spk_device.specs.Step as step
@@ -402,3 +403,27 @@ there-within ds owner n there is =
     let known : nat_lt (n + 1) (length (map device_view ds) + 1) ≡ true = ap (is_there (map device_view ds)) (sym is) ∙ there in
     let low : nat_lt (n + 1) (length ds + 1) ≡ true = ap (λ l. nat_lt (n + 1) (l + 1)) (sym size) ∙ known in
     grind (arith, nat_tests)
+
+-- ---- an owner's metric at a place
+
+-- the place that the table has among the metrics that the registry keeps
+named-there : (b : Book) (owner : Owner) (gs : List Gauge) (table : List (List ℕ × ℕ)) (i p : ℕ) → b.gauges ≡ map gauge_view gs → table ≡ metric_names owner b.gauges
+    → Some p ≡ option_map (λ (e : List ℕ × ℕ). e.1) (slice_get table i) → Some p ≡ option_map (λ (e : List ℕ × ℕ). e.1) (slice_get (metric_names owner (map gauge_view gs)) i)
+named-there b owner gs table i p same names h =
+    let e : metric_names owner b.gauges ≡ metric_names owner (map gauge_view gs) = ap (metric_names owner) same in
+    h ∙ ap (λ (l : List (List ℕ × ℕ)). option_map (λ (e : List ℕ × ℕ). e.1) (slice_get l i)) (names ∙ e)
+
+pub owned-within : (b : Book) (owner : Owner) (gs : List Gauge) (table : List (List ℕ × ℕ)) (i p : ℕ) → b.gauges ≡ map gauge_view gs → table ≡ metric_names owner b.gauges
+    → Some p ≡ option_map (λ (e : List ℕ × ℕ). e.1) (slice_get table i) → p < length gs
+owned-within b owner gs table i p same names h = named-within owner gs i p (named-there b owner gs table i p same names h)
+
+pub owned-there : (b : Book) (owner : Owner) (gs : List Gauge) (table : List (List ℕ × ℕ)) (i p : ℕ) (g : Gauge) → b.gauges ≡ map gauge_view gs → table ≡ metric_names owner b.gauges
+    → Some p ≡ option_map (λ (e : List ℕ × ℕ). e.1) (slice_get table i) → g ≡ get_or gs p g → owned_at b owner i ≡ Some (p + 1, gauge_view g)
+owned-there b owner gs table i p g same names h is =
+    let found = named-there b owner gs table i p same names h in
+    let w = named-place owner (map gauge_view gs) i p found in
+    let seen : slice_get (map gauge_view gs) p ≡ Some (gauge_view g) =
+    slice_get-map gauge_view gs p ∙ ap (option_map gauge_view) (slice_get_read gs (length gs) p g refl (named-within owner gs i p found) is) in
+    let one : w.0 ≡ gauge_view g = let both : Some w.0 ≡ Some (gauge_view g) = sym w.1 ∙ seen in cc in
+    ap (λ (l : List GaugeData). option_map with_alias (slice_get (owned owner l) i)) same
+    ∙ ap (option_map with_alias) (w.2 ∙ ap (λ (x : GaugeData). Some (p, x)) one)

@@ -7,3 +7,4 @@ pub mod Lawful
 pub mod Inside
 pub mod Calls
 pub mod Queries
+pub mod Owned

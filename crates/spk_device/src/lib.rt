@@ -11,6 +11,7 @@ mod gauge;
 pub mod laws;
 mod names;
 mod outcome;
+mod owned;
 mod owner;
 mod registry;
 mod setting;

@@ -15,3 +15,7 @@ mod Placed
 mod Called
 mod Told
 mod Packed
+mod Rows
+mod Born
+mod Bears
+mod Reborn

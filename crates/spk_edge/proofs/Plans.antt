@@ -44,13 +44,13 @@ same-anew Restarts d = refl
 pub same-number : (c : Config) (seq : ℕ) (d : Draft) → seal.number_in c.numbering seq (unnumbered c d) ≡ step.number_of c seq d
 same-number c seq d = ap (λ b. cond b 0 seq) (same-anew c.numbering d)
 
-wires-are : (c : Config) (seq : ℕ) (ds : List Draft) → map wire_of (numbered c.numbering seq (map (unnumbered c) ds)) ≡ step.wires c seq ds
+pub wires-are : (c : Config) (seq : ℕ) (ds : List Draft) → map wire_of (numbered c.numbering seq (map (unnumbered c) ds)) ≡ step.wires c seq ds
 wires-are c seq [] = refl
 wires-are c seq (d ∷ ds) =
     ap (λ n. wire c n d ∷ map wire_of (numbered c.numbering ((n + 1) % 256) (map (unnumbered c) ds))) (same-number c seq d)
     ∙ ap (λ (l : List packets.Message). wire c (step.number_of c seq d) d ∷ l) (wires-are c (step.next_of c seq d) ds)
 
-seqs-are : (c : Config) (seq : ℕ) (ds : List Draft) → seq_past c.numbering seq (map (unnumbered c) ds) ≡ step.seq_after c seq ds
+pub seqs-are : (c : Config) (seq : ℕ) (ds : List Draft) → seq_past c.numbering seq (map (unnumbered c) ds) ≡ step.seq_after c seq ds
 seqs-are c seq [] = refl
 seqs-are c seq (d ∷ ds) =
     ap (λ n. seq_past c.numbering ((n + 1) % 256) (map (unnumbered c) ds)) (same-number c seq d) ∙ seqs-are c (step.next_of c seq d) ds

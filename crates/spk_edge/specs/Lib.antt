@@ -7,3 +7,5 @@ pub mod Along
 pub mod Calls
 pub mod Changing
 pub mod Saying
+pub mod Rows
+pub mod Reborn

@@ -157,7 +157,7 @@ impl EdgeNode {
     }
 
     /// The stamp of an NBIRTH; ClockEnd where there is none below 2^63.
-    fn birth_stamp(&self, now: u64) -> Result<u64, EdgeFault>
+    pub(crate) fn birth_stamp(&self, now: u64) -> Result<u64, EdgeFault>
         ensures stamp { IfOk result (λ s. s
             ≡ births.birth_stamp self.now.standing.asked.stamp now) }
         ensures fault { IfErr result (λ e. (e ≡ EdgeFault.ClockEnd)

@@ -25,6 +25,9 @@ impl EdgeNode {
         ensures memory { IfErr result (patch.IsShort self.old (input_view input.entry)) }
         ensures err { OnErr result (self.new ≡ self.old) }
     {
+        if let Act::Command(topic, payload) = input.act {
+            return self.commanded(input.now, input.ack, topic, payload);
+        }
         let plan = self.plan(input)?;
         Ok(self.take_up(plan).out)
     }

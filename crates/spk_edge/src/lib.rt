@@ -3,6 +3,7 @@
 #![tactic(auto)]
 
 mod arriving;
+mod bearing;
 mod births;
 mod calls;
 mod changing;
@@ -18,6 +19,8 @@ mod node;
 mod packet;
 mod plan;
 mod planning;
+mod rebearing;
+mod row;
 mod sealing;
 mod telling;
 mod texts;

@@ -40,7 +40,7 @@ pub(crate) struct Saying<'a> {
 
 /// A field of wire type 0: its tag and its number.
 #[inline(always)]
-fn put_field(out: &mut Vec<u8>, tag: u64, number: u64) -> Result<(), AllocError>
+pub(crate) fn put_field(out: &mut Vec<u8>, tag: u64, number: u64) -> Result<(), AllocError>
     ensures ok { OnOk result (out.new.items ≡ out.old.items ++ payload.number_field tag number) }
     ensures fits { number < 2 ^ 64 }
 {
@@ -85,7 +85,7 @@ fn put_raw(out: &mut Vec<u8>, raw: &Raw) -> Result<(), AllocError>
     }
 }
 
-fn put_value(out: &mut Vec<u8>, value: &Option<Raw>) -> Result<(), AllocError>
+pub(crate) fn put_value(out: &mut Vec<u8>, value: &Option<Raw>) -> Result<(), AllocError>
     requires { option_map content_of value.now ≡ Some Other → ⊥ }
     ensures ok { OnOk result (out.new.items ≡ out.old.items
         ++ payload.if_there payload.content_spelling (option_map content_of value.now)) }
@@ -109,7 +109,7 @@ fn put_null(out: &mut Vec<u8>, null: bool) -> Result<(), AllocError>
 
 // ---- sizes, or the greatest number where there are more bytes
 
-fn field_size(tag: u64, number: u64) -> usize
+pub(crate) fn field_size(tag: u64, number: u64) -> usize
     ensures size { result ≡ length (payload.number_field tag number) }
     ensures small { result ≤ 20 }
 {
@@ -117,7 +117,7 @@ fn field_size(tag: u64, number: u64) -> usize
 }
 
 #[tactic(auto, unfolding(spk_protobuf::specs::Spelling::bytes_field))]
-fn bytes_size(field: u64, bytes: &[u8]) -> usize
+pub(crate) fn bytes_size(field: u64, bytes: &[u8]) -> usize
     ensures { result ≡ min (length (bytes_field field bytes.now)) (2 ^ 64 - 1) }
 {
     let tag = field.wrapping_mul(8).wrapping_add(2);
@@ -138,7 +138,7 @@ fn raw_size(raw: &Raw) -> usize
     }
 }
 
-fn value_size(value: &Option<Raw>) -> usize
+pub(crate) fn value_size(value: &Option<Raw>) -> usize
     ensures { result ≡ min (length (payload.if_there payload.content_spelling
         (option_map content_of value.now))) (2 ^ 64 - 1) }
 {

@@ -288,7 +288,7 @@ impl EdgeNode {
     }
 
     /// Whether an act is taken in the present phase.
-    fn fits(&self, act: &Act<'_>) -> bool
+    pub(crate) fn fits(&self, act: &Act<'_>) -> bool
         ensures { result ≡ rule.fits self.now.standing.asked.phase (act_view act.now) }
     {
         match act {

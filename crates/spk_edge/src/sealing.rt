@@ -46,7 +46,7 @@ pub(crate) fn written_packets(alloc: Global, packets: &[Packet]) -> Result<Vec<V
 }
 
 /// The bytes of a PUBLISH of QoS 0; TooLarge where it can't be written.
-fn published(alloc: Global, topic: &str, payload: &[u8]) -> Result<Vec<u8>, EdgeFault>
+pub(crate) fn published(alloc: Global, topic: &str, payload: &[u8]) -> Result<Vec<u8>, EdgeFault>
     ensures bytes { IfOk result (λ v. seal.bytes_of v
         ≡ spelling (Publish false 0 false topic.now None payload.now)) }
     ensures writable { OnOk result
