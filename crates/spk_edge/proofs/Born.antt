@@ -68,7 +68,7 @@ said_so name alias stamp datatype null value = record {
   value = value;
 }
 
-none-of : (o : Option Value) (b : Bool) → is_some o ≡ not b → b ≡ is_none (option_map typed_view o)
+pub none-of : (o : Option Value) (b : Bool) → is_some o ≡ not b → b ≡ is_none (option_map typed_view o)
 none-of None true e = refl
 none-of None false e = absurd (let x : ⊥ = cc in x)
 none-of (Some v) true e = absurd (let x : ⊥ = cc in x)

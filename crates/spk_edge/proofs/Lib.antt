@@ -19,3 +19,4 @@ mod Rows
 mod Born
 mod Bears
 mod Reborn
+mod Flushed

@@ -89,7 +89,7 @@ refused n now alias v r moment is =
 
 -- ---- its number
 
-plain-number : (c : Config) (seq : ℕ) (d : Draft) → opens d ≡ false → step.number_of c seq d ≡ seq
+pub plain-number : (c : Config) (seq : ℕ) (d : Draft) → opens d ≡ false → step.number_of c seq d ≡ seq
 plain-number c seq d closed = ap (λ b. cond b 0 seq) (by c.numbering)
   where
     by : (m : Numbering) → step.begins_anew m d ≡ false

@@ -8,4 +8,5 @@ pub mod Calls
 pub mod Changing
 pub mod Saying
 pub mod Rows
+pub mod History
 pub mod Reborn

@@ -146,11 +146,13 @@ impl EdgeNode {
             (patch.plain_input now inputs.Drain)) }
         ensures err { OnErr result (self.new ≡ self.old) }
     {
-        self.tell(Input {
-            now,
-            ack: None,
-            act: Act::Drain,
-        })
+        if self.tally.phase != Phase::Born {
+            return Err(EdgeFault::WrongPhase);
+        }
+        if now >= END {
+            return Err(EdgeFault::ClockEnd);
+        }
+        self.drained(now)
     }
 
     /// A packet of the server: `input_of` says which of the others it is, of which each has its own refusals. A PUBLISH of

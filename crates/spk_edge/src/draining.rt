@@ -13,7 +13,7 @@ use spk_payload::Metric;
 use std::alloc::AllocError;
 
 /// At most so many changes go into one message (own rule).
-const MOST: usize = 32;
+pub(crate) const MOST: usize = 32;
 
 impl EdgeNode {
     /// The kept change at a place, if there is one, as a historical metric behind others.

@@ -12,6 +12,7 @@ mod config;
 mod draining;
 mod ends;
 mod hearing;
+mod history;
 mod input;
 pub mod laws;
 mod message;

@@ -26,7 +26,7 @@ use spk_store::Change;
 
 impl EdgeNode {
     /// What a call answers that gives these packets and nothing else.
-    fn answer(&self, packets: Vec<Vec<u8>>) -> Out
+    pub(crate) fn answer(&self, packets: Vec<Vec<u8>>) -> Out
         ensures packets { result.packets ≡ packets }
         ensures writes { result.writes.items ≡ [] }
         ensures close { result.close ≡ false }
@@ -39,7 +39,7 @@ impl EdgeNode {
     }
 
     /// What a call answers that gives nothing.
-    fn silence(&self) -> Out
+    pub(crate) fn silence(&self) -> Out
         ensures packets { result.packets.items ≡ [] }
         ensures writes { result.writes.items ≡ [] }
         ensures close { result.close ≡ false }
@@ -56,7 +56,7 @@ impl EdgeNode {
     }
 
     /// A message with this stamp was sent.
-    fn count_sent(&mut self, stamp: u64)
+    pub(crate) fn count_sent(&mut self, stamp: u64)
         ensures { self.new ≡ done.with_sent self.old stamp }
     {
         self.tally.stamp = Some(stamp);

@@ -1,0 +1,14 @@
+use Rattle.std.proofs.Common.{◌≡◌, ◌++◌, take}
+use Rattle.std.specs.Prelude.{All}
+use Rattle.std.specs.List.{flat_map}
+use Rattle.spk_payload.specs.Spelling.{MetricFits}
+use Rattle.spk_edge.specs.History.{all_kept}
+use Rattle.spk_edge.specs.Rows.{spelled}
+use Rattle.spk_edge.proofs.node.EdgeNode.put_first.Given as goal
+
+-- the changes so far stand behind what was there
+abbrev pub invariant-loop-place : goal.invariant-loop-place
+invariant-loop-place l = record {
+  appended : l.out.items ≡ l.fn.out.items ++ flat_map spelled (take l.place (all_kept l.self.standing.asked));
+  fit : All MetricFits (take l.place (all_kept l.self.standing.asked));
+}
