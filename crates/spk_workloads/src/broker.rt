@@ -249,7 +249,7 @@ pub(crate) fn restart(alloc: Global, seed: u64, is_small: bool) -> Option<u64> {
             nodes: 900,
             watchers: 200,
             steps: 2_000,
-            rounds: 2,
+            rounds: 14,
         }
     };
     let mut room = Room::new(alloc, seed)?;
