@@ -7,11 +7,11 @@ use std::process::Abort;
 /// How long no second rebirth is asked for, in milliseconds.
 const WAIT: u64 = 2000;
 
-/// A metric's name, alias and value: a UInt32 (7), or from 1,000 on a String (12) of so many letters more.
+/// A metric's name, alias and value: a UInt32 (7), or from 1,000,000 on a String (12) of so many letters more.
 type Row = (Option<&'static str>, Option<u64>, u32);
 
 /// From this number on a row has a text.
-const TEXTS: u32 = 1000;
+const TEXTS: u32 = 1_000_000;
 
 fn raw(alloc: Global, value: u32) -> Result<Raw, AllocError> {
     if value < TEXTS {
@@ -488,7 +488,7 @@ fn two_devices_have_the_same_aliases(rt: HostRuntime) {
     assert_plays(&rt, Case::Lines(&DEVICES));
 }
 
-static REBIRTHS: [Line; 10] = [
+static REBIRTHS: [Line; 12] = [
     (
         0,
         0,
@@ -563,6 +563,25 @@ static REBIRTHS: [Line; 10] = [
         NOT,
         &[Seen::Of("D", "t", Some(31)), Seen::Device("E", None)],
     ),
+    (
+        10,
+        0,
+        Heard::NodeBirth(&[
+            (Some("a"), Some(1), 1),
+            (Some("a"), Some(1), 2),
+            (Some("a"), Some(1), 3),
+            (Some("a"), Some(1), 4),
+        ]),
+        NOT,
+        &[Seen::Own("a", Some(4))],
+    ),
+    (
+        11,
+        0,
+        Heard::NodeRebirth(&[(Some("a"), Some(1), 5)]),
+        NOT,
+        &[Seen::Own("a", Some(4))],
+    ),
 ];
 
 #[test]
@@ -575,58 +594,58 @@ static VALUES: [Line; 6] = [
         0,
         0,
         Heard::NodeBirth(&[
-            (Some("a"), Some(1), 1003),
+            (Some("a"), Some(1), 1_000_003),
             (Some("b"), Some(2), 20),
-            (Some("c"), Some(3), 1001),
+            (Some("c"), Some(3), 1_000_001),
         ]),
         NOT,
-        &[Seen::Own("a", Some(1003)), Seen::Own("c", Some(1001))],
+        &[Seen::Own("a", Some(1_000_003)), Seen::Own("c", Some(1_000_001))],
     ),
     (
         1,
         0,
         Heard::NodeValues(&[
-            (None, Some(1), 1005),
+            (None, Some(1), 1_000_005),
             (None, Some(2), 21),
-            (None, Some(3), 1002),
+            (None, Some(3), 1_000_002),
         ]),
         NOT,
         &[
-            Seen::Own("a", Some(1005)),
+            Seen::Own("a", Some(1_000_005)),
             Seen::Own("b", Some(21)),
-            Seen::Own("c", Some(1002)),
+            Seen::Own("c", Some(1_000_002)),
         ],
     ),
     (
         2,
         0,
-        Heard::NodeValues(&[(Some("c"), None, 1004), (None, Some(1), 1006)]),
+        Heard::NodeValues(&[(Some("c"), None, 1_000_004), (None, Some(1), 1_000_006)]),
         NOT,
-        &[Seen::Own("a", Some(1006)), Seen::Own("c", Some(1004))],
+        &[Seen::Own("a", Some(1_000_006)), Seen::Own("c", Some(1_000_004))],
     ),
     (
         3,
         0,
-        Heard::NodeValues(&[(None, Some(9), 1007), (None, Some(1), 1008)]),
+        Heard::NodeValues(&[(None, Some(9), 1_000_007), (None, Some(1), 1_000_008)]),
         ASKS,
-        &[Seen::Own("a", Some(1008)), Seen::Own("c", Some(1004))],
+        &[Seen::Own("a", Some(1_000_008)), Seen::Own("c", Some(1_000_004))],
     ),
     (
         4,
         1,
-        Heard::DeviceBirth("D", &[(Some("t"), Some(1), 1001), (Some("u"), Some(2), 5)]),
+        Heard::DeviceBirth("D", &[(Some("t"), Some(1), 1_000_001), (Some("u"), Some(2), 5)]),
         NOT,
-        &[Seen::Of("D", "t", Some(1001))],
+        &[Seen::Of("D", "t", Some(1_000_001))],
     ),
     (
         5,
         0,
-        Heard::DeviceValues("D", &[(None, Some(2), 6), (None, Some(1), 1009)]),
+        Heard::DeviceValues("D", &[(None, Some(2), 6), (None, Some(1), 1_000_009)]),
         NOT,
         &[
             Seen::Of("D", "u", Some(6)),
-            Seen::Of("D", "t", Some(1009)),
-            Seen::Own("a", Some(1008)),
+            Seen::Of("D", "t", Some(1_000_009)),
+            Seen::Own("a", Some(1_000_008)),
         ],
     ),
 ];

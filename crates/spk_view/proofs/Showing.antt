@@ -1,4 +1,4 @@
--- Data whose values are no texts: a metric is shown, and it is told whether its alias leads nowhere.
+-- Data as they came: a metric is shown, and it is told whether its alias leads nowhere.
 use Rattle.std.proofs.Common.{◌≡◌, ◌∙◌, sym, ap, refl, ℕ, Bool, true, false, cond, List, [], ◌∷◌, ◌++◌, map, Option, Some, None, is_some}
 use Rattle.std.specs.List.{find, list_any}
 use Rattle.std.specs.Option.{option_map}

@@ -1,6 +1,6 @@
 -- Data and its texts: to copy any other value takes no memory.
-use Rattle.std.specs.Prelude.{Bool, List, [], ◌∷◌, ◌++◌, Option, if◌then◌else◌}
-use Rattle.std.specs.List.{list_any}
+use Rattle.std.specs.Prelude.{Bool, List, [], ◌∷◌, Option, if◌then◌else◌}
+use Rattle.std.specs.List.{flat_map, list_any}
 use Rattle.spk_payload.specs.Meaning.{Content, MetricData, has_text_or_bytes}
 
 -- the value of a metric is a text or bytes
@@ -13,5 +13,4 @@ text_in value = if has_text_or_bytes value then value ∷ [] else []
 
 -- those among the values of metrics, in order
 abbrev pub texts_in : List MetricData → List (Option Content)
-texts_in [] = []
-texts_in (m ∷ ms) = text_in m.value ++ texts_in ms
+texts_in ms = flat_map (λ m. text_in m.value) ms

@@ -186,13 +186,17 @@ impl Table {
     }
 
     /// The metrics of a birth that has the names and the aliases of these rows, in order: the rows stay, with what leads to them, and
-    /// what they show is set. Answers whether it has them. Where it hasn't, or memory is refused, nothing has changed.
+    /// what they show is set. Answers whether it has them, and the rows have no room for more than twice as many: what the birth before
+    /// left over is freed with its table. Where it hasn't, or memory is refused, nothing has changed.
     pub(crate) fn bear(&mut self, alloc: Global, metrics: &[Metric]) -> Result<bool, AllocError>
         ensures born { IfOk result
             (λ is. is ≡ true → self.new ≡ table_of (map metric_view metrics.now)) }
         ensures other { IfOk result (λ is. is ≡ false → self.new ≡ self.old) }
         ensures unchanged { OnErr result (self.new ≡ self.old) }
     {
+        if self.rows.capacity() / 2 > metrics.len() {
+            return Ok(false);
+        }
         if !are_alike(&self.rows, metrics) {
             return Ok(false);
         }
