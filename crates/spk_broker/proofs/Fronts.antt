@@ -66,8 +66,6 @@ filter-ends true [] = refl
 filter-ends false [] = refl
 filter-ends s (b ∷ t) = end-levels (nat_eq b 47) s b (levels t) (some-level t)
 
--- ---- where it goes on by `#`
-
 -- ---- where they part
 
 apart-levels : (q r s : Bool) (a b : ℕ) (F T : List (List ℕ)) → nat_eq a 47 ≡ q → nat_eq b 47 ≡ r → is_wild a ≡ false → nat_eq a b ≡ false

@@ -1,4 +1,4 @@
-//! The calls of an edge node: each plans its input and takes the plan up.
+//! The calls of an edge node: changes, commands and drains are done at once, each other one plans its input and takes the plan up.
 ghost use Rattle.std.specs.Prelude.{◌≡◌, ◌⊎◌, IfOk, IfErr, OnErr, OnOk, true, false};
 ghost use Rattle.std.specs.Option.{option_map};
 ghost use Rattle.spk_payload.specs.Typing.{typed_view};
