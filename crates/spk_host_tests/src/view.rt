@@ -599,7 +599,10 @@ static VALUES: [Line; 6] = [
             (Some("c"), Some(3), 1_000_001),
         ]),
         NOT,
-        &[Seen::Own("a", Some(1_000_003)), Seen::Own("c", Some(1_000_001))],
+        &[
+            Seen::Own("a", Some(1_000_003)),
+            Seen::Own("c", Some(1_000_001)),
+        ],
     ),
     (
         1,
@@ -621,19 +624,28 @@ static VALUES: [Line; 6] = [
         0,
         Heard::NodeValues(&[(Some("c"), None, 1_000_004), (None, Some(1), 1_000_006)]),
         NOT,
-        &[Seen::Own("a", Some(1_000_006)), Seen::Own("c", Some(1_000_004))],
+        &[
+            Seen::Own("a", Some(1_000_006)),
+            Seen::Own("c", Some(1_000_004)),
+        ],
     ),
     (
         3,
         0,
         Heard::NodeValues(&[(None, Some(9), 1_000_007), (None, Some(1), 1_000_008)]),
         ASKS,
-        &[Seen::Own("a", Some(1_000_008)), Seen::Own("c", Some(1_000_004))],
+        &[
+            Seen::Own("a", Some(1_000_008)),
+            Seen::Own("c", Some(1_000_004)),
+        ],
     ),
     (
         4,
         1,
-        Heard::DeviceBirth("D", &[(Some("t"), Some(1), 1_000_001), (Some("u"), Some(2), 5)]),
+        Heard::DeviceBirth(
+            "D",
+            &[(Some("t"), Some(1), 1_000_001), (Some("u"), Some(2), 5)],
+        ),
         NOT,
         &[Seen::Of("D", "t", Some(1_000_001))],
     ),
