@@ -102,7 +102,8 @@ impl Tally {
 
     /// Whether more entries are left over than grants stand, and some more.
     pub(crate) fn is_worn(&self, seats: &[Seat]) -> bool {
-        self.entries / 2 > standing_count(seats).saturating_add(SPARE / 2)
+        let enough = (self.entries / 2).saturating_sub(SPARE / 2);
+        count_up_to(seats, enough) < enough
     }
 
     /// The index with the grants of the session of this number behind so many that it had before; none where there may not be so many.
@@ -163,10 +164,13 @@ impl Tally {
     }
 }
 
-/// How many grants stand.
-fn standing_count(seats: &[Seat]) -> usize {
+/// How many grants stand, counted no further than to so many.
+fn count_up_to(seats: &[Seat], enough: usize) -> usize {
     let mut count: usize = 0;
     for seat in seats {
+        if count >= enough {
+            break;
+        }
         count = count.saturating_add(seat.standing().len());
     }
     count
