@@ -5,6 +5,7 @@
 mod channel;
 mod fault;
 mod frame;
+mod room;
 mod rule;
 
 pub use channel::{Ingress, PutPass, TakePass, Taken};

@@ -378,9 +378,13 @@ fn put_by_threads<R: Threads + Wait + Sync>(
     with(ingress, others?, pass)
 }
 
-/// What 17 senders put, 100 frames each through room for eight, while another thread takes them: how many came of each.
-fn through_many_threads<R: Threads + Wait + Sync>(rt: &R, alloc: Global) -> Option<Vec<u64>> {
-    let (ingress, passes, taker) = Ingress::open(rt, alloc, 8, 17).ok()?;
+/// What 17 senders put, 100 frames each through room for so many, while another thread takes them: how many came of each.
+fn through_many_threads<R: Threads + Wait + Sync>(
+    rt: &R,
+    alloc: Global,
+    room: usize,
+) -> Option<Vec<u64>> {
+    let (ingress, passes, taker) = Ingress::open(rt, alloc, room, 17).ok()?;
     let shared = &ingress;
     let (passes, taker) = thread::join(
         rt,
@@ -398,6 +402,12 @@ fn through_many_threads<R: Threads + Wait + Sync>(rt: &R, alloc: Global) -> Opti
 
 #[test]
 fn seventeen_threads_put_what_another_takes(rt: HostRuntime) {
-    let counts = through_many_threads(&rt, rt.alloc()).expect(&rt, "settled");
+    let counts = through_many_threads(&rt, rt.alloc(), 8).expect(&rt, "settled");
+    assert_eq!(rt; counts.as_slice(), [100u64; 17].as_slice());
+}
+
+#[test]
+fn seventeen_threads_put_through_room_for_two(rt: HostRuntime) {
+    let counts = through_many_threads(&rt, rt.alloc(), 2).expect(&rt, "settled");
     assert_eq!(rt; counts.as_slice(), [100u64; 17].as_slice());
 }

@@ -9,4 +9,6 @@ mod ingress;
 #[cfg(test)]
 mod no_memory;
 #[cfg(test)]
+mod paces;
+#[cfg(test)]
 mod rings;
