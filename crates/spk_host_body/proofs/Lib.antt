@@ -4,3 +4,4 @@ pub mod Running
 pub mod Items
 mod Rows
 pub mod Ending
+pub mod Counting
