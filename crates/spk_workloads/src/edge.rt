@@ -2,6 +2,7 @@
 
 use crate::digest::Digest;
 use crate::random::Random;
+use crate::sums::sum_value;
 use crate::texts::numbered;
 use spk_device::{Owner, Registry};
 use spk_edge::{EdgeConfig, EdgeNode, Numbering, Out, Record};
@@ -92,10 +93,16 @@ struct Room {
 impl Room {
     /// What was answered.
     fn take(&mut self, out: &Out) {
+        self.digest.number(out.packets.len() as u64);
         for packet in &out.packets {
             self.digest.bytes(packet.as_slice());
         }
         self.digest.number(out.writes.len() as u64);
+        for write in &out.writes {
+            self.digest.number(write.alias);
+            sum_value(&write.value, &mut self.digest);
+        }
+        self.digest.number(u64::from(out.close));
     }
 
     /// Words of a random length: of one text in ten some hundred.

@@ -3,11 +3,11 @@
 use crate::digest::Digest;
 use crate::publishers::{Publisher, publishers};
 use crate::random::Random;
+use crate::sums::{sum_number, sum_out, sum_text, sum_value};
 use crate::texts::number_in;
-use spk_host::{Host, HostConfig, MetricView, Out, Taken};
+use spk_host::{Host, HostConfig, MetricView, Out};
 use spk_host_rules::Shown;
-use spk_payload::Value;
-use spk_sequence::{Step, Width};
+use spk_sequence::Width;
 use spk_topics::Spark;
 use std::alloc::Global;
 
@@ -25,23 +25,16 @@ trait Hears {
     fn sum_up(&self, digest: &mut Digest);
 }
 
-/// A shown value.
-fn sum_value(value: &Value, digest: &mut Digest) {
-    match value {
-        Value::Signed(number) => digest.number(number.unsigned_abs()),
-        Value::Unsigned(number) => digest.number(*number),
-        Value::Flag(flag) => digest.number(u64::from(*flag)),
-        Value::Words(text) => digest.bytes(text.as_str().as_bytes()),
-        Value::Octets(bytes) => digest.bytes(bytes.as_slice()),
-    }
-}
-
 /// What is shown of metrics.
 fn sum_metrics(metrics: &[MetricView], digest: &mut Digest) {
+    digest.number(metrics.len() as u64);
     for metric in metrics {
+        sum_text(metric.name(), digest);
+        sum_number(metric.alias(), digest);
+        sum_number(metric.datatype().map(u64::from), digest);
         match metric.shown() {
-            Shown::Nothing => digest.number(1),
-            Shown::Other => digest.number(2),
+            Shown::Nothing => digest.number(8),
+            Shown::Other => digest.number(9),
             Shown::Typed(value) => sum_value(value, digest),
         }
     }
@@ -62,11 +55,16 @@ impl Hears for Host {
 
     fn sum_up(&self, digest: &mut Digest) {
         for entry in self.nodes() {
-            digest.bytes(entry.node().as_bytes());
+            sum_text(entry.group(), digest);
+            sum_text(entry.node(), digest);
             if let Some(view) = entry.kept().view() {
+                digest.number(u64::from(view.is_online()));
                 digest.number(u64::from(view.is_stale()));
                 sum_metrics(view.metrics(), digest);
+                digest.number(view.devices().len() as u64);
                 for device in view.devices() {
+                    sum_text(device.name(), digest);
+                    digest.number(u64::from(device.is_online()));
                     digest.number(u64::from(device.is_stale()));
                     sum_metrics(device.metrics(), digest);
                 }
@@ -93,38 +91,10 @@ struct Room {
     asked: Vec<usize>,
 }
 
-/// A number for what became of a message.
-fn number_of(step: Step) -> u64 {
-    match step {
-        Step::Consumed(count) => u64::from(count),
-        Step::Held => 300,
-        Step::Old => 301,
-        Step::Gap => 302,
-        Step::OldBirth => 303,
-        Step::DeadSession => 304,
-        Step::NotLive => 305,
-    }
-}
-
-/// What is taken of a message.
-fn sum_taken(taken: &Taken, digest: &mut Digest) {
-    digest.number(u64::from(taken.number));
-    digest.number(taken.payload.timestamp.unwrap_or(0));
-    digest.number(taken.payload.metrics.len() as u64);
-}
-
 impl Room {
     /// What was answered.
     fn take(&mut self, out: &Out) -> Option<()> {
-        for step in &out.steps {
-            self.digest.number(number_of(*step));
-        }
-        for taken in &out.consumed {
-            sum_taken(taken, &mut self.digest);
-        }
-        for packet in &out.packets {
-            self.digest.bytes(packet.as_slice());
-        }
+        sum_out(out, &mut self.digest);
         for topic in &out.rebirths {
             if let Spark::Node { node, .. } = topic {
                 self.asked.push(number_in(node.as_str())).ok()?;

@@ -12,6 +12,7 @@ mod plant;
 mod publishers;
 mod random;
 mod serving;
+mod sums;
 mod texts;
 mod world;
 
