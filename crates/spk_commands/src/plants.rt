@@ -3,7 +3,6 @@
 use crate::fault::{Fault, Stop};
 use crate::texts::json_text;
 use spk_files::{Misfit, plan_of};
-use spk_host_body::counts_of;
 use spk_plan::{Gate, Plan, PlantFault};
 use spk_plant::{NodeReport, Report, run_plant};
 use std::alloc::{AllocError, Global};
@@ -88,6 +87,20 @@ fn births_of(node: &NodeReport) -> usize {
         .count()
 }
 
+/// How many messages of a node the host consumed.
+fn consumed_of(report: &Report, name: &str) -> usize {
+    let mut count = 0usize;
+    for given in &report.given {
+        let taken = given.consumed.iter();
+        count = count.saturating_add(
+            taken
+                .filter(|message| message.node.as_str() == name)
+                .count(),
+        );
+    }
+    count
+}
+
 /// A name as in a JSON string, without its quotes: it stays on its line.
 fn write_name(alloc: Global, lines: &mut String, name: &str) -> Result<(), AllocError> {
     let quoted = json_text(alloc, String::from_str(alloc, name)?)?;
@@ -102,11 +115,10 @@ fn write_name(alloc: Global, lines: &mut String, name: &str) -> Result<(), Alloc
 /// whether the broker closed the host, and how many sends to the host its ring refused.
 fn lines_of(alloc: Global, names: &[String], report: &Report) -> Result<String, AllocError> {
     let mut lines = String::new(alloc);
-    let counts = counts_of(alloc, names, report.given.as_slice())?;
-    let nodes = report.nodes.iter().zip(counts.iter());
-    for (name, (node, consumed)) in names.iter().zip(nodes) {
+    for (name, node) in names.iter().zip(report.nodes.iter()) {
         let births = births_of(node);
         let published = node.published.len();
+        let consumed = consumed_of(report, name.as_str());
         write!(lines, "node ")?;
         write_name(alloc, &mut lines, name.as_str())?;
         writeln!(

@@ -4,4 +4,3 @@ pub mod Running
 pub mod Items
 mod Rows
 pub mod Ending
-pub mod Counting

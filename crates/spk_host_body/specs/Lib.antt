@@ -3,4 +3,3 @@ pub mod Told
 pub mod Ends
 pub mod Fault
 pub mod Steps
-pub mod Counts

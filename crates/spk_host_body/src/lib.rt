@@ -4,7 +4,6 @@
 
 mod asking;
 mod body;
-mod counts;
 mod desk;
 mod ends;
 mod fault;
@@ -13,6 +12,5 @@ mod line;
 mod watch;
 
 pub use body::run_host;
-pub use counts::counts_of;
 pub use ends::{Given, HostEnd, HostFailed, HostStart};
 pub use fault::HostCause;
