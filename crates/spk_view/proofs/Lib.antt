@@ -6,3 +6,4 @@ pub mod Rows
 pub mod Anew
 pub mod Worked
 pub mod Showing
+pub mod Spread

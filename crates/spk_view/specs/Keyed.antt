@@ -1,5 +1,6 @@
 -- Keys in chains: what leads from a key to the entries that have it.
-use Rattle.std.specs.Prelude.{◌≡◌, ℕ, suc, ◌-◌, ◌*◌, ◌/◌, ◌%◌, ◌^◌, ◌<◌, ◌≤◌, min, List, length, map, slice_get, Option, Some, None}
+use Rattle.std.specs.Prelude.{◌≡◌, ℕ, suc, ◌-◌, ◌*◌, ◌/◌, ◌%◌, ◌^◌, ◌<◌, ◌≤◌, min, bit_and, bit_xor, List, length, map, slice_get, Option, Some, None}
+use Rattle.std.specs.Hash.{le_bytes}
 use Rattle.std.specs.Hash.FoldHasher as folding
 use Rattle.spk_host_rules.specs.Data.{Row}
 use Rattle.spk_view.specs.declared.keys.Link.{Link}
@@ -16,9 +17,13 @@ pub record KeyList : Type 0 where
   pub count : ℕ
   pub keys : List ℕ
 
+-- a key's hash, its halves joined by xor
+unfoldable pub spread_of : ℕ → ℕ
+spread_of key = let hash = folding.finish (folding.write folding.initial (le_bytes 8 key)) in bit_and (bit_xor hash (hash / 2 ^ 32)) 0xffff_ffff
+
 -- the chain of a key, of so many
 unfoldable pub chain_of : ℕ → ℕ → ℕ
-chain_of count key = min ((((((key * 0x9e37_79b9_7f4a_7c15) % (2 ^ 64)) / (2 ^ 32)) * count) % (2 ^ 64)) / (2 ^ 32)) (count - 1)
+chain_of count key = min (((spread_of key * count) % (2 ^ 64)) / (2 ^ 32)) (count - 1)
 
 -- So many of the first n keys reach up to the last one of a chain: each of that chain lies among them, and the last of them is of it.
 pub record IsEnd (count : ℕ) (keys : List ℕ) (n chain end : ℕ) : Type 0 where

@@ -1,13 +1,10 @@
-//! Numbers by which entries are found, each in about one step.
+//! Numbers by which entries are found, each in about one step unless someone picks them so that their chains meet.
 ghost use Rattle.std.specs.Prelude.{◌≡◌, ◌<◌, ℕ, [], ◌∷◌, ◌++◌, Some, OnOk, OnErr, IfOk, length, slice_get};
-ghost use Rattle.spk_view.specs.Keyed.{IsEnd, IsLastOf, chain_of, key_of_name};
+ghost use Rattle.spk_view.specs.Keyed.{IsEnd, IsLastOf, chain_of, key_of_name, spread_of};
 
 use std::alloc::{AllocError, Global};
 use std::hash::{FoldHasher, Hasher};
 use std::marker::Model;
-
-/// 2^64 over the golden ratio, by which keys are spread (Fibonacci hashing).
-const MULTIPLIER: u64 = 0x9e37_79b9_7f4a_7c15;
 
 /// The key of an entry, and how many entries stand up to the one before it in its chain: 0 where there is none.
 #[derive(Clone, Copy, Drop)]
@@ -44,12 +41,21 @@ pub(crate) fn key_of_name(name: &str) -> u64
     hasher.finish()
 }
 
+/// A key's hash, its halves joined, as the kit's maps take places by it.
+fn spread_of(key: u64) -> u64
+    ensures { result ≡ spread_of key }
+{
+    let mut hasher = FoldHasher::default();
+    hasher.write_u64(key);
+    let hash = hasher.finish();
+    (hash ^ (hash >> 32)) & 0xffff_ffff
+}
+
 /// The chain of a key, of so many.
 fn chain_of(count: usize, key: u64) -> usize
     ensures { result ≡ chain_of count key }
 {
-    let spread = key.wrapping_mul(MULTIPLIER) >> 32;
-    let chain = spread.wrapping_mul(count as u64) >> 32;
+    let chain = spread_of(key).wrapping_mul(count as u64) >> 32;
     (chain as usize).min(count.saturating_sub(1))
 }
 
