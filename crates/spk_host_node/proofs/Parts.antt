@@ -5,12 +5,10 @@ use Rattle.spk_sequence.specs.declared.answer.Match.TheVariants as match
 use Rattle.spk_sequence.specs.Step as sequence
 use Rattle.spk_order.specs.Ordered.{Ordered}
 use Rattle.spk_order.specs.Step.{stands_so}
-use Rattle.spk_order.specs.Step as order
 use Rattle.spk_reading.specs.Data.{NumberedData}
 use Rattle.spk_host_rules.specs.Data.{Gap, Over, Watch}
 use Rattle.spk_host_rules.specs.Step as rules
 use Rattle.spk_host_node.specs.Data.{NodeData}
-use Rattle.spk_host_node.specs.Idle.{IsIdle}
 use Rattle.spk_host_node.specs.Step.{death, tick}
 
 abbrev pub node_of : Ordered NumberedData → Watch → NodeData
@@ -30,12 +28,6 @@ pub same_death : (n : NodeData) (bd : ℕ) (o : Ordered NumberedData) (w : Watch
 same_death n bd o w is e h =
     same_node e (h ∙ sym (ap (λ b. if b then rules.step n.order.standing.wait n.watch Over else n.watch)
     (matched (sequence.is_match n.order.standing bd) is)))
-
--- a node whose order is idle is so
-pub idle_node : (n : NodeData) → order.IsIdle n.order → IsIdle n
-idle_node n idle now =
-    let still = idle now in
-    (still.0, same_node still.1 (ap (λ b. if b then rules.step n.order.standing.wait n.watch (Gap now) else n.watch) still.0))
 
 -- a node whose order stays as it is does so
 pub still_node : (n : NodeData) (now : ℕ) → sequence.is_over n.order.standing now ≡ false → stands_so (sequence.tick n.order.standing now) n.order.kept ≡ n.order → tick n now ≡ n

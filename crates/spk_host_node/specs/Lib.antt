@@ -3,4 +3,3 @@ pub mod Step
 pub mod Room
 pub mod Inputs
 pub mod Plain
-pub mod Idle

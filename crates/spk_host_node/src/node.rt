@@ -8,7 +8,6 @@ ghost use Rattle.spk_host_rules.specs.Data.{Gap};
 ghost use Rattle.spk_host_rules.specs.Step as rules;
 ghost use Rattle.spk_order.specs.Step.{handed};
 ghost use Rattle.spk_host_node.specs.Data as plain;
-ghost use Rattle.spk_host_node.specs.Idle.{IsIdle};
 ghost use Rattle.spk_host_node.specs.Plain.{IsPlain};
 ghost use Rattle.spk_host_node.specs.Room.{IsDropped};
 ghost use Rattle.spk_host_node.specs.Step as spec;
@@ -285,13 +284,6 @@ impl HostNode {
         ensures { result ≡ sequence.is_over self.now.order.standing now }
     {
         self.order.sequence().is_over(now)
-    }
-
-    /// Whether no message is held, so that no moment is a gap or changes anything. Takes no memory.
-    pub fn is_idle(&self) -> bool
-        ensures { result ≡ true → IsIdle self.now }
-    {
-        self.order.is_idle()
     }
 
     /// The moment from which on `tick` is a gap, as long as nothing else happens. None where no moment is. At any other moment nothing

@@ -9,11 +9,10 @@ use Rattle.spk_sequence.specs.declared.answer.Step.TheVariants as step
 use Rattle.spk_sequence.specs.declared.message.Kind.{Kind}
 use Rattle.spk_sequence.specs.Data.{Standing, IsWhole, held_at}
 use Rattle.spk_sequence.specs.Numbers.{held_as, held_count, KeepsNumbers}
-use Rattle.std.specs.Prelude.{◌&&◌, nat_le}
 use Rattle.spk_sequence.specs.declared.phase.Phase.TheVariants as phase
 use Rattle.spk_sequence.specs.Step.{after_stop, ahead, hand, is_any_held, is_over, tick}
 use Rattle.spk_order.specs.Ordered.{Ordered, kept_at, IsKept}
-use Rattle.spk_order.specs.Step.{left_by, placed, consumed_with, handed, stands_so, HasRun, IsAlone, IsBeyond, IsIdle}
+use Rattle.spk_order.specs.Step.{left_by, placed, consumed_with, handed, stands_so, HasRun, IsAlone, IsBeyond}
 use Rattle.spk_order.proofs.Left.{stands, left_still, left_same, left_kept, remains_full}
 
 -- what a step consumes after the message handed has its payload
@@ -227,15 +226,9 @@ passed_handed o new after number kind now answer e f alone left payload =
     same_handed o new after number kind payload now answer e f
     (left ∙ sym (ap (left_by new) (alone_placed o.kept number payload answer alone)))
 
--- ---- while none is held
+-- ---- at a moment that is no gap
 
--- at a moment that is no gap
 pub still_at : {T : Type 0} (o : Ordered T) (now : ℕ) → IsKept o.standing o.kept → is_over o.standing now ≡ false → stands_so (tick o.standing now) o.kept ≡ o
 still_at o now are still =
     let same : tick o.standing now ≡ o.standing = ap (λ b. cond b (after_stop o.standing phase.Gap) o.standing) still in
     ap (λ s. stands s (left_by s o.kept)) same ∙ ap (stands o.standing) (left_still o.standing o.kept are.sized (λ x byte there. sym (are.exact x byte) ∙ there))
-
-pub idle_at : {T : Type 0} (o : Ordered T) → IsKept o.standing o.kept → is_any_held o.standing.held ≡ false → IsIdle o
-idle_at o are none now =
-    let still : is_over o.standing now ≡ false = ap (λ b. b && nat_le o.standing.wait (now - o.standing.since)) none in
-    (still, still_at o now are still)

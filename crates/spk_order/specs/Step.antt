@@ -1,12 +1,12 @@
 -- What is kept and consumed at a call, from the order's own step (`spk_sequence`). No rule of the order stands here.
-use Rattle.std.specs.Prelude.{◌≡◌, ℕ, ◌+◌, ◌-◌, ◌%◌, List, [], ◌∷◌, map, set, replicate, Option, Some, None, is_some, true, false, if◌then◌else◌, ◌<◌, ◌≤◌}
+use Rattle.std.specs.Prelude.{◌≡◌, ℕ, ◌+◌, ◌-◌, ◌%◌, List, [], ◌∷◌, map, set, replicate, Option, Some, None, is_some, true, if◌then◌else◌, ◌<◌, ◌≤◌}
 use Rattle.std.specs.List.{range_with_len}
 use Rattle.spk_sequence.specs.declared.message.Kind.{Kind}
 use Rattle.spk_sequence.specs.declared.answer.Step.{Step}
 use Rattle.spk_sequence.specs.declared.answer.Step.TheVariants as step
 use Rattle.spk_sequence.specs.Data.{Standing}
 use Rattle.spk_sequence.specs.Numbers.{held_as}
-use Rattle.spk_sequence.specs.Step.{ahead, hand, is_over, tick, fresh_standing}
+use Rattle.spk_sequence.specs.Step.{ahead, hand, fresh_standing}
 use Rattle.spk_order.specs.Ordered.{Ordered, kept_at}
 
 -- the payload under a number, if the order holds a message of that number
@@ -60,7 +60,3 @@ IsAlone step.Gap = Unit {0}
 IsAlone step.OldBirth = Unit {0}
 IsAlone step.DeadSession = Unit {0}
 IsAlone step.NotLive = Unit {0}
-
--- no moment is a gap, or changes anything
-abbrev pub IsIdle : {T : Type 0} → Ordered T → Type 0
-IsIdle o = (now : ℕ) → (is_over o.standing now ≡ false) × (stands_so (tick o.standing now) o.kept ≡ o)

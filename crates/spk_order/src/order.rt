@@ -7,7 +7,7 @@ ghost use Rattle.spk_sequence.specs.Due.{has_come};
 ghost use Rattle.spk_sequence.specs.Numbers.{held_count};
 ghost use Rattle.spk_sequence.specs.Step.{is_any_held as is_any_held_in, hand, is_over, tick, match_of, death, fresh_standing};
 ghost use Rattle.spk_order.specs.Ordered.{IsKept};
-ghost use Rattle.spk_order.specs.Step.{consumed_with, handed, stands_so, fresh_order, IsAlone, IsIdle};
+ghost use Rattle.spk_order.specs.Step.{consumed_with, handed, stands_so, fresh_order, IsAlone};
 
 use crate::slots::{empty_slots, place, settle};
 use spk_sequence::laws::numbers;
@@ -158,13 +158,6 @@ impl<T: Drop> Order<T> {
         let is_any_held = self.sequence.is_any_held();
         self.sequence.reset();
         settle(&mut self.slots, &self.sequence, is_any_held);
-    }
-
-    /// Whether no message is held, so that no moment is a gap or changes anything.
-    pub fn is_idle(&self) -> bool
-        ensures { result ≡ true → IsIdle self.now }
-    {
-        !self.sequence.is_any_held()
     }
 
     /// The moment from which on `tick` is a gap, as long as nothing else happens. None where no moment is. At any other moment nothing
