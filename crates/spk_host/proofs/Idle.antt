@@ -1,6 +1,6 @@
 -- Nodes that have no gap yet, and what is kept beside the nodes.
-use Rattle.std.proofs.Common.{◌≡◌, ◌⊎◌, inl, inr, ◌∙◌, sym, ap, refl, subst, ℕ, zero, suc, false, List, [], ◌∷◌, ◌++◌, map, set, get_or, Some, arith}
-use Rattle.std.specs.Prelude.{◌<◌, ◌&&◌, min, slice_get, if◌then◌else◌, None}
+use Rattle.std.proofs.Common.{◌≡◌, ◌⊎◌, inl, inr, ◌∙◌, sym, ap, refl, subst, ℕ, zero, suc, false, List, [], ◌∷◌, ◌++◌, map, length, set, take, drop, get_or, Some, arith}
+use Rattle.std.specs.Prelude.{◌+◌, ◌<◌, ◌&&◌, min, slice_get, if◌then◌else◌, None}
 use Rattle.spk_sequence.specs.declared.answer.Step.{Step}
 use Rattle.spk_sequence.specs.declared.answer.Step.TheVariants as step
 use Rattle.spk_host_rules.specs.Data.{Gap}
@@ -14,7 +14,7 @@ use Rattle.spk_host.specs.Index.{IndexData, IsIndexed, names_of}
 use Rattle.spk_host.specs.Step.{gaps_at, requests_at, requests_to, spelled, tick_entry, tick_out, topics_at, topics_to}
 use Rattle.spk_topics.specs.Spark.{Named}
 use Rattle.spk_packets.specs.Message.{Message}
-use Rattle.spk_host.proofs.Indexed.{indexed-set}
+use Rattle.spk_host.proofs.Indexed.{indexed-lent, indexed-set, lent-all}
 use Rattle.spk_host.proofs.Mapped.{same-some}
 
 none≢some : {X : Type 0} {x : X} → None ≡ Some x → ⊥
@@ -101,7 +101,36 @@ at-once indexed = record { indexed = indexed; still = λ k e at now low. absurd 
     never : (now : ℕ) → now < 0 → ⊥
     never now low = absurd (omega arith)
 
--- nodes that were looked at
-pub looked-at : {entries : List Entry} {index : IndexData} (seen : List Entry) (due : ℕ) → seen ≡ entries → AreStillUntil due seen
-    → IsIndexed (map names_of entries) index → IsInOrder entries index due
-looked-at seen due same still indexed = record { indexed = indexed; still = subst (AreStillUntil due) same still }
+-- one more node had the moment
+set-sees : {X : Type 0} (xs : List X) (n : ℕ) (y : X) (m : ℕ) (x : X) → slice_get (set xs n y) m ≡ Some x
+    → (x ≡ y) ⊎ ((m ≡ n → ⊥) × (slice_get xs m ≡ Some x))
+set-sees [] n y m x h = absurd (none≢some h)
+set-sees (z ∷ xs) zero y zero x h = inl (sym (same-some h))
+set-sees (z ∷ xs) zero y (suc m) x h = inr ((λ e. absurd (omega arith)), h)
+set-sees (z ∷ xs) (suc n) y zero x h = inr ((λ e. absurd (omega arith)), h)
+set-sees (z ∷ xs) (suc n) y (suc m) x h = later (set-sees xs n y m x h)
+  where
+    later : (x ≡ y) ⊎ ((m ≡ n → ⊥) × (slice_get xs m ≡ Some x)) → (x ≡ y) ⊎ ((suc m ≡ suc n → ⊥) × (slice_get xs m ≡ Some x))
+    later (inl is) = inl is
+    later (inr (off, k)) = inr ((λ e. off (omega arith)), k)
+
+-- so many of the first nodes have no gap before a moment
+abbrev pub AreFirstStill : ℕ → List Entry → ℕ → Type 0
+AreFirstStill due nodes n = (k : ℕ) (e : Entry) → k < n → slice_get nodes k ≡ Some e → IsStillUntil due e.kept
+
+pub still-more : (nodes : List Entry) (n : ℕ) (new : Entry) (before own after : ℕ) → AreFirstStill before nodes n → IsStillUntil own new.kept
+    → after ≡ min before own → AreFirstStill after (set nodes n new) (n + 1)
+still-more nodes n new before own after first mine least k e low seen now early = by (set-sees nodes n new k e seen)
+  where
+    by : (e ≡ new) ⊎ ((k ≡ n → ⊥) × (slice_get nodes k ≡ Some e)) → (is_over e.kept.order.standing now ≡ false) × (tick e.kept now ≡ e.kept)
+    by (inl is) = subst (λ (x : Entry). (is_over x.kept.order.standing now ≡ false) × (tick x.kept now ≡ x.kept)) (sym is) (mine now (omega arith))
+    by (inr (off, there)) = first k e (omega arith) there now (omega arith)
+
+-- nodes that were lent whole, and ticked
+pub order-ticked : (f : Entry → Entry) → ((e : Entry) → names_of (f e) ≡ names_of e) → (size : ℕ) (new lent old : List Entry)
+    (index : IndexData) (due : ℕ) → IsIndexed (map names_of old) index → new ≡ map f lent → lent ≡ old → size ≡ length old → AreStillUntil due new
+    → IsInOrder (take size (new ++ drop (length new) old)) index due
+order-ticked f same size new lent old index due so is whole count still = record {
+  indexed = indexed-lent f same size new lent old index so is whole count;
+  still = subst (AreStillUntil due) (sym (lent-all f size new lent old is whole count)) still;
+}

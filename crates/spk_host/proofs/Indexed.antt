@@ -233,24 +233,27 @@ names-still f still [] = refl
 names-still f still (e ∷ es) =
     ap (λ x. x ∷ map names_of (map f es)) (still e) ∙ ap (λ l. names_of e ∷ l) (names-still f still es)
 
--- nodes that were lent whole, and keep their names
+-- nodes that were lent whole
+pub lent-all : (f : Entry → Entry) (size : ℕ) (new lent old : List Entry) → new ≡ map f lent → lent ≡ old → size ≡ length old →
+    take size (new ++ drop (length new) old) ≡ new
+lent-all f size new lent old is whole count =
+    ap (λ l. take size (new ++ l)) rest ∙ ap (take size) (append-nil new) ∙ take_all size new (omega (arith, sized, count))
+  where
+    sized : length new ≡ length old
+    sized = ap length (is ∙ ap (map f) whole) ∙ length-map old f
+
+    rest : drop (length new) old ≡ []
+    rest = drop_all (length new) old (omega (arith, sized))
+
+-- and keep their names
 pub indexed-lent : (f : Entry → Entry) → ((e : Entry) → names_of (f e) ≡ names_of e) → (size : ℕ) (new lent old : List Entry)
     (index : IndexData) → IsIndexed (map names_of old) index → new ≡ map f lent → lent ≡ old → size ≡ length old →
     IsIndexed (map names_of (take size (new ++ drop (length new) old))) index
 indexed-lent f still size new lent old index so is whole count = λ g n.
     so g n ∙ ap (position_from (is_named g n) 0) (sym (ap (map names_of) all ∙ names-still f still old))
   where
-    mapped : new ≡ map f old
-    mapped = is ∙ ap (map f) whole
-
-    sized : length new ≡ length old
-    sized = ap length mapped ∙ length-map old f
-
-    rest : drop (length new) old ≡ []
-    rest = drop_all (length new) old (omega (arith, sized))
-
     all : take size (new ++ drop (length new) old) ≡ map f old
-    all = ap (λ l. take size (new ++ l)) rest ∙ ap (take size) (append-nil new) ∙ take_all size new (omega (arith, sized, count)) ∙ mapped
+    all = lent-all f size new lent old is whole count ∙ is ∙ ap (map f) whole
 
 -- a node that was heard first, or wasn't
 pub indexed-first : {X E : Type 0} (r : Result X E) (old new : List Entry) (index after : IndexData) (e : Entry) →

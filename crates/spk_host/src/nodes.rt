@@ -182,8 +182,7 @@ impl Nodes {
         ensures { self.new ≡ map (step.tick_entry now) self.old }
     {
         if now >= self.due {
-            tick_all(&mut self.entries, now);
-            self.due = earliest(&self.entries);
+            self.due = tick_all(&mut self.entries, now);
         }
     }
 
@@ -204,17 +203,6 @@ fn due_of(entry: &Entry) -> u64
         Some(due) => due,
         None => u64::MAX,
     }
-}
-
-/// The moment before which none of them has a gap.
-fn earliest(nodes: &[Entry]) -> u64
-    ensures { AreStillUntil result nodes.now }
-{
-    let mut due = u64::MAX;
-    for entry in nodes {
-        due = due.min(due_of(entry));
-    }
-    due
 }
 
 /// What a moment hands out: the gaps, and the requests to the nodes that had one, in their order.
@@ -248,13 +236,17 @@ fn ask_at(alloc: Global, nodes: &[Entry], now: u64) -> Result<Out, AllocError>
     })
 }
 
-/// A moment, at each node.
-fn tick_all(nodes: &mut [Entry], now: u64)
-    ensures { nodes.new ≡ map (step.tick_entry now) nodes.old }
+/// A moment, at each node. Answers the moment before which none of them has a gap after it.
+fn tick_all(nodes: &mut [Entry], now: u64) -> u64
+    ensures ticked { nodes.new ≡ map (step.tick_entry now) nodes.old }
+    ensures still { AreStillUntil result nodes.new }
 {
+    let mut due = u64::MAX;
     for entry in nodes.iter_mut() {
         entry.tick(now);
+        due = due.min(due_of(entry));
     }
+    due
 }
 
 /// The host's session is over, for each node.
