@@ -3,3 +3,4 @@ pub mod Step
 pub mod Room
 pub mod Inputs
 pub mod Plain
+pub mod Soon

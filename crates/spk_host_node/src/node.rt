@@ -10,6 +10,7 @@ ghost use Rattle.spk_order.specs.Step.{handed};
 ghost use Rattle.spk_host_node.specs.Data as plain;
 ghost use Rattle.spk_host_node.specs.Plain.{IsPlain};
 ghost use Rattle.spk_host_node.specs.Room.{IsDropped};
+ghost use Rattle.spk_host_node.specs.Soon.{devices_in, is_near, is_soon_told, is_told};
 ghost use Rattle.spk_host_node.specs.Step as spec;
 
 use crate::alone::show_alone;
@@ -24,8 +25,9 @@ use std::alloc::{AllocError, Global};
 use std::fmt;
 use std::marker::Model;
 
-/// So many metrics, or devices, are few: to look them up costs less than a rebirth request that is made in vain.
-const FEW: usize = 32;
+/// So many metrics are few: to look them up costs no more than a rebirth request that is made in vain, and a metric as much as to pass
+/// over four devices (docs/PERF.md).
+const FEW: usize = 64;
 
 /// What came of a moment: whether there was a gap, and whether a rebirth is asked for.
 #[derive(Clone, Copy, Debug, PartialEq, Eq)]
@@ -103,11 +105,14 @@ impl HostNode {
         most_heard(self.step_of(message, now))
     }
 
-    /// How many rebirths may be asked for at a message, at most; where the view hears one event, and it costs little to tell, it says in
-    /// fact whether one is. Takes no memory.
+    /// How many rebirths may be asked for at a message, at most; where the view hears one event, and it costs little to tell, how many
+    /// are. Takes no memory.
     pub fn requests_at(&self, message: &Numbered, now: u64) -> usize
         ensures enough { spec.requests_of self.now (numbered_view message.now) now ≤ result }
         ensures few { result ≤ 256 }
+        ensures told { is_told (spec.step_of self.now.order (numbered_view message.now) now)
+            self.now.watch (numbered_view message.now) ≡ true
+            → result ≡ spec.requests_of self.now (numbered_view message.now) now }
     {
         let step = self.step_of(message, now);
         match step {
@@ -119,26 +124,29 @@ impl HostNode {
         }
     }
 
-    /// Whether it costs less to tell if a message asks for a rebirth than to make a request in vain. A device is looked for one by one,
-    /// and data with texts are looked up once more when they are shown.
-    fn is_soon_told(&self, message: &Numbered) -> bool {
+    /// Whether it costs no more to tell if a message asks for a rebirth than to make a request in vain: its metrics are looked up once
+    /// more when they are shown, and a device is looked for one by one.
+    fn is_soon_told(&self, message: &Numbered) -> bool
+        ensures { result ≡ is_soon_told self.now.watch (numbered_view message.now) }
+    {
         let metrics = message.payload.metrics.len();
         match &message.subject {
             Subject::NodeBirth | Subject::DeviceBirth(_) => true,
-            Subject::NodeData => metrics <= FEW || is_plain(message),
-            Subject::DeviceData(_) => {
-                (metrics <= FEW && self.has_few_devices()) || is_plain(message)
-            }
-            Subject::DeviceDeath(_) => self.has_few_devices(),
+            Subject::NodeData => metrics <= FEW,
+            Subject::DeviceData(_) => metrics <= FEW && self.is_near(metrics),
+            Subject::DeviceDeath(_) => self.is_near(0),
         }
     }
 
-    /// Whether a device is soon found.
-    fn has_few_devices(&self) -> bool {
-        match self.view() {
-            Some(view) => view.devices().len() <= FEW,
-            None => true,
-        }
+    /// Whether a device is soon found beside so many metrics.
+    fn is_near(&self, metrics: usize) -> bool
+        ensures { result ≡ is_near metrics (devices_in self.now.watch.view) }
+    {
+        let devices = match self.view() {
+            Some(view) => view.devices().len(),
+            None => 0,
+        };
+        devices / 4 <= FEW.saturating_sub(metrics)
     }
 
     /// Whether a rebirth would be asked for at a gap.
