@@ -1,30 +1,21 @@
 //! Frames from many senders to one taker.
 ghost use Rattle.std.specs.Prelude.{◌≡◌, ◌↔◌, ◌+◌, ◌<◌, ◌≤◌, ℕ, true, false, get_or, [], ◌∷◌, ◌++◌, length, IfOk, IfErr, OnOk, OnErr, IfSome, None};
-ghost use Rattle.crossbeam_channel.specs.Claims.{view, IsSeatAt};
-ghost use Rattle.crossbeam_channel.specs.Ends.{sends_on, ruled_capacity};
-ghost use Rattle.crossbeam_channel.specs.Fifo.{Pushes};
-ghost use Rattle.spk_ingress.specs.Lanes.{Carries, after_put, share_of};
+ghost use Rattle.spk_ingress.specs.Lanes.{share_of};
 ghost use Rattle.spk_ingress.specs.Passes.{IsCapacity, AreSenders, PutsInto, TakesFrom, ArePasses, AllPutInto, IsSettled, AreLengths, TakesNone, IsMarked, AllTaken, frames_put, frames_taken};
 
 use crate::fault::{Closed, OpenFault, SettleFault};
 use crate::frame::Frame;
-use crate::room::Room;
 use crate::rule::{Known, Lanes, Message, NewSender, Puts, Settles, Takes, View};
-use crossbeam_channel::{Pass, RuledReceiver, RuledSender, TrySendError, bounded_with};
+use crossbeam_channel::{Pass, RuledReceiver, RuledSender, bounded_with};
 use std::alloc::{AllocError, Global};
 use std::fmt;
-use std::hint::spin_loop;
 use std::sync::Wait;
-
-/// The step behind the last one at which a sender that finds no room makes turns and looks again. Then it sleeps.
-const STEPS: u32 = 7;
 
 /// Where the senders put, which they share.
 #[derive(Drop)]
 pub struct Ingress {
     pub(crate) end: RuledSender<Message, View, Lanes>,
     pub(crate) senders: usize,
-    pub(crate) room: Room,
 }
 
 impl fmt::Debug for Ingress {
@@ -54,8 +45,6 @@ pub struct TakePass {
     pub(crate) end: RuledReceiver<Message, View, Lanes>,
     pub(crate) counts: Vec<u64>,
     pub(crate) seat: Pass<Message, View>,
-    /// How many frames were taken since senders were woken last.
-    pub(crate) freed: usize,
 }
 
 impl fmt::Debug for TakePass {
@@ -118,72 +107,16 @@ impl Ingress {
         }
         let sender = pass.sender;
         let message = Message { sender, frame };
-        match self.send(rt, &mut pass.seat, message) {
+        match self.end.send_as::<Puts, R>(rt, &mut pass.seat, message) {
             Ok(()) => {
                 pass.count += 1;
                 Ok(())
             }
-            Err(message) => Err(Closed::of(message.frame)),
-        }
-    }
-
-    /// Sends a message, and waits while there is no room. Refused where the taker is gone, with the message.
-    fn send<R: Wait>(
-        &self,
-        rt: &R,
-        seat: &mut Pass<Message, View>,
-        message: Message,
-    ) -> Result<(), Message>
-        requires seat { IsSeatAt (sends_on self.now.end) seat.old }
-        requires rule { Pushes Carries (ruled_capacity (sends_on self.now.end)) seat.old.id
-            (view seat.old) message (λ w. w ≡ after_put (view seat.old) message) }
-        ensures seat { IsSeatAt (sends_on self.now.end) seat.new }
-        ensures ok { OnOk result (view seat.new ≡ after_put (view seat.old) message) }
-        ensures back { IfErr result (λ m. (m ≡ message) × (view seat.new ≡ view seat.old)) }
-    {
-        let mut message = message;
-        for step in self.room.first_step()..STEPS {
-            match self.end.try_send_as::<Puts, R>(rt, seat, message) {
-                Ok(()) => return Ok(()),
-                Err(TrySendError::Full(back)) => message = back,
-                Err(error) => return Err(error.into_inner()),
+            Err(error) => {
+                let message = error.into_inner();
+                Err(Closed::of(message.frame))
             }
-            turn(step);
         }
-        self.send_asleep(rt, seat, message)
-    }
-
-    /// As `send`, but it sleeps between two looks.
-    fn send_asleep<R: Wait>(
-        &self,
-        rt: &R,
-        seat: &mut Pass<Message, View>,
-        message: Message,
-    ) -> Result<(), Message>
-        requires seat { IsSeatAt (sends_on self.now.end) seat.old }
-        requires rule { Pushes Carries (ruled_capacity (sends_on self.now.end)) seat.old.id
-            (view seat.old) message (λ w. w ≡ after_put (view seat.old) message) }
-        ensures seat { IsSeatAt (sends_on self.now.end) seat.new }
-        ensures ok { OnOk result (view seat.new ≡ after_put (view seat.old) message) }
-        ensures back { IfErr result (λ m. (m ≡ message) × (view seat.new ≡ view seat.old)) }
-    {
-        let mut message = message;
-        for _ in rt.forever() {
-            let heard = self.room.listen();
-            match self.end.try_send_as::<Puts, R>(rt, seat, message) {
-                Ok(()) => {
-                    self.room.leave();
-                    return Ok(());
-                }
-                Err(TrySendError::Full(back)) => message = back,
-                Err(error) => {
-                    self.room.leave();
-                    return Err(error.into_inner());
-                }
-            }
-            self.room.sleep(rt, heard);
-        }
-        unreachable!()
     }
 
     /// Takes the frame that was put first of those on their way, and waits while there is none. Closed says that no more
@@ -199,28 +132,9 @@ impl Ingress {
             (λ t. t.number ≡ length (share_of t.sender (frames_taken pass.old))) }
         ensures closed { OnErr result (frames_taken pass.new ≡ frames_taken pass.old) }
     {
-        if let Some(taken) = self.take_now(rt, pass) {
-            return Ok(taken);
-        }
-        self.take_asleep(rt, pass)
-    }
-
-    /// As `take`, but it waits as the channel does.
-    fn take_asleep<R: Wait>(&self, rt: &R, pass: &mut TakePass) -> Result<Taken, Closed<()>>
-        requires { TakesFrom self.now pass.old }
-        ensures pass { TakesFrom self.now pass.new }
-        ensures ok { IfOk result
-            (λ t. frames_taken pass.new
-            ≡ frames_taken pass.old ++ (record { sender = t.sender; frame = t.frame }) ∷ []) }
-        ensures sender { IfOk result (λ t. t.sender < self.now.senders) }
-        ensures number { IfOk result
-            (λ t. t.number ≡ length (share_of t.sender (frames_taken pass.old))) }
-        ensures closed { OnErr result (frames_taken pass.new ≡ frames_taken pass.old) }
-    {
         let Ok(message) = pass.end.recv_as::<Takes, R>(rt, &mut pass.seat) else {
             return Err(Closed::of(()));
         };
-        self.room.free_one(&mut pass.freed);
         let Message { sender, frame } = message;
         let number = pass.counts[sender];
         pass.counts[sender] = number + 1;
@@ -245,10 +159,8 @@ impl Ingress {
         ensures none { result ≡ None → frames_taken pass.new ≡ frames_taken pass.old }
     {
         let Ok(message) = pass.end.try_recv_as::<Takes, R>(rt, &mut pass.seat) else {
-            self.room.free_all(&mut pass.freed);
             return None;
         };
-        self.room.free_one(&mut pass.freed);
         let sender = message.sender;
         let before = pass.counts[sender];
         pass.counts[sender] = before + 1;
@@ -257,13 +169,6 @@ impl Ingress {
             number: before,
             frame: message.frame,
         })
-    }
-}
-
-/// Makes the turns of a step, twice as many as at the one before.
-fn turn(step: u32) {
-    for _ in 0..1u32 << (step % 8) {
-        spin_loop();
     }
 }
 
@@ -315,16 +220,11 @@ fn opened(
 {
     let counts = vec![in alloc; 0u64; senders]?;
     let (end, receiver, seat) = bounded_with(alloc, capacity)?;
-    let ingress = Ingress {
-        end,
-        senders,
-        room: Room::new(capacity),
-    };
+    let ingress = Ingress { end, senders };
     let mut taker = TakePass {
         end: receiver,
         counts,
         seat,
-        freed: 0,
     };
     let passes = passes_of(alloc, &ingress, &mut taker)?;
     Ok((ingress, passes, taker))

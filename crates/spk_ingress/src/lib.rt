@@ -5,7 +5,6 @@
 mod channel;
 mod fault;
 mod frame;
-mod room;
 mod rule;
 
 pub use channel::{Ingress, PutPass, TakePass, Taken};

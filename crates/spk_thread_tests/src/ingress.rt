@@ -411,3 +411,18 @@ fn seventeen_threads_put_through_room_for_two(rt: HostRuntime) {
     let counts = through_many_threads(&rt, rt.alloc(), 2).expect(&rt, "settled");
     assert_eq!(rt; counts.as_slice(), [100u64; 17].as_slice());
 }
+
+/// Fewer than the senders, and fewer than two for each.
+const ROOMS: [usize; 5] = [3, 5, 31, 32, 33];
+
+#[test]
+fn seventeen_threads_put_through_little_room(rt: HostRuntime) {
+    for room in &ROOMS {
+        let counts = through_many_threads(&rt, rt.alloc(), *room).expect(&rt, "settled");
+        assert_eq!(rt;
+            counts.as_slice(),
+            [100u64; 17].as_slice(),
+            "room for {room}"
+        );
+    }
+}

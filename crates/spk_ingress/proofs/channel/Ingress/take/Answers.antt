@@ -8,7 +8,7 @@ use Rattle.spk_ingress.specs.declared.rule.View.{View}
 use Rattle.spk_ingress.specs.declared.rule.View.TheVariants.{Takes}
 use Rattle.spk_ingress.proofs.Steps.{takes_at}
 use Rattle.spk_ingress.proofs.Taking.{IsTakenFrom, taken_at, counted_more}
-use Rattle.spk_ingress.proofs.channel.Ingress.take_asleep.Goals as goal
+use Rattle.spk_ingress.proofs.channel.Ingress.take.Goals as goal
 
 pub recv_as-requires-clause-rule : goal.recv_as-requires-clause-rule
 recv_as-requires-clause-rule g c = (takes_at c.args.pass.now.seat.id c.args.self.now.senders (frames_taken c.args.pass.now) c.requires.ended (view c.args.pass.now.seat) c.requires.sees, λ items views h at. tt)
