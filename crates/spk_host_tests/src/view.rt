@@ -488,7 +488,7 @@ fn two_devices_have_the_same_aliases(rt: HostRuntime) {
     assert_plays(&rt, Case::Lines(&DEVICES));
 }
 
-static REBIRTHS: [Line; 12] = [
+static REBIRTHS: [Line; 16] = [
     (
         0,
         0,
@@ -581,6 +581,39 @@ static REBIRTHS: [Line; 12] = [
         Heard::NodeRebirth(&[(Some("a"), Some(1), 5)]),
         NOT,
         &[Seen::Own("a", Some(4))],
+    ),
+    // room for three is more than twice one, and room for two isn't
+    (
+        12,
+        0,
+        Heard::NodeBirth(&[
+            (Some("a"), Some(1), 6),
+            (Some("a"), Some(1), 7),
+            (Some("a"), Some(1), 8),
+        ]),
+        NOT,
+        &[Seen::Own("a", Some(8))],
+    ),
+    (
+        13,
+        0,
+        Heard::NodeRebirth(&[(Some("a"), Some(1), 9)]),
+        NOT,
+        &[Seen::Own("a", Some(8))],
+    ),
+    (
+        14,
+        0,
+        Heard::NodeBirth(&[(Some("a"), Some(1), 10), (Some("a"), Some(1), 11)]),
+        NOT,
+        &[Seen::Own("a", Some(11))],
+    ),
+    (
+        15,
+        0,
+        Heard::NodeRebirth(&[(Some("a"), Some(1), 12)]),
+        ASKS,
+        &[Seen::Own("a", Some(12))],
     ),
 ];
 

@@ -194,7 +194,7 @@ impl Table {
         ensures other { IfOk result (λ is. is ≡ false → self.new ≡ self.old) }
         ensures unchanged { OnErr result (self.new ≡ self.old) }
     {
-        if self.rows.capacity() / 2 > metrics.len() {
+        if self.rows.capacity().saturating_sub(metrics.len()) > metrics.len() {
             return Ok(false);
         }
         if !are_alike(&self.rows, metrics) {
