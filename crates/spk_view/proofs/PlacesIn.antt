@@ -1,5 +1,5 @@
 -- Aliases with places, and one more.
-use Rattle.std.proofs.Common.{◌≡◌, ◌∙◌, ap, refl, arith, ℕ, zero, suc, Bool, true, false, cond, List, [], ◌∷◌, ◌++◌, length, Some, None}
+use Rattle.std.proofs.Common.{◌≡◌, ◌∙◌, sym, ap, refl, arith, ℕ, zero, suc, Bool, true, false, cond, List, [], ◌∷◌, ◌++◌, length, set, Some, None}
 use Rattle.std.specs.List.{zip}
 use Rattle.std.specs.Option.{option_or}
 use Rattle.std.specs.Prelude.{◌==◌, ◌<◌, ◌≤◌, slice_get}
@@ -38,6 +38,45 @@ place_in-last (k ∷ ks) (q ∷ ps) alias (suc at) p is last has =
   where
     back : (j : ℕ) → suc j ≤ suc at → j ≤ at
     back j h = omega arith
+
+is-same : (a b : ℕ) → (a == b) ≡ true → a ≡ b
+is-same a b h = grind (arith, nat_tests)
+
+-- another place for the last entry of an alias
+pub place_in-put : (ks ps : List ℕ) (alias at p q : ℕ) → slice_get ks at ≡ Some alias → ((k : ℕ) → k < length ks → slice_get ks k ≡ Some alias → k ≤ at)
+    → at < length ps → place_in (zip ks (set ps at p)) q ≡ cond (alias == q) (Some p) (place_in (zip ks ps) q)
+place_in-put [] ps alias at p q is last low = absurd (none≢some is)
+place_in-put (k ∷ ks) [] alias at p q is last low = absurd (never low)
+  where
+    never : at < 0 → ⊥
+    never h = absurd (omega arith)
+place_in-put (k ∷ ks) (x ∷ ps) alias zero p q is last low =
+    ap (λ n. option_or (place_in (zip ks ps) q) (cond (n == q) (Some p) None)) (same-some is)
+    ∙ by (alias == q) refl
+    ∙ ap (λ n. cond (alias == q) (Some p) (option_or (place_in (zip ks ps) q) (cond (n == q) (Some x) None))) (sym (same-some is))
+  where
+    far : (j : ℕ) → suc j ≤ 0 → ⊥
+    far j h = absurd (omega arith)
+
+    none : alias ≡ q → place_in (zip ks ps) q ≡ None
+    none e = ap (place_in (zip ks ps)) (sym e) ∙ place_in-none ks ps alias (λ j below there. far j (last (suc j) (omega arith) there))
+
+    by : (b : Bool) → (alias == q) ≡ b → option_or (place_in (zip ks ps) q) (cond b (Some p) None)
+        ≡ cond b (Some p) (option_or (place_in (zip ks ps) q) (cond b (Some x) None))
+    by true e = ap (λ o. option_or o (Some p)) (none (is-same alias q e))
+    by false e = refl
+place_in-put (k ∷ ks) (x ∷ ps) alias (suc at) p q is last low =
+    ap (λ o. option_or o (cond (k == q) (Some x) None))
+    (place_in-put ks ps alias at p q is (λ j below there. back j (last (suc j) (omega arith) there)) (omega arith))
+    ∙ by (alias == q)
+  where
+    back : (j : ℕ) → suc j ≤ suc at → j ≤ at
+    back j h = omega arith
+
+    by : (b : Bool) → option_or (cond b (Some p) (place_in (zip ks ps) q)) (cond (k == q) (Some x) None)
+        ≡ cond b (Some p) (option_or (place_in (zip ks ps) q) (cond (k == q) (Some x) None))
+    by true = refl
+    by false = refl
 
 -- one more, which is the last
 pub place_in-more : (es : List (ℕ × ℕ)) (a p alias : ℕ) → place_in (es ++ (a, p) ∷ []) alias ≡ cond (a == alias) (Some p) (place_in es alias)

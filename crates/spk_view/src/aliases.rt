@@ -7,7 +7,7 @@ use crate::keys::Keys;
 use std::alloc::{AllocError, Global};
 use std::marker::Model;
 
-/// Aliases, each with a place, in the order in which they were entered. Contracts see the list of pairs.
+/// Aliases, each once with a place, in the order in which they were first entered. Contracts see the list of pairs.
 #[derive(Drop)]
 pub(crate) struct Aliases {
     keys: Keys,
@@ -60,11 +60,16 @@ impl Aliases {
             → place_in self.new q
             ≡ (if is_alias alias q then Some place else place_in self.old q)) }
     {
-        if let Some(alias) = alias {
-            self.places.reserve(1)?;
-            self.keys.push(alias)?;
-            self.places.push_reserved(place);
+        let Some(alias) = alias else {
+            return Ok(());
+        };
+        if let Some(at) = self.keys.last(alias) {
+            self.places[at] = place;
+            return Ok(());
         }
+        self.places.reserve(1)?;
+        self.keys.push(alias)?;
+        self.places.push_reserved(place);
         Ok(())
     }
 }

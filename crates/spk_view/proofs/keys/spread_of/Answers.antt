@@ -1,7 +1,7 @@
 use Rattle.std.proofs.Common.{◌∙◌, ap}
 use Rattle.std.specs.Prelude.{◌/◌, ◌^◌, bit_and, bit_xor}
 use Rattle.std.specs.Hash.{le_bytes}
-use Rattle.std.specs.Hash.FoldHasher.{finish, initial, write}
+use Rattle.std.specs.Hash.FoldHasher.{finish, write}
 use Rattle.spk_view.specs.Keyed.{spread_of}
 use Rattle.spk_view.proofs.keys.spread_of.Goals as goal
 
