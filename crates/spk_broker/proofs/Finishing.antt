@@ -3,7 +3,7 @@ use Rattle.std.proofs.Common.{◌≡◌, ℕ, Bool, true, false, List, Option, N
 use Rattle.std.specs.Result.{IfOk, OnErr, OnOk, is_ok, result_unwrap_or}
 use Rattle.std.specs.declared.alloc.AllocError.{AllocError}
 use Rattle.spk_broker_rules.specs.Data as plain
-use Rattle.spk_broker_rules.specs.Lawful.{IsLawful}
+use Rattle.spk_broker_rules.specs.Lawful.{IsLawful, Rises}
 use Rattle.spk_packets.specs.Message.{Message}
 use Rattle.spk_broker_rules.specs.Plan.{Event, Packet, Tick}
 use Rattle.spk_broker_rules.specs.Step.{Turn, begun, noted, seat_at, step}
@@ -22,11 +22,10 @@ use Rattle.spk_broker_rules.proofs.AnyList.{step-lawful}
 use Rattle.spk_broker.specs.Endings.{Leads, ended}
 use Rattle.spk_broker.specs.declared.ending.Ending.{Ending}
 use Rattle.spk_topics.specs.Grants.{Grants}
-use Rattle.spk_broker.specs.Filing.{IsIndex, IsIndexBut, regrants, takes_grants, turned_of}
-use Rattle.spk_broker.proofs.Quiet.{index-step}
+use Rattle.spk_broker.specs.Filing.{IsHeld, IsIndex}
+use Rattle.spk_broker.proofs.Follows.{held-index}
 use Rattle.spk_broker.proofs.Silence.{calm-step, calm-tick}
 use Rattle.spk_broker.proofs.Standing.{begun-stands}
-use Rattle.spk_broker.proofs.Turned.{but-index, turned-index}
 
 pub stepped-is : (e : Event) (b : plain.Broker) → stepped e (begun b) ≡ step b e
 unfolding step
@@ -113,48 +112,13 @@ calm-found m n moment b d0 d1 d2 x0 x1 drafted (Ok out) ok k f is found h =
 
 -- ---- the index
 
-on-step : (i : Option Grants) (e : Event) (b c d : plain.Broker) → takes_grants e ≡ false → c ≡ b → d ≡ (step b e).broker → IsIndex i c.seats → IsIndex i d.seats
-on-step i e b c d quiet from to h =
-    subst (λ (x : plain.Broker). IsIndex i x.seats) (sym to) (index-step i b e quiet (subst (λ (x : plain.Broker). IsIndex i x.seats) from h))
-
-pub index-to : (i : Option Grants) (e : Event) (b : plain.Broker) (d0 d1 d2 : Desk) (x0 x1 : Draft) (drafted : Result Ending AllocError) (r : Result Out BrokerFault)
-    → (takes_grants e ≡ true → i ≡ None) → CallTo e b d0 d1 x0 x1 drafted → Concluded d1 d2 x1 drafted r → IsIndex i (desk_was d0).seats → IsIndex i (desk_was d2).seats
-index-to i e b d0 d1 d2 x0 x1 drafted (Err x) gone k f h = subst (λ (y : plain.Broker). IsIndex i y.seats) (sym (f.same ∙ k.same)) h
-index-to i e b d0 d1 d2 x0 x1 drafted (Ok out) gone k f h = by (takes_grants e) refl
-  where
-    by : (q : Bool) → takes_grants e ≡ q → IsIndex i (desk_was d2).seats
-    by true is = subst (λ j. IsIndex j (desk_was d2).seats) (sym (gone is)) tt
-    by false is = on-step i e b (desk_was d0) (desk_was d2) is k.is (done-to e b d0 d1 d2 x0 x1 drafted (Ok out) k f) h
-
--- after a packet it has all grants but the new ones of the session whose packet it is
-pub index-but : (i : Option Grants) (turned : Option (ℕ × ℕ)) (conn : ℕ) (p : Message) (moment : ℕ) (b : plain.Broker) (d0 d1 d2 : Desk) (x0 x1 : Draft) (drafted : Result Ending AllocError) (r : Result Out BrokerFault)
-    → (regrants p ≡ false → turned ≡ None) → (regrants p ≡ true → turned ≡ turned_of (seat_at conn (desk_now d0).seats))
-    → CallTo (Packet conn p moment) b d0 d1 x0 x1 drafted → Concluded d1 d2 x1 drafted r → IsIndex i (desk_was d0).seats → IsIndexBut i turned (desk_was d2).seats
-index-but i turned conn p moment b d0 d1 d2 x0 x1 drafted (Err x) quiet some k f h = but-index i turned (desk_was d2).seats (subst (λ (y : plain.Broker). IsIndex i y.seats) (sym (f.same ∙ k.same)) h)
-index-but i turned conn p moment b d0 d1 d2 x0 x1 drafted (Ok out) quiet some k f h = by (regrants p) refl
-  where
-    to : desk_was d2 ≡ (step b (Packet conn p moment)).broker
-    to = done-to (Packet conn p moment) b d0 d1 d2 x0 x1 drafted (Ok out) k f
-
-    by : (q : Bool) → regrants p ≡ q → IsIndexBut i turned (desk_was d2).seats
-    by true is =
-        subst (λ o. IsIndexBut i o (desk_was d2).seats) (sym (some is ∙ ap (λ (x : plain.Broker). turned_of (seat_at conn x.seats)) (k.kept.settled ∙ k.is)))
-        (subst (λ (x : plain.Broker). IsIndexBut i (turned_of (seat_at conn b.seats)) x.seats) (sym to)
-        (turned-index i b conn p moment is (subst (λ (x : plain.Broker). IsIndex i x.seats) k.is h)))
-    by false is = subst (λ o. IsIndexBut i o (desk_was d2).seats) (sym (quiet is)) (but-index i None (desk_was d2).seats (on-step i (Packet conn p moment) b (desk_was d0) (desk_was d2) is k.is to h))
-
--- and then with those
-pub followed : (i j : Option Grants) (turned : Option (ℕ × ℕ)) (d : Desk) (bs : List Both) → bs ≡ d.seats.items → IsSound d
-    → (AreOrdered bs → seats_now bs ≡ map seat_was bs → IsIndexBut i turned (map seat_was bs) → IsIndex j (map seat_was bs))
-    → IsIndexBut i turned (desk_was d).seats → IsIndex j (desk_was d).seats
-followed i j turned d bs is sound h =
-    subst (λ (l : List Both). AreOrdered l → seats_now l ≡ map seat_was l → IsIndexBut i turned (map seat_was l) → IsIndex j (map seat_was l)) is h
-    (0, (desk_was d).made, sound.lawful.keys) (ap (λ (b : plain.Broker). b.seats) sound.settled)
-
--- where the memory for it is refused there is none
-pub index-or : (r : Result (Option Grants) AllocError) (i : Option Grants) (ss : List plain.Seat) → i ≡ result_unwrap_or r None → IfOk r (λ o. IsIndex o ss) → IsIndex i ss
-index-or (Ok o) i ss is h = subst (λ x. IsIndex x ss) (sym is) h
-index-or (Err x) i ss is h = subst (λ x. IsIndex x ss) (sym is) tt
+-- what a call as a whole leaves
+pub held-to : (i j : Option Grants) (m n : ℕ) (b : plain.Broker) (d0 d1 d2 : Desk) → IsSound d0 → desk_was d1 ≡ desk_was d0
+    → (AreOrdered d1.seats.items → IsHeld i m (desk_was d1).seats → IsHeld j n (desk_was d2).seats)
+    → IsHeld i m (desk_was d0).seats → IsHeld j n (desk_was d2).seats
+held-to i j m n b d0 d1 d2 sound same follow h =
+    let seats : (desk_was d1).seats ≡ (desk_was d0).seats = ap (λ (x : plain.Broker). x.seats) same in
+    follow (0, (desk_was d0).made, subst (λ (ss : List plain.Seat). Rises 0 (desk_was d0).made ss) (sym seats) sound.lawful.keys) (subst (IsHeld i m) (sym seats) h)
 
 -- what stands for turns has the index of its turn
 pub index-on : (i : Option Grants) (d d2 : Desk) (x x2 : Draft) (t t2 : Turn) → Stands d x t → Stands d2 x2 t2 → (IsIndex i t.broker.seats → IsIndex i t2.broker.seats)
@@ -163,11 +127,14 @@ index-on i d d2 x x2 t t2 s s2 on h =
     subst (λ (ss : List plain.Seat). IsIndex i ss) (sym (ap (λ (b : plain.Broker). b.seats) s2.broker)) (on (subst (λ (ss : List plain.Seat). IsIndex i ss) (ap (λ (b : plain.Broker). b.seats) s.broker) h))
 
 -- between calls the index of before is the one of now
-pub now-index : (i : Option Grants) (d : Desk) → IsSound d → IsIndex i (desk_was d).seats → IsIndex i (desk_now d).seats
-now-index i d sound h = subst (λ (b : plain.Broker). IsIndex i b.seats) (sym sound.settled) h
+pub now-index : (i : Option Grants) (n : ℕ) (d : Desk) → IsSound d → IsHeld i n (desk_was d).seats → IsIndex i (desk_now d).seats
+now-index i n d sound h = subst (λ (b : plain.Broker). IsIndex i b.seats) (sym sound.settled) (held-index i n (desk_was d).seats h)
 
-pub was-index : (i : Option Grants) (d : Desk) → IsSound d → IsIndex i (desk_now d).seats → IsIndex i (desk_was d).seats
-was-index i d sound h = subst (λ (b : plain.Broker). IsIndex i b.seats) sound.settled h
+pub now-held : (i : Option Grants) (n : ℕ) (d : Desk) → IsSound d → IsHeld i n (desk_was d).seats → IsHeld i n (desk_now d).seats
+now-held i n d sound h = subst (λ (b : plain.Broker). IsHeld i n b.seats) (sym sound.settled) h
+
+pub was-held : (i : Option Grants) (n : ℕ) (d : Desk) → IsSound d → IsHeld i n (desk_now d).seats → IsHeld i n (desk_was d).seats
+was-held i n d sound h = subst (λ (b : plain.Broker). IsHeld i n b.seats) sound.settled h
 
 -- at its beginning a call stands for its turn
 pub begun-for : (d : Desk) (x : Draft) → IsSound d → draft_view x ≡ empty_draft → (t : Turn) × Stands d x t

@@ -5,10 +5,12 @@ pub mod Changes
 pub mod Counts
 pub mod Desks
 pub mod Entered
+pub mod Entries
 pub mod Filtering
 pub mod Finishing
 pub mod Fits
 pub mod Flats
+pub mod Follows
 pub mod Fronts
 pub mod Gives
 pub mod Indexing
@@ -24,7 +26,6 @@ pub mod Packeted
 pub mod Passing
 pub mod Places
 pub mod Quiet
-pub mod Refiled
 pub mod Refilled
 pub mod Retained
 pub mod Rounds
@@ -37,7 +38,6 @@ pub mod Sizes
 pub mod Standing
 pub mod Stayers
 pub mod Touched
-pub mod Turned
 pub mod Visits
 pub mod Walks
 pub mod Wholes

@@ -16,7 +16,7 @@ use Rattle.spk_broker.specs.Both.{Both}
 use Rattle.spk_broker.specs.Called.{AreOrdered, IsPast, is_place, is_there}
 use Rattle.spk_broker.proofs.Places.{unequal}
 
-was-above : (bs : List Both) (low top j : ℕ) (d : Both) → Rises low top (map (λ (b : Both). b.was) bs) → j < length bs → low < (get_or bs j d).was.key
+pub was-above : (bs : List Both) (low top j : ℕ) (d : Both) → Rises low top (map (λ (b : Both). b.was) bs) → j < length bs → low < (get_or bs j d).was.key
 was-above [] low top j d r lt = absurd (omega (arith, lt))
 was-above (b ∷ bs) low top zero d r lt = r.0
 was-above (b ∷ bs) low top (suc j) d r lt =

@@ -120,6 +120,3 @@ passed-next Q (c ∷ cs) (suc i) new low all =
 pub filed-more : (index more : Grants) → ((f : List ℕ) (k : ℕ) → is_some (tree.get index (f, k)) ≡ true → is_some (tree.get more (f, k)) ≡ true) → (ss : List plain.Seat) → AreFiled index ss → AreFiled more ss
 filed-more index more h [] all = tt
 filed-more index more h (s ∷ ss) all = (λ f there. h f s.key (all.0 f there), filed-more index more h ss all.1)
-
-pub bare-filed : (index : Grants) (k : ℕ) → IsFiled index k []
-bare-filed index k f there = absurd (true≢false (sym there))

@@ -1,16 +1,18 @@
 -- The index of grants: for each standing grant it has an entry of its filter and the session's number.
-use Rattle.std.specs.Prelude.{◌≡◌, ◌⊎◌, ◌==◌, drop, nat_lt, ℕ, Bool, true, false, ◌&&◌, not, List, [], ◌∷◌, length, map, if◌then◌else◌, Option, Some, None, is_some, Vec}
+use Rattle.std.specs.Prelude.{◌≡◌, ◌==◌, ◌<◌, ◌≤◌, ◌+◌, ◌-◌, nat_lt, ℕ, Bool, true, false, ◌&&◌, not, List, [], ◌∷◌, length, map, get_or, if◌then◌else◌, Option, Some, None, is_some, Vec}
 use Rattle.std.specs.declared.alloc.Global.{Global}
 use Rattle.std.specs.List.{AllByRecursion, flat_map, fold, list_any}
 use Rattle.std.specs.FinMap as tree
+use Rattle.std.specs.Str.{bytes_eq}
 use Rattle.spk_packets.specs.Message.{Message, Connect, ConnAck, Publish, PubAck, Subscribe, SubAck, Unsubscribe, UnsubAck, PingReq, PingResp, Disconnect}
 use Rattle.spk_topics.specs.Grants.{Finds, Grants}
 use Rattle.spk_topics.specs.Text.{topic_refusal}
 use Rattle.spk_broker_rules.specs.Data.{Seat}
-use Rattle.spk_broker_rules.specs.Plan.{Act, Opens, At, Hear, Drop, Say, Leave, Tell, Queue, Route, Forget, Accept, Give, Take, Ack, Event, Open, Packet, Fault, Closed, Tick, Refused}
 use Rattle.spk_broker_rules.specs.Table.{Table, has}
 use Rattle.spk_broker_rules.specs.Words.{best}
-use Rattle.spk_broker.specs.Sizes.{size_of_all}
+use Rattle.spk_broker.specs.Both.{Both}
+use Rattle.spk_broker.specs.Granting.{standing_grants}
+use Rattle.spk_broker.specs.Sizes.{size_of, size_of_all}
 
 -- ---- what an index is
 
@@ -58,42 +60,7 @@ is_granted filter key seats = list_any (λ (s : Seat). s.key == key && has filte
 abbrev pub HasNoOther : Grants → List Seat → Type 0
 HasNoOther index seats = (filter : List ℕ) (key : ℕ) → is_some (tree.get index (filter, key)) ≡ true → is_granted filter key seats ≡ true
 
--- ---- what changes it
-
--- acts that change no grants
-abbrev pub is_quiet : Act → Bool
-is_quiet Opens = true
-is_quiet (At moment) = true
-is_quiet (Hear conn) = true
-is_quiet (Drop conn) = true
-is_quiet (Say conn packet) = true
-is_quiet (Leave conn wills) = true
-is_quiet (Tell conn) = true
-is_quiet (Queue post) = true
-is_quiet Route = true
-is_quiet (Forget client) = true
-is_quiet (Accept conn client kept alive will) = true
-is_quiet (Give conn id entries) = false
-is_quiet (Take conn filters) = false
-is_quiet (Ack conn id) = true
-
-abbrev pub all_quiet : List Act → Bool
-all_quiet [] = true
-all_quiet (a ∷ as_list) = is_quiet a && all_quiet as_list
-
--- packets that may change grants
-abbrev pub regrants : Message → Bool
-regrants (Connect client clean keep will) = false
-regrants (ConnAck present code) = false
-regrants (Publish dup qos retain topic id payload) = false
-regrants (PubAck id) = false
-regrants (Subscribe id filters) = true
-regrants (SubAck id codes) = false
-regrants (Unsubscribe id filters) = true
-regrants (UnsubAck id) = false
-regrants PingReq = false
-regrants PingResp = false
-regrants Disconnect = false
+-- ---- when it is made
 
 -- a message, for which an index is made where there is none
 abbrev pub is_publish : Message → Bool
@@ -108,15 +75,6 @@ is_publish (UnsubAck id) = false
 is_publish PingReq = false
 is_publish PingResp = false
 is_publish Disconnect = false
-
--- events that may change grants
-abbrev pub takes_grants : Event → Bool
-takes_grants (Open moment) = false
-takes_grants (Packet conn packet moment) = regrants packet
-takes_grants (Fault conn fault moment) = false
-takes_grants (Closed conn moment) = false
-takes_grants (Tick moment) = false
-takes_grants (Refused conn sort moment) = false
 
 -- ---- what it finds
 
@@ -144,20 +102,51 @@ abbrev pub IsIndex : Option Grants → List Seat → Type 0
 IsIndex None seats = Unit {0}
 IsIndex (Some index) seats = AreFiled index seats
 
--- ---- after a SUBSCRIBE or UNSUBSCRIBE
+-- the index has the grants of these sessions and no others, and the size beside it is what their filters take, no more than may be
+pub record Holds (index : Grants) (size : ℕ) (seats : List Seat) : Type 0 where
+  pub exact : (filter : List ℕ) (key : ℕ) → is_some (tree.get index (filter, key)) ≡ is_granted filter key seats
+  pub total : size ≡ size_of_all seats
+  pub small : size ≤ 100000
 
--- the number of a session, and how many grants it has
-abbrev pub turned_of : Option Seat → Option (ℕ × ℕ)
-turned_of None = None
-turned_of (Some s) = Some (s.key, length s.grants)
+-- that, where there is one
+abbrev pub IsHeld : Option Grants → ℕ → List Seat → Type 0
+IsHeld None size seats = Unit {0}
+IsHeld (Some index) size seats = Holds index size seats
 
--- each of these grants has its entry in the index, but for those of one session behind its first ones
-abbrev pub IsFiledBut : Grants → ℕ → ℕ → ℕ → Table ℕ → Type 0
-IsFiledBut index key count k grants =
-    (filter : List ℕ) → has filter grants ≡ true → (is_some (tree.get index (filter, k)) ≡ true) ⊎ ((k ≡ key) × (has filter (drop count grants) ≡ true))
+-- ---- how it follows a call
 
--- the index, where there is one, has the grants of these sessions, but for those of this session behind so many
-abbrev pub IsIndexBut : Option Grants → Option (ℕ × ℕ) → List Seat → Type 0
-IsIndexBut None turned seats = Unit {0}
-IsIndexBut (Some index) None seats = AreFiled index seats
-IsIndexBut (Some index) (Some e) seats = AllOf (IsFiledBut index e.0 e.1) seats
+-- whether the new grant at this place is of this one's filter
+abbrev pub is_next : Table ℕ → ℕ → List ℕ × ℕ → Bool
+is_next new met g = nat_lt met (length new) && bytes_eq (get_or new met ([], 0)).0 g.0
+
+-- without the entry of a session's grant, unless it is among the new ones
+abbrev pub without_entry : ℕ → Table ℕ → Grants → List ℕ × ℕ → Grants
+without_entry key new index g = if has g.0 new then index else tree.remove index (g.0, key)
+
+-- the index with its size, and how many of the new grants were met
+pub record Walk : Type 0 where
+  pub index : Grants
+  pub size : ℕ
+  pub met : ℕ
+
+-- one grant that a session had: it is met, or it is gone
+abbrev pub walked : ℕ → Table ℕ → Walk → List ℕ × ℕ → Walk
+walked key new w g =
+    if is_next new w.met g then record w { met = w.met + 1 }
+    else record { index = without_entry key new w.index g; size = w.size - size_of g.0; met = w.met }
+
+-- of the session of this number the index had these grants, and has those of by now; of each other one it has what it had
+pub record IsTurned (old new : Grants) (seat : Both) : Type 0 where
+  pub others : (filter : List ℕ) (key : ℕ) → (key == seat.was.key) ≡ false → is_some (tree.get new (filter, key)) ≡ is_some (tree.get old (filter, key))
+  pub own : ((filter : List ℕ) → is_some (tree.get old (filter, seat.was.key)) ≡ has filter seat.was.grants)
+      → (filter : List ℕ) → is_some (tree.get new (filter, seat.was.key)) ≡ has filter (standing_grants seat.now)
+
+-- a session has its number and the grants of before the call
+pub record IsAlike (seat : Both) : Type 0 where
+  pub by_now : Seat
+  pub there : seat.now ≡ Some by_now
+  pub key : by_now.key ≡ seat.was.key
+  pub grants : by_now.grants ≡ seat.was.grants
+
+abbrev pub AreAlikeAt : List ℕ → List Both → Type 0
+AreAlikeAt places seats = (k : ℕ) (d : Both) → k < length places → IsAlike (get_or seats (get_or places k 0) d)

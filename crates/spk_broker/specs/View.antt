@@ -11,7 +11,7 @@ use Rattle.spk_broker_rules.specs.Words.{most_topics, option_list}
 use Rattle.spk_broker.specs.Both.{Both}
 use Rattle.spk_broker.specs.Calm.{IsCalm}
 use Rattle.spk_broker.specs.Drafts.{draft_view}
-use Rattle.spk_broker.specs.Filing.{IsIndex}
+use Rattle.spk_broker.specs.Filing.{IsHeld}
 use Rattle.spk_broker.specs.Parts.{retained_view}
 use Rattle.spk_broker.specs.Sent.{outgoing}
 use Rattle.spk_broker.specs.declared.broker.Broker.TheInside.{Inside}
@@ -84,10 +84,10 @@ pub record IsSound (d : Desk) : Type 0 where
   pub settled : IsSettled d
   pub lawful : IsLawful (desk_was d)
 
--- the index, where there is one, has all grants, and nobody is silent for too long up to the moment that is noted
+-- the index, where there is one, has all grants and no others, and no more levels than may be, and nobody is silent for too long up to the moment that is noted
 pub record IsKept (b : Inside) : Type 0 where
   pub sound : IsSound b.desk
-  pub index : IsIndex b.index.tree (desk_was b.desk).seats
+  pub index : IsHeld b.index.tree b.index.size (desk_was b.desk).seats
   pub calm : IsCalm b.calm (desk_was b.desk)
 
 -- how many messages wait and how many sessions there are

@@ -31,14 +31,10 @@ impl Broker {
             return Err(BrokerFault::NoSuchConn);
         }
         let mut draft = Draft::new(self.desk.alloc);
-        let before = self.desk.seats.len();
         let drafted = self
             .desk
             .draft_closed(&mut draft, &self.index.tree, conn, place, now);
-        let lost = draft.lost;
-        let concluded = self.desk.conclude(drafted, draft);
-        self.index.shed(&self.desk, before, lost);
-        concluded
+        self.desk.conclude(drafted, draft, &mut self.index)
     }
 
     /// Bytes of a connection are no packet: a first packet of another protocol level gets CONNACK code 1 (section
@@ -59,14 +55,10 @@ impl Broker {
             return Err(BrokerFault::NoSuchConn);
         }
         let mut draft = Draft::new(self.desk.alloc);
-        let before = self.desk.seats.len();
         let drafted = self
             .desk
             .draft_fault(&mut draft, &self.index.tree, conn, place, fault, now);
-        let lost = draft.lost;
-        let concluded = self.desk.conclude(drafted, draft);
-        self.index.shed(&self.desk, before, lost);
-        concluded
+        self.desk.conclude(drafted, draft, &mut self.index)
     }
 
     /// Time has passed: connections that were silent for more than one and a half times their keep alive are closed
@@ -80,14 +72,11 @@ impl Broker {
         ensures err { OnErr result (self.new ≡ self.old) }
     {
         let mut draft = Draft::new(self.desk.alloc);
-        let before = self.desk.seats.len();
         let mut calm = self.calm;
         let drafted = self
             .desk
             .draft_tick(&mut draft, &self.index.tree, &mut calm, now);
-        let lost = draft.lost;
-        let concluded = self.desk.conclude(drafted, draft);
-        self.index.shed(&self.desk, before, lost);
+        let concluded = self.desk.conclude(drafted, draft, &mut self.index);
         self.calm = next(concluded.is_ok(), calm, self.calm);
         concluded
     }
@@ -110,11 +99,7 @@ impl Broker {
             return Err(BrokerFault::NoSuchConn);
         }
         let mut draft = Draft::new(self.desk.alloc);
-        let before = self.desk.seats.len();
         let drafted = self.desk.draft_refused(&mut draft, conn, place, sort, now);
-        let lost = draft.lost;
-        let concluded = self.desk.conclude(drafted, draft);
-        self.index.shed(&self.desk, before, lost);
-        concluded
+        self.desk.conclude(drafted, draft, &mut self.index)
     }
 }

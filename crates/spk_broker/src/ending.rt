@@ -1,11 +1,14 @@
 //! How a packet ends: what changes a settled session, once nothing can fail any more.
-ghost use Rattle.std.specs.Prelude.{◌≡◌, ◌≤◌, length, map, is_ok, IfErr, IfOk, IfSome, OnErr, OnOk};
+ghost use Rattle.std.specs.Prelude.{ℕ, ◌≡◌, ◌≤◌, Option, length, map, is_ok, IfErr, IfOk, IfSome, OnErr, OnOk};
 ghost use Rattle.spk_broker_rules.specs.Data as plain;
 ghost use Rattle.spk_broker_rules.specs.Lawful.{IsLawful};
 ghost use Rattle.spk_broker_rules.specs.Step.{Turn};
 ghost use Rattle.spk_broker.specs.declared.fault.BrokerFault.TheVariants as BrokerFault;
 ghost use Rattle.spk_broker.specs.declared.desk.Desk.{Desk};
+ghost use Rattle.spk_broker.specs.Called.{AreOrdered};
 ghost use Rattle.spk_broker.specs.Drafts.{draft_view};
+ghost use Rattle.spk_broker.specs.Filing.{IsHeld};
+ghost use Rattle.spk_topics.specs.Grants.{Grants};
 ghost use Rattle.indexmap.specs.IndexMap.{spare};
 ghost use Rattle.spk_broker.specs.Endings.{IsFit, IsReady, alone_at, ended, few_at};
 ghost use Rattle.spk_broker.specs.Sent.{sent_view};
@@ -14,6 +17,7 @@ ghost use Rattle.spk_broker.specs.View.{IsSettled, Stands, desk_was};
 
 use crate::desk::Desk;
 use crate::fault::BrokerFault;
+use crate::index::GrantIndex;
 use crate::joining::Entry;
 use crate::out::{Conn, Draft, Out};
 use std::alloc::AllocError;
@@ -74,6 +78,9 @@ impl Desk {
         requires fit { IsFit ending self.old.seats }
         ensures done { desk_was self.new ≡ ended ending (desk_was self.old) }
         ensures settled { IsSettled self.new }
+        ensures held { (index : Option Grants) (size : ℕ)
+            → IsHeld index size (desk_was self.old).seats
+            → IsHeld index size (desk_was self.new).seats }
     {
         match ending {
             Ending::Nothing | Ending::One(_) | Ending::Few { .. } => {}
@@ -84,7 +91,7 @@ impl Desk {
     }
 
     /// What was drafted stands. Where few sessions may have changed, no other one is looked at.
-    fn settle_by(&mut self, draft: Draft, ending: &Ending) -> Out
+    fn settle_by(&mut self, draft: Draft, ending: &Ending, index: &mut GrantIndex) -> Out
         requires room { length (draft_view draft).keeps ≤ spare self.old.retained }
         requires ready { IsReady ending.now self.old }
         ensures done { (t : Turn) → Stands self.old draft t → desk_was self.new ≡ t.broker }
@@ -92,24 +99,28 @@ impl Desk {
         ensures sends { map sent_view result.sends.items ≡ (draft_view draft).sends }
         ensures closes { result.closes.items ≡ (draft_view draft).closes }
         ensures fit { IsFit ending.now self.new.seats }
+        ensures held { AreOrdered self.old.seats.items
+            → IsHeld index.old.tree index.old.size (desk_was self.old).seats
+            → IsHeld index.new.tree index.new.size (desk_was self.new).seats }
     {
         match ending {
-            Ending::One(place) => self.settle_at(draft, &[], *place),
+            Ending::One(place) => self.settle_at(draft, &[], *place, index),
             Ending::Few {
                 places,
                 sender: place,
-            } => self.settle_at(draft, places, *place),
-            Ending::Acked { place, .. } => self.settle_at(draft, &[], *place),
+            } => self.settle_at(draft, places, *place, index),
+            Ending::Acked { place, .. } => self.settle_at(draft, &[], *place, index),
             Ending::Joins(_) => self.settle_guests(draft),
-            _ => self.settle(draft),
+            _ => self.settle(draft, index),
         }
     }
 
-    /// What was drafted stands, and what follows is done; or it is taken back where a growth was refused.
+    /// What was drafted stands, in the index of grants too, and what follows is done; or it is taken back where a growth was refused.
     pub(crate) fn conclude(
         &mut self,
         drafted: Result<Ending, AllocError>,
         draft: Draft,
+        index: &mut GrantIndex,
     ) -> Result<Out, BrokerFault>
         requires stands { OnOk drafted ((t : Turn) × Stands self.old draft t) }
         requires ready { IfOk drafted (λ e. IsReady e self.old) }
@@ -122,12 +133,15 @@ impl Desk {
         ensures fault { IfErr result (λ e. e ≡ BrokerFault.NoMemory) }
         ensures same { OnErr result (desk_was self.new ≡ desk_was self.old) }
         ensures settled { IsSettled self.new }
+        ensures held { AreOrdered self.old.seats.items
+            → IsHeld index.old.tree index.old.size (desk_was self.old).seats
+            → IsHeld index.new.tree index.new.size (desk_was self.new).seats }
     {
         let Ok(ending) = drafted else {
             self.undo();
             return Err(BrokerFault::NoMemory);
         };
-        let out = self.settle_by(draft, &ending);
+        let out = self.settle_by(draft, &ending, index);
         self.end(ending);
         Ok(out)
     }

@@ -1,10 +1,11 @@
 //! Grants as a SUBSCRIBE or UNSUBSCRIBE changes them (sections 3.8 to 3.11).
-ghost use Rattle.std.specs.Prelude.{◌≡◌, ◌+◌, nat_lt, not, IfOk, IfSome, OnOk, length, map, string_bytes, true};
+ghost use Rattle.std.specs.Prelude.{◌≡◌, ◌+◌, nat_lt, not, IfOk, IfSome, OnOk, length, map, string_bytes, false, true};
 ghost use Rattle.std.specs.List.{filter, fold, list_any};
 ghost use Rattle.std.specs.Option.{option_map};
 ghost use Rattle.std.specs.Str.{bytes_eq};
 ghost use Rattle.spk_packets.specs.View.{request_view};
 ghost use Rattle.spk_broker_rules.specs.Table.{has, put, remove, replaced};
+ghost use Rattle.spk_broker.specs.Filing.{IsAlike};
 ghost use Rattle.spk_broker.specs.Filters.{AreFilters, is_filter};
 ghost use Rattle.spk_broker.specs.Granting.{granting_view, may_grant, regranted, renewed, standing_grants, taken_from, with_request};
 ghost use Rattle.spk_broker.specs.Parts.{grant_view};
@@ -43,7 +44,8 @@ impl Grant {
         }
     }
 
-    fn is_of(&self, name: &str) -> bool
+    /// Whether it is of this filter.
+    pub(crate) fn is_of(&self, name: &str) -> bool
         ensures { result ≡ bytes_eq (string_bytes self.now.filter) name.now }
     {
         self.filter.as_str() == name
@@ -68,7 +70,7 @@ fn has_one(grants: &[Grant], name: &str) -> bool
 }
 
 /// Whether a filter is granted.
-fn has(grants: &[Grant], name: &str) -> bool
+pub(crate) fn has(grants: &[Grant], name: &str) -> bool
     ensures { result ≡ has name.now (map grant_view grants.now) }
 {
     has_one(grants, name)
@@ -191,6 +193,20 @@ impl Seat {
             return &[];
         }
         self.grants()
+    }
+
+    /// The grants of before the call.
+    pub(crate) fn grants_before(&self) -> &[Grant]
+        ensures { map grant_view result.now ≡ self.now.was.grants }
+    {
+        &self.grants
+    }
+
+    /// Whether this call may have changed its grants, or ended it.
+    pub(crate) fn is_turned(&self) -> bool
+        ensures { result ≡ false → IsAlike self.now }
+    {
+        self.ended || self.regrant.is_some()
     }
 
     /// Other grants.

@@ -8,15 +8,14 @@ ghost use Rattle.spk_broker_rules.specs.Words.{best, option_list};
 ghost use Rattle.spk_broker.specs.Asking.{place_in, seats_now};
 ghost use Rattle.spk_broker.specs.Called.{AreOrdered};
 ghost use Rattle.spk_broker.specs.Drafts.{draft_view, left_by, served_by};
-ghost use Rattle.spk_broker.specs.Filing.{ArePassed, HasNoOther, IsIndex, IsIndexBut, IsReached, entries_of, has_key, index_of, is_passed, is_publish, made_index, regrants, turned_of, with_entry};
+ghost use Rattle.spk_broker.specs.Filing.{ArePassed, HasNoOther, IsHeld, IsIndex, IsReached, entries_of, index_of, is_publish, made_index, with_entry};
 ghost use Rattle.spk_broker.specs.View.{desk_now, seat_now, seat_was};
 
 use crate::desk::Desk;
 use crate::letter::Letter;
-use crate::out::{Conn, Draft};
+use crate::out::Draft;
 use crate::seat::{Grant, Seat};
-use crate::sizing::is_small;
-use crate::tally::Tally;
+use crate::sizing::{is_small, total};
 use spk_packets::Packet;
 use spk_topics::laws::{granted, matching};
 use spk_topics::{Filter, Topic, Tree};
@@ -92,11 +91,11 @@ fn filed(alloc: Global, seats: &[Seat]) -> Result<Tree, AllocError>
     Ok(tree)
 }
 
-/// The index of grants, where there is one, and how much it has.
+/// The index of grants, where there is one, and what its filters take.
 #[derive(Drop)]
 pub(crate) struct GrantIndex {
     pub(crate) tree: Option<Tree>,
-    tally: Tally,
+    pub(crate) size: usize,
 }
 
 impl GrantIndex {
@@ -106,61 +105,30 @@ impl GrantIndex {
     {
         GrantIndex {
             tree: None,
-            tally: Tally::new(),
+            size: 0,
         }
     }
 
     /// Before a packet is drafted: for a publish there is one, unless there can't be.
     pub(crate) fn ready(&mut self, desk: &Desk, packet: &Packet)
-        requires { IsIndex self.old.tree (desk_now desk.now).seats }
-        ensures index { IsIndex self.new.tree (desk_now desk.now).seats }
-        ensures kept { is_some self.old.tree ≡ true → self.new.tree ≡ self.old.tree }
+        requires { IsHeld self.old.tree self.old.size (desk_now desk.now).seats }
+        ensures index { IsHeld self.new.tree self.new.size (desk_now desk.now).seats }
+        ensures kept { is_some self.old.tree ≡ true → self.new ≡ self.old }
     {
-        let was_none = self.tree.is_none();
-        let tree = self.tree.take();
-        self.tree = next_index(tree, desk, packet).unwrap_or(None);
-        if was_none && self.tree.is_some() {
-            self.tally = Tally::of(&desk.seats);
-        }
-    }
-
-    /// It is made anew, of the grants that stand. Where memory is refused there is none.
-    fn renew(&mut self, desk: &Desk)
-        ensures { IsIndex self.new.tree (desk_now desk.now).seats }
-    {
-        self.tree = None;
-        self.tree = index(desk.alloc, &desk.seats).unwrap_or(None);
-        self.tally = Tally::of(&desk.seats);
-    }
-
-    /// After a call behind which there are so many sessions if none ended, and in which so many that it found weren't there any more. It
-    /// is made anew where a session ended and more entries are left over than grants stand, and some more: as many ended since it was
-    /// made. It is dropped where as many were looked for in vain as it has entries, and some more.
-    pub(crate) fn shed(&mut self, desk: &Desk, before: usize, lost: usize)
-        ensures { (ss : List plain.Seat) → (desk_now desk.now).seats ≡ ss
-            → IsIndex self.old.tree ss → IsIndex self.new.tree ss }
-    {
-        if self.tree.is_none() {
+        if self.tree.is_some() {
             return;
         }
-        if desk.seats.len() < before && self.tally.is_worn(&desk.seats) {
-            self.renew(desk);
-            return;
-        }
-        if lost != 0 && self.tally.is_spent(lost) {
-            self.tree = None;
-        }
+        self.make(desk, packet);
     }
 
-    /// After a packet: it has the new grants of the session whose grants this packet may have changed.
-    pub(crate) fn follow(&mut self, seats: &[Seat], holder: Option<(u64, usize)>)
-        ensures same { holder ≡ None → self.new.tree ≡ self.old.tree }
-        ensures index { AreOrdered seats.now → seats_now seats.now ≡ map seat_was seats.now
-            → IsIndexBut self.old.tree holder (map seat_was seats.now)
-            → IsIndex self.new.tree (map seat_was seats.now) }
+    /// There is none, and for a publish it is made, where it can be.
+    fn make(&mut self, desk: &Desk, packet: &Packet)
+        ensures { IsHeld self.new.tree self.new.size (desk_now desk.now).seats }
     {
-        let tree = self.tree.take();
-        self.tree = self.tally.follow(tree, seats, holder);
+        self.tree = next_index(None, desk, packet).unwrap_or(None);
+        if self.tree.is_some() {
+            self.size = total(&desk.seats);
+        }
     }
 }
 
@@ -177,34 +145,4 @@ fn next_index(tree: Option<Tree>, desk: &Desk, packet: &Packet) -> Result<Option
         Packet::Publish { .. } if tree.is_none() => index(desk.alloc, &desk.seats),
         _ => Ok(tree),
     }
-}
-
-impl Seat {
-    /// Its number, and how many grants it has.
-    fn holding(&self) -> (u64, usize)
-        ensures { IfSome self.now.now (λ s. result ≡ (s.key, length s.grants)) }
-    {
-        (self.key, self.grants().len())
-    }
-}
-
-/// The session whose grants this packet may change, of the connection that sits at this place, if it does, and how many it has.
-pub(crate) fn holder(
-    desk: &Desk,
-    conn: Conn,
-    place: Option<usize>,
-    packet: &Packet,
-) -> Option<(u64, usize)>
-    requires { place_in conn desk.now.seats.items ≡ place }
-    ensures quiet { regrants (view packet.now) ≡ false → result ≡ None }
-    ensures turned { regrants (view packet.now) ≡ true
-        → result ≡ turned_of (seat_at conn (desk_now desk.now).seats) }
-{
-    let (Packet::Subscribe { .. } | Packet::Unsubscribe { .. }) = packet else {
-        return None;
-    };
-    let Some(place) = place else {
-        return None;
-    };
-    Some(desk.seats[place].holding())
 }

@@ -15,6 +15,7 @@ mod events;
 mod fault;
 mod firsts;
 mod fitting;
+mod following;
 mod giving;
 mod granting;
 mod grants;
@@ -37,7 +38,6 @@ mod serving;
 mod settling;
 mod sizing;
 mod subscribing;
-mod tally;
 mod turning;
 
 pub use broker::Broker;

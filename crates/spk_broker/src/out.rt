@@ -42,8 +42,6 @@ pub(crate) struct Draft {
     pub(crate) closes: Vec<Conn>,
     pub(crate) waiting: VecDeque<Post>,
     pub(crate) keeps: VecDeque<Post>,
-    /// How many of those that the index found weren't there any more.
-    pub(crate) lost: usize,
     /// Where this is set, a CONNECT has changed no session.
     pub(crate) is_still: bool,
 }
@@ -103,16 +101,8 @@ impl Draft {
             closes: Vec::new(alloc),
             waiting: VecDeque::new(alloc),
             keeps: VecDeque::new(alloc),
-            lost: 0,
             is_still: false,
         }
-    }
-
-    /// Of so many that the index found so many were there.
-    pub(crate) fn miss(&mut self, found: usize, there: usize)
-        ensures { self.new ≡ record self.old { lost = self.new.lost } }
-    {
-        self.lost = self.lost.saturating_add(found.saturating_sub(there));
     }
 
     /// One more packet for a connection.

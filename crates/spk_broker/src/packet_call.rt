@@ -9,7 +9,6 @@ ghost use Rattle.spk_broker_rules.specs.Step.{knows, step};
 use crate::broker::Broker;
 use crate::desk::Desk;
 use crate::fault::BrokerFault;
-use crate::index::holder;
 use crate::out::{Conn, Draft, Out};
 use spk_packets::Packet;
 
@@ -32,25 +31,12 @@ impl Broker {
             return Err(BrokerFault::NoSuchConn);
         }
         let mut draft = Draft::new(self.desk.alloc);
-        let before = count_before(&self.desk, packet);
         self.index.ready(&self.desk, packet);
-        let holder = holder(&self.desk, conn, place, packet);
         let drafted = self
             .desk
             .draft_packet(&mut draft, &self.index.tree, conn, place, packet, now);
-        let lost = draft.lost;
-        let concluded = self.desk.conclude(drafted, draft);
-        self.index.follow(&self.desk.seats, holder);
-        self.index.shed(&self.desk, before, lost);
+        let concluded = self.desk.conclude(drafted, draft, &mut self.index);
         self.hints.meet(&self.desk.seats, conn, packet);
         concluded
-    }
-}
-
-/// How many sessions there are if none ends by a packet: a CONNECT may begin one.
-fn count_before(desk: &Desk, packet: &Packet) -> usize {
-    match packet {
-        Packet::Connect { .. } => desk.seats.len().saturating_add(1),
-        _ => desk.seats.len(),
     }
 }

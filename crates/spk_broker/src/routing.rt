@@ -62,14 +62,6 @@ fn found_places(
     }
 }
 
-/// How many were found.
-fn found_count(found: &Option<Vec<(u64, u8)>>) -> usize {
-    match found {
-        Some(found) => found.len(),
-        None => 0,
-    }
-}
-
 /// What a routed message does to all sessions. Answers the places at which it called, where it looked at no others.
 fn round(
     seats: &mut [Seat],
@@ -97,7 +89,6 @@ fn round(
         visit(seats, draft, post)?;
         return Ok(None);
     };
-    draft.miss(found_count(&found), places.len());
     call(seats, draft, post, &places)?;
     Ok(Some(places))
 }

@@ -2,19 +2,22 @@
 ghost use Rattle.std.specs.Prelude.{◌≡◌, ◌≤◌, ◌∷◌, ◌++◌, [], length, map, vec_capacity, vec_len};
 ghost use Rattle.indexmap.specs.IndexMap.{spare};
 ghost use Rattle.spk_broker_rules.specs.Step.{Turn};
+ghost use Rattle.spk_broker.specs.Called.{AreOrdered};
 ghost use Rattle.spk_broker.specs.Drafts.{draft_view};
+ghost use Rattle.spk_broker.specs.Filing.{IsHeld};
 ghost use Rattle.spk_broker.specs.Sent.{sent_view};
 ghost use Rattle.spk_broker.specs.Touched.{IsStill, OnlyAt};
 ghost use Rattle.spk_broker.specs.View.{IsSettled, Stands, desk_was};
 
 use crate::desk::Desk;
+use crate::index::GrantIndex;
 use crate::out::{Draft, Out};
 use crate::retaining::retain_all;
 use crate::{guest, turning};
 
 impl Desk {
-    /// What was drafted stands. It takes no memory.
-    pub(crate) fn settle(&mut self, draft: Draft) -> Out
+    /// What was drafted stands. It takes no memory but for new grants in the index of grants, which is dropped where it is refused.
+    pub(crate) fn settle(&mut self, draft: Draft, index: &mut GrantIndex) -> Out
         requires { length (draft_view draft).keeps ≤ spare self.old.retained }
         ensures done { (t : Turn) → Stands self.old draft t → desk_was self.new ≡ t.broker }
         ensures settled { IsSettled self.new }
@@ -22,7 +25,11 @@ impl Desk {
         ensures closes { result.closes.items ≡ (draft_view draft).closes }
         ensures capacity { vec_capacity self.new.seats ≡ vec_capacity self.old.seats }
         ensures fewer { vec_len self.new.seats ≤ vec_len self.old.seats }
+        ensures held { AreOrdered self.old.seats.items
+            → IsHeld index.old.tree index.old.size (desk_was self.old).seats
+            → IsHeld index.new.tree index.new.size (desk_was self.new).seats }
     {
+        index.follow(&self.seats);
         guest::settle(&mut self.guests);
         turning::settle(&mut self.seats);
         retain_all(&mut self.retained, draft.keeps);
@@ -34,15 +41,25 @@ impl Desk {
     }
 
     /// What was drafted stands, where the call has changed only the sessions at these places and at that one, and no
-    /// connection without CONNECT. It takes no memory.
-    pub(crate) fn settle_at(&mut self, draft: Draft, places: &[usize], place: usize) -> Out
+    /// connection without CONNECT. It takes no more memory than `settle`.
+    pub(crate) fn settle_at(
+        &mut self,
+        draft: Draft,
+        places: &[usize],
+        place: usize,
+        index: &mut GrantIndex,
+    ) -> Out
         requires room { length (draft_view draft).keeps ≤ spare self.old.retained }
         requires only { OnlyAt (places.now ++ place ∷ []) self.old }
         ensures done { (t : Turn) → Stands self.old draft t → desk_was self.new ≡ t.broker }
         ensures settled { IsSettled self.new }
         ensures sends { map sent_view result.sends.items ≡ (draft_view draft).sends }
         ensures closes { result.closes.items ≡ (draft_view draft).closes }
+        ensures held { AreOrdered self.old.seats.items
+            → IsHeld index.old.tree index.old.size (desk_was self.old).seats
+            → IsHeld index.new.tree index.new.size (desk_was self.new).seats }
     {
+        index.follow_at(&self.seats, places, place);
         turning::settle_at(&mut self.seats, places, place);
         retain_all(&mut self.retained, draft.keeps);
         self.clock_before = self.clock;

@@ -35,7 +35,7 @@ pub(crate) fn size(filter: &str) -> usize
 }
 
 /// What is left once these grants have taken their part; none where they take more.
-fn left_by(grants: &[Grant], left: usize) -> Option<usize>
+pub(crate) fn left_by(grants: &[Grant], left: usize) -> Option<usize>
     ensures { MatchOption result (left < size_of_grants (map grant_view grants.now))
         (λ rest. rest + size_of_grants (map grant_view grants.now) ≡ left) }
 {
@@ -46,16 +46,32 @@ fn left_by(grants: &[Grant], left: usize) -> Option<usize>
     Some(rest)
 }
 
-/// Whether the grants of these sessions are few enough.
-pub(crate) fn is_small(seats: &[Seat]) -> bool
-    ensures { result ≡ not (nat_lt 100000 (size_of_all (seats_now seats.now))) }
+/// How much more the grants of these sessions might take; none where they take too much.
+fn room(seats: &[Seat]) -> Option<usize>
+    ensures { MatchOption result (100000 < size_of_all (seats_now seats.now))
+        (λ rest. rest + size_of_all (seats_now seats.now) ≡ 100000) }
 {
     let mut left = MOST_LEVELS;
     for seat in seats {
         match left_by(seat.standing(), left) {
             Some(rest) => left = rest,
-            None => return false,
+            None => return None,
         }
     }
-    true
+    Some(left)
+}
+
+/// Whether the grants of these sessions are few enough.
+pub(crate) fn is_small(seats: &[Seat]) -> bool
+    ensures { result ≡ not (nat_lt 100000 (size_of_all (seats_now seats.now))) }
+{
+    room(seats).is_some()
+}
+
+/// What the grants of these sessions take, where they are few enough.
+pub(crate) fn total(seats: &[Seat]) -> usize
+    ensures { size_of_all (seats_now seats.now) ≤ 100000
+        → result ≡ size_of_all (seats_now seats.now) }
+{
+    MOST_LEVELS.saturating_sub(room(seats).unwrap_or(0))
 }

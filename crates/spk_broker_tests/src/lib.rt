@@ -8,6 +8,8 @@ mod broker;
 #[cfg(test)]
 mod hostile;
 #[cfg(test)]
+mod indexed;
+#[cfg(test)]
 mod limits;
 #[cfg(test)]
 mod serve;

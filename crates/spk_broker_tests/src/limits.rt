@@ -6,7 +6,7 @@ use std::alloc::{AllocError, Global};
 use std::test::Fail;
 
 /// What a packet gives; the call is made again where memory was refused.
-fn said(broker: &mut impl Talks, conn: u64, packet: &Packet) -> Option<Out> {
+pub(crate) fn said(broker: &mut impl Talks, conn: u64, packet: &Packet) -> Option<Out> {
     match broker.heard(conn, packet, 0) {
         Err(BrokerFault::NoMemory) => broker.heard(conn, packet, 0).ok(),
         answer => answer.ok(),
@@ -29,7 +29,7 @@ fn last_code(out: &Out) -> u8 {
 }
 
 /// A letter and a number.
-fn name(alloc: Global, letter: &str, number: u16) -> Result<String, AllocError> {
+pub(crate) fn name(alloc: Global, letter: &str, number: u16) -> Result<String, AllocError> {
     format!(in alloc; "{letter}{number}")
 }
 
@@ -127,7 +127,7 @@ fn code(alloc: Global, broker: &mut impl Talks, conn: u64, says: Says) -> Result
 }
 
 /// How many sends an answer has.
-fn count_of(answer: Option<Out>) -> usize {
+pub(crate) fn count_of(answer: Option<Out>) -> usize {
     match answer {
         Some(out) => out.sends.len(),
         None => 0,
@@ -158,7 +158,7 @@ fn passes(
 }
 
 /// A new connection without a client id.
-fn comes(alloc: Global, broker: &mut impl Talks) -> u64 {
+pub(crate) fn comes(alloc: Global, broker: &mut impl Talks) -> u64 {
     joins(broker, String::new(alloc), true).0
 }
 
@@ -251,7 +251,7 @@ fn unacknowledged_message_1025_closes(rt: HostRuntime) -> Result<(), Fail> {
 }
 
 /// A text of 32,768 levels, the last of which is this one.
-fn deep(alloc: Global, last: &str) -> Result<String, AllocError> {
+pub(crate) fn deep(alloc: Global, last: &str) -> Result<String, AllocError> {
     let mut text = String::new(alloc);
     for _ in 0..32_767 {
         text.push_str("a/")?;

@@ -1,12 +1,12 @@
 use Rattle.std.proofs.Common.{◌≡◌, sym, false, true, ap}
 use Rattle.spk_broker_rules.specs.Data as plain
 use Rattle.spk_broker_rules.specs.Plan.{Fault}
-use Rattle.spk_broker.proofs.Finishing.{calm-to, closes-to, done-to, index-to, kept-to, now-index, sends-to, stands-to}
+use Rattle.spk_broker.proofs.Finishing.{calm-to, closes-to, done-to, held-to, kept-to, now-index, sends-to, stands-to}
 use Rattle.spk_broker.proofs.Leaving.{sound-order}
 use Rattle.spk_broker.proofs.broker.Broker.fault.Goals as goal
 
-pub conclude-concluded-requires-clause-stands : goal.conclude-concluded-requires-clause-stands
-conclude-concluded-requires-clause-stands c =
+pub conclude-requires-clause-stands : goal.conclude-requires-clause-stands
+conclude-requires-clause-stands c =
     stands-to (Fault c.args.conn c.args.fault c.args.now) c.args.self.now c.self.inside.desk c.draft_fault-drafted.new.self c.new-draft.result c.draft_fault-drafted.new.draft c.draft_fault-drafted.result
     (record { is = c.self.view_is; kept = c.self.invariant.sound; empty = c.new-draft.ensures; done = c.draft_fault-drafted.ensures.done; same = c.draft_fault-drafted.ensures.same })
 
@@ -21,42 +21,39 @@ knows-requires c = sym c.seek-place.ensures.place
 
 pub invariant_of-self-2 : goal.invariant_of-self-2
 invariant_of-self-2 c =
-    let sound = kept-to (Fault c.args.conn c.args.fault c.args.now) c.args.self.now c.self.inside.desk c.draft_fault-drafted.new.self c.conclude-concluded.new.self c.new-draft.result c.draft_fault-drafted.new.draft c.draft_fault-drafted.result c.conclude-concluded.result
+    let sound = kept-to (Fault c.args.conn c.args.fault c.args.now) c.args.self.now c.self.inside.desk c.draft_fault-drafted.new.self c.conclude.new.self c.new-draft.result c.draft_fault-drafted.new.draft c.draft_fault-drafted.result c.conclude.result
     (record { is = c.self.view_is; kept = c.self.invariant.sound; empty = c.new-draft.ensures; done = c.draft_fault-drafted.ensures.done; same = c.draft_fault-drafted.ensures.same })
-    (record { done = c.conclude-concluded.ensures.done; sends = c.conclude-concluded.ensures.sends; closes = c.conclude-concluded.ensures.closes; variant = c.conclude-concluded.ensures.variant; same = c.conclude-concluded.ensures.same; settled = c.conclude-concluded.ensures.settled }) in
+    (record { done = c.conclude.ensures.done; sends = c.conclude.ensures.sends; closes = c.conclude.ensures.closes; variant = c.conclude.ensures.variant; same = c.conclude.ensures.same; settled = c.conclude.ensures.settled }) in
     record {
       sound = record { settled = sound.settled; lawful = sound.lawful };
-      index = c.shed.ensures _ (ap (λ (b : plain.Broker). b.seats) sound.settled) (index-to c.self.inside.index.tree (Fault c.args.conn c.args.fault c.args.now) c.args.self.now c.self.inside.desk c.draft_fault-drafted.new.self c.conclude-concluded.new.self c.new-draft.result c.draft_fault-drafted.new.draft c.draft_fault-drafted.result c.conclude-concluded.result
-          (λ (e : false ≡ true). absurd (let z : ⊥ = cc in z))
+      index = held-to c.self.inside.index.tree c.conclude.new.index.tree c.self.inside.index.size c.conclude.new.index.size c.args.self.now c.self.inside.desk c.draft_fault-drafted.new.self c.conclude.new.self
+          c.self.invariant.sound c.draft_fault-drafted.ensures.same c.conclude.ensures.held c.self.invariant.index;
+      calm = calm-to c.self.inside.calm (Fault c.args.conn c.args.fault c.args.now) c.args.self.now c.self.inside.desk c.draft_fault-drafted.new.self c.conclude.new.self c.new-draft.result c.draft_fault-drafted.new.draft c.draft_fault-drafted.result c.conclude.result
           (record { is = c.self.view_is; kept = c.self.invariant.sound; empty = c.new-draft.ensures; done = c.draft_fault-drafted.ensures.done; same = c.draft_fault-drafted.ensures.same })
-          (record { done = c.conclude-concluded.ensures.done; sends = c.conclude-concluded.ensures.sends; closes = c.conclude-concluded.ensures.closes; variant = c.conclude-concluded.ensures.variant; same = c.conclude-concluded.ensures.same; settled = c.conclude-concluded.ensures.settled })
-          c.self.invariant.index);
-      calm = calm-to c.self.inside.calm (Fault c.args.conn c.args.fault c.args.now) c.args.self.now c.self.inside.desk c.draft_fault-drafted.new.self c.conclude-concluded.new.self c.new-draft.result c.draft_fault-drafted.new.draft c.draft_fault-drafted.result c.conclude-concluded.result
-          (record { is = c.self.view_is; kept = c.self.invariant.sound; empty = c.new-draft.ensures; done = c.draft_fault-drafted.ensures.done; same = c.draft_fault-drafted.ensures.same })
-          (record { done = c.conclude-concluded.ensures.done; sends = c.conclude-concluded.ensures.sends; closes = c.conclude-concluded.ensures.closes; variant = c.conclude-concluded.ensures.variant; same = c.conclude-concluded.ensures.same; settled = c.conclude-concluded.ensures.settled })
+          (record { done = c.conclude.ensures.done; sends = c.conclude.ensures.sends; closes = c.conclude.ensures.closes; variant = c.conclude.ensures.variant; same = c.conclude.ensures.same; settled = c.conclude.ensures.settled })
           c.self.invariant.calm;
     }
 
 pub returns-clause-sends : goal.returns-clause-sends
 returns-clause-sends c =
-    sends-to (Fault c.args.conn c.args.fault c.args.now) c.args.self.now c.self.inside.desk c.draft_fault-drafted.new.self c.conclude-concluded.new.self c.new-draft.result c.draft_fault-drafted.new.draft c.draft_fault-drafted.result c.conclude-concluded.result
+    sends-to (Fault c.args.conn c.args.fault c.args.now) c.args.self.now c.self.inside.desk c.draft_fault-drafted.new.self c.conclude.new.self c.new-draft.result c.draft_fault-drafted.new.draft c.draft_fault-drafted.result c.conclude.result
     (record { is = c.self.view_is; kept = c.self.invariant.sound; empty = c.new-draft.ensures; done = c.draft_fault-drafted.ensures.done; same = c.draft_fault-drafted.ensures.same })
-    (record { done = c.conclude-concluded.ensures.done; sends = c.conclude-concluded.ensures.sends; closes = c.conclude-concluded.ensures.closes; variant = c.conclude-concluded.ensures.variant; same = c.conclude-concluded.ensures.same; settled = c.conclude-concluded.ensures.settled })
+    (record { done = c.conclude.ensures.done; sends = c.conclude.ensures.sends; closes = c.conclude.ensures.closes; variant = c.conclude.ensures.variant; same = c.conclude.ensures.same; settled = c.conclude.ensures.settled })
 
 pub returns-clause-closes : goal.returns-clause-closes
 returns-clause-closes c =
-    closes-to (Fault c.args.conn c.args.fault c.args.now) c.args.self.now c.self.inside.desk c.draft_fault-drafted.new.self c.conclude-concluded.new.self c.new-draft.result c.draft_fault-drafted.new.draft c.draft_fault-drafted.result c.conclude-concluded.result
+    closes-to (Fault c.args.conn c.args.fault c.args.now) c.args.self.now c.self.inside.desk c.draft_fault-drafted.new.self c.conclude.new.self c.new-draft.result c.draft_fault-drafted.new.draft c.draft_fault-drafted.result c.conclude.result
     (record { is = c.self.view_is; kept = c.self.invariant.sound; empty = c.new-draft.ensures; done = c.draft_fault-drafted.ensures.done; same = c.draft_fault-drafted.ensures.same })
-    (record { done = c.conclude-concluded.ensures.done; sends = c.conclude-concluded.ensures.sends; closes = c.conclude-concluded.ensures.closes; variant = c.conclude-concluded.ensures.variant; same = c.conclude-concluded.ensures.same; settled = c.conclude-concluded.ensures.settled })
+    (record { done = c.conclude.ensures.done; sends = c.conclude.ensures.sends; closes = c.conclude.ensures.closes; variant = c.conclude.ensures.variant; same = c.conclude.ensures.same; settled = c.conclude.ensures.settled })
 
 pub returns-clause-done : goal.returns-clause-done
 returns-clause-done c =
-    done-to (Fault c.args.conn c.args.fault c.args.now) c.args.self.now c.self.inside.desk c.draft_fault-drafted.new.self c.conclude-concluded.new.self c.new-draft.result c.draft_fault-drafted.new.draft c.draft_fault-drafted.result c.conclude-concluded.result
+    done-to (Fault c.args.conn c.args.fault c.args.now) c.args.self.now c.self.inside.desk c.draft_fault-drafted.new.self c.conclude.new.self c.new-draft.result c.draft_fault-drafted.new.draft c.draft_fault-drafted.result c.conclude.result
     (record { is = c.self.view_is; kept = c.self.invariant.sound; empty = c.new-draft.ensures; done = c.draft_fault-drafted.ensures.done; same = c.draft_fault-drafted.ensures.same })
-    (record { done = c.conclude-concluded.ensures.done; sends = c.conclude-concluded.ensures.sends; closes = c.conclude-concluded.ensures.closes; variant = c.conclude-concluded.ensures.variant; same = c.conclude-concluded.ensures.same; settled = c.conclude-concluded.ensures.settled })
+    (record { done = c.conclude.ensures.done; sends = c.conclude.ensures.sends; closes = c.conclude.ensures.closes; variant = c.conclude.ensures.variant; same = c.conclude.ensures.same; settled = c.conclude.ensures.settled })
 
 pub draft_fault-drafted-requires-clause-index : goal.draft_fault-drafted-requires-clause-index
-draft_fault-drafted-requires-clause-index c = now-index c.self.inside.index.tree c.self.inside.desk c.self.invariant.sound c.self.invariant.index
+draft_fault-drafted-requires-clause-index c = now-index c.self.inside.index.tree c.self.inside.index.size c.self.inside.desk c.self.invariant.sound c.self.invariant.index
 
 pub draft_fault-drafted-requires-clause-order : goal.draft_fault-drafted-requires-clause-order
 draft_fault-drafted-requires-clause-order c = sound-order c.self.inside.index.tree c.self.inside.desk c.self.invariant.sound

@@ -2,7 +2,9 @@ use Rattle.std.proofs.Common.{ap, sym}
 use Rattle.spk_packets.specs.View.{view}
 use Rattle.spk_broker_rules.specs.Data as plain
 use Rattle.spk_broker_rules.specs.Plan.{Packet}
-use Rattle.spk_broker.proofs.Finishing.{CallTo, Concluded, begun-for, calm-to, closes-to, done-to, followed, index-but, kept-to, now-index, was-index, sends-to, stands-to}
+use Rattle.spk_broker.specs.View.{desk_now}
+use Rattle.spk_broker.proofs.Finishing.{CallTo, Concluded, begun-for, calm-to, closes-to, done-to, held-to, kept-to, now-held, was-held, sends-to, stands-to}
+use Rattle.spk_broker.proofs.Follows.{held-index}
 use Rattle.spk_broker.proofs.Touched.{settled-keyed}
 use Rattle.spk_broker.proofs.broker.Broker.packet.Goals as goal
 
@@ -23,9 +25,9 @@ invariant_of-self-2 c =
     let sound = kept-to (Packet c.args.conn (view c.args.packet.now) c.args.now) c.args.self.now c.self.inside.desk c.draft_packet-drafted.new.self c.conclude-concluded.new.self c.new-draft.result c.draft_packet-drafted.new.draft c.draft_packet-drafted.result c.conclude-concluded.result call end in
     record {
       sound = record { settled = sound.settled; lawful = sound.lawful };
-      index = c.shed.ensures _ (ap (λ (b : plain.Broker). b.seats) sound.settled) (followed c.ready.new.self.tree c.follow.new.self.tree c.holder-holder.result c.conclude-concluded.new.self c.deref.result.now c.deref.ensures.value sound c.follow.ensures.index
-          (index-but c.ready.new.self.tree c.holder-holder.result c.args.conn (view c.args.packet.now) c.args.now c.args.self.now c.self.inside.desk c.draft_packet-drafted.new.self c.conclude-concluded.new.self c.new-draft.result c.draft_packet-drafted.new.draft c.draft_packet-drafted.result c.conclude-concluded.result
-          c.holder-holder.ensures.quiet c.holder-holder.ensures.turned call end (was-index c.ready.new.self.tree c.self.inside.desk c.self.invariant.sound c.ready.ensures.index)));
+      index = held-to c.ready.new.self.tree c.conclude-concluded.new.index.tree c.ready.new.self.size c.conclude-concluded.new.index.size c.args.self.now c.self.inside.desk c.draft_packet-drafted.new.self c.conclude-concluded.new.self
+          c.self.invariant.sound c.draft_packet-drafted.ensures.same c.conclude-concluded.ensures.held
+          (was-held c.ready.new.self.tree c.ready.new.self.size c.self.inside.desk c.self.invariant.sound c.ready.ensures.index);
       calm = calm-to c.self.inside.calm (Packet c.args.conn (view c.args.packet.now) c.args.now) c.args.self.now c.self.inside.desk c.draft_packet-drafted.new.self c.conclude-concluded.new.self c.new-draft.result c.draft_packet-drafted.new.draft c.draft_packet-drafted.result c.conclude-concluded.result call end c.self.invariant.calm;
     }
 
@@ -48,7 +50,10 @@ returns-clause-done c =
     (record { done = c.conclude-concluded.ensures.done; sends = c.conclude-concluded.ensures.sends; closes = c.conclude-concluded.ensures.closes; variant = c.conclude-concluded.ensures.variant; same = c.conclude-concluded.ensures.same; settled = c.conclude-concluded.ensures.settled })
 
 pub ready-requires : goal.ready-requires
-ready-requires c = now-index c.self.inside.index.tree c.self.inside.desk c.self.invariant.sound c.self.invariant.index
+ready-requires c = now-held c.self.inside.index.tree c.self.inside.index.size c.self.inside.desk c.self.invariant.sound c.self.invariant.index
+
+pub draft_packet-drafted-requires-clause-index : goal.draft_packet-drafted-requires-clause-index
+draft_packet-drafted-requires-clause-index c = held-index c.ready.new.self.tree c.ready.new.self.size (desk_now c.self.inside.desk).seats c.ready.ensures.index
 
 pub draft_packet-drafted-requires-clause-stands : goal.draft_packet-drafted-requires-clause-stands
 draft_packet-drafted-requires-clause-stands c = begun-for c.self.inside.desk c.new-draft.result c.self.invariant.sound c.new-draft.ensures

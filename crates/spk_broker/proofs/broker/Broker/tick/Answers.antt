@@ -3,7 +3,7 @@ use Rattle.spk_broker_rules.specs.Data as plain
 use Rattle.spk_broker_rules.specs.Plan.{Tick}
 use Rattle.spk_broker.specs.Calm.{IsCalm}
 use Rattle.spk_broker.specs.View.{desk_was}
-use Rattle.spk_broker.proofs.Finishing.{calm-found, closes-to, done-to, index-to, kept-to, now-index, sends-to, stands-to}
+use Rattle.spk_broker.proofs.Finishing.{calm-found, closes-to, done-to, held-to, kept-to, now-index, sends-to, stands-to}
 use Rattle.spk_broker.proofs.Leaving.{sound-order}
 use Rattle.spk_broker.proofs.broker.Broker.tick.Goals as goal
 
@@ -19,11 +19,8 @@ invariant_of-self c =
     (record { done = c.conclude-concluded.ensures.done; sends = c.conclude-concluded.ensures.sends; closes = c.conclude-concluded.ensures.closes; variant = c.conclude-concluded.ensures.variant; same = c.conclude-concluded.ensures.same; settled = c.conclude-concluded.ensures.settled }) in
     record {
       sound = record { settled = sound.settled; lawful = sound.lawful };
-      index = c.shed.ensures _ (ap (λ (b : plain.Broker). b.seats) sound.settled) (index-to c.self.inside.index.tree (Tick c.args.now) c.args.self.now c.self.inside.desk c.draft_tick-drafted.new.self c.conclude-concluded.new.self c.new-draft.result c.draft_tick-drafted.new.draft c.draft_tick-drafted.result c.conclude-concluded.result
-          (λ (e : false ≡ true). absurd (let z : ⊥ = cc in z))
-          (record { is = c.self.view_is; kept = c.self.invariant.sound; empty = c.new-draft.ensures; done = c.draft_tick-drafted.ensures.done; same = c.draft_tick-drafted.ensures.same })
-          (record { done = c.conclude-concluded.ensures.done; sends = c.conclude-concluded.ensures.sends; closes = c.conclude-concluded.ensures.closes; variant = c.conclude-concluded.ensures.variant; same = c.conclude-concluded.ensures.same; settled = c.conclude-concluded.ensures.settled })
-          c.self.invariant.index);
+      index = held-to c.self.inside.index.tree c.conclude-concluded.new.index.tree c.self.inside.index.size c.conclude-concluded.new.index.size c.args.self.now c.self.inside.desk c.draft_tick-drafted.new.self c.conclude-concluded.new.self
+          c.self.invariant.sound c.draft_tick-drafted.ensures.same c.conclude-concluded.ensures.held c.self.invariant.index;
       calm = subst (λ m. IsCalm m (desk_was c.conclude-concluded.new.self)) (sym c.next-self-inside.ensures) (calm-found c.draft_tick-drafted.new.calm c.self.inside.calm c.args.now c.args.self.now c.self.inside.desk c.draft_tick-drafted.new.self c.conclude-concluded.new.self c.new-draft.result c.draft_tick-drafted.new.draft c.draft_tick-drafted.result c.conclude-concluded.result c.is_ok.result
           (record { is = c.self.view_is; kept = c.self.invariant.sound; empty = c.new-draft.ensures; done = c.draft_tick-drafted.ensures.done; same = c.draft_tick-drafted.ensures.same })
           (record { done = c.conclude-concluded.ensures.done; sends = c.conclude-concluded.ensures.sends; closes = c.conclude-concluded.ensures.closes; variant = c.conclude-concluded.ensures.variant; same = c.conclude-concluded.ensures.same; settled = c.conclude-concluded.ensures.settled })
@@ -49,7 +46,7 @@ returns-clause-done c =
     (record { done = c.conclude-concluded.ensures.done; sends = c.conclude-concluded.ensures.sends; closes = c.conclude-concluded.ensures.closes; variant = c.conclude-concluded.ensures.variant; same = c.conclude-concluded.ensures.same; settled = c.conclude-concluded.ensures.settled })
 
 pub draft_tick-drafted-requires-clause-index : goal.draft_tick-drafted-requires-clause-index
-draft_tick-drafted-requires-clause-index c = now-index c.self.inside.index.tree c.self.inside.desk c.self.invariant.sound c.self.invariant.index
+draft_tick-drafted-requires-clause-index c = now-index c.self.inside.index.tree c.self.inside.index.size c.self.inside.desk c.self.invariant.sound c.self.invariant.index
 
 pub draft_tick-drafted-requires-clause-order : goal.draft_tick-drafted-requires-clause-order
 draft_tick-drafted-requires-clause-order c = sound-order c.self.inside.index.tree c.self.inside.desk c.self.invariant.sound

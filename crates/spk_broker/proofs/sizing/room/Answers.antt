@@ -1,12 +1,11 @@
-use Rattle.std.proofs.Common.{◌∙◌, ◌<◌, ap, arith, get_or, not, sym}
-use Rattle.std.proofs.lemmas.Bool.{le-ltb, lt-ltb}
+use Rattle.std.proofs.Common.{◌∙◌, ap, arith, get_or}
 use Rattle.std.proofs.lemmas.List.{take_all}
 use Rattle.spk_broker.specs.Asking.{seats_now}
 use Rattle.spk_broker.specs.Both.{Both}
 use Rattle.spk_broker.specs.Granting.{standing_grants}
 use Rattle.spk_broker.specs.Sizes.{size_of_all, size_of_grants}
 use Rattle.spk_broker.proofs.Sizes.{size-more, size-standing, size-within}
-use Rattle.spk_broker.proofs.sizing.is_small.Goals as goal
+use Rattle.spk_broker.proofs.sizing.room.Goals as goal
 
 pub returns-in-None : goal.returns-in-None
 returns-in-None c =
@@ -17,8 +16,7 @@ returns-in-None c =
     let there = ap size_of_grants c.standing.ensures ∙ ap (λ (b : Both). size_of_grants (standing_grants b.now)) c.seat-item.is in
     let over = c.in-None.ensures in
     let before = c.loop-seat.invariant in
-    let all : 100000 < size_of_all (seats_now bs) = omega (arith, within, here, there, over, before) in
-    ap not (sym (lt-ltb 100000 (size_of_all (seats_now bs)) all))
+    omega (arith, within, here, there, over, before)
 
 pub loop-seat-preserved : goal.loop-seat-preserved
 loop-seat-preserved c =
@@ -36,4 +34,4 @@ returns c =
     let bs = c.args.seats.now in
     let whole = ap (λ l. size_of_all (seats_now l)) (take_all c.loop-seat.seat-index bs (omega arith)) in
     let before = c.loop-seat.invariant in
-    ap not (sym (le-ltb 100000 (size_of_all (seats_now bs)) (omega (arith, whole, before))))
+    omega (arith, whole, before)

@@ -1,0 +1,164 @@
+//! How the index of grants follows a call: it has the grants of before the call, and then those of by now.
+ghost use Rattle.std.specs.Prelude.{◌≡◌, ◌+◌, ◌≤◌, ◌++◌, ◌∷◌, [], false, true, IfSome, OnOk, length, map, get_or};
+ghost use Rattle.std.specs.List.{flat_map, fold};
+ghost use Rattle.spk_broker.specs.Asking.{seats_now};
+ghost use Rattle.spk_broker.specs.Called.{AreOrdered};
+ghost use Rattle.spk_broker.specs.Filing.{AreAlikeAt, Holds, IsHeld, IsTurned, Walk, entry_of, is_next, walked, with_entry, without_entry};
+ghost use Rattle.spk_broker.specs.Granting.{standing_grants};
+ghost use Rattle.spk_broker.specs.Parts.{grant_view};
+ghost use Rattle.spk_broker.specs.Sizes.{size_of, size_of_grants};
+ghost use Rattle.spk_broker.specs.Touched.{AreTouched};
+ghost use Rattle.spk_broker.specs.View.{seat_now, seat_was};
+
+use crate::granting::has;
+use crate::index::{GrantIndex, file_one};
+use crate::seat::{Grant, Seat};
+use crate::sizing::{self, MOST_LEVELS, left_by};
+use spk_topics::laws::granted;
+use spk_topics::{Filter, Tree};
+use std::alloc::AllocError;
+
+/// Whether a grant's filter is that of the new one at this place.
+fn is_next(wanted: &[Grant], met: usize, grant: &Grant) -> bool
+    ensures next { result ≡ is_next (map grant_view wanted.now) met (grant_view grant.now) }
+    ensures low { result ≡ true → met + 1 ≤ length wanted.now }
+{
+    met < wanted.len() && wanted[met].is_of(grant.filter.as_str())
+}
+
+/// The entry of a grant is taken back, unless its filter is among the new ones: a session has each filter once, which isn't known here.
+/// It takes no memory.
+fn drop_entry(tree: &mut Tree, key: u64, grant: &Grant, wanted: &[Grant])
+    ensures { tree.new
+        ≡ without_entry key (map grant_view wanted.now) tree.old (grant_view grant.now) }
+{
+    if has(wanted, grant.filter.as_str()) {
+        return;
+    }
+    let Ok(filter) = Filter::read(grant.filter.as_str()) else {
+        unreachable!()
+    };
+    let _ = tree.take_back(&filter, key);
+}
+
+/// Of the grants that a session had those are taken back that are gone. Both lists have what stays in the same order. Answers how many of the
+/// new ones it had. It takes no memory.
+fn drop_gone(tree: &mut Tree, size: &mut usize, key: u64, had: &[Grant], wanted: &[Grant]) -> usize
+    ensures walked { record { index = tree.new; size = size.new; met = result }
+        ≡ fold (walked key (map grant_view wanted.now))
+        (record { index = tree.old; size = size.old; met = 0 }) (map grant_view had.now) }
+    ensures low { result ≤ length wanted.now }
+{
+    let mut met = 0;
+    for grant in had {
+        if is_next(wanted, met, grant) {
+            met += 1;
+        } else {
+            *size = size.saturating_sub(sizing::size(grant.filter.as_str()));
+            drop_entry(tree, key, grant, wanted);
+        }
+    }
+    met
+}
+
+/// These grants of a session are put in.
+fn add(tree: &mut Tree, key: u64, grants: &[Grant]) -> Result<(), AllocError>
+    ensures { OnOk result (tree.new
+        ≡ fold with_entry tree.old (map (entry_of key) (map grant_view grants.now))) }
+{
+    for grant in grants {
+        let _ = file_one(tree, key, grant)?;
+    }
+    Ok(())
+}
+
+/// The same, unless there'd be too many levels, or memory is refused: then it answers false.
+fn add_few(tree: &mut Tree, size: &mut usize, key: u64, grants: &[Grant]) -> bool
+    ensures filed { result ≡ true → tree.new
+        ≡ fold with_entry tree.old (map (entry_of key) (map grant_view grants.now)) }
+    ensures size { result ≡ true → size.old ≤ 100000
+        → size.new ≡ size.old + size_of_grants (map grant_view grants.now) }
+    ensures small { result ≡ true → size.new ≤ 100000 }
+{
+    let Some(left) = left_by(grants, MOST_LEVELS.saturating_sub(*size)) else {
+        return false;
+    };
+    if add(tree, key, grants).is_err() {
+        return false;
+    }
+    *size = MOST_LEVELS.saturating_sub(left);
+    true
+}
+
+/// A session's grants of before the call give way to those of by now. Answers false where there can't be an index of them.
+fn turn(tree: &mut Tree, size: &mut usize, seat: &Seat) -> bool
+    ensures turned { result ≡ true
+        → IsTurned tree.old tree.new seat.now }
+    ensures size { result ≡ true → size.old ≤ 100000
+        → size_of_grants seat.now.was.grants ≤ size.old
+        → size.new + size_of_grants seat.now.was.grants
+        ≡ size.old + size_of_grants (standing_grants seat.now.now) }
+    ensures small { result ≡ true → size.old ≤ 100000 → size.new ≤ 100000 }
+{
+    if !seat.is_turned() {
+        return true;
+    }
+    let key = seat.key();
+    let new = seat.standing();
+    let met = drop_gone(tree, size, key, seat.grants_before(), new);
+    add_few(tree, size, key, &new[met..])
+}
+
+/// The index of the grants of by now.
+fn turned(tree: Tree, size: &mut usize, seats: &[Seat]) -> Option<Tree>
+    ensures { IfSome result (λ t. AreOrdered seats.now → Holds tree size.old (map seat_was seats.now)
+        → Holds t size.new (flat_map seat_now seats.now)) }
+{
+    granted();
+    let mut tree = tree;
+    for seat in seats {
+        seat.keyed();
+        if !turn(&mut tree, size, seat) {
+            return None;
+        }
+    }
+    Some(tree)
+}
+
+/// Whether the call may have changed the grants of a session at one of these places.
+fn is_any_turned(seats: &[Seat], places: &[usize], last: usize) -> bool
+    requires { AreTouched (places.now ++ last ∷ []) seats.now }
+    ensures { result ≡ false → AreAlikeAt (places.now ++ last ∷ []) seats.now }
+{
+    for place in places {
+        if seats[*place].is_turned() {
+            return true;
+        }
+    }
+    seats[last].is_turned()
+}
+
+impl GrantIndex {
+    /// A call is about to stand: what a session that ended had is taken back, and of the others what they lost; what they got is put in.
+    /// There is none where that would be too much, or where memory for it is refused: where no session got a grant none is asked for.
+    pub(crate) fn follow(&mut self, seats: &[Seat])
+        ensures { AreOrdered seats.now → IsHeld self.old.tree self.old.size (map seat_was seats.now)
+            → IsHeld self.new.tree self.new.size (flat_map seat_now seats.now) }
+    {
+        let Some(tree) = self.tree.take() else {
+            return;
+        };
+        self.tree = turned(tree, &mut self.size, seats);
+    }
+
+    /// The same where only the sessions at these places and at that one may have changed.
+    pub(crate) fn follow_at(&mut self, seats: &[Seat], places: &[usize], place: usize)
+        requires { AreTouched (places.now ++ place ∷ []) seats.now }
+        ensures { AreOrdered seats.now → IsHeld self.old.tree self.old.size (map seat_was seats.now)
+            → IsHeld self.new.tree self.new.size (flat_map seat_now seats.now) }
+    {
+        if self.tree.is_some() && is_any_turned(seats, places, place) {
+            self.follow(seats);
+        }
+    }
+}
