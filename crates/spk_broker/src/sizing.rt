@@ -8,9 +8,9 @@ ghost use Rattle.spk_broker.specs.Asking.{seats_now};
 use crate::seat::{Grant, Seat};
 
 /// The most that the filters of all grants may have together, by levels.
-// A level takes 168 bytes of an index, three times that while its vector doubles, and 64 bytes of text, which stands there three times, some
-// 200: so an index takes some 40 MB at most beside the maps of 10,000 grants, some 10 MB. One client may ask for 10,000 filters of 65,536
-// levels, which would take 110 GB. Without an index a publish is matched against all grants.
+// A filter takes at most two nodes of 112 bytes of an index, three times that while their vector doubles, a map or two of some 500 bytes, and three
+// times its text (`spk_topics`). So an index of 10,000 grants, the most that there may be, with the 6.4 MB of text that this leaves them takes some 40 MB at
+// most. One client may ask for 10,000 filters of 65,535 bytes, which would take 2 GB. Without an index a publish is matched against all grants.
 pub(crate) const MOST_LEVELS: usize = 100_000;
 
 /// How many levels a filter has (section 4.7.1.1).

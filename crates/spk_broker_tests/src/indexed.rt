@@ -129,9 +129,9 @@ fn resident(rt: &(impl Files + Alloc)) -> usize {
     0
 }
 
-/// Sixty clients come, each with eight filters of 32,768 levels.
+/// Sixteen clients come, each with eight filters of 32,768 levels: 8 MB of text.
 fn asks_deep(alloc: Global, broker: &mut impl Talks) -> Result<(), AllocError> {
-    for client in 0..60 {
+    for client in 0..16 {
         let conn = comes(alloc, broker);
         let mut filters = Vec::new(alloc);
         for number in 0..8 {
