@@ -1,14 +1,16 @@
 -- A call as a whole: what it drafted stands for the rules' step, and is settled or taken back.
-use Rattle.std.proofs.Common.{◌≡◌, ℕ, Bool, true, false, List, Option, None, map, refl, sym, ap, subst, ◌∙◌, Result, Ok, Err, cond}
-use Rattle.std.specs.Result.{IfOk, OnErr, OnOk, is_ok, result_unwrap_or}
+use Rattle.std.proofs.Common.{◌≡◌, ℕ, Bool, true, false, not, List, Option, None, map, refl, sym, ap, subst, ◌∙◌, Result, Ok, Err, cond}
+use Rattle.std.specs.Result.{IfErr, IfOk, OnErr, OnOk, is_ok}
 use Rattle.std.specs.declared.alloc.AllocError.{AllocError}
 use Rattle.spk_broker_rules.specs.Data as plain
 use Rattle.spk_broker_rules.specs.Lawful.{IsLawful, Rises}
 use Rattle.spk_packets.specs.Message.{Message}
 use Rattle.spk_broker_rules.specs.Plan.{Event, Packet, Tick}
-use Rattle.spk_broker_rules.specs.Step.{Turn, begun, noted, seat_at, step}
+use Rattle.spk_broker_rules.specs.Step.{Turn, begun, knows, noted, step}
 use Rattle.spk_broker.specs.declared.desk.Desk.{Desk}
 use Rattle.spk_broker.specs.declared.fault.BrokerFault.{BrokerFault}
+use Rattle.spk_broker.specs.declared.fault.BrokerFault.TheVariants.{NoMemory}
+use Rattle.spk_broker.specs.Fault.{IsUnknown}
 use Rattle.spk_broker.specs.declared.out.Draft.{Draft}
 use Rattle.spk_broker.specs.declared.out.Out.{Out}
 use Rattle.spk_broker.specs.Asking.{seats_now}
@@ -87,6 +89,17 @@ pub kept-to : (e : Event) (b : plain.Broker) (d0 d1 d2 : Desk) (x0 x1 : Draft) (
 kept-to e b d0 d1 d2 x0 x1 drafted (Ok out) k f =
     record { settled = f.settled; lawful = subst IsLawful (sym (done-to e b d0 d1 d2 x0 x1 drafted (Ok out) k f)) (step-lawful b e (subst IsLawful k.is k.kept.lawful)) }
 kept-to e b d0 d1 d2 x0 x1 drafted (Err x) k f = record { settled = f.settled; lawful = subst IsLawful (sym (f.same ∙ k.same)) k.kept.lawful }
+
+pub not-false : (b : Bool) → not b ≡ false → b ≡ true
+not-false true e = refl
+not-false false e = sym e
+
+-- a call for a connection that is open is refused for want of memory alone
+pub refused-to : (conn : ℕ) (b : plain.Broker) (d : Desk) (known : Bool) (r : Result Out BrokerFault) → IsSound d → desk_was d ≡ b → known ≡ knows (desk_now d) conn → known ≡ true
+    → IfErr r (λ e. e ≡ NoMemory) → IfErr r (IsUnknown (knows b conn))
+refused-to conn b d known (Ok out) sound is same there fault = tt
+refused-to conn b d known (Err e) sound is same there fault =
+    subst (λ x. IsUnknown (knows b conn) x) (sym fault) (ap (λ x. knows x conn) (sym (sound.settled ∙ is)) ∙ sym same ∙ there)
 
 -- ---- silence
 

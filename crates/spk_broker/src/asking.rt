@@ -105,7 +105,7 @@ pub(crate) fn away_place(seats: &[Seat], client: &str) -> Option<usize>
 }
 
 /// Whether this connection sits at a place.
-fn sits_at(seats: &[Seat], conn: Conn, place: usize) -> bool
+pub(crate) fn sits_at(seats: &[Seat], conn: Conn, place: usize) -> bool
     ensures { result ≡ true → SitsAt conn place seats.now }
 {
     place < seats.len() && seats[place].sits(conn)

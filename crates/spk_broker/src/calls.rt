@@ -26,10 +26,11 @@ impl Broker {
         ensures fault { IfErr result (IsUnknown (knows self.old conn)) }
         ensures err { OnErr result (self.new ≡ self.old) }
     {
-        let place = self.hints.seek(&self.desk, conn);
-        if !self.desk.knows(conn, place) {
+        let sought = self.hints.seek(&self.desk, conn, false);
+        if !sought.known {
             return Err(BrokerFault::NoSuchConn);
         }
+        let place = sought.place;
         let mut draft = Draft::new(self.desk.alloc);
         let drafted = self
             .desk
@@ -50,10 +51,11 @@ impl Broker {
         ensures fault { IfErr result (IsUnknown (knows self.old conn)) }
         ensures err { OnErr result (self.new ≡ self.old) }
     {
-        let place = self.hints.seek(&self.desk, conn);
-        if !self.desk.knows(conn, place) {
+        let sought = self.hints.seek(&self.desk, conn, false);
+        if !sought.known {
             return Err(BrokerFault::NoSuchConn);
         }
+        let place = sought.place;
         let mut draft = Draft::new(self.desk.alloc);
         let drafted = self
             .desk
@@ -94,10 +96,11 @@ impl Broker {
         ensures fault { IfErr result (IsUnknown (knows self.old conn)) }
         ensures err { OnErr result (self.new ≡ self.old) }
     {
-        let place = self.hints.seek(&self.desk, conn);
-        if !self.desk.knows(conn, place) {
+        let sought = self.hints.seek(&self.desk, conn, true);
+        if !sought.known {
             return Err(BrokerFault::NoSuchConn);
         }
+        let place = sought.place;
         let mut draft = Draft::new(self.desk.alloc);
         let drafted = self.desk.draft_refused(&mut draft, conn, place, sort, now);
         self.desk.conclude(drafted, draft, &mut self.index)

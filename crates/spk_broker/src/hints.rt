@@ -1,11 +1,13 @@
 //! Where connections sit: what is kept here is looked at first and never believed, so that it may be out of date.
-ghost use Rattle.std.specs.Prelude.{◌≡◌, ◌≤◌};
+ghost use Rattle.std.specs.Prelude.{◌≡◌, ◌≤◌, IfSome, false, length};
+ghost use Rattle.std.specs.List.{list_any};
 ghost use Rattle.spk_broker_rules.specs.Lawful.{places};
-ghost use Rattle.spk_broker.specs.Asking.{place_in};
+ghost use Rattle.spk_broker_rules.specs.Step.{is_guest, knows};
+ghost use Rattle.spk_broker.specs.Asking.{SitsAt, place_in};
 ghost use Rattle.spk_broker.specs.Touched.{IsAlone};
 ghost use Rattle.spk_broker.specs.View.{IsSound, desk_now};
 
-use crate::asking::{is_guest, place_near};
+use crate::asking::{is_guest, place_near, sits_at};
 use crate::desk::Desk;
 use crate::out::Conn;
 use crate::seat::Seat;
@@ -21,6 +23,39 @@ struct Hint {
     conn: Conn,
     key: u64,
     place: usize,
+}
+
+/// Where a connection sits, if it does, and whether it is open.
+#[derive(Debug, Drop)]
+pub(crate) struct Sought {
+    pub(crate) place: Option<usize>,
+    pub(crate) known: bool,
+}
+
+/// Whether a connection that sits at this place, if it does, is open. Where it was looked for at none of the sessions first it isn't one
+/// without CONNECT.
+fn is_known(desk: &Desk, conn: Conn, place: Option<usize>, near: usize) -> bool
+    requires place { place_in conn desk.now.seats.items ≡ place }
+    requires new { length desk.now.seats.items ≤ near
+        → list_any (is_guest conn) (desk_now desk.now).guests ≡ false }
+    ensures { result ≡ knows (desk_now desk.now) conn }
+{
+    if near < desk.seats.len() {
+        return desk.knows(conn, place);
+    }
+    place.is_some()
+}
+
+/// The last place, where this connection sits there.
+fn last_place(seats: &[Seat], conn: Conn) -> Option<usize>
+    ensures { IfSome result (λ place. SitsAt conn place seats.now) }
+{
+    let last = seats.len().checked_sub(1)?;
+    if sits_at(seats, conn, last) {
+        Some(last)
+    } else {
+        None
+    }
 }
 
 /// In the order of connections.
@@ -100,21 +135,37 @@ impl Hints {
         self.learn(conn, key, place);
     }
 
-    /// Where the connection sits, if it does: where nothing is known of it and it has no accepted CONNECT, no session is looked at.
-    fn seek_in(&mut self, desk: &Desk, conn: Conn) -> Option<usize>
+    /// Where the connection sits, and whether it is open: where nothing is known of it and it has no accepted CONNECT, no session is looked
+    /// at. Where it sits is noted where it may call again.
+    fn seek_in(&mut self, desk: &Desk, conn: Conn, stays: bool) -> Sought
         requires { places conn (desk_now desk.now) ≤ 1 }
-        ensures { result ≡ place_in conn desk.now.seats.items }
+        ensures place { result.place ≡ place_in conn desk.now.seats.items }
+        ensures known { result.known ≡ knows (desk_now desk.now) conn }
     {
         let at = self.at(conn);
         let near = self.guess(&desk.seats, at);
         if near >= desk.seats.len() && is_guest(&desk.guests, conn) {
-            return None;
+            return Sought {
+                place: None,
+                known: true,
+            };
         }
         let place = place_near(&desk.seats, conn, near);
-        if let Some(place) = place {
-            self.note(at, conn, desk.seats[place].key(), place);
+        if stays {
+            self.note_place(&desk.seats, at, conn, place);
         }
-        place
+        let known = is_known(desk, conn, place, near);
+        Sought { place, known }
+    }
+
+    /// Where the connection sits is noted, if it does.
+    fn note_place(&mut self, seats: &[Seat], at: Option<usize>, conn: Conn, place: Option<usize>) {
+        let Some(place) = place else {
+            return;
+        };
+        if let Some(seat) = seats.get(place) {
+            self.note(at, conn, seat.key(), place);
+        }
     }
 
     /// After a packet: a CONNECT may have made a session for this connection, which then stands last.
@@ -122,20 +173,18 @@ impl Hints {
         let Packet::Connect { .. } = packet else {
             return;
         };
-        let Some(last) = seats.last() else {
-            return;
-        };
-        if last.sits(conn) {
-            self.learn(conn, last.key(), seats.len().saturating_sub(1));
+        if let Some(place) = last_place(seats, conn) {
+            self.learn(conn, seats[place].key(), place);
         }
     }
 
-    /// Where the connection sits between calls, if it does.
-    pub(crate) fn seek(&mut self, desk: &Desk, conn: Conn) -> Option<usize>
+    /// Where the connection sits between calls, if it does, and whether it is open. It is noted where it may call again.
+    pub(crate) fn seek(&mut self, desk: &Desk, conn: Conn, stays: bool) -> Sought
         requires { IsSound desk.now }
-        ensures place { result ≡ place_in conn desk.now.seats.items }
-        ensures alone { IsAlone result desk.now }
+        ensures place { result.place ≡ place_in conn desk.now.seats.items }
+        ensures known { result.known ≡ knows (desk_now desk.now) conn }
+        ensures alone { IsAlone result.place desk.now }
     {
-        self.seek_in(desk, conn)
+        self.seek_in(desk, conn, stays)
     }
 }

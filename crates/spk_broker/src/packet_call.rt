@@ -26,10 +26,13 @@ impl Broker {
         ensures fault { IfErr result (IsUnknown (knows self.old conn)) }
         ensures err { OnErr result (self.new ≡ self.old) }
     {
-        let place = self.hints.seek(&self.desk, conn);
-        if !self.desk.knows(conn, place) {
+        let sought = self
+            .hints
+            .seek(&self.desk, conn, !matches!(packet, Packet::Disconnect));
+        if !sought.known {
             return Err(BrokerFault::NoSuchConn);
         }
+        let place = sought.place;
         let mut draft = Draft::new(self.desk.alloc);
         self.index.ready(&self.desk, packet);
         let drafted = self

@@ -1,7 +1,7 @@
 use Rattle.std.proofs.Common.{◌≡◌, sym, false, true, ap}
 use Rattle.spk_broker_rules.specs.Data as plain
 use Rattle.spk_broker_rules.specs.Plan.{Closed}
-use Rattle.spk_broker.proofs.Finishing.{calm-to, closes-to, done-to, held-to, kept-to, now-index, sends-to, stands-to}
+use Rattle.spk_broker.proofs.Finishing.{calm-to, closes-to, done-to, held-to, kept-to, not-false, refused-to, now-index, sends-to, stands-to}
 use Rattle.spk_broker.proofs.Leaving.{sound-order}
 use Rattle.spk_broker.proofs.broker.Broker.closed.Goals as goal
 
@@ -11,13 +11,10 @@ conclude-requires-clause-stands c =
     (record { is = c.self.view_is; kept = c.self.invariant.sound; empty = c.new-draft.ensures; done = c.draft_closed-drafted.ensures.done; same = c.draft_closed-drafted.ensures.same })
 
 pub draft_closed-drafted-requires-clause-place : goal.draft_closed-drafted-requires-clause-place
-draft_closed-drafted-requires-clause-place c = sym c.seek-place.ensures.place
+draft_closed-drafted-requires-clause-place c = sym c.seek-sought.ensures.place
 
 pub draft_closed-drafted-requires-clause-alone : goal.draft_closed-drafted-requires-clause-alone
-draft_closed-drafted-requires-clause-alone c = c.seek-place.ensures.alone
-
-pub knows-requires : goal.knows-requires
-knows-requires c = sym c.seek-place.ensures.place
+draft_closed-drafted-requires-clause-alone c = c.seek-sought.ensures.alone
 
 pub invariant_of-self-2 : goal.invariant_of-self-2
 invariant_of-self-2 c =
@@ -57,3 +54,7 @@ draft_closed-drafted-requires-clause-index c = now-index c.self.inside.index.tre
 
 pub draft_closed-drafted-requires-clause-order : goal.draft_closed-drafted-requires-clause-order
 draft_closed-drafted-requires-clause-order c = sound-order c.self.inside.index.tree c.self.inside.desk c.self.invariant.sound
+
+pub returns-clause-fault : goal.returns-clause-fault
+returns-clause-fault c =
+    refused-to c.args.conn c.args.self.now c.self.inside.desk c.seek-sought.result.known c.conclude.result c.self.invariant.sound c.self.view_is c.seek-sought.ensures.known (not-false c.seek-sought.result.known c.if-not-sought.false) c.conclude.ensures.fault

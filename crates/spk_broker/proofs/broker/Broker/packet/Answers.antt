@@ -3,7 +3,7 @@ use Rattle.spk_packets.specs.View.{view}
 use Rattle.spk_broker_rules.specs.Data as plain
 use Rattle.spk_broker_rules.specs.Plan.{Packet}
 use Rattle.spk_broker.specs.View.{desk_now}
-use Rattle.spk_broker.proofs.Finishing.{CallTo, Concluded, begun-for, calm-to, closes-to, done-to, held-to, kept-to, now-held, was-held, sends-to, stands-to}
+use Rattle.spk_broker.proofs.Finishing.{CallTo, Concluded, begun-for, calm-to, closes-to, done-to, held-to, kept-to, refused-to, now-held, was-held, sends-to, stands-to}
 use Rattle.spk_broker.proofs.Follows.{held-index}
 use Rattle.spk_broker.proofs.Touched.{settled-keyed}
 use Rattle.spk_broker.proofs.broker.Broker.packet.Goals as goal
@@ -62,16 +62,17 @@ pub draft_packet-drafted-requires-clause-lawful : goal.draft_packet-drafted-requ
 draft_packet-drafted-requires-clause-lawful c = c.self.invariant.sound.lawful
 
 pub draft_packet-drafted-requires-clause-place : goal.draft_packet-drafted-requires-clause-place
-draft_packet-drafted-requires-clause-place c = sym c.seek-place.ensures.place
+draft_packet-drafted-requires-clause-place c = sym c.seek-sought.ensures.place
 
 pub draft_packet-drafted-requires-clause-alone : goal.draft_packet-drafted-requires-clause-alone
-draft_packet-drafted-requires-clause-alone c = c.seek-place.ensures.alone
-
-pub knows-requires : goal.knows-requires
-knows-requires c = sym c.seek-place.ensures.place
+draft_packet-drafted-requires-clause-alone c = c.seek-sought.ensures.alone
 
 pub draft_packet-drafted-requires-clause-keyed : goal.draft_packet-drafted-requires-clause-keyed
 draft_packet-drafted-requires-clause-keyed c = settled-keyed c.self.inside.desk c.self.invariant.sound.settled
 
 pub draft_packet-drafted-requires-clause-still : goal.draft_packet-drafted-requires-clause-still
 draft_packet-drafted-requires-clause-still c = ap (λ (b : plain.Broker). b.seats) c.self.invariant.sound.settled
+
+pub returns-clause-fault : goal.returns-clause-fault
+returns-clause-fault c =
+    refused-to c.args.conn c.args.self.now c.self.inside.desk c.seek-sought.result.known c.conclude-concluded.result c.self.invariant.sound c.self.view_is c.seek-sought.ensures.known c.if-not-sought.false c.conclude-concluded.ensures.fault

@@ -1,7 +1,7 @@
 use Rattle.std.proofs.Common.{◌≡◌, sym, false, true, ap}
 use Rattle.spk_broker_rules.specs.Data as plain
 use Rattle.spk_broker_rules.specs.Plan.{Refused}
-use Rattle.spk_broker.proofs.Finishing.{calm-to, closes-to, done-to, held-to, kept-to, sends-to, stands-to}
+use Rattle.spk_broker.proofs.Finishing.{calm-to, closes-to, done-to, held-to, kept-to, not-false, refused-to, sends-to, stands-to}
 use Rattle.spk_broker.proofs.broker.Broker.refused.Goals as goal
 
 pub conclude-requires-clause-stands : goal.conclude-requires-clause-stands
@@ -10,13 +10,10 @@ conclude-requires-clause-stands c =
     (record { is = c.self.view_is; kept = c.self.invariant.sound; empty = c.new-draft.ensures; done = c.draft_refused-drafted.ensures.done; same = c.draft_refused-drafted.ensures.same })
 
 pub draft_refused-drafted-requires-clause-place : goal.draft_refused-drafted-requires-clause-place
-draft_refused-drafted-requires-clause-place c = sym c.seek-place.ensures.place
+draft_refused-drafted-requires-clause-place c = sym c.seek-sought.ensures.place
 
 pub draft_refused-drafted-requires-clause-alone : goal.draft_refused-drafted-requires-clause-alone
-draft_refused-drafted-requires-clause-alone c = c.seek-place.ensures.alone
-
-pub knows-requires : goal.knows-requires
-knows-requires c = sym c.seek-place.ensures.place
+draft_refused-drafted-requires-clause-alone c = c.seek-sought.ensures.alone
 
 pub invariant_of-self-2 : goal.invariant_of-self-2
 invariant_of-self-2 c =
@@ -50,3 +47,7 @@ returns-clause-done c =
     done-to (Refused c.args.conn c.args.sort c.args.now) c.args.self.now c.self.inside.desk c.draft_refused-drafted.new.self c.conclude.new.self c.new-draft.result c.draft_refused-drafted.new.draft c.draft_refused-drafted.result c.conclude.result
     (record { is = c.self.view_is; kept = c.self.invariant.sound; empty = c.new-draft.ensures; done = c.draft_refused-drafted.ensures.done; same = c.draft_refused-drafted.ensures.same })
     (record { done = c.conclude.ensures.done; sends = c.conclude.ensures.sends; closes = c.conclude.ensures.closes; variant = c.conclude.ensures.variant; same = c.conclude.ensures.same; settled = c.conclude.ensures.settled })
+
+pub returns-clause-fault : goal.returns-clause-fault
+returns-clause-fault c =
+    refused-to c.args.conn c.args.self.now c.self.inside.desk c.seek-sought.result.known c.conclude.result c.self.invariant.sound c.self.view_is c.seek-sought.ensures.known (not-false c.seek-sought.result.known c.if-not-sought.false) c.conclude.ensures.fault
