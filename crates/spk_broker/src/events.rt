@@ -168,7 +168,7 @@ impl Desk {
             return Ok(ending);
         }
         self.end_all(draft, &conns)?;
-        self.route(draft, tree)?;
+        self.route_after(draft, tree)?;
         Ok(Ending::Nothing)
     }
 

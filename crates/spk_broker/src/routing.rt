@@ -93,6 +93,17 @@ fn round(
     Ok(Some(places))
 }
 
+/// Whether more of these sessions are there than ended in this call.
+fn are_most_there(seats: &[Seat]) -> bool {
+    let mut there: usize = 0;
+    for seat in seats {
+        if seat.is_there() {
+            there = there.saturating_add(1);
+        }
+    }
+    there > seats.len() / 2
+}
+
 /// Room for what is to be retained, where the message is.
 fn keep(
     retained: &mut IndexMap<String, Stored>,
@@ -150,6 +161,25 @@ impl Desk {
             self.route_one(draft, post, tree)?;
         }
         Ok(())
+    }
+
+    /// The same where many sessions may have ended in this call: where as many did as are there, all are looked at, since each message would
+    /// find those that ended.
+    pub(crate) fn route_after(
+        &mut self,
+        draft: &mut Draft,
+        tree: &Option<Tree>,
+    ) -> Result<(), AllocError>
+        requires index { IsIndex tree.now (desk_now self.old).seats }
+        requires order { AreInOrder tree.now self.old.seats.items }
+        ensures done { OnOk result ((t : Turn) → Stands self.old draft.old t
+            → Stands self.new draft.new (act Route t)) }
+        ensures same { desk_was self.new ≡ desk_was self.old }
+    {
+        if are_most_there(&self.seats) {
+            return self.route(draft, tree);
+        }
+        self.route(draft, &None)
     }
 
     /// Those that wait are routed, each whole before the next. Answers which sessions may have changed since the call began,

@@ -140,6 +140,9 @@ impl Seat {
             ≡ served_by (serve letter.old) self.old.now (draft_view draft.old)) }
         ensures letter { letter.new ≡ letter.old }
     {
+        if self.ended {
+            return Ok(());
+        }
         let post = letter.post();
         match level(post.qos, self.best(post.topic.as_str())) {
             None => Ok(()),

@@ -92,7 +92,7 @@ impl Seat {
     }
 
     /// Whether it didn't end.
-    fn is_there(&self) -> bool
+    pub(crate) fn is_there(&self) -> bool
         ensures { result ≡ is_some self.now.now }
     {
         !self.ended

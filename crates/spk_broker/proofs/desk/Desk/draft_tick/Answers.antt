@@ -14,10 +14,10 @@ use Rattle.spk_broker.proofs.desk.Desk.draft_tick.Goals as goal
 pub returns-clause-done : goal.returns-clause-done
 returns-clause-done c t s =
     let s1 = c.at.ensures.done c.args.draft.now t s in
-    leads-plain c.route.new.self c.route.new.draft _
-    (tick-stands c.at.new.self c.route.new.self c.args.draft.now c.route.new.draft c.args.now c.deref-2.result.now t s1
+    leads-plain c.route_after.new.self c.route_after.new.draft _
+    (tick-stands c.at.new.self c.route_after.new.self c.args.draft.now c.route_after.new.draft c.args.now c.deref-2.result.now t s1
     (c.deref-2.ensures.value ∙ c.in_ok-conns.ensures.silent ∙ ap (λ l. flat_map (silent_at c.at.new.self.clock) (seats_now l)) c.deref.ensures.value)
-    (c.in_ok-route.ensures.done _ (c.in_ok-end_all.ensures.done (act (At c.args.now) t) s1)))
+    (c.in_ok-route_after.ensures.done _ (c.in_ok-end_all.ensures.done (act (At c.args.now) t) s1)))
 
 pub route_near-requires-clause-alone : goal.route_near-requires-clause-alone
 route_near-requires-clause-alone c =
@@ -25,7 +25,7 @@ route_near-requires-clause-alone c =
     (settled-at c.args.self.now c.first_place-first.result c.requires.settled
     (low-as c.first_place-first.result c.deref-then-is_empty.result.now c.args.self.now.seats.items (c.deref-then-is_empty.ensures.value ∙ ap (λ (v : Vec Seat Global). v.items) c.at.ensures.seats) c.first_place-first.ensures.some))
 
-pub route-requires-clause-order : goal.route-requires-clause-order
-route-requires-clause-order c =
+pub route_after-requires-clause-order : goal.route_after-requires-clause-order
+route_after-requires-clause-order c =
     order-left c.args.tree.now c.args.self.now c.end_all.new.self (c.end_all.ensures.same ∙ c.at.ensures.same)
     (λ keyed. c.in_ok-end_all.ensures.keyed (subst (λ (v : Vec Seat Global). AreKeyed v.items) (sym c.at.ensures.seats) keyed)) c.requires.order
