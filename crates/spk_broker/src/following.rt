@@ -149,6 +149,7 @@ impl GrantIndex {
             return;
         };
         self.tree = turned(tree, &mut self.size, seats);
+        self.trim();
     }
 
     /// The same where only the sessions at these places and at that one may have changed.

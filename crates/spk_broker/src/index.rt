@@ -91,11 +91,16 @@ fn filed(alloc: Global, seats: &[Seat]) -> Result<Tree, AllocError>
     Ok(tree)
 }
 
+/// What an index may have taken and have room for, beside four times what it has.
+const SPARE: usize = 1_000;
+
 /// The index of grants, where there is one, and what its filters take.
 #[derive(Drop)]
 pub(crate) struct GrantIndex {
     pub(crate) tree: Option<Tree>,
     pub(crate) size: usize,
+    /// The most that they took since it was made.
+    most: usize,
 }
 
 impl GrantIndex {
@@ -106,6 +111,7 @@ impl GrantIndex {
         GrantIndex {
             tree: None,
             size: 0,
+            most: 0,
         }
     }
 
@@ -128,6 +134,18 @@ impl GrantIndex {
         self.tree = next_index(None, desk, packet).unwrap_or(None);
         if self.tree.is_some() {
             self.size = total(&desk.seats);
+            self.most = self.size;
+        }
+    }
+
+    /// It is dropped where a quarter is left of the most that it took, since what was taken back keeps room in it: the next publish makes it anew.
+    pub(crate) fn trim(&mut self)
+        ensures { (seats : List plain.Seat) → IsHeld self.old.tree self.old.size seats
+            → IsHeld self.new.tree self.new.size seats }
+    {
+        self.most = self.most.max(self.size);
+        if self.size.saturating_add(SPARE) < self.most / 4 {
+            self.tree = None;
         }
     }
 }
