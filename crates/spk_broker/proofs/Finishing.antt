@@ -1,11 +1,10 @@
 -- A call as a whole: what it drafted stands for the rules' step, and is settled or taken back.
-use Rattle.std.proofs.Common.{◌≡◌, ℕ, Bool, true, false, not, List, Option, None, map, refl, sym, ap, subst, ◌∙◌, Result, Ok, Err, cond}
+use Rattle.std.proofs.Common.{◌≡◌, ℕ, Bool, true, false, not, List, Option, map, refl, sym, ap, subst, ◌∙◌, Result, Ok, Err, cond}
 use Rattle.std.specs.Result.{IfErr, IfOk, OnErr, OnOk, is_ok}
 use Rattle.std.specs.declared.alloc.AllocError.{AllocError}
 use Rattle.spk_broker_rules.specs.Data as plain
 use Rattle.spk_broker_rules.specs.Lawful.{IsLawful, Rises}
-use Rattle.spk_packets.specs.Message.{Message}
-use Rattle.spk_broker_rules.specs.Plan.{Event, Packet, Tick}
+use Rattle.spk_broker_rules.specs.Plan.{Event, Tick}
 use Rattle.spk_broker_rules.specs.Step.{Turn, begun, knows, noted, step}
 use Rattle.spk_broker.specs.declared.desk.Desk.{Desk}
 use Rattle.spk_broker.specs.declared.fault.BrokerFault.{BrokerFault}
@@ -13,13 +12,11 @@ use Rattle.spk_broker.specs.declared.fault.BrokerFault.TheVariants.{NoMemory}
 use Rattle.spk_broker.specs.Fault.{IsUnknown}
 use Rattle.spk_broker.specs.declared.out.Draft.{Draft}
 use Rattle.spk_broker.specs.declared.out.Out.{Out}
-use Rattle.spk_broker.specs.Asking.{seats_now}
-use Rattle.spk_broker.specs.Both.{Both}
 use Rattle.spk_broker.specs.Called.{AreOrdered}
 use Rattle.spk_broker.specs.Calm.{IsCalm}
 use Rattle.spk_broker.specs.Drafts.{draft_view, empty_draft}
 use Rattle.spk_broker.specs.Sent.{outgoing, sent_view}
-use Rattle.spk_broker.specs.View.{IsSound, IsSettled, Stands, desk_now, desk_was, seat_was, stepped}
+use Rattle.spk_broker.specs.View.{IsSound, IsSettled, Stands, desk_now, desk_was, stepped}
 use Rattle.spk_broker_rules.proofs.AnyList.{step-lawful}
 use Rattle.spk_broker.specs.Endings.{Leads, ended}
 use Rattle.spk_broker.specs.declared.ending.Ending.{Ending}

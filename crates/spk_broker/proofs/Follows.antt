@@ -1,14 +1,14 @@
 -- The index goes over the sessions of a call, one after the other, from their grants of before it to those of by now.
-use Rattle.std.proofs.Common.{◌≡◌, ℕ, zero, suc, ◌+◌, ◌<◌, ◌≤◌, Bool, true, false, ◌&&◌, ◌||◌, ◌==◌, eqb, cond, List, [], ◌∷◌, ◌++◌, length, map, take, drop, get_or, refl, sym, ap, ◌∙◌, subst, Option, Some, None, arith, true≢false, eq-eqb, string_bytes, Result, Ok, Err}
+use Rattle.std.proofs.Common.{◌≡◌, ℕ, zero, suc, ◌+◌, ◌<◌, ◌≤◌, Bool, true, false, ◌&&◌, ◌||◌, ◌==◌, cond, List, [], ◌∷◌, ◌++◌, length, map, take, drop, get_or, refl, sym, ap, ◌∙◌, subst, Option, Some, None, arith, true≢false, eq-eqb, string_bytes, Result, Ok, Err}
 use Rattle.std.specs.Prelude.{nat_lt}
 use Rattle.std.specs.Option.{IfSome, is_some}
 use Rattle.std.specs.Result.{IfOk, result_unwrap_or}
 use Rattle.std.specs.declared.alloc.AllocError.{AllocError}
-use Rattle.std.specs.List.{find, flat_map, fold, list_any, sum_by}
-use Rattle.std.specs.Str.{bytes_eq}
+use Rattle.std.specs.List.{find, flat_map, list_any, sum_by}
 use Rattle.std.specs.FinMap as tree
 use Rattle.std.proofs.lemmas.List.Folds.{list_any-append}
 use Rattle.std.proofs.lemmas.List.Sums.{sum_by-append}
+use Rattle.std.proofs.lemmas.Bool.{cases_lt}
 use mathlib.Core.Logic.{⊎_elim}
 use Rattle.spk_topics.specs.Grants.{Grants}
 use Rattle.spk_broker_rules.specs.Data as plain
@@ -19,10 +19,10 @@ use Rattle.spk_broker_rules.specs.Table.{Table, has}
 use Rattle.spk_broker_rules.specs.Words.{option_list, without_id}
 use Rattle.spk_broker_rules.proofs.Lists.{all-also, eqb-is}
 use Rattle.spk_broker.specs.Both.{Both}
-use Rattle.spk_broker.specs.Called.{AreKeyed, AreOrdered, IsKeyed, is_place}
+use Rattle.spk_broker.specs.Called.{AreOrdered, IsKeyed, is_place}
 use Rattle.spk_broker.specs.Changes.{changed_at}
 use Rattle.spk_broker.specs.Entering.{entered, taken_up, whole}
-use Rattle.spk_broker.specs.Filing.{AllOf, AreAlikeAt, AreFiled, HasNoOther, Holds, IsAlike, IsHeld, IsIndex, IsTurned, index_of, is_granted, made_index}
+use Rattle.spk_broker.specs.Filing.{AllOf, AreAlikeAt, AreFiled, Holds, IsAlike, IsHeld, IsIndex, IsTurned, index_of, is_granted, made_index}
 use Rattle.spk_broker.specs.Granting.{standing_grants}
 use Rattle.spk_broker.specs.Parts.{line_now}
 use Rattle.spk_broker.specs.Sizes.{size_of_all, size_of_grants}
@@ -35,7 +35,7 @@ use Rattle.spk_broker.proofs.Flats.{single-flat}
 use Rattle.spk_broker.proofs.Indexing.{index-only}
 use Rattle.spk_broker.proofs.Ordered.{was-above}
 use Rattle.spk_broker.proofs.Places.{swap-past, unequal}
-use Rattle.spk_broker.proofs.Touched.{place-at}
+use Rattle.spk_broker.proofs.Touched.{place-at, same-read}
 use Rattle.spk_broker.proofs.Walks.{so_far}
 
 -- ---- what an index that is exact has
@@ -313,6 +313,68 @@ touched-alike ps bs touched alike i d lt = by (is_place i ps) refl
     by : (b : Bool) → is_place i ps ≡ b → IsAlike (get_or bs i d)
     by true e = let at = place-at i ps e in subst (λ j. IsAlike (get_or bs j d)) at.2 (alike at.0 d at.1)
     by false e = whole-alike (get_or bs i d) (touched.rest i d lt e)
+
+-- ---- one alone is turned
+
+-- those before it are as before the call
+half-begin : (bs : List Both) (p : ℕ) → ((i : ℕ) (d : Both) → i < p → i < length bs → get_or bs i d ≡ whole (get_or bs i d).was) → half bs p ≡ map seat_was bs
+half-begin [] zero same = refl
+half-begin [] (suc p) same = refl
+half-begin (b ∷ bs) zero same = single-flat seat_was (b ∷ bs)
+half-begin (b ∷ bs) (suc p) same =
+    ap (λ (x : Both). (seat_now x ++ flat_map seat_now (take p bs)) ++ flat_map was_one (drop p bs)) (same zero b (omega arith) (omega arith))
+    ∙ ap (λ l. b.was ∷ l) (half-begin bs p (λ i d lt low. same (suc i) d (omega (arith, lt)) (omega (arith, low))))
+
+-- those behind it too
+rest-begin : (bs : List Both) → ((i : ℕ) (d : Both) → i < length bs → get_or bs i d ≡ whole (get_or bs i d).was) → flat_map was_one bs ≡ flat_map seat_now bs
+rest-begin [] same = refl
+rest-begin (b ∷ bs) same =
+    ap (λ l. b.was ∷ l) (rest-begin bs (λ i d low. same (suc i) d (omega (arith, low))))
+    ∙ sym (ap (λ (x : Both). seat_now x ++ flat_map seat_now bs) (same zero b (omega arith)))
+
+half-end : (bs : List Both) (p : ℕ) → p < length bs → ((i : ℕ) (d : Both) → p < i → i < length bs → get_or bs i d ≡ whole (get_or bs i d).was) → half bs (p + 1) ≡ flat_map seat_now bs
+half-end [] p low same = absurd (omega (arith, low))
+half-end (b ∷ bs) zero low same =
+    ap (λ l. l ++ flat_map was_one bs) (none (seat_now b)) ∙ ap (λ l. seat_now b ++ l) (rest-begin bs (λ i d lt. same (suc i) d (omega arith) (omega (arith, lt))))
+  where
+    none : {X : Type 0} (xs : List X) → xs ++ [] ≡ xs
+    none [] = refl
+    none (x ∷ xs) = ap (λ l. x ∷ l) (none xs)
+half-end (b ∷ bs) (suc p) low same =
+    let z : suc p + 1 ≡ suc (p + 1) = omega arith in
+    ap (λ n. half (b ∷ bs) n) z ∙ join (seat_now b) (flat_map seat_now (take (p + 1) bs)) (flat_map was_one (drop (p + 1) bs))
+    ∙ ap (λ l. seat_now b ++ l) (half-end bs p (omega (arith, low)) (λ i d up lt. same (suc i) d (omega (arith, up)) (omega (arith, lt))))
+  where
+    join : {X : Type 0} (xs ys zs : List X) → (xs ++ ys) ++ zs ≡ xs ++ (ys ++ zs)
+    join [] ys zs = refl
+    join (x ∷ xs) ys zs = ap (λ l. x ∷ l) (join xs ys zs)
+
+-- one that is as before the call has its number
+whole-keyed : (b : Both) → b ≡ whole b.was → IsKeyed b
+whole-keyed b e = subst IsKeyed (sym e) refl
+
+elsewhere : (i p : ℕ) → (i ≡ p → ⊥) → is_place i (p ∷ []) ≡ false
+elsewhere i p n = ap (λ b. b || false) (unequal p i (λ e. n (sym e)))
+
+-- the session at this place alone was turned, or there is no index any more
+pub one-held : (i : Option Grants) (index : Grants) (n m : ℕ) (bs : List Both) (p : ℕ) (b : Both) → AreTouched (p ∷ []) bs → p < length bs → b ≡ get_or bs p b → IsKeyed b
+    → IfSome i (λ more. IsTurned index more b)
+    → IfSome i (λ more. n ≤ 100000 → size_of_grants b.was.grants ≤ n → m + size_of_grants b.was.grants ≡ n + size_of_grants (standing_grants b.now))
+    → IfSome i (λ more. n ≤ 100000 → m ≤ 100000) → AreOrdered bs → Holds index n (map seat_was bs) → IsHeld i m (flat_map seat_now bs)
+one-held None index n m bs p b touched low at keyed turned size small o h = tt
+one-held (Some more) index n m bs p b touched low at keyed turned size small o h =
+    subst (Holds more m) (half-end bs p low (λ i d up lt. touched.rest i d lt (elsewhere i p (λ e. omega (arith, up, e)))))
+    (half-step index more n m bs p b o low all
+    (subst (λ (x : Both). IsTurned index more x) at turned)
+    (subst (λ (x : Both). n ≤ 100000 → size_of_grants x.was.grants ≤ n → m + size_of_grants x.was.grants ≡ n + size_of_grants (standing_grants x.now)) at size)
+    small (subst (Holds index n) (sym (half-begin bs p (λ i d less lt. touched.rest i d lt (elsewhere i p (λ e. omega (arith, less, e)))))) h))
+  where
+    all : (j : ℕ) (e : Both) → j ≤ p → IsKeyed (get_or bs j e)
+    all j e le =
+        ⊎_elim
+        (λ lt. whole-keyed (get_or bs j e) (touched.rest j e (omega (arith, lt, low)) (elsewhere j p (λ f. omega (arith, lt, f)))))
+        (λ ge. let one : p ≡ j = omega (arith, le, ge) in subst (λ k. IsKeyed (get_or bs k e)) one (subst IsKeyed (at ∙ same-read bs p b e low) keyed))
+        (cases_lt j p)
 
 -- ---- what follows once a call is settled
 

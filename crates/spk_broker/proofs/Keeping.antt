@@ -1,5 +1,5 @@
 -- What holds of the key and the grants of each session goes on holding where a message is served, and where a connection is heard.
-use Rattle.std.proofs.Common.{◌≡◌, ℕ, zero, suc, Bool, true, false, cond, List, [], map, Option, Some, None}
+use Rattle.std.proofs.Common.{ℕ, zero, suc, Bool, true, false, cond, List, map, Option, Some, None}
 use Rattle.std.specs.Option.{option_map}
 use Rattle.std.specs.List.{flat_map}
 use Rattle.spk_session.specs.PacketIds.{next_id}

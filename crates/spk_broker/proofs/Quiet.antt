@@ -1,5 +1,5 @@
 -- A message, or a packet that is heard, changes no grants.
-use Rattle.std.proofs.Common.{◌≡◌, ℕ, List, Option, Some, None}
+use Rattle.std.proofs.Common.{ℕ, List, Option, Some, None}
 use Rattle.std.specs.List.{flat_map}
 use Rattle.spk_broker_rules.specs.Data.{Post, Seat}
 use Rattle.spk_broker_rules.specs.Plan.{Hear}

@@ -1,5 +1,5 @@
 -- The index of grants: for each standing grant it has an entry of its filter and the session's number.
-use Rattle.std.specs.Prelude.{◌≡◌, ◌==◌, ◌<◌, ◌≤◌, ◌+◌, ◌-◌, nat_lt, ℕ, Bool, true, false, ◌&&◌, not, List, [], ◌∷◌, length, map, get_or, if◌then◌else◌, Option, Some, None, is_some, Vec}
+use Rattle.std.specs.Prelude.{◌≡◌, ◌==◌, ◌<◌, ◌≤◌, ◌+◌, ◌-◌, nat_lt, ℕ, Bool, true, false, ◌&&◌, not, List, [], length, map, get_or, if◌then◌else◌, Option, Some, None, is_some, Vec}
 use Rattle.std.specs.declared.alloc.Global.{Global}
 use Rattle.std.specs.List.{AllByRecursion, flat_map, fold, list_any}
 use Rattle.std.specs.FinMap as tree

@@ -2,7 +2,7 @@
 ghost use Rattle.std.specs.Prelude.{◌≡◌, ◌+◌, ◌≤◌, ◌++◌, ◌∷◌, [], false, true, IfSome, OnOk, length, map, get_or};
 ghost use Rattle.std.specs.List.{flat_map, fold};
 ghost use Rattle.spk_broker.specs.Asking.{seats_now};
-ghost use Rattle.spk_broker.specs.Called.{AreOrdered};
+ghost use Rattle.spk_broker.specs.Called.{AreOrdered, IsKeyed};
 ghost use Rattle.spk_broker.specs.Filing.{AreAlikeAt, Holds, IsHeld, IsTurned, Walk, entry_of, is_next, walked, with_entry, without_entry};
 ghost use Rattle.spk_broker.specs.Granting.{standing_grants};
 ghost use Rattle.spk_broker.specs.Parts.{grant_view};
@@ -125,6 +125,24 @@ fn turned(tree: Tree, size: &mut usize, seats: &[Seat]) -> Option<Tree>
     Some(tree)
 }
 
+/// The index where this session alone may have changed.
+fn turned_one(tree: Tree, size: &mut usize, seat: &Seat) -> Option<Tree>
+    ensures turned { IfSome result (λ t. IsTurned tree t seat.now) }
+    ensures keyed { IsKeyed seat.now }
+    ensures size { IfSome result (λ t. size.old ≤ 100000
+        → size_of_grants seat.now.was.grants ≤ size.old
+        → size.new + size_of_grants seat.now.was.grants
+        ≡ size.old + size_of_grants (standing_grants seat.now.now)) }
+    ensures small { IfSome result (λ t. size.old ≤ 100000 → size.new ≤ 100000) }
+{
+    let mut tree = tree;
+    seat.keyed();
+    if !turn(&mut tree, size, seat) {
+        return None;
+    }
+    Some(tree)
+}
+
 /// Whether the call may have changed the grants of a session at one of these places.
 fn is_any_turned(seats: &[Seat], places: &[usize], last: usize) -> bool
     requires { AreTouched (places.now ++ last ∷ []) seats.now }
@@ -152,12 +170,29 @@ impl GrantIndex {
         self.trim();
     }
 
+    /// The same where only the session at this place may have changed.
+    fn follow_one(&mut self, seats: &[Seat], place: usize)
+        requires { AreTouched (place ∷ []) seats.now }
+        ensures { AreOrdered seats.now → IsHeld self.old.tree self.old.size (map seat_was seats.now)
+            → IsHeld self.new.tree self.new.size (flat_map seat_now seats.now) }
+    {
+        let Some(tree) = self.tree.take() else {
+            return;
+        };
+        self.tree = turned_one(tree, &mut self.size, &seats[place]);
+        self.trim();
+    }
+
     /// The same where only the sessions at these places and at that one may have changed.
     pub(crate) fn follow_at(&mut self, seats: &[Seat], places: &[usize], place: usize)
         requires { AreTouched (places.now ++ place ∷ []) seats.now }
         ensures { AreOrdered seats.now → IsHeld self.old.tree self.old.size (map seat_was seats.now)
             → IsHeld self.new.tree self.new.size (flat_map seat_now seats.now) }
     {
+        if places.is_empty() {
+            self.follow_one(seats, place);
+            return;
+        }
         if self.tree.is_some() && is_any_turned(seats, places, place) {
             self.follow(seats);
         }

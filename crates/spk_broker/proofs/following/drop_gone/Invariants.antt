@@ -1,6 +1,6 @@
 use Rattle.std.proofs.Common.{◌≡◌, ◌≤◌, length, map, take}
 use Rattle.std.specs.List.{fold}
-use Rattle.spk_broker.specs.Filing.{Walk, walked}
+use Rattle.spk_broker.specs.Filing.{walked}
 use Rattle.spk_broker.specs.Parts.{grant_view}
 use Rattle.spk_broker.proofs.following.drop_gone.Given as goal
 

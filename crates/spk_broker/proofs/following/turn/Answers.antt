@@ -1,4 +1,3 @@
-use Rattle.spk_broker.specs.Filing.{Walk}
 use Rattle.spk_broker.proofs.Entries.{seat-size, seat-turned}
 use Rattle.spk_broker.proofs.following.turn.Goals as goal
 

@@ -3,7 +3,7 @@ use Rattle.std.proofs.lemmas.Bool.{cases_lt}
 use mathlib.Core.Logic.{⊎_elim}
 use Rattle.spk_broker.specs.Both.{Both}
 use Rattle.spk_broker.specs.Called.{IsKeyed}
-use Rattle.spk_broker.specs.Filing.{Holds, IsTurned}
+use Rattle.spk_broker.specs.Filing.{IsTurned}
 use Rattle.spk_broker.specs.Granting.{standing_grants}
 use Rattle.spk_broker.specs.Sizes.{size_of_grants}
 use Rattle.spk_broker.proofs.Follows.{half-step}

@@ -1,5 +1,4 @@
-use Rattle.std.proofs.Common.{◌≡◌, sym, false, true, ap}
-use Rattle.spk_broker_rules.specs.Data as plain
+use Rattle.std.proofs.Common.{sym}
 use Rattle.spk_broker_rules.specs.Plan.{Closed}
 use Rattle.spk_broker.proofs.Finishing.{calm-to, closes-to, done-to, held-to, kept-to, not-false, refused-to, now-index, sends-to, stands-to}
 use Rattle.spk_broker.proofs.Leaving.{sound-order}

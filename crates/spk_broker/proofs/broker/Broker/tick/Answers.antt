@@ -1,5 +1,4 @@
-use Rattle.std.proofs.Common.{◌≡◌, subst, sym, false, true, ap}
-use Rattle.spk_broker_rules.specs.Data as plain
+use Rattle.std.proofs.Common.{subst, sym}
 use Rattle.spk_broker_rules.specs.Plan.{Tick}
 use Rattle.spk_broker.specs.Calm.{IsCalm}
 use Rattle.spk_broker.specs.View.{desk_was}

@@ -1,4 +1,4 @@
-use Rattle.std.proofs.Common.{◌≡◌, ◌∙◌, Bool, true, false, cond, List, map, refl, sym, ap, subst, Option, Some, None, true≢false}
+use Rattle.std.proofs.Common.{◌≡◌, ◌∙◌, false, cond, map, refl, sym, ap, subst, Option, Some, None, true≢false}
 use Rattle.std.specs.Option.{is_some, option_map_or}
 use Rattle.spk_broker.specs.Filing.{IsAlike}
 use Rattle.spk_broker.specs.Parts.{grant_view}
