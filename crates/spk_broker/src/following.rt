@@ -1,7 +1,6 @@
 //! How the index of grants follows a call: it has the grants of before the call, and then those of by now.
 ghost use Rattle.std.specs.Prelude.{◌≡◌, ◌+◌, ◌≤◌, ◌++◌, ◌∷◌, [], false, true, IfSome, OnOk, length, map, get_or};
 ghost use Rattle.std.specs.List.{flat_map, fold};
-ghost use Rattle.spk_broker.specs.Asking.{seats_now};
 ghost use Rattle.spk_broker.specs.Called.{AreOrdered, IsKeyed};
 ghost use Rattle.spk_broker.specs.Filing.{AreAlikeAt, Holds, IsHeld, IsTurned, Walk, entry_of, is_next, walked, with_entry, without_entry};
 ghost use Rattle.spk_broker.specs.Granting.{standing_grants};
@@ -14,7 +13,6 @@ use crate::granting::has;
 use crate::index::{GrantIndex, file_one};
 use crate::seat::{Grant, Seat};
 use crate::sizing::{self, MOST_LEVELS, left_by};
-use spk_topics::laws::granted;
 use spk_topics::{Filter, Tree};
 use std::alloc::AllocError;
 
@@ -114,7 +112,6 @@ fn turned(tree: Tree, size: &mut usize, seats: &[Seat]) -> Option<Tree>
     ensures { IfSome result (λ t. AreOrdered seats.now → Holds tree size.old (map seat_was seats.now)
         → Holds t size.new (flat_map seat_now seats.now)) }
 {
-    granted();
     let mut tree = tree;
     for seat in seats {
         seat.keyed();

@@ -121,17 +121,16 @@ impl GrantIndex {
         ensures index { IsHeld self.new.tree self.new.size (desk_now desk.now).seats }
         ensures kept { is_some self.old.tree ≡ true → self.new ≡ self.old }
     {
-        if self.tree.is_some() {
-            return;
+        if self.tree.is_none() {
+            self.make(desk, packet);
         }
-        self.make(desk, packet);
     }
 
     /// There is none, and for a publish it is made, where it can be.
     fn make(&mut self, desk: &Desk, packet: &Packet)
         ensures { IsHeld self.new.tree self.new.size (desk_now desk.now).seats }
     {
-        self.tree = next_index(None, desk, packet).unwrap_or(None);
+        self.tree = index_for(desk, packet).unwrap_or(None);
         if self.tree.is_some() {
             self.size = total(&desk.seats);
             self.most = self.size;
@@ -150,17 +149,15 @@ impl GrantIndex {
     }
 }
 
-/// The index for what this packet does: the one that there is, and for a publish a new one where there is none.
-fn next_index(tree: Option<Tree>, desk: &Desk, packet: &Packet) -> Result<Option<Tree>, AllocError>
-    requires { IsIndex tree (desk_now desk.now).seats }
+/// The index for what this packet does, where there is none: a new one for a publish.
+fn index_for(desk: &Desk, packet: &Packet) -> Result<Option<Tree>, AllocError>
     ensures index { IfOk result (λ o. IsIndex o (desk_now desk.now).seats) }
-    ensures kept { is_some tree ≡ true → result ≡ Ok tree }
-    ensures none { is_publish (view packet.now) ≡ false → tree ≡ None → result ≡ Ok None }
-    ensures made { is_publish (view packet.now) ≡ true → tree ≡ None
+    ensures none { is_publish (view packet.now) ≡ false → result ≡ Ok None }
+    ensures made { is_publish (view packet.now) ≡ true
         → IfOk result (λ o. o ≡ made_index (desk_now desk.now).seats) }
 {
     match packet {
-        Packet::Publish { .. } if tree.is_none() => index(desk.alloc, &desk.seats),
-        _ => Ok(tree),
+        Packet::Publish { .. } => index(desk.alloc, &desk.seats),
+        _ => Ok(None),
     }
 }

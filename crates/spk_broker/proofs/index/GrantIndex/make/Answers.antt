@@ -1,4 +1,4 @@
-use Rattle.std.proofs.Common.{◌≡◌, ◌≤◌, ◌∙◌, List, refl, sym, subst}
+use Rattle.std.proofs.Common.{◌≡◌, ◌≤◌, ◌∙◌, List, sym, subst}
 use Rattle.spk_packets.specs.View.{view}
 use Rattle.spk_broker.specs.Asking.{seats_now}
 use Rattle.spk_broker.specs.Both.{Both}
@@ -10,6 +10,6 @@ use Rattle.spk_broker.proofs.index.GrantIndex.make.Goals as goal
 
 pub returns-then-is_some : goal.returns-then-is_some
 returns-then-is_some c =
-    make-held c.next_index.result c.unwrap_or.result (is_publish (view c.args.packet.now)) (desk_now c.args.desk.now).seats c.total-self.result c.unwrap_or.ensures
-    (sym c.is_some.ensures ∙ c.if-is_some.true) (λ no. c.next_index.ensures.none no refl) (λ yes. c.next_index.ensures.made yes refl) c.next_index.ensures.index
+    make-held c.index_for.result c.unwrap_or.result (is_publish (view c.args.packet.now)) (desk_now c.args.desk.now).seats c.total-self.result c.unwrap_or.ensures
+    (sym c.is_some.ensures ∙ c.if-is_some.true) c.index_for.ensures.none c.index_for.ensures.made c.index_for.ensures.index
     (subst (λ (bs : List Both). size_of_all (seats_now bs) ≤ 100000 → c.total-self.result ≡ size_of_all (seats_now bs)) c.deref.ensures.value c.total-self.ensures)
