@@ -1,5 +1,5 @@
 -- Which ends are of one ring, after calls on them.
-use Rattle.std.proofs.Common.{◌≡◌, sym, ◌∙◌}
+use Rattle.std.proofs.Common.{sym, ◌∙◌}
 use Rattle.spk_rings.specs.Ring.{AreEnds, SameOutlet, SameInlet, FinishedFrom, IsTokenOf}
 use Rattle.spk_rings.specs.declared.outlet.Outlet.{Outlet}
 use Rattle.spk_rings.specs.declared.inlet.Inlet.{Inlet}
