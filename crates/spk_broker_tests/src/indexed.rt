@@ -1,12 +1,9 @@
-//! A broker whose index of grants has followed all that happened, beside one that makes it at the end, and the memory that it takes where
-//! there are more levels than it may have.
+//! A broker whose index of grants has followed all that happened, beside one that makes it at the end.
 use crate::broker::Talks;
-use crate::limits::{comes, count_of, deep, name, said};
+use crate::limits::{comes, count_of, name, said};
 use spk_broker::{Broker, Out};
 use spk_packets::{Packet, Request};
 use std::alloc::{AllocError, Global};
-use std::fs;
-use std::rt::Files;
 use std::test::Fail;
 
 /// The filter of a number: a topic of its own, or one of two that fit it.
@@ -110,63 +107,9 @@ fn an_index_that_followed_finds_what_a_new_one_does(rt: HostRuntime) -> Result<(
     let followed = run(rt.alloc(), &mut Broker::new(rt.alloc(), 128), true)?;
     let made = run(rt.alloc(), &mut Broker::new(rt.alloc(), 128), false)?;
     assert_eq!(rt; followed, made);
-    let at = (followed[0], followed[15], followed[35], followed[95]);
-    assert_eq!(rt; at, ((2, 1), (1, 8), (1, 1), (1, 8)));
-    Ok(())
-}
-
-/// How much memory of the process is in use, in KiB, as Linux tells it; 0 where it doesn't.
-fn resident(rt: &(impl Files + Alloc)) -> usize {
-    let Ok(text) = fs::read_to_string(rt, "/proc/self/status") else {
-        return 0;
-    };
-    for line in text.as_str().lines() {
-        if let Some(rest) = line.strip_prefix("VmRSS:") {
-            let digits = rest.trim_end_matches("kB").trim();
-            return digits.parse().unwrap_or(0);
-        }
-    }
-    0
-}
-
-/// Sixteen clients come, each with eight filters of 32,768 levels: 8 MB of text.
-fn asks_deep(alloc: Global, broker: &mut impl Talks) -> Result<(), AllocError> {
-    for client in 0..16 {
-        let conn = comes(alloc, broker);
-        let mut filters = Vec::new(alloc);
-        for number in 0..8 {
-            let last = format!(in alloc; "{client}-{number}")?;
-            let filter = deep(alloc, last.as_str())?;
-            filters.push(Request { filter, qos: 0 })?;
-        }
-        said(broker, conn, &Packet::Subscribe { id: 1, filters });
-    }
-    Ok(())
-}
-
-/// How much more memory is in use once those came, where the broker had an index before, and where it had none.
-fn grown(
-    alloc: Global,
-    rt: &(impl Files + Alloc),
-    broker: &mut impl Talks,
-    had: bool,
-) -> Result<usize, AllocError> {
-    let conn = comes(alloc, broker);
-    if had {
-        said(broker, conn, &tells(alloc, 0)?);
-    }
-    let before = resident(rt);
-    asks_deep(alloc, broker)?;
-    Ok(resident(rt).saturating_sub(before))
-}
-
-#[test]
-fn an_index_that_grows_has_no_more_levels_than_it_may(rt: HostRuntime) -> Result<(), Fail> {
-    let mut without = Broker::new(rt.alloc(), 128);
-    let plain = grown(rt.alloc(), &rt, &mut without, false)?;
-    let mut with = Broker::new(rt.alloc(), 128);
-    let indexed = grown(rt.alloc(), &rt, &mut with, true)?;
-    assert!(rt; indexed <= plain.saturating_add(plain / 2).saturating_add(4_096));
-    assert_eq!(rt; count_of(said(&mut with, 1, &tells(rt.alloc(), 0)?)), 0);
+    assert_eq!(rt; followed.get(0).copied(), Some((2, 1)));
+    assert_eq!(rt; followed.get(15).copied(), Some((1, 8)));
+    assert_eq!(rt; followed.get(35).copied(), Some((1, 1)));
+    assert_eq!(rt; followed.get(95).copied(), Some((1, 8)));
     Ok(())
 }

@@ -251,7 +251,7 @@ fn unacknowledged_message_1025_closes(rt: HostRuntime) -> Result<(), Fail> {
 }
 
 /// A text of 32,768 levels, the last of which is this one.
-pub(crate) fn deep(alloc: Global, last: &str) -> Result<String, AllocError> {
+fn deep(alloc: Global, last: &str) -> Result<String, AllocError> {
     let mut text = String::new(alloc);
     for _ in 0..32_767 {
         text.push_str("a/")?;
