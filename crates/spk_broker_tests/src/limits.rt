@@ -315,3 +315,29 @@ fn a_publish_is_routed_among_more_levels_than_an_index_has(rt: HostRuntime) -> R
     assert_eq!(rt; reached, (3, 3));
     Ok(())
 }
+
+/// A client that asks for four such filters at once, behind a publish: the least and the most copies that each of 20 publishes gave, on a topic
+/// that three of them fit. `tools/asked` counts the bytes that it asks for: an index of them would take 14 MB and more.
+fn reached_past_the_limit(
+    alloc: Global,
+    broker: &mut impl Talks,
+) -> Result<(usize, usize), AllocError> {
+    comes(alloc, broker);
+    said(broker, 1, &publishes(alloc)?);
+    let conn = comes(alloc, broker);
+    let mut filters = Vec::new(alloc);
+    for last in ["a", "+", "#", "b"] {
+        let filter = deep(alloc, last)?;
+        filters.push(Request { filter, qos: 0 })?;
+    }
+    said(broker, conn, &Packet::Subscribe { id: 1, filters });
+    let publish = deep_publish(alloc)?;
+    Ok(reached(broker, &publish))
+}
+
+#[test]
+fn filters_past_the_limit_come_into_no_index(rt: HostRuntime) -> Result<(), Fail> {
+    let reached = reached_past_the_limit(rt.alloc(), &mut Broker::new(rt.alloc(), 128))?;
+    assert_eq!(rt; reached, (1, 1));
+    Ok(())
+}
