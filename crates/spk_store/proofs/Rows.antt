@@ -1,10 +1,10 @@
 -- What the definitions say in rows that are worked out by hand. The changes are numbers here, and two belong
 -- together if both are below 10, or neither is.
-use Rattle.std.proofs.Common.{◌≡◌, ℕ, ◌-◌, ◌^◌, Bool, true, false, not, nat_lt, cond, List, [], ◌∷◌, Some, None, Option, refl, arith}
+use Rattle.std.proofs.Common.{◌≡◌, ℕ, ◌-◌, ◌^◌, Bool, true, false, not, nat_lt, cond, List, [], ◌∷◌, map, Some, None, Option, refl, arith}
 use Rattle.spk_store.specs.Data.{Kept}
 use Rattle.spk_store.specs.Step.{after_push, after_drop, overwritten, run_of}
 use Rattle.spk_store.specs.Calls.{Call, Push, DropFront, store_of}
-use Rattle.spk_store.specs.Kept.{place_of, kept_of, lost_of}
+use Rattle.spk_store.specs.Kept.{place_of, kept_of, left_of, lost_of, sent_of}
 use Rattle.spk_store.specs.Law.{IsAsCalled, as_called}
 
 abbrev nothing : Option ℕ
@@ -27,6 +27,10 @@ dropped = Push 8 ∷ DropFront 1 false ∷ DropFront 2 true ∷ five
 
 pub one_left : ((store_of 3 dropped).items ≡ 8 ∷ []) × (kept_of 3 dropped ≡ 8 ∷ []) × (place_of 3 dropped ≡ 5) × ((store_of 3 dropped).lost ≡ 4) × (lost_of 3 dropped ≡ 4)
 one_left = (refl, refl, refl, refl, refl)
+
+-- one of the four that left in between is sent, the others are lost
+pub one_sent : (sent_of 3 dropped ≡ 7 ∷ []) × (map (λ (e : ℕ × Bool). e.1) (left_of 3 dropped) ≡ true ∷ true ∷ true ∷ true ∷ false ∷ [])
+one_sent = (refl, refl)
 
 -- the law at changes that are plain data
 pub law_of_numbers : IsAsCalled 3 dropped

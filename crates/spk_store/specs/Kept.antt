@@ -1,5 +1,5 @@
 -- The kept changes, as queries on the list of all calls, the newest first.
-use Rattle.std.specs.Prelude.{ℕ, ◌+◌, ◌-◌, ◌≤◌, List, [], ◌∷◌, ◌++◌, length, drop, nat_le, if◌then◌else◌}
+use Rattle.std.specs.Prelude.{ℕ, ◌+◌, ◌-◌, ◌≤◌, Bool, true, not, List, [], ◌∷◌, ◌++◌, length, drop, filter, map, take, nat_le, if◌then◌else◌}
 use Rattle.spk_store.specs.Calls.{Call, Push, DropFront}
 
 module _ {X : Type 0} where
@@ -29,6 +29,21 @@ module _ {X : Type 0} where
   lost_of capacity [] = 0
   lost_of capacity (Push x ∷ calls) = if nat_le capacity (count_of capacity calls) then lost_of capacity calls + 1 else lost_of capacity calls
   lost_of capacity (DropFront n is_lost ∷ calls) = if is_lost then lost_of capacity calls + n else lost_of capacity calls
+
+  -- those of a list, each lost or not
+  abbrev pub fated : Bool → List X → List (X × Bool)
+  fated is_lost xs = map (λ x. (x, is_lost)) xs
+
+  -- the changes that have left, the oldest first, and whether each is lost: those overwritten are, those dropped where they count so
+  abbrev pub left_of : ℕ → List (Call X) → List (X × Bool)
+  left_of capacity [] = []
+  left_of capacity (Push x ∷ calls) =
+      left_of capacity calls ++ (if nat_le capacity (count_of capacity calls) then fated true (take 1 (kept_of capacity calls ++ x ∷ [])) else [])
+  left_of capacity (DropFront n is_lost ∷ calls) = left_of capacity calls ++ fated is_lost (take n (kept_of capacity calls))
+
+  -- those of them that were sent
+  abbrev pub sent_of : ℕ → List (Call X) → List X
+  sent_of capacity calls = map (λ e. e.0) (filter (λ e. not e.1) (left_of capacity calls))
 
   -- no more are dropped than are kept
   abbrev pub IsLawful : ℕ → List (Call X) → Type 0

@@ -1,5 +1,6 @@
 pub mod Calls
 pub mod Data
+pub mod Fates
 pub mod Fault
 pub mod Kept
 pub mod Law

@@ -15,3 +15,9 @@ returns-clause-overwritten x c = λ capacity calls next lawful. (as_called capac
 
 pub returns-clause-lost : goal.returns-clause-lost
 returns-clause-lost x c = λ capacity calls lawful. (as_called capacity calls lawful).lost
+
+pub returns-clause-fates : goal.returns-clause-fates
+returns-clause-fates x c = λ capacity calls lawful. (as_called capacity calls lawful).fates
+
+pub returns-clause-counted : goal.returns-clause-counted
+returns-clause-counted x c = λ capacity calls lawful. (as_called capacity calls lawful).counted
