@@ -10,13 +10,14 @@ use Rattle.spk_sequence.specs.Claims.{with_more}
 use Rattle.spk_sequence.specs.NodeRecord as sequence
 use Rattle.spk_edge_rules.specs.declared.fault.EdgeFault.{EdgeFault}
 use Rattle.spk_edge_rules.specs.declared.fault.EdgeFault.TheVariants.{TooLarge}
-use Rattle.spk_edge_rules.specs.Answers.{Answer, checked, is_writable}
+use Rattle.spk_edge_rules.specs.Answers.{Answer, checked}
+use Rattle.spk_edge_rules.specs.Writable.{is_writable}
 use Rattle.spk_edge_rules.specs.Claims.{IsWhole, numbers_at, numbers_from}
 use Rattle.spk_edge_rules.specs.Config.{Setup}
 use Rattle.spk_edge_rules.specs.Inputs.{Input}
 use Rattle.spk_edge_rules.specs.Messages.{Draft, opens, wire}
 use Rattle.spk_edge_rules.specs.Rules.{Given, on_ok, rules}
-use Rattle.spk_edge_rules.specs.Run.{Message, asked_of, births_in, number_at, opened, outline, packets_of, posts, published, right_at, run_of, setting_of, wires_at, with_done, with_posts}
+use Rattle.spk_edge_rules.specs.Run.{Message, asked_of, births_in, next_number, number_at, opened, outline, packets_of, posts, published, right_at, run_of, setting_of, wires_at, with_done, with_posts}
 use Rattle.spk_edge_rules.specs.Step as step
 use Rattle.spk_edge_rules.specs.Step.{answer_at, next_of, number_of, standing_of}
 use Rattle.spk_edge.specs.Along.{AllWhole, message_at, messages_from, node_of}
@@ -143,7 +144,7 @@ whole-after s is i answer stays ok sent added whole =
 -- the packets of an answer are those of what was given
 pub packets-are : (s : Setup) (is : List Input) (i : Input) (answer : Answer) → right_at s (run_of s is) i ≡ Ok answer
     → answer.packets ≡ packets_of s (run_of s is) answer.given
-packets-are s is i answer = by (rules s.config (asked_of s (run_of s is)) i)
+packets-are s is i answer = by (rules s.config (next_number s (run_of s is)) (asked_of s (run_of s is)) i)
   where
     writable : (g : Given) (b : Bool) → cond b (answer-ok (record { given = g; packets = packets_of s (run_of s is) g })) (Err TooLarge) ≡ Ok answer
         → answer.packets ≡ packets_of s (run_of s is) answer.given

@@ -6,7 +6,7 @@ use Rattle.std.proofs.lemmas.List.Folds.{list_all-append}
 use Rattle.spk_packets.specs.Spelling.{spelling}
 use Rattle.spk_device.specs.Book.{Book, DeviceData, device_at}
 use Rattle.spk_sequence.specs.NodeRecord.{Numbering}
-use Rattle.spk_edge_rules.specs.Answers.{is_writable}
+use Rattle.spk_edge_rules.specs.Writable.{is_writable}
 use Rattle.spk_edge_rules.specs.Births.{births_at, device_birth, node_birth}
 use Rattle.spk_edge_rules.specs.Config.{Config}
 use Rattle.spk_edge_rules.specs.declared.fault.EdgeFault.{EdgeFault}

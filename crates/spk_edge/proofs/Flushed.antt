@@ -1,5 +1,6 @@
 -- Kept changes that are sent at once are what the rules drain.
-use Rattle.std.proofs.Common.{◌≡◌, ◌⊎◌, inl, inr, ◌∙◌, ap, sym, refl, subst, ℕ, zero, suc, ◌+◌, ◌%◌, ◌^◌, ◌≤◌, min, nat_lt, Bool, true, false, not, ◌&&◌, cond, List, [], ◌∷◌, length, map, take, slice_get, Option, Some, None, is_some, is_none, Result, Ok, arith}
+use Rattle.std.proofs.Common.{◌≡◌, ◌∙◌, ap, sym, refl, subst, ℕ, zero, suc, ◌+◌, ◌%◌, ◌^◌, ◌≤◌, min, nat_lt, Bool, true, false, not, ◌&&◌, List, [], ◌∷◌, length, map, take, slice_get, Option, Some, None, is_some, is_none, Result, Ok, Err, arith}
+use Rattle.std.specs.Prelude.{IfOk}
 use Rattle.std.specs.List.{list_all}
 use Rattle.std.specs.Option.{option_and_then, option_map, option_map_or}
 use Rattle.std.proofs.lemmas.Option.{slice_get-map}
@@ -9,19 +10,19 @@ use Rattle.spk_payload.specs.Typing.{typed_view, written_of}
 use Rattle.spk_payload.specs.declared.typing.Value.{Value}
 use Rattle.spk_device.specs.Book.{Book, gauge_at}
 use Rattle.spk_device.specs.declared.owner.Owner.{Owner}
-use Rattle.spk_store.specs.Calls.{DropFront}
 use Rattle.spk_store.specs.Step.{after_drop}
-use Rattle.spk_edge_rules.specs.Answers.{is_writable}
-use Rattle.spk_edge_rules.specs.Births.{data_draft, kept_metric, later_stamp, owner_is_up}
+use Rattle.spk_edge_rules.specs.Writable.{is_writable}
+use Rattle.spk_edge_rules.specs.Births.{data_draft, kept_metric, later_stamp}
+use Rattle.spk_edge_rules.specs.History.{history}
 use Rattle.spk_edge_rules.specs.Inputs.{ChangeData, Drain}
 use Rattle.spk_edge_rules.specs.Messages.{Draft, wire}
 use Rattle.spk_edge_rules.specs.Rules as rule
-use Rattle.spk_edge_rules.specs.Rules.{Given, acts, is_timely}
+use Rattle.spk_edge_rules.specs.Rules.{Given}
 use Rattle.spk_edge_rules.specs.Step as step
 use Rattle.spk_edge_rules.specs.declared.fault.EdgeFault.{EdgeFault}
 use Rattle.spk_edge_rules.specs.declared.fault.EdgeFault.TheVariants as fault
 use Rattle.spk_edge.specs.Changing.{with_sent}
-use Rattle.spk_edge.specs.History.{Asks, message, with_fewer}
+use Rattle.spk_edge.specs.History.{Asks, IsTried, IsTriedAt, dropped, message, sent, with_fewer}
 use Rattle.spk_edge.specs.Patch.{IsDone, IsRefusal, plain_input}
 use Rattle.spk_edge.specs.Saying.{null_said}
 use Rattle.spk_edge.specs.Sealing.{AreWhole, IsWhole, bytes_of, numbered, wire_of, with_number}
@@ -30,7 +31,7 @@ use Rattle.spk_edge.specs.declared.message.Out.{Out}
 use Rattle.spk_edge.proofs.Born.{none-of}
 use Rattle.spk_edge.proofs.Packed.{null-same}
 use Rattle.spk_edge.proofs.Plans.{late, same-number}
-use Rattle.spk_edge.proofs.Reborn.{done-ruled, large-ruled}
+use Rattle.spk_edge.proofs.Reborn.{done-ruled}
 use Rattle.spk_edge.proofs.Told.{plain-number}
 
 -- ---- a kept change at its place
@@ -64,7 +65,7 @@ kept-none b items place none = slice_get-map (kept_metric b) items place ∙ ap 
 
 -- ---- its message
 
-take-map : {X Y : Type 0} (f : X → Y) (n : ℕ) (xs : List X) → take n (map f xs) ≡ map f (take n xs)
+pub take-map : {X Y : Type 0} (f : X → Y) (n : ℕ) (xs : List X) → take n (map f xs) ≡ map f (take n xs)
 take-map f zero [] = refl
 take-map f zero (x ∷ xs) = refl
 take-map f (suc n) [] = refl
@@ -74,7 +75,7 @@ take-map f (suc n) (x ∷ xs) = ap (λ l. f x ∷ l) (take-map f n xs)
 abbrev draft : NodeData → ℕ → Owner → ℕ → Draft
 draft n now owner count =
     let a = n.standing.asked in
-    data_draft a.book owner (later_stamp a.stamp now) (map (kept_metric a.book) (take count a.store.items))
+    history a.book owner (later_stamp a.stamp now) a.store.items count
 
 message-is : (n : NodeData) (now : ℕ) (owner : Owner) (count : ℕ) → message n now owner count ≡ with_number n.standing.seq (unnumbered n.config (draft n now owner count))
 message-is n now owner count =
@@ -99,30 +100,20 @@ numbered-is n now owner count =
 abbrev gave : Given → Result Given EdgeFault
 gave g = Ok g
 
-abbrev sent : NodeData → ℕ → Owner → ℕ → Given
-sent n now owner count = record (rule.nothing n.standing.asked) { drafts = draft n now owner count ∷ []; store = Some (DropFront count false) }
-
-abbrev dropped : NodeData → ℕ → Given
-dropped n count = record (rule.nothing n.standing.asked) { store = Some (DropFront count true) }
-
-asks-up : (n : NodeData) (now : ℕ) (owner : Owner) (count : ℕ) (up : Bool) → Asks n now owner count → owner_is_up n.standing.asked.book owner ≡ up
-    → acts n.config n.standing.asked now Drain ≡ Ok (cond up (sent n now owner count) (dropped n count))
-asks-up n now owner count up asked is = ap gave (sym asked ∙ ap (λ b. cond b (sent n now owner count) (dropped n count)) is)
-
 fewer : (count : ℕ) (items : List ChangeData) → count ≤ length items → min count (length items) ≡ count
 fewer count items few = omega (arith, few)
 
 -- ---- what is done
 
 pub sent-done : (n : NodeData) (now : ℕ) (owner : Owner) (count stamp : ℕ) (between after : NodeData) (out : Out) → rule.is_born n.standing.asked.phase ≡ true → nat_lt now (2 ^ 63) ≡ true
-    → owner_is_up n.standing.asked.book owner ≡ true → Asks n now owner count → count ≤ length n.standing.asked.store.items → stamp ≡ later_stamp n.standing.asked.stamp now → nat_lt stamp (2 ^ 63) ≡ true
+    → Asks n now (sent n.standing.asked now owner count) → count ≤ length n.standing.asked.store.items → stamp ≡ later_stamp n.standing.asked.stamp now → nat_lt stamp (2 ^ 63) ≡ true
     → is_writable (wire_of (message n now owner count)) ≡ true → map bytes_of out.packets.items ≡ spelling (wire_of (message n now owner count)) ∷ [] → out.writes.items ≡ [] → out.close ≡ false
     → IsWhole (message n now owner count) → between ≡ with_fewer n count false → after ≡ with_sent between stamp → IsDone n (plain_input now Drain) after out
-sent-done n now owner count stamp between after out born moment up asked few at timely writable packets writes close whole fewer-is counted =
+sent-done n now owner count stamp between after out born moment asked few at timely writable packets writes close whole fewer-is counted =
     let a = n.standing.asked in
     let wires = wires-is n now owner count in
     let numbers = numbered-is n now owner count in
-    done-ruled n (plain_input now Drain) (sent n now owner count) after out born moment (asks-up n now owner count true asked up)
+    done-ruled n (plain_input now Drain) (sent a now owner count) after out born moment (ap gave asked)
     (ap (λ s. nat_lt s (2 ^ 63) && true) (sym at) ∙ ap (λ b. b && true) timely)
     (ap (list_all is_writable) wires ∙ ap (λ b. b && true) writable)
     (packets ∙ ap (map spelling) (sym wires))
@@ -138,34 +129,46 @@ sent-done n now owner count stamp between after out born moment up asked few at 
     }) (sym (number-is n now owner count)))
 
 pub sent-late : (n : NodeData) (now : ℕ) (owner : Owner) (count stamp : ℕ) → rule.is_born n.standing.asked.phase ≡ true → nat_lt now (2 ^ 63) ≡ true
-    → owner_is_up n.standing.asked.book owner ≡ true → Asks n now owner count → stamp ≡ later_stamp n.standing.asked.stamp now → nat_lt stamp (2 ^ 63) ≡ false
+    → Asks n now (sent n.standing.asked now owner count) → stamp ≡ later_stamp n.standing.asked.stamp now → nat_lt stamp (2 ^ 63) ≡ false
     → IsRefusal n (plain_input now Drain) fault.ClockEnd
-sent-late n now owner count stamp born moment up asked at never =
-    late n (plain_input now Drain) (sent n now owner count) born moment (asks-up n now owner count true asked up)
+sent-late n now owner count stamp born moment asked at never =
+    late n (plain_input now Drain) (sent n.standing.asked now owner count) born moment (ap gave asked)
     (ap (λ s. nat_lt s (2 ^ 63) && true) (sym at) ∙ ap (λ b. b && true) never)
 
-pub sent-never : (n : NodeData) (now : ℕ) (owner : Owner) (count stamp : ℕ) (e : EdgeFault) → rule.is_born n.standing.asked.phase ≡ true → nat_lt now (2 ^ 63) ≡ true
-    → owner_is_up n.standing.asked.book owner ≡ true → Asks n now owner count → stamp ≡ later_stamp n.standing.asked.stamp now → nat_lt stamp (2 ^ 63) ≡ true
-    → (e ≡ fault.NoMemory) ⊎ ((e ≡ fault.TooLarge) × (is_writable (wire_of (message n now owner count)) ≡ false)) → IsRefusal n (plain_input now Drain) e
-sent-never n now owner count stamp e born moment up asked at timely (inl memory) = inl memory
-sent-never n now owner count stamp e born moment up asked at timely (inr (large, never)) =
-    subst (IsRefusal n (plain_input now Drain)) (sym large)
-    (large-ruled n (plain_input now Drain) (sent n now owner count) born moment (asks-up n now owner count true asked up)
-    (ap (λ s. nat_lt s (2 ^ 63) && true) (sym at) ∙ ap (λ b. b && true) timely)
-    (ap (list_all is_writable) (wires-is n now owner count) ∙ ap (λ b. b && true) never))
-
-pub dropped-done : (n : NodeData) (now : ℕ) (owner : Owner) (count : ℕ) (after : NodeData) (out : Out) → rule.is_born n.standing.asked.phase ≡ true → nat_lt now (2 ^ 63) ≡ true
-    → owner_is_up n.standing.asked.book owner ≡ false → Asks n now owner count → count ≤ length n.standing.asked.store.items
+pub dropped-done : (n : NodeData) (now count : ℕ) (after : NodeData) (out : Out) → rule.is_born n.standing.asked.phase ≡ true → nat_lt now (2 ^ 63) ≡ true
+    → Asks n now (dropped n.standing.asked count) → count ≤ length n.standing.asked.store.items
     → out.packets.items ≡ [] → out.writes.items ≡ [] → out.close ≡ false → after ≡ with_fewer n count true → IsDone n (plain_input now Drain) after out
-dropped-done n now owner count after out born moment down asked few packets writes close is =
+dropped-done n now count after out born moment asked few packets writes close is =
     let a = n.standing.asked in
-    done-ruled n (plain_input now Drain) (dropped n count) after out born moment (asks-up n now owner count false asked down) refl refl
+    done-ruled n (plain_input now Drain) (dropped a count) after out born moment (ap gave asked) refl refl
     (ap (map bytes_of) packets) (ap (map write_view) writes) close tt
     (is ∙ ap (λ k. record n { standing = record n.standing { asked = record a { store = after_drop a.store k true } } }) (fewer count a.store.items few))
 
 pub none-done : (n : NodeData) (now : ℕ) (out : Out) → rule.is_born n.standing.asked.phase ≡ true → nat_lt now (2 ^ 63) ≡ true
-    → rule.nothing n.standing.asked ≡ rule.draining n.standing.asked now n.standing.asked.store.items
+    → Asks n now (rule.nothing n.standing.asked)
     → out.packets.items ≡ [] → out.writes.items ≡ [] → out.close ≡ false → IsDone n (plain_input now Drain) n out
-none-done n now out born moment is packets writes close =
-    done-ruled n (plain_input now Drain) (rule.nothing n.standing.asked) n out born moment (ap gave (sym is)) refl refl
+none-done n now out born moment asked packets writes close =
+    done-ruled n (plain_input now Drain) (rule.nothing n.standing.asked) n out born moment (ap gave asked) refl refl
     (ap (map bytes_of) packets) (ap (map write_view) writes) close tt refl
+
+-- ---- whether a kept change is put
+
+pub some-same : {X : Type 0} (x y : X) → (let o : Option X = Some x in o) ≡ Some y → x ≡ y
+some-same x y e = let same : x ≡ y = cc in same
+
+pub none-some : {X : Type 0} (x : X) → (let o : Option X = None in o) ≡ Some x → ⊥
+none-some x e = let z : ⊥ = cc in z
+
+pub tried-at : {E : Type 0} (r : Result Bool E) (limit : ℕ) (before after : List ℕ) (ms : List MetricData) (place : ℕ) (m : MetricData) → slice_get ms place ≡ Some m
+    → IfOk r (IsTried limit before after m) → IfOk r (IsTriedAt limit before after ms place)
+tried-at (Ok b) limit before after ms place m there tried = λ other at.
+    let same : m ≡ other = some-same m other (sym there ∙ at) in
+    subst (λ x. IsTried limit before after x b) same tried
+tried-at (Err e) limit before after ms place m there tried = tt
+
+pub no-metric : (limit : ℕ) (before : List ℕ) (ms : List MetricData) (place : ℕ) → slice_get ms place ≡ None → IsTriedAt limit before before ms place true
+no-metric limit before ms place none = λ m at. absurd (none-some m (sym none ∙ at))
+
+-- a kept change at its place, as a metric
+pub kept-there : (b : Book) (items : List ChangeData) (place : ℕ) (change : ChangeData) → slice_get items place ≡ Some change → slice_get (map (kept_metric b) items) place ≡ Some (kept_metric b change)
+kept-there b items place change there = slice_get-map (kept_metric b) items place ∙ ap (option_map (kept_metric b)) there

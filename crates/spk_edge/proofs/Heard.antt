@@ -20,7 +20,7 @@ use Rattle.spk_edge.specs.declared.message.Given.{Given}
 pub plain-given : (n : NodeData) (i : Input) (act : inputs.Act) (g : Given) → act_view i.act ≡ act → IsGivenBy n (plain_input i.now act) g → IsGivenBy n (input_view i) g
 plain-given n i act g is given = record {
   given = given.given;
-  acted = ap (rule.acts n.config n.standing.asked i.now) is ∙ given.acted;
+  acted = ap (rule.acts n.config n.standing.seq n.standing.asked i.now) is ∙ given.acted;
   is = given.is ∙ ap (λ a. given_of n.config (step.heard_after n.config n.standing.asked.heard a) given.given) (sym is);
 }
 

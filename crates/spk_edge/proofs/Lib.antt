@@ -20,3 +20,5 @@ mod Born
 mod Bears
 mod Reborn
 mod Flushed
+mod Fronts
+mod Filled

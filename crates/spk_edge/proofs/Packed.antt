@@ -21,7 +21,7 @@ use Rattle.spk_packets.specs.Fault.{first_of}
 use Rattle.spk_packets.specs.Grammar.{has_zero, largest}
 use Rattle.spk_packets.specs.Spelling as packet
 use Rattle.spk_packets.proofs.Written as written
-use Rattle.spk_edge_rules.specs.Answers.{is_writable}
+use Rattle.spk_edge_rules.specs.Writable.{is_writable}
 use Rattle.spk_topics.specs.declared.spark.Verb.TheVariants.{Data}
 use Rattle.spk_edge_rules.specs.Births.{later_stamp}
 use Rattle.spk_edge_rules.specs.Config.{Config}

@@ -12,7 +12,8 @@ use Rattle.spk_sequence.specs.NodeRecord.{Numbering, RunsOn, Restarts}
 use Rattle.spk_store.specs.Step.{after_drop}
 use Rattle.spk_edge_rules.specs.declared.fault.EdgeFault.{EdgeFault}
 use Rattle.spk_edge_rules.specs.declared.fault.EdgeFault.TheVariants as fault
-use Rattle.spk_edge_rules.specs.Answers.{Answer, checked, is_writable}
+use Rattle.spk_edge_rules.specs.Answers.{Answer, checked}
+use Rattle.spk_edge_rules.specs.Writable.{is_writable}
 use Rattle.spk_edge_rules.specs.Commands.{Order, command_of}
 use Rattle.spk_edge_rules.specs.Config.{Config}
 use Rattle.spk_edge_rules.specs.Inputs as inputs
@@ -70,7 +71,7 @@ known-are c (d ∷ ds) all = (all.0, known-are c ds all.1)
 -- what is given is known
 pub given-known : (n : NodeData) (i : inputs.Input) (g : Given) (ack : Option ℕ) (g' : Given) → IsGivenBy n i g → given_view g' ≡ acked_data ack (given_view g) → AllKnown (given_view g').messages
 given-known n i g ack g' given is =
-    let all = known-are n.config given.given.drafts (known.given-known n.config n.standing.asked i.now i.act given.given given.acted) in
+    let all = known-are n.config given.given.drafts (known.given-known n.config n.standing.seq n.standing.asked i.now i.act given.given given.acted) in
     subst (λ (g : GivenData). AllKnown g.messages) (sym (is ∙ ap (acked_data ack) given.is)) (by ack all)
   where
     by : (ack : Option ℕ) → AllKnown (map (unnumbered n.config) given.given.drafts) → AllKnown (acked_data ack (given_of n.config (step.heard_after n.config n.standing.asked.heard i.act) given.given)).messages
@@ -83,11 +84,11 @@ acked-is c heard (Some id) g = refl
 
 -- ---- the rules
 
-rules-are : (c : Config) (a : rule.Asked) (i : inputs.Input) (r : Result rule.Given EdgeFault) → fits a.phase i.act ≡ true → nat_lt i.now (2 ^ 63) ≡ true → acts c a i.now i.act ≡ r
-    → rules c a i ≡ on_ok r (λ g. timely (acked i.ack g))
-rules-are c a i r fit now is =
-    ap (λ b. cond (not b) (Err fault.WrongPhase) (cond (not (nat_lt i.now (2 ^ 63))) (Err fault.ClockEnd) (on_ok (acts c a i.now i.act) (λ g. timely (acked i.ack g))))) fit
-    ∙ ap (λ b. cond (not b) (Err fault.ClockEnd) (on_ok (acts c a i.now i.act) (λ g. timely (acked i.ack g)))) now
+rules-are : (c : Config) (k : ℕ) (a : rule.Asked) (i : inputs.Input) (r : Result rule.Given EdgeFault) → fits a.phase i.act ≡ true → nat_lt i.now (2 ^ 63) ≡ true → acts c k a i.now i.act ≡ r
+    → rules c k a i ≡ on_ok r (λ g. timely (acked i.ack g))
+rules-are c k a i r fit now is =
+    ap (λ b. cond (not b) (Err fault.WrongPhase) (cond (not (nat_lt i.now (2 ^ 63))) (Err fault.ClockEnd) (on_ok (acts c k a i.now i.act) (λ g. timely (acked i.ack g))))) fit
+    ∙ ap (λ b. cond (not b) (Err fault.ClockEnd) (on_ok (acts c k a i.now i.act) (λ g. timely (acked i.ack g)))) now
     ∙ ap (λ r. on_ok r (λ g. timely (acked i.ack g))) is
 
 abbrev pub answered : NodeData → Result rule.Given EdgeFault → Result Answer EdgeFault
@@ -100,26 +101,26 @@ abbrev refused : EdgeFault → Result rule.Given EdgeFault
 refused e = Err e
 
 pub wrong_phase : (n : NodeData) (i : inputs.Input) → fits n.standing.asked.phase i.act ≡ false → IsRefusal n i fault.WrongPhase
-wrong_phase n i never = inr (ap (λ b. answered n (cond (not b) (Err fault.WrongPhase) (cond (not (nat_lt i.now (2 ^ 63))) (Err fault.ClockEnd) (on_ok (acts n.config n.standing.asked i.now i.act) (λ g. timely (acked i.ack g)))))) never)
+wrong_phase n i never = inr (ap (λ b. answered n (cond (not b) (Err fault.WrongPhase) (cond (not (nat_lt i.now (2 ^ 63))) (Err fault.ClockEnd) (on_ok (acts n.config n.standing.seq n.standing.asked i.now i.act) (λ g. timely (acked i.ack g)))))) never)
 
 pub clock_end : (n : NodeData) (i : inputs.Input) → fits n.standing.asked.phase i.act ≡ true → nat_lt i.now (2 ^ 63) ≡ false → IsRefusal n i fault.ClockEnd
 clock_end n i fit never = inr (
-    ap (λ b. answered n (cond (not b) (Err fault.WrongPhase) (cond (not (nat_lt i.now (2 ^ 63))) (Err fault.ClockEnd) (on_ok (acts n.config n.standing.asked i.now i.act) (λ g. timely (acked i.ack g)))))) fit
-    ∙ ap (λ b. answered n (cond (not b) (Err fault.ClockEnd) (on_ok (acts n.config n.standing.asked i.now i.act) (λ g. timely (acked i.ack g))))) never)
+    ap (λ b. answered n (cond (not b) (Err fault.WrongPhase) (cond (not (nat_lt i.now (2 ^ 63))) (Err fault.ClockEnd) (on_ok (acts n.config n.standing.seq n.standing.asked i.now i.act) (λ g. timely (acked i.ack g)))))) fit
+    ∙ ap (λ b. answered n (cond (not b) (Err fault.ClockEnd) (on_ok (acts n.config n.standing.seq n.standing.asked i.now i.act) (λ g. timely (acked i.ack g))))) never)
 
 acked-timely : (ack : Option ℕ) (g : rule.Given) → is_timely (acked ack g) ≡ is_timely g
 acked-timely None g = refl
 acked-timely (Some id) g = refl
 
 pub late : (n : NodeData) (i : inputs.Input) (g : rule.Given) → fits n.standing.asked.phase i.act ≡ true → nat_lt i.now (2 ^ 63) ≡ true
-    → acts n.config n.standing.asked i.now i.act ≡ Ok g → is_timely g ≡ false → IsRefusal n i fault.ClockEnd
+    → acts n.config n.standing.seq n.standing.asked i.now i.act ≡ Ok g → is_timely g ≡ false → IsRefusal n i fault.ClockEnd
 late n i g fit now is never = inr (
-    ap (answered n) (rules-are n.config n.standing.asked i (gave g) fit now is)
+    ap (answered n) (rules-are n.config n.standing.seq n.standing.asked i (gave g) fit now is)
     ∙ ap (λ b. answered n (cond b (Ok (acked i.ack g)) (Err fault.ClockEnd))) (acked-timely i.ack g ∙ never))
 
 pub act_refused : (n : NodeData) (i : inputs.Input) (e : EdgeFault) → fits n.standing.asked.phase i.act ≡ true → nat_lt i.now (2 ^ 63) ≡ true → IsRefusedBy n i e → IsRefusal n i e
 act_refused n i e fit now (inl memory) = inl memory
-act_refused n i e fit now (inr (inl is)) = inr (ap (answered n) (rules-are n.config n.standing.asked i (refused e) fit now is))
+act_refused n i e fit now (inr (inl is)) = inr (ap (answered n) (rules-are n.config n.standing.seq n.standing.asked i (refused e) fit now is))
 act_refused n i e fit now (inr (inr (end, (g, is, never)))) = subst (IsRefusal n i) (sym end) (late n i g fit now is never)
 
 abbrev pub answer-ok : Answer → Result Answer EdgeFault
@@ -142,9 +143,9 @@ sent : (n : NodeData) (heard : Option ℕ) (r : rule.Given) → packets_of n (gi
 sent n heard r = ap (λ (l : List packets.Message). r.plain ++ l) (wires-are n.config n.standing.seq r.drafts)
 
 pub all-timely : (n : NodeData) (i : inputs.Input) (r : rule.Given) (b : Bool) → is_timely (acked i.ack r) ≡ b → fits n.standing.asked.phase i.act ≡ true → nat_lt i.now (2 ^ 63) ≡ true
-    → acts n.config n.standing.asked i.now i.act ≡ Ok r → step.answer_at n.config n.standing i ≡ answered n (cond b (Ok (acked i.ack r)) (Err fault.ClockEnd))
+    → acts n.config n.standing.seq n.standing.asked i.now i.act ≡ Ok r → step.answer_at n.config n.standing i ≡ answered n (cond b (Ok (acked i.ack r)) (Err fault.ClockEnd))
 all-timely n i r b is fit now acted =
-    ap (answered n) (rules-are n.config n.standing.asked i (gave r) fit now acted) ∙ ap (λ b. answered n (cond b (Ok (acked i.ack r)) (Err fault.ClockEnd))) is
+    ap (answered n) (rules-are n.config n.standing.seq n.standing.asked i (gave r) fit now acted) ∙ ap (λ b. answered n (cond b (Ok (acked i.ack r)) (Err fault.ClockEnd))) is
 
 pub sealed_refused : (n : NodeData) (i : inputs.Input) (g g' : Given) (e : EdgeFault) → fits n.standing.asked.phase i.act ≡ true → nat_lt i.now (2 ^ 63) ≡ true
     → IsGivenBy n i g → given_view g' ≡ acked_data i.ack (given_view g) → IsUnsealed n (given_view g') e → IsRefusal n i e
@@ -184,30 +185,30 @@ accepted b None g g' e = refl
 accepted b (Some why) g g' e = absurd (let x : ⊥ = cc in x)
 
 -- what is set is what the act does to the registry
-book-is : (c : Config) (a : rule.Asked) (now : ℕ) (act : inputs.Act) (s : Setting) (g : rule.Given) → acts c a now act ≡ Ok g → IsSetBy a.book act s
+book-is : (c : Config) (k : ℕ) (a : rule.Asked) (now : ℕ) (act : inputs.Act) (s : Setting) (g : rule.Given) → acts c k a now act ≡ Ok g → IsSetBy a.book act s
     → setting_book a.book s ≡ step.book_after a.book act
-book-is c a now (inputs.Change alias value) s g ok set =
+book-is c k a now (inputs.Change alias value) s g ok set =
     set ∙ ap (λ r. unless_refused r (with_value a.book alias value) a.book) (accepted a.book (set_refusal a.book alias value) _ g ok)
-book-is c a now inputs.Open s g ok set = set
-book-is c a now inputs.Accepted s g ok set = set
-book-is c a now (inputs.Turn name up) s g ok set =
+book-is c k a now inputs.Open s g ok set = set
+book-is c k a now inputs.Accepted s g ok set = set
+book-is c k a now (inputs.Turn name up) s g ok set =
     set ∙ ap (λ r. unless_refused r (with_turn a.book name up) a.book) (accepted a.book (turn_refusal a.book name) _ g ok)
-book-is c a now (inputs.Command topic payload) s g ok set = set
-book-is c a now (inputs.State payload) s g ok set = set
-book-is c a now inputs.Drain s g ok set = set
-book-is c a now inputs.Stop s g ok set = set
-book-is c a now inputs.Cut s g ok set = set
-book-is c a now inputs.TurnedAway s g ok set = set
-book-is c a now inputs.Pass s g ok set = set
+book-is c k a now (inputs.Command topic payload) s g ok set = set
+book-is c k a now (inputs.State payload) s g ok set = set
+book-is c k a now inputs.Drain s g ok set = set
+book-is c k a now inputs.Stop s g ok set = set
+book-is c k a now inputs.Cut s g ok set = set
+book-is c k a now inputs.TurnedAway s g ok set = set
+book-is c k a now inputs.Pass s g ok set = set
 
 -- the data after the plan are the data after the step
-after-is : (n : NodeData) (i : inputs.Input) (g : rule.Given) (setting : Setting) (p : Plan) → acts n.config n.standing.asked i.now i.act ≡ Ok g
+after-is : (n : NodeData) (i : inputs.Input) (g : rule.Given) (setting : Setting) (p : Plan) → acts n.config n.standing.seq n.standing.asked i.now i.act ≡ Ok g
     → IsSetBy n.standing.asked.book i.act setting → IsSealed n i (given_of n.config (step.heard_after n.config n.standing.asked.heard i.act) (acked i.ack g)) setting p
     → KeepsLaw n.standing.asked (acked i.ack g).store → patched n p ≡ record n { standing = step.stepped n.config n.standing i (acked i.ack g) }
 after-is n i g setting p acted set s lawful =
     let c = n.config in
     let book : setting_book n.standing.asked.book p.setting ≡ step.book_after n.standing.asked.book i.act =
-    ap (setting_book n.standing.asked.book) s.set ∙ book-is c n.standing.asked i.now i.act setting g acted set in
+    ap (setting_book n.standing.asked.book) s.set ∙ book-is c n.standing.seq n.standing.asked i.now i.act setting g acted set in
     let kept : kept_after n.standing.asked.store p.kept ≡ step.store_after n.standing.asked.store (acked i.ack g).store =
     kept-is n.standing.asked p.kept (subst (λ o. KeepsLaw n.standing.asked o) (sym s.kept) lawful) ∙ ap (step.store_after n.standing.asked.store) s.kept in
     let stamp : p.tally.stamp ≡ step.stamp_after n.standing.asked.stamp (acked i.ack g).drafts =
@@ -224,8 +225,8 @@ planned n i g g' setting p fit now given is set sealed =
     let ps = r.plain ++ step.wires n.config n.standing.seq r.drafts in
     let whole : Answer = record { given = r; packets = ps } in
     let timely : is_timely r ≡ true = sym (timely-are n.config r.drafts) ∙ s.timely in
-    let ruled : rules n.config n.standing.asked i ≡ gave r =
-    rules-are n.config n.standing.asked i (gave given.given) fit now given.acted ∙ ap (λ b. cond b (gave r) (Err fault.ClockEnd)) timely in
+    let ruled : rules n.config n.standing.seq n.standing.asked i ≡ gave r =
+    rules-are n.config n.standing.seq n.standing.asked i (gave given.given) fit now given.acted ∙ ap (λ b. cond b (gave r) (Err fault.ClockEnd)) timely in
     record {
       answer = whole;
       answered = all-timely n i given.given true timely fit now given.acted
@@ -235,16 +236,16 @@ planned n i g g' setting p fit now given is set sealed =
       close = s.close;
       messages = s.messages;
       whole = s.whole;
-      after = after-is n i given.given setting p given.acted set s (rules-lawful n.config n.standing.asked i r ruled).keeps;
+      after = after-is n i given.given setting p given.acted set s (rules-lawful n.config n.standing.seq n.standing.asked i r ruled).keeps;
     }
 
 -- ---- from the code's input
 
-pub gave-is : (n : NodeData) (i : Input) (act : Act) (r : rule.Given) (g : Given) → i.act ≡ act → acts n.config n.standing.asked i.now (act_view act) ≡ Ok r
+pub gave-is : (n : NodeData) (i : Input) (act : Act) (r : rule.Given) (g : Given) → i.act ≡ act → acts n.config n.standing.seq n.standing.asked i.now (act_view act) ≡ Ok r
     → given_view g ≡ given_of n.config (step.heard_after n.config n.standing.asked.heard (act_view act)) r → IsGivenBy n (input_view i) g
 gave-is n i act r g is acted given = record {
   given = r;
-  acted = ap (λ (a : Act). acts n.config n.standing.asked i.now (act_view a)) is ∙ acted;
+  acted = ap (λ (a : Act). acts n.config n.standing.seq n.standing.asked i.now (act_view a)) is ∙ acted;
   is = given ∙ ap (λ (a : Act). given_of n.config (step.heard_after n.config n.standing.asked.heard (act_view a)) r) (sym is);
 }
 
@@ -275,7 +276,7 @@ pub command-given : (n : NodeData) (i : Input) (topic payload : List ℕ) (order
     → IsGivenBy n (input_view i) g
 command-given n i topic payload orders g is some given = record {
   given = rule.obeying n.standing.asked i.now orders;
-  acted = ap (acts n.config n.standing.asked i.now) is ∙ ap (rule.commanded n.standing.asked i.now) some;
+  acted = ap (acts n.config n.standing.seq n.standing.asked i.now) is ∙ ap (rule.commanded n.standing.asked i.now) some;
   is = given ∙ ap (λ a. given_of n.config (step.heard_after n.config n.standing.asked.heard a) (rule.obeying n.standing.asked i.now orders)) (sym is);
 }
 
@@ -284,10 +285,10 @@ pub command-late : (n : NodeData) (i : Input) (topic payload : List ℕ) (orders
     → (e ≡ fault.NoMemory) ⊎ ((e ≡ fault.ClockEnd) × (is_timely (rule.obeying n.standing.asked i.now orders) ≡ false)) → IsRefusedBy n (input_view i) e
 command-late n i topic payload orders e is some (inl memory) = inl memory
 command-late n i topic payload orders e is some (inr (end, never)) =
-    inr (inr (end, (rule.obeying n.standing.asked i.now orders, ap (acts n.config n.standing.asked i.now) is ∙ ap (rule.commanded n.standing.asked i.now) some, never)))
+    inr (inr (end, (rule.obeying n.standing.asked i.now orders, ap (acts n.config n.standing.seq n.standing.asked i.now) is ∙ ap (rule.commanded n.standing.asked i.now) some, never)))
 
 pub command-refused : (n : NodeData) (i : Input) (topic payload : List ℕ) (e : EdgeFault) → act_view i.act ≡ inputs.Command topic payload
     → (e ≡ fault.NoMemory) ⊎ ((e ≡ fault.BadCommand) × (command_of n.config n.standing.asked.book topic payload ≡ None)) → IsRefusedBy n (input_view i) e
 command-refused n i topic payload e is (inl memory) = inl memory
 command-refused n i topic payload e is (inr (bad, none)) =
-    subst (IsRefusedBy n (input_view i)) (sym bad) (inr (inl (ap (acts n.config n.standing.asked i.now) is ∙ ap (rule.commanded n.standing.asked i.now) none)))
+    subst (IsRefusedBy n (input_view i)) (sym bad) (inr (inl (ap (acts n.config n.standing.seq n.standing.asked i.now) is ∙ ap (rule.commanded n.standing.asked i.now) none)))

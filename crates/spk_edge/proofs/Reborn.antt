@@ -7,7 +7,8 @@ use Rattle.spk_device.specs.Book.{Book, DeviceData}
 use Rattle.spk_edge_rules.specs.declared.fault.EdgeFault.{EdgeFault}
 use Rattle.spk_edge_rules.specs.declared.fault.EdgeFault.TheVariants as fault
 use Rattle.spk_edge_rules.specs.declared.phase.Phase.TheVariants.{Born}
-use Rattle.spk_edge_rules.specs.Answers.{Answer, is_writable}
+use Rattle.spk_edge_rules.specs.Answers.{Answer}
+use Rattle.spk_edge_rules.specs.Writable.{is_writable}
 use Rattle.spk_edge_rules.specs.Births.{births_at, device_birth}
 use Rattle.spk_edge_rules.specs.Commands.{Order, command_of, wants_rebirth, writes_in}
 use Rattle.spk_edge_rules.specs.Inputs.{Command, Input}
@@ -57,20 +58,20 @@ abbrev handing : rule.Asked → List Order → Given
 handing a orders = record (rule.nothing a) { writes = writes_in orders }
 
 acts-so : (n : NodeData) (now : ℕ) (topic payload : List ℕ) (orders : List Order) (g : Given) → command_of n.config n.standing.asked.book topic payload ≡ Some orders
-    → rule.obeying n.standing.asked now orders ≡ g → acts n.config n.standing.asked now (Command topic payload) ≡ Ok g
+    → rule.obeying n.standing.asked now orders ≡ g → acts n.config n.standing.seq n.standing.asked now (Command topic payload) ≡ Ok g
 acts-so n now topic payload orders g some is = ap (rule.commanded n.standing.asked now) some ∙ ap gave is
 
 -- births are asked for
 asks-births : (n : NodeData) (now : ℕ) (topic payload : List ℕ) (orders : List Order) → command_of n.config n.standing.asked.book topic payload ≡ Some orders
     → (wants_rebirth orders && rule.is_born n.standing.asked.phase) ≡ true
-    → acts n.config n.standing.asked now (Command topic payload) ≡ Ok (rule.born n.standing.asked now (handing n.standing.asked orders))
+    → acts n.config n.standing.seq n.standing.asked now (Command topic payload) ≡ Ok (rule.born n.standing.asked now (handing n.standing.asked orders))
 asks-births n now topic payload orders some asked =
     let a = n.standing.asked in
     acts-so n now topic payload orders (rule.born a now (handing a orders)) some (ap (λ b. cond b (rule.born a now (handing a orders)) (handing a orders)) asked)
 
 asks-none : (n : NodeData) (now : ℕ) (topic payload : List ℕ) (orders : List Order) → command_of n.config n.standing.asked.book topic payload ≡ Some orders
     → (wants_rebirth orders && rule.is_born n.standing.asked.phase) ≡ false
-    → acts n.config n.standing.asked now (Command topic payload) ≡ Ok (handing n.standing.asked orders)
+    → acts n.config n.standing.seq n.standing.asked now (Command topic payload) ≡ Ok (handing n.standing.asked orders)
 asks-none n now topic payload orders some asked =
     let a = n.standing.asked in
     acts-so n now topic payload orders (handing a orders) some (ap (λ b. cond b (rule.born a now (handing a orders)) (handing a orders)) asked)
@@ -81,7 +82,7 @@ abbrev sent : NodeData → Given → List packets.Message
 sent n g = g.plain ++ step.wires n.config n.standing.seq g.drafts
 
 pub done-ruled : (n : NodeData) (i : Input) (r : Given) (after : NodeData) (out : Out) → fits n.standing.asked.phase i.act ≡ true → nat_lt i.now (2 ^ 63) ≡ true
-    → acts n.config n.standing.asked i.now i.act ≡ Ok r → is_timely (acked i.ack r) ≡ true → list_all is_writable (sent n (acked i.ack r)) ≡ true
+    → acts n.config n.standing.seq n.standing.asked i.now i.act ≡ Ok r → is_timely (acked i.ack r) ≡ true → list_all is_writable (sent n (acked i.ack r)) ≡ true
     → map bytes_of out.packets.items ≡ map spelling (sent n (acked i.ack r)) → map write_view out.writes.items ≡ (acked i.ack r).writes → out.close ≡ (acked i.ack r).close
     → AreWhole (numbered n.config.numbering n.standing.seq (map (unnumbered n.config) (acked i.ack r).drafts))
     → after ≡ record n { standing = step.stepped n.config n.standing i (acked i.ack r) } → IsDone n i after out
@@ -99,7 +100,7 @@ done-ruled n i r after out fit moment acted timely writable packets writes close
 
 -- what can't be written is refused
 pub large-ruled : (n : NodeData) (i : Input) (r : Given) → fits n.standing.asked.phase i.act ≡ true → nat_lt i.now (2 ^ 63) ≡ true
-    → acts n.config n.standing.asked i.now i.act ≡ Ok r → is_timely (acked i.ack r) ≡ true → list_all is_writable (sent n (acked i.ack r)) ≡ false → IsRefusal n i fault.TooLarge
+    → acts n.config n.standing.seq n.standing.asked i.now i.act ≡ Ok r → is_timely (acked i.ack r) ≡ true → list_all is_writable (sent n (acked i.ack r)) ≡ false → IsRefusal n i fault.TooLarge
 large-ruled n i r fit moment acted timely never =
     let a : Answer = record { given = acked i.ack r; packets = sent n (acked i.ack r) } in
     inr (all-timely n i r true timely fit moment acted ∙ ap (λ b. cond b (answer-ok a) (Err fault.TooLarge)) never)
@@ -126,7 +127,7 @@ reborn-done n now ack topic payload orders after out fit moment some asked = by 
     wires : map wire_of (all_born n stamp) ≡ step.wires n.config n.standing.seq drafts
     wires = wires-are n.config n.standing.seq drafts
 
-    acted : acts n.config n.standing.asked now (Command topic payload) ≡ Ok (rule.born n.standing.asked now (handing n.standing.asked orders))
+    acted : acts n.config n.standing.seq n.standing.asked now (Command topic payload) ≡ Ok (rule.born n.standing.asked now (handing n.standing.asked orders))
     acted = asks-births n now topic payload orders some asked
 
     stands-so : after ≡ stood n (Some stamp) (seq_past n.config.numbering n.standing.seq (map (unnumbered n.config) drafts)) → after ≡ stood n (step.stamp_after n.standing.asked.stamp drafts) (step.seq_after n.config n.standing.seq drafts)
@@ -163,7 +164,7 @@ unborn-refused n now ack topic payload orders e fit moment some asked is = by ac
     r : Given
     r = rule.born n.standing.asked now (handing n.standing.asked orders)
 
-    acted : acts n.config n.standing.asked now (Command topic payload) ≡ Ok r
+    acted : acts n.config n.standing.seq n.standing.asked now (Command topic payload) ≡ Ok r
     acted = asks-births n now topic payload orders some asked
 
     by : (ack : Option ℕ) → IsUnborn n now ack e → IsRefusal n (command_input now ack topic payload) e
@@ -186,7 +187,7 @@ pub handed-done : (n : NodeData) (now : ℕ) (ack : Option ℕ) (topic payload :
     → IsDone n (command_input now ack topic payload) n out
 handed-done n now ack topic payload orders out fit moment some asked bytes writable writes close = by ack bytes writable
   where
-    acted : acts n.config n.standing.asked now (Command topic payload) ≡ Ok (handing n.standing.asked orders)
+    acted : acts n.config n.standing.seq n.standing.asked now (Command topic payload) ≡ Ok (handing n.standing.asked orders)
     acted = asks-none n now topic payload orders some asked
 
     by : (ack : Option ℕ) → map bytes_of out.packets.items ≡ map spelling (acks ack) → list_all is_writable (acks ack) ≡ true → IsDone n (command_input now ack topic payload) n out
@@ -199,7 +200,7 @@ pub handed-refused : (n : NodeData) (now : ℕ) (ack : Option ℕ) (topic payloa
     → IsUnwritten (acks ack) e → IsRefusal n (command_input now ack topic payload) e
 handed-refused n now ack topic payload orders e fit moment some asked is = by ack is
   where
-    acted : acts n.config n.standing.asked now (Command topic payload) ≡ Ok (handing n.standing.asked orders)
+    acted : acts n.config n.standing.seq n.standing.asked now (Command topic payload) ≡ Ok (handing n.standing.asked orders)
     acted = asks-none n now topic payload orders some asked
 
     by : (ack : Option ℕ) → IsUnwritten (acks ack) e → IsRefusal n (command_input now ack topic payload) e

@@ -1,15 +1,17 @@
 -- Metrics that are written from where their parts stand, one after the other.
-use Rattle.std.proofs.Common.{◌≡◌, ◌∙◌, ap, sym, refl, subst, ℕ, zero, suc, ◌+◌, ◌*◌, ◌-◌, ◌<◌, ◌^◌, min, List, [], ◌∷◌, ◌++◌, length, take, Option, Some, None, Result, Ok, Err, arith, append_assoc, option_copied}
+use Rattle.std.proofs.Common.{◌≡◌, ◌⊎◌, inl, inr, ◌∙◌, ap, sym, refl, subst, ℕ, zero, suc, ◌+◌, ◌*◌, ◌-◌, ◌<◌, ◌≤◌, ◌^◌, min, List, [], ◌∷◌, ◌++◌, length, take, Option, Some, None, Result, Ok, Err, arith, append_assoc, option_copied}
 use Rattle.std.specs.Prelude.{All, IfSome, OnOk, slice_get}
 use Rattle.std.specs.List.{flat_map}
 use Rattle.std.specs.Option.{option_map}
 use Rattle.std.specs.Str.{IsUtf8}
+use Rattle.std.proofs.lemmas.Bool.{cases_lt}
 use Rattle.std.proofs.lemmas.List.{length-append, flat_map_more, append-nil}
 use Rattle.std.proofs.lemmas.List.Elements.{All-push}
-use Rattle.spk_protobuf.specs.Spelling.{bytes_field, varint}
+use Rattle.spk_protobuf.specs.Spelling.{bytes_field, groups_of, varint}
 use Rattle.spk_payload.specs.Meaning.{MetricData}
 use Rattle.spk_payload.specs.Spelling.{ContentFits, MetricFits, bit, content_spelling, if_there, metric_spelling, number_field}
 use Rattle.spk_payload.specs.View.{content_of}
+use Rattle.spk_edge.specs.History.{IsFill, IsPast, IsPut}
 use Rattle.spk_edge.specs.Rows.{row_said, spelled}
 use Rattle.spk_edge.specs.Saying.{null_said}
 use Rattle.spk_edge.specs.declared.row.Row.{Row}
@@ -66,7 +68,7 @@ taken (suc i) [] e = let w : suc i + 1 ≡ suc (i + 1) = omega arith in ap (λ k
 taken zero (x ∷ xs) e = absurd (let z : ⊥ = cc in z)
 taken (suc i) (x ∷ xs) e = let w : suc i + 1 ≡ suc (i + 1) = omega arith in ap (λ k. take k (x ∷ xs)) w ∙ ap (λ l. x ∷ l) (taken i xs e)
 
-taken-more : {X : Type 0} (i : ℕ) (xs : List X) (y : X) → slice_get xs i ≡ Some y → take (i + 1) xs ≡ take i xs ++ y ∷ []
+pub taken-more : {X : Type 0} (i : ℕ) (xs : List X) (y : X) → slice_get xs i ≡ Some y → take (i + 1) xs ≡ take i xs ++ y ∷ []
 taken-more zero [] y e = absurd (let z : ⊥ = cc in z)
 taken-more (suc i) [] y e = absurd (let z : ⊥ = cc in z)
 taken-more zero (x ∷ xs) y e = let same : x ≡ y = cc in ap (λ z. z ∷ []) same
@@ -90,3 +92,67 @@ fits-more ms i so_far one = by (slice_get ms i) refl one
     by : (o : Option MetricData) → slice_get ms i ≡ o → IfSome o MetricFits → All MetricFits (take (i + 1) ms)
     by None e fits = subst (All MetricFits) (sym (taken i ms e)) so_far
     by (Some m) e fits = subst (All MetricFits) (sym (taken-more i ms m e)) (All-push MetricFits (take i ms) m so_far fits)
+
+-- ---- how long a metric is as a field
+
+eighteen : length (varint 18) ≡ 1
+unfolding varint groups_of
+eighteen = refl
+
+field-length : (m : MetricData) → length (spelled m) ≡ 1 + length (varint (length (metric_spelling m))) + length (metric_spelling m)
+unfolding bytes_field
+field-length m =
+    let fields = metric_spelling m in
+    let size = varint (length fields) in
+    let one = eighteen in
+    let same : spelled m ≡ (varint 18 ++ size) ++ fields = refl in
+    ap (λ (l : List ℕ). length l) same ∙ omega (arith, one, length-append (varint 18 ++ size) fields, length-append (varint 18) size)
+
+-- from how long its fields are
+pub field-size : (m : MetricData) (size whole : ℕ) → size ≡ min (length (metric_spelling m)) (2 ^ 64 - 1) → whole ≡ min (size + length (varint size) + 1) (2 ^ 64 - 1)
+    → whole ≡ min (length (spelled m)) (2 ^ 64 - 1)
+field-size m size whole fields is = elim (cases_lt (length (metric_spelling m)) (2 ^ 64 - 1)) [
+  | inl less ↦
+      let same : size ≡ length (metric_spelling m) = omega (arith, fields, less) in
+      let long = field-length m in
+      let same_head : length (varint size) ≡ length (varint (length (metric_spelling m))) = ap (λ n. length (varint n)) same in
+      omega (arith, is, same, same_head, long)
+  | inr more ↦
+      let long = field-length m in
+      omega (arith, is, fields, more, long)
+]
+
+-- ---- what stays within a limit
+
+pub put-within : (limit size whole len total : ℕ) (before after : List ℕ) (m : MetricData) → limit ≤ 1048576 → size ≡ min (length (metric_spelling m)) (2 ^ 64 - 1)
+    → whole ≡ min (size + length (varint size) + 1) (2 ^ 64 - 1) → len ≡ length before → total ≡ min (len + whole) (2 ^ 64 - 1) → total ≤ limit
+    → after ≡ before ++ spelled m → MetricFits m → IsPut limit before after m
+put-within limit size whole len total before after m small fields is long_is sum fit put fits =
+    let field = field-size m size whole fields is in
+    let long : length after ≡ length (before ++ spelled m) = ap (λ (l : List ℕ). length l) put in
+    record { items = put; within = omega (arith, small, long_is, sum, fit, field, long, length-append before (spelled m)); fits = fits }
+
+pub past-limit : (limit size whole len total : ℕ) (before : List ℕ) (m : MetricData) → size ≡ min (length (metric_spelling m)) (2 ^ 64 - 1)
+    → whole ≡ min (size + length (varint size) + 1) (2 ^ 64 - 1) → len ≡ length before → total ≡ min (len + whole) (2 ^ 64 - 1) → limit < total → IsPast limit before before m
+past-limit limit size whole len total before m fields is long_is sum over =
+    let field = field-size m size whole fields is in
+    record { items = refl; past = omega (arith, long_is, sum, over, field) }
+
+-- ---- how many stay within it
+
+-- one more
+pub sum-more : (ms : List MetricData) (i : ℕ) (m : MetricData) → slice_get ms i ≡ Some m
+    → length (flat_map spelled (take (i + 1) ms)) ≡ length (flat_map spelled (take i ms)) + length (spelled m)
+sum-more ms i m e =
+    ap (λ (l : List MetricData). length (flat_map spelled l)) (taken-more i ms m e)
+    ∙ ap (λ (l : List ℕ). length l) (sym (flat_map_more spelled [] (take i ms) m)) ∙ length-append (flat_map spelled (take i ms)) (spelled m)
+
+-- the place of the one that would pass it
+pub fill-here : (base limit most i : ℕ) (ms : List MetricData) (m : MetricData) → i < most → slice_get ms i ≡ Some m → (i ≡ 0) ⊎ (base + length (flat_map spelled (take i ms)) ≤ limit)
+    → limit < base + length (flat_map spelled (take i ms)) + length (spelled m) → IsFill base limit most ms i
+fill-here base limit most i ms m below there within past =
+    let more = sum-more ms i m there in
+    record { few = omega (arith, below); within = within; full = inr (omega (arith, past, more)) }
+
+pub fill-all : (base limit most i : ℕ) (ms : List MetricData) → i ≡ most → (i ≡ 0) ⊎ (base + length (flat_map spelled (take i ms)) ≤ limit) → IsFill base limit most ms i
+fill-all base limit most i ms all within = record { few = omega (arith, all); within = within; full = inl all }

@@ -5,7 +5,7 @@ use Rattle.std.proofs.Math.ListN.{drop_of_length-le}
 use Rattle.std.proofs.lemmas.List.{append-nil, length-map, take_all}
 use Rattle.spk_packets.specs.Message as packets
 use Rattle.spk_sequence.specs.NodeRecord.{Numbering}
-use Rattle.spk_edge_rules.specs.Answers.{is_writable}
+use Rattle.spk_edge_rules.specs.Writable.{is_writable}
 use Rattle.spk_edge_rules.specs.declared.fault.EdgeFault.{EdgeFault}
 use Rattle.spk_edge.specs.Patch.{IsUnsealed, are_timely, numbers_of, packets_of}
 use Rattle.spk_edge.specs.Sealing.{AllKnown, AreKnown, IsUnwritten, next_in, numbered, wire_of}

@@ -101,24 +101,24 @@ from-refused : (r : Option Refusal) (g h : rule.Given) → rule.refused_or r g �
 from-refused None g h e silent = from-ok g h e silent
 from-refused (Some why) g h e silent = absurd (let x : ⊥ = cc in x)
 
-pub still-silent : (c : Config) (a : rule.Asked) (now : ℕ) (act : inputs.Act) (g : rule.Given) → is_still a act ≡ true → rule.acts c a now act ≡ Ok g → IsSilent g
-still-silent c a now (inputs.Change alias value) g still ok =
+pub still-silent : (c : Config) (k : ℕ) (a : rule.Asked) (now : ℕ) (act : inputs.Act) (g : rule.Given) → is_still a act ≡ true → rule.acts c k a now act ≡ Ok g → IsSilent g
+still-silent c k a now (inputs.Change alias value) g still ok =
     from-refused (set_refusal a.book alias value) (rule.changing a now alias value) g ok
     (subst (λ b. IsSilent (cond (not b && owner_is_up a.book (owner_at a.book alias)) (rule.telling a now alias value) (rule.nothing a))) (sym still) (refl, refl))
-still-silent c a now inputs.Drain g still ok =
-    from-ok (rule.draining a now a.store.items) g ok
-    (subst (λ (l : List inputs.ChangeData). IsSilent (rule.draining a now l)) (sym (empty a.store.items still)) (refl, refl))
-still-silent c a now inputs.Cut g still ok = from-ok (record (rule.nothing a) { phase = Idle }) g ok (refl, refl)
-still-silent c a now inputs.TurnedAway g still ok =
+still-silent c k a now inputs.Drain g still ok =
+    from-ok (rule.draining c k a now a.store.items) g ok
+    (subst (λ (l : List inputs.ChangeData). IsSilent (rule.draining c k a now l)) (sym (empty a.store.items still)) (refl, refl))
+still-silent c k a now inputs.Cut g still ok = from-ok (record (rule.nothing a) { phase = Idle }) g ok (refl, refl)
+still-silent c k a now inputs.TurnedAway g still ok =
     from-ok (rule.turned_away a) g ok
     (by_if IsSilent (rule.is_connecting a.phase) (record (rule.nothing a) { close = true; phase = Idle }) (rule.nothing a) (λ e. (refl, refl)) (λ e. (refl, refl)))
-still-silent c a now inputs.Pass g still ok = from-ok (rule.nothing a) g ok (refl, refl)
-still-silent c a now inputs.Open g still ok = absurd (true≢false (sym still))
-still-silent c a now inputs.Accepted g still ok = absurd (true≢false (sym still))
-still-silent c a now (inputs.Turn name up) g still ok = absurd (true≢false (sym still))
-still-silent c a now (inputs.Command topic payload) g still ok = absurd (true≢false (sym still))
-still-silent c a now (inputs.State payload) g still ok = absurd (true≢false (sym still))
-still-silent c a now inputs.Stop g still ok = absurd (true≢false (sym still))
+still-silent c k a now inputs.Pass g still ok = from-ok (rule.nothing a) g ok (refl, refl)
+still-silent c k a now inputs.Open g still ok = absurd (true≢false (sym still))
+still-silent c k a now inputs.Accepted g still ok = absurd (true≢false (sym still))
+still-silent c k a now (inputs.Turn name up) g still ok = absurd (true≢false (sym still))
+still-silent c k a now (inputs.Command topic payload) g still ok = absurd (true≢false (sym still))
+still-silent c k a now (inputs.State payload) g still ok = absurd (true≢false (sym still))
+still-silent c k a now inputs.Stop g still ok = absurd (true≢false (sym still))
 
 -- ---- refusals
 
@@ -148,7 +148,7 @@ silent : (n : NodeData) (i : inputs.Input) (g g' : Given) → IsGivenBy n i g �
     → length (given_view g').plain + length (given_view g').messages ≡ 0
 silent n i g g' given is still =
     let parts = and_parts (is_none i.ack) (is_still n.standing.asked i.act) still in
-    let none = still-silent n.config n.standing.asked i.now i.act given.given parts.1 given.acted in
+    let none = still-silent n.config n.standing.seq n.standing.asked i.now i.act given.given parts.1 given.acted in
     ap (λ (d : GivenData). length d.plain + length d.messages) (is ∙ unacknowledged i.ack (given_view g) parts.0 ∙ given.is)
     ∙ ap (λ (l : List packets.Message). length l + length (map (unnumbered n.config) given.given.drafts)) none.0
     ∙ ap (λ (l : List Draft). 0 + length (map (unnumbered n.config) l)) none.1

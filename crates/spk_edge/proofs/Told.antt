@@ -14,7 +14,8 @@ use Rattle.spk_store.specs.Step.{after_push}
 use Rattle.spk_store.specs.declared.change.Change.{Change}
 use Rattle.spk_edge_rules.specs.declared.fault.EdgeFault.{EdgeFault}
 use Rattle.spk_edge_rules.specs.declared.fault.EdgeFault.TheVariants as fault
-use Rattle.spk_edge_rules.specs.Answers.{Answer, is_writable}
+use Rattle.spk_edge_rules.specs.Answers.{Answer}
+use Rattle.spk_edge_rules.specs.Writable.{is_writable}
 use Rattle.spk_edge_rules.specs.Births.{later_stamp, owner_at, owner_is_up}
 use Rattle.spk_edge_rules.specs.Config.{Config}
 use Rattle.spk_edge_rules.specs.Inputs.{ChangeData}

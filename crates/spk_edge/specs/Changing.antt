@@ -19,7 +19,7 @@ change_of now alias value = plain_input now (Change alias value)
 
 -- the rules ask this of it
 abbrev pub Asks : NodeData → ℕ → ℕ → Option Typed → Given → Type 0
-Asks n now alias value g = acts n.config n.standing.asked now (Change alias value) ≡ Ok g
+Asks n now alias value g = acts n.config n.standing.seq n.standing.asked now (Change alias value) ≡ Ok g
 
 -- ---- what is given
 

@@ -18,7 +18,8 @@ use Rattle.spk_topics.specs.Spark.{is_name}
 use Rattle.spk_edge_rules.specs.declared.phase.Phase.{Phase}
 use Rattle.spk_edge_rules.specs.declared.phase.Phase.TheVariants.{Idle}
 use Rattle.spk_edge_rules.specs.Config.{Config, Setup}
-use Rattle.spk_edge_rules.specs.Answers.{Answer, is_writable}
+use Rattle.spk_edge_rules.specs.Answers.{Answer}
+use Rattle.spk_edge_rules.specs.Writable.{is_writable}
 use Rattle.spk_edge_rules.specs.Inputs as inputs
 use Rattle.spk_edge_rules.specs.Inputs.{ChangeData}
 use Rattle.spk_edge_rules.specs.Rules as rule
@@ -128,13 +129,13 @@ IsUnsealed n g e = (e ≡ NoMemory) ⊎ (((e ≡ ClockEnd) × (are_timely g.mess
 -- what the rules' act gives, as the code has it
 pub record IsGivenBy (n : NodeData) (i : inputs.Input) (g : Given) : Type 0 where
   pub given : rule.Given
-  pub acted : rule.acts n.config n.standing.asked i.now i.act ≡ Ok given
+  pub acted : rule.acts n.config n.standing.seq n.standing.asked i.now i.act ≡ Ok given
   pub is : given_view g ≡ given_of n.config (step.heard_after n.config n.standing.asked.heard i.act) given
 
 -- memory was refused, or the act is, or its stamp is past the clock's end
 abbrev pub IsRefusedBy : NodeData → inputs.Input → EdgeFault → Type 0
-IsRefusedBy n i e = (e ≡ NoMemory) ⊎ ((rule.acts n.config n.standing.asked i.now i.act ≡ Err e)
-    ⊎ ((e ≡ ClockEnd) × ((g : rule.Given) × (rule.acts n.config n.standing.asked i.now i.act ≡ Ok g) × (rule.is_timely g ≡ false))))
+IsRefusedBy n i e = (e ≡ NoMemory) ⊎ ((rule.acts n.config n.standing.seq n.standing.asked i.now i.act ≡ Err e)
+    ⊎ ((e ≡ ClockEnd) × ((g : rule.Given) × (rule.acts n.config n.standing.seq n.standing.asked i.now i.act ≡ Ok g) × (rule.is_timely g ≡ false))))
 
 -- an acknowledgement stands first
 abbrev pub acked_data : Option ℕ → GivenData → GivenData

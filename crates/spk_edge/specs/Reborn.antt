@@ -3,7 +3,7 @@ use Rattle.std.specs.Prelude.{◌≡◌, ◌⊎◌, ℕ, ◌^◌, true, false, n
 use Rattle.std.specs.List.{list_all}
 use Rattle.spk_packets.specs.Message as packets
 use Rattle.spk_packets.specs.Spelling.{spelling}
-use Rattle.spk_edge_rules.specs.Answers.{is_writable}
+use Rattle.spk_edge_rules.specs.Writable.{is_writable}
 use Rattle.spk_edge_rules.specs.Births.{birth_stamp, births_at}
 use Rattle.spk_edge_rules.specs.Inputs.{Command, Input, WriteData}
 use Rattle.spk_edge_rules.specs.declared.fault.EdgeFault.{EdgeFault}

@@ -8,7 +8,7 @@ use Rattle.spk_packets.specs.Grammar.{Spells}
 use Rattle.spk_packets.specs.Message as packets
 use Rattle.spk_packets.specs.Spelling as packet
 use Rattle.spk_sequence.specs.NodeRecord.{Numbering, RunsOn, Restarts}
-use Rattle.spk_edge_rules.specs.Answers.{is_writable}
+use Rattle.spk_edge_rules.specs.Writable.{is_writable}
 use Rattle.spk_edge_rules.specs.declared.fault.EdgeFault.{EdgeFault}
 use Rattle.spk_edge_rules.specs.declared.fault.EdgeFault.TheVariants.{NoMemory, TooLarge}
 use Rattle.spk_edge.specs.View.{MessageData}

@@ -7,7 +7,7 @@ ghost use Rattle.spk_payload.specs.Typing.{typed_view, written_of};
 ghost use Rattle.spk_payload.specs.View.{content_of};
 ghost use Rattle.spk_packets.specs.Spelling.{spelling};
 ghost use Rattle.spk_device.specs.Book.{device_at, has_owner};
-ghost use Rattle.spk_edge_rules.specs.Answers.{is_writable};
+ghost use Rattle.spk_edge_rules.specs.Writable.{is_writable};
 ghost use Rattle.spk_edge_rules.specs.Births as births;
 ghost use Rattle.spk_edge_rules.specs.Packets.{session_metric};
 ghost use Rattle.spk_edge.specs.Listed as listed;

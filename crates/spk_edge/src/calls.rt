@@ -135,13 +135,17 @@ impl EdgeNode {
     }
 
     /// Sends kept changes: those at the front that are of one owner, at most 32, as one message of historical metrics,
-    /// each with the time of its change. Those of a device that is down are dropped, and count as lost. Gives nothing
-    /// where nothing is kept. Taken when Born.
+    /// each with the time of its change. Where one packet can't say all of these it says as many as it can; where not even
+    /// the first one, that one is dropped, counts as lost, and nothing is given (own rule). Those of a device that is down
+    /// are dropped, and count as lost. So a call takes at least one of the changes kept. Gives nothing where nothing is
+    /// kept. Taken when Born. Its refusals are WrongPhase, ClockEnd and NoMemory: it is never TooLarge.
     pub fn drain(&mut self, now: u64) -> Result<Out, EdgeFault>
         ensures done { IfOk result (patch.IsDone self.old
             (patch.plain_input now inputs.Drain) self.new) }
         ensures refused { IfErr result (patch.IsRefusal self.old
             (patch.plain_input now inputs.Drain)) }
+        ensures faults { IfErr result (λ e. (e ≡ EdgeFault.NoMemory)
+            ⊎ ((e ≡ EdgeFault.WrongPhase) ⊎ (e ≡ EdgeFault.ClockEnd))) }
         ensures memory { IfErr result (patch.IsShort self.old
             (patch.plain_input now inputs.Drain)) }
         ensures err { OnErr result (self.new ≡ self.old) }

@@ -8,7 +8,7 @@ ghost use Rattle.spk_payload.specs.Spelling as payload;
 ghost use Rattle.spk_payload.specs.View.{content_of};
 ghost use Rattle.spk_packets.specs.Grammar.{has_zero, largest};
 ghost use Rattle.spk_packets.specs.Spelling as packet;
-ghost use Rattle.spk_edge_rules.specs.Answers.{is_writable};
+ghost use Rattle.spk_edge_rules.specs.Writable.{is_writable};
 ghost use Rattle.spk_edge.specs.Saying.{metric_said, null_said, payload_said, said, topic_said};
 
 use spk_edge_rules::EdgeFault;
@@ -17,7 +17,7 @@ use spk_protobuf::{put_bytes, put_varint, varint_size};
 use std::alloc::{AllocError, Global};
 
 /// The greatest packet, in bytes, header and all (own rule).
-const LARGEST: usize = 1_048_576;
+pub(crate) const LARGEST: usize = 1_048_576;
 
 /// What the message of one change says.
 #[derive(Clone, Copy)]
@@ -215,7 +215,7 @@ fn put_name(out: &mut Vec<u8>, name: &str) -> Result<(), AllocError>
 
 /// Whether U+0000 is in a text.
 #[inline(always)]
-fn has_zero(text: &str) -> bool
+pub(crate) fn has_zero(text: &str) -> bool
     ensures { result ≡ has_zero text.now }
 {
     text.as_bytes().contains(&0)

@@ -5,7 +5,7 @@ ghost use Rattle.std.specs.Option.{option_map};
 ghost use Rattle.spk_payload.specs.Typing.{typed_view};
 ghost use Rattle.spk_packets.specs.Spelling.{spelling};
 ghost use Rattle.spk_packets.specs.View.{view};
-ghost use Rattle.spk_edge_rules.specs.Answers.{is_writable};
+ghost use Rattle.spk_edge_rules.specs.Writable.{is_writable};
 ghost use Rattle.spk_edge_rules.specs.Inputs as inputs;
 ghost use Rattle.spk_edge_rules.specs.Rules as rule;
 ghost use Rattle.spk_edge_rules.specs.Step as step;

@@ -2,7 +2,7 @@
 ghost use Rattle.std.specs.Prelude.{◌≡◌, ◌⊎◌, IfOk, IfErr, OnOk, OnErr, map, true, false, ◌&&◌};
 ghost use Rattle.std.specs.List.{list_all};
 ghost use Rattle.spk_packets.specs.Spelling.{spelling};
-ghost use Rattle.spk_edge_rules.specs.Answers.{is_writable};
+ghost use Rattle.spk_edge_rules.specs.Writable.{is_writable};
 ghost use Rattle.spk_edge_rules.specs.Commands as asked;
 ghost use Rattle.spk_edge_rules.specs.Rules as rule;
 ghost use Rattle.spk_edge.specs.Ordered.{order_view};

@@ -1,16 +1,18 @@
 //! A metric that is written from where its parts stand (Sparkplug 3.0.0, 6.4.6): no metric is made of them before.
-ghost use Rattle.std.specs.Prelude.{◌≡◌, ◌-◌, ◌^◌, ◌<◌, ◌≤◌, ◌++◌, length, min, Some, IfSome, OnOk, option_copied};
+ghost use Rattle.std.specs.Prelude.{◌≡◌, ◌+◌, ◌-◌, ◌^◌, ◌<◌, ◌≤◌, ◌++◌, length, min, Some, IfOk, IfSome, OnOk, option_copied};
 ghost use Rattle.std.specs.Option.{option_map};
 ghost use Rattle.std.specs.Str.{IsUtf8};
-ghost use Rattle.spk_protobuf.specs.Spelling.{bytes_field};
+ghost use Rattle.spk_protobuf.specs.Spelling.{bytes_field, varint};
 ghost use Rattle.spk_payload.specs.Meaning.{Other};
 ghost use Rattle.spk_payload.specs.Spelling as payload;
+ghost use Rattle.spk_packets.specs.Grammar.{largest};
+ghost use Rattle.spk_edge.specs.History.{IsTried};
 ghost use Rattle.spk_edge.specs.Rows.{row_said, spelled};
 ghost use Rattle.spk_edge.specs.Saying.{null_said};
 
 use crate::packet::{bytes_size, field_size, put_field, put_value, value_size};
 use spk_payload::Raw;
-use spk_protobuf::{put_bytes, put_varint};
+use spk_protobuf::{put_bytes, put_varint, varint_size};
 use std::alloc::AllocError;
 
 /// What a metric says. Each has a time.
@@ -120,6 +122,13 @@ fn flag_size(tag: u64, flag: bool) -> usize
     if flag { field_size(tag, 1) } else { 0 }
 }
 
+/// How many bytes a metric has as a field of its payload, where its fields have so many.
+fn field_of(size: usize) -> usize
+    ensures { result ≡ min (size + length (varint size) + 1) (2 ^ 64 - 1) }
+{
+    size.saturating_add(varint_size(size as u64) + 1)
+}
+
 impl<'a> Row<'a> {
     /// How many bytes its fields have, or the greatest number.
     #[tactic(auto, unfolding(spk_payload::specs::Spelling::metric_spelling))]
@@ -151,14 +160,47 @@ impl<'a> Row<'a> {
         put_value(out, self.value)
     }
 
+    /// The metric, as a field of its payload, where its fields have so many bytes.
+    fn put_sized(&self, out: &mut Vec<u8>, size: usize) -> Result<(), AllocError>
+        requires known { (row_said self.now).value ≡ Some Other → ⊥ }
+        requires size { size
+            ≡ min (length (payload.metric_spelling (row_said self.now))) (2 ^ 64 - 1) }
+        ensures ok { OnOk result (out.new.items ≡ out.old.items ++ spelled (row_said self.now)) }
+        ensures fits { OnOk result (payload.MetricFits (row_said self.now)) }
+    {
+        put_varint(out, 2 * 8 + 2)?;
+        put_varint(out, size as u64)?;
+        self.put_fields(out)
+    }
+
     /// The metric, as a field of its payload.
     pub(crate) fn put(&self, out: &mut Vec<u8>) -> Result<(), AllocError>
         requires { (row_said self.now).value ≡ Some Other → ⊥ }
         ensures ok { OnOk result (out.new.items ≡ out.old.items ++ spelled (row_said self.now)) }
         ensures fits { OnOk result (payload.MetricFits (row_said self.now)) }
     {
-        put_varint(out, 2 * 8 + 2)?;
-        put_varint(out, self.size() as u64)?;
-        self.put_fields(out)
+        self.put_sized(out, self.size())
+    }
+
+    /// How many bytes it has as a field of its payload, or the greatest number.
+    pub(crate) fn whole_size(&self) -> usize
+        ensures { result ≡ min (length (spelled (row_said self.now))) (2 ^ 64 - 1) }
+    {
+        field_of(self.size())
+    }
+
+    /// The metric, as a field of its payload, where no more than so many bytes are there behind it; else nothing is put. The
+    /// answer is whether it was.
+    pub(crate) fn put_within(&self, out: &mut Vec<u8>, limit: usize) -> Result<bool, AllocError>
+        requires known { (row_said self.now).value ≡ Some Other → ⊥ }
+        requires small { limit ≤ largest }
+        ensures { IfOk result (IsTried limit out.old.items out.new.items (row_said self.now)) }
+    {
+        let size = self.size();
+        if out.len().saturating_add(field_of(size)) > limit {
+            return Ok(false);
+        }
+        self.put_sized(out, size)?;
+        Ok(true)
     }
 }

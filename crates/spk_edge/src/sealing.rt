@@ -5,7 +5,7 @@ ghost use Rattle.spk_payload.specs.Spelling.{PayloadFits};
 ghost use Rattle.spk_packets.specs.Message.{Publish};
 ghost use Rattle.spk_packets.specs.Spelling.{spelling};
 ghost use Rattle.spk_packets.specs.View.{view};
-ghost use Rattle.spk_edge_rules.specs.Answers.{is_writable};
+ghost use Rattle.spk_edge_rules.specs.Writable.{is_writable};
 ghost use Rattle.spk_edge.specs.Sealing as seal;
 ghost use Rattle.spk_edge.specs.View.{message_view, numbering_view};
 

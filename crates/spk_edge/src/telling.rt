@@ -5,7 +5,7 @@ ghost use Rattle.spk_payload.specs.Typing.{typed_view};
 ghost use Rattle.spk_packets.specs.Spelling.{spelling};
 ghost use Rattle.spk_device.specs.Step.{set_refusal};
 ghost use Rattle.spk_store.specs.Step.{after_push};
-ghost use Rattle.spk_edge_rules.specs.Answers.{is_writable};
+ghost use Rattle.spk_edge_rules.specs.Writable.{is_writable};
 ghost use Rattle.spk_edge_rules.specs.Births as births;
 ghost use Rattle.spk_edge_rules.specs.Rules as rule;
 ghost use Rattle.spk_edge.specs.Changing as done;

@@ -1,5 +1,5 @@
 -- A device's data and deaths stand only where it is born.
-use Rattle.std.proofs.Common.{◌≡◌, ◌⊎◌, ℕ, zero, suc, ◌+◌, ◌-◌, ◌≤◌, Bool, true, false, not, ◌&&◌, cond, List, [], ◌∷◌, ◌++◌, map, take, Option, Some, None, is_some, option_map, Ok, refl, sym, ◌∙◌, ap, subst, inl, inr, arith, append_assoc}
+use Rattle.std.proofs.Common.{◌≡◌, ◌⊎◌, ℕ, zero, suc, ◌+◌, ◌-◌, ◌≤◌, Bool, true, false, not, ◌&&◌, cond, List, [], ◌∷◌, ◌++◌, map, take, Option, Some, None, is_some, option_map, Ok, refl, sym, ◌∙◌, ap, subst, inl, inr, arith, append_assoc, nat_lt}
 use Rattle.std.specs.Prelude.{slice_get}
 use Rattle.std.specs.List.{AllByRecursion, position_from, enumerate_from, filter}
 use Rattle.std.specs.Option.{option_and_then, option_map_or}
@@ -22,11 +22,12 @@ use Rattle.spk_edge_rules.specs.Births.{births_at, birth_stamp, device_birth, de
 use Rattle.spk_edge_rules.specs.Claims.{AreNumbered, IsAlive, is_birth_of, is_death_of}
 use Rattle.spk_edge_rules.specs.Commands.{Order, command_of, wants_rebirth, writes_in}
 use Rattle.spk_edge_rules.specs.Config.{Config, Setup}
+use Rattle.spk_edge_rules.specs.History.{front_going}
 use Rattle.spk_edge_rules.specs.Inputs.{Act, Open, Accepted, Change, Turn, Command, State, Drain, Stop, Cut, TurnedAway, Pass, Input, ChangeData}
 use Rattle.spk_edge_rules.specs.Messages.{Draft, is_birth, opens}
 use Rattle.spk_edge_rules.specs.Rules as rule
 use Rattle.spk_edge_rules.specs.Rules.{Given, acked, acts, born, changing, commanded, draining, heard_in, hearing, is_born, is_connecting, is_so_already, is_waiting, joining, leaving, nothing, opening, rules, telling, turning}
-use Rattle.spk_edge_rules.specs.Run.{Done, Message, asked_of, births_in, book_of, device_by, opened, phase_of, published, run_of, with_posts}
+use Rattle.spk_edge_rules.specs.Run.{Done, Message, asked_of, births_in, book_of, device_by, next_number, opened, phase_of, published, run_of, with_posts}
 use Rattle.spk_edge_rules.specs.Step.{book_after, is_open}
 use Rattle.spk_edge_rules.proofs.Chains.{births-snoc}
 use Rattle.spk_edge_rules.proofs.Courses.{Gives, by_if, refused-gives, rules-taken}
@@ -187,11 +188,13 @@ data-returns : (b : Book) (name : List ℕ) → (AnyUp b.devices name × (false 
 data-returns b name (inl was) = was.0
 data-returns b name (inr never) = absurd (true≢false (sym never))
 
-draining-lives : (a : rule.Asked) (now : ℕ) (changes : List ChangeData) → is_born a.phase ≡ true → Lives a Drain (draining a now changes)
-draining-lives a now [] is_up = Silent refl (λ b. (b, refl, (λ name up. up), (λ numbered name up. up)))
-draining-lives a now (x ∷ xs) is_up =
+draining-lives : (c : Config) (k : ℕ) (a : rule.Asked) (now : ℕ) (changes : List ChangeData) → is_born a.phase ≡ true → Lives a Drain (draining c k a now changes)
+draining-lives c k a now [] is_up = Silent refl (λ b. (b, refl, (λ name up. up), (λ numbered name up. up)))
+draining-lives c k a now (x ∷ xs) is_up =
     by_if (Lives a Drain) (owner_is_up a.book x.owner) _ _
-    (λ e. Single _ refl refl is_up refl (λ name of_it other_verb. owner-any a.book x.owner name e of_it) (λ name up. inl (up, refl)) (λ name was. data-returns a.book name was))
+    (λ e. by_if (Lives a Drain) (nat_lt 0 (front_going c k a.book x.owner (later_stamp a.stamp now) (x ∷ xs))) _ _
+    (λ some. Single _ refl refl is_up refl (λ name of_it other_verb. owner-any a.book x.owner name e of_it) (λ name up. inl (up, refl)) (λ name was. data-returns a.book name was))
+    (λ none. Silent refl (λ b. (b, refl, (λ name up. up), (λ numbered name up. up)))))
     (λ e. Silent refl (λ b. (b, refl, (λ name up. up), (λ numbered name up. up))))
 
 -- a device that is so already
@@ -318,12 +321,12 @@ not-true : (b : Bool) → not b ≡ true → b ≡ false
 not-true true e = absurd (true≢false (sym e))
 not-true false e = refl
 
-acts-lives : (c : Config) (a : rule.Asked) (now : ℕ) (act : Act) → rule.fits a.phase act ≡ true → Gives (Lives a act) (acts c a now act)
-acts-lives c a now Open fit = ends-it a Open (opening c a now) refl refl
-acts-lives c a now Accepted fit =
+acts-lives : (c : Config) (k : ℕ) (a : rule.Asked) (now : ℕ) (act : Act) → rule.fits a.phase act ≡ true → Gives (Lives a act) (acts c k a now act)
+acts-lives c k a now Open fit = ends-it a Open (opening c a now) refl refl
+acts-lives c k a now Accepted fit =
     by_if (Lives a Accepted) (is_some c.primary) (joining c a) (born a now (joining c a))
     (λ e. ends-it a Accepted (joining c a) refl refl) (λ e. Whole (birth_stamp a.stamp now) refl refl refl)
-acts-lives c a now (Change alias value) fit =
+acts-lives c k a now (Change alias value) fit =
     refused-gives (Lives a (Change alias value)) (set_refusal a.book alias value) (changing a now alias value)
     (λ accepted. by_if (Lives a (Change alias value)) (not (rule.is_same_value a.book alias value) && owner_is_up a.book (owner_at a.book alias)) (telling a now alias value) (nothing a)
     (λ e. by_if (Lives a (Change alias value)) (is_born a.phase) _ _
@@ -332,7 +335,7 @@ acts-lives c a now (Change alias value) fit =
     (λ name up. inl (up, refl)) (λ name was. data-returns a.book name was))
     (λ b. Silent refl (λ k. (k, refl, (λ name up. up), (λ numbered name up. up)))))
     (λ e. Silent refl (λ b. (b, refl, (λ name up. up), (λ numbered name up. up)))))
-acts-lives c a now (Turn name up) fit =
+acts-lives c k a now (Turn name up) fit =
     refused-gives (Lives a (Turn name up)) (turn_refusal a.book name) (turning a now name up)
     (λ accepted. by_if (Lives a (Turn name up)) (not (is_so_already a.book name up) && is_born a.phase) _ (nothing a)
     (λ e. let parts = and_parts (not (is_so_already a.book name up)) (is_born a.phase) e in
@@ -340,17 +343,17 @@ acts-lives c a now (Turn name up) fit =
     (turn-up a (later_stamp a.stamp now) name up accepted (not-true (is_so_already a.book name up) parts.0)) (turn-turns a (later_stamp a.stamp now) name up)
     (turn-returns a (later_stamp a.stamp now) name up accepted))
     (λ e. Silent refl (λ b. (b, refl, so-covered a name up accepted e b, so-recovered a name up accepted e b))))
-acts-lives c a now (Command topic payload) fit = commanded-lives a now topic payload (command_of c a.book topic payload)
-acts-lives c a now (State payload) fit =
+acts-lives c k a now (Command topic payload) fit = commanded-lives a now topic payload (command_of c a.book topic payload)
+acts-lives c k a now (State payload) fit =
     by_if (Gives (Lives a (State payload))) (is_some c.primary) (heard_in c a now (state_at payload)) (Ok (nothing a))
     (λ e. heard-lives c a now payload (state_at payload)) (λ e. Silent refl (λ b. (b, refl, (λ name up. up), (λ numbered name up. up))))
-acts-lives c a now Drain fit = draining-lives a now a.store.items fit
-acts-lives c a now Stop fit = ends-it a Stop (leaving c a) refl refl
-acts-lives c a now Cut fit = ends-it a Cut (record (nothing a) { phase = Idle }) refl refl
-acts-lives c a now TurnedAway fit =
+acts-lives c k a now Drain fit = draining-lives c k a now a.store.items fit
+acts-lives c k a now Stop fit = ends-it a Stop (leaving c a) refl refl
+acts-lives c k a now Cut fit = ends-it a Cut (record (nothing a) { phase = Idle }) refl refl
+acts-lives c k a now TurnedAway fit =
     by_if (Lives a TurnedAway) (is_connecting a.phase) (record (nothing a) { close = true; phase = Idle }) (nothing a)
     (λ e. ends-it a TurnedAway (record (nothing a) { close = true; phase = Idle }) refl refl) (λ e. Silent refl (λ b. (b, refl, (λ name up. up), (λ numbered name up. up))))
-acts-lives c a now Pass fit = Silent refl (λ b. (b, refl, (λ name up. up), (λ numbered name up. up)))
+acts-lives c k a now Pass fit = Silent refl (λ b. (b, refl, (λ name up. up), (λ numbered name up. up)))
 
 acked-lives : (a : rule.Asked) (act : Act) (ack : Option ℕ) (g : Given) → Lives a act g → Lives a act (acked ack g)
 acked-lives a act None g lives = lives
@@ -358,10 +361,10 @@ acked-lives a act (Some id) g (Silent e p) = Silent e p
 acked-lives a act (Some id) g (Single d e o b n u t r) = Single d e o b n u t r
 acked-lives a act (Some id) g (Whole stamp e n b) = Whole stamp e n b
 
-rules-live : (c : Config) (a : rule.Asked) (i : Input) (g : Given) → rules c a i ≡ Ok g → Lives a i.act g
-rules-live c a i g is =
-    let t = rules-taken c a i g is in
-    subst (Lives a i.act) (sym t.is) (acked-lives a i.act i.ack t.given (subst (Gives (Lives a i.act)) t.acted (acts-lives c a i.now i.act t.fitting)))
+rules-live : (c : Config) (k : ℕ) (a : rule.Asked) (i : Input) (g : Given) → rules c k a i ≡ Ok g → Lives a i.act g
+rules-live c k a i g is =
+    let t = rules-taken c k a i g is in
+    subst (Lives a i.act) (sym t.is) (acked-lives a i.act i.ack t.given (subst (Gives (Lives a i.act)) t.acted (acts-lives c k a i.now i.act t.fitting)))
 
 -- ---- one message more
 
@@ -534,7 +537,7 @@ living-step s h i g living (Whole stamp all not_open stays) =
 
 living : (s : Setup) (h : List Done) → AllRight s h → Living s h
 living s [] right = record { alive = λ is_up. absurd (true≢false (sym is_up)); spoken = tt }
-living s (e ∷ h) right = living-step s h e.input e.given (living s h right.1) (rules-live s.config (asked_of s h) e.input e.given right.0)
+living s (e ∷ h) right = living-step s h e.input e.given (living s h right.1) (rules-live s.config (next_number s h) (asked_of s h) e.input e.given right.0)
 
 pub devices-born : (s : Setup) (is : List Input) (p : ℕ) (m : Message) (name : List ℕ) → slice_get (published (run_of s is)) p ≡ Some m → m.draft.device ≡ Some name
     → is_birth m.draft.verb ≡ false → IsAlive name m.birth m.session (take p (published (run_of s is)))
@@ -727,7 +730,7 @@ dying-step s h i g numbered runs dying (Whole stamp all not_open stays) =
 
 dying : (s : Setup) (h : List Done) → AreNumbered s.book → AllRight s h → Dying s h
 dying s [] numbered right = record { below = tt; back = λ is_up. absurd (true≢false (sym is_up)) }
-dying s (e ∷ h) numbered right = dying-step s h e.input e.given numbered (runs-all s h right.1) (dying s h numbered right.1) (rules-live s.config (asked_of s h) e.input e.given right.0)
+dying s (e ∷ h) numbered right = dying-step s h e.input e.given numbered (runs-all s h right.1) (dying s h numbered right.1) (rules-live s.config (next_number s h) (asked_of s h) e.input e.given right.0)
 
 pub down-dead : (s : Setup) (is : List Input) (n : ℕ) (d : DeviceData) → AreNumbered s.book → is_born (phase_of (run_of s is)) ≡ true → slice_get (book_of s (run_of s is)).devices n ≡ Some d → d.up ≡ false
     → IsAlive d.name (births_in (published (run_of s is)) - 1) (opened (run_of s is) - 1) (published (run_of s is)) → ⊥

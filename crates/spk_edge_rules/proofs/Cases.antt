@@ -59,17 +59,17 @@ abbrev in_phase : Phase → Asked → Asked
 in_phase p a = record a { phase = p }
 
 -- the phase is asked first, then the clock; the last moment is taken
-pub phase_before_clock : (a : Asked) → rules alone (in_phase Idle a) (at_moment (2 ^ 63) Stop) ≡ Err fault.WrongPhase
+pub phase_before_clock : (a : Asked) → rules alone 0 (in_phase Idle a) (at_moment (2 ^ 63) Stop) ≡ Err fault.WrongPhase
 phase_before_clock a = refl
 
-pub clock_ends : (a : Asked) → rules alone (in_phase Idle a) (at_moment (2 ^ 63) Pass) ≡ Err fault.ClockEnd
+pub clock_ends : (a : Asked) → rules alone 0 (in_phase Idle a) (at_moment (2 ^ 63) Pass) ≡ Err fault.ClockEnd
 clock_ends a = refl
 
-pub last_moment : (a : Asked) → rules alone (in_phase Idle a) (at_moment (2 ^ 63 - 1) Pass) ≡ Ok (nothing (in_phase Idle a))
+pub last_moment : (a : Asked) → rules alone 0 (in_phase Idle a) (at_moment (2 ^ 63 - 1) Pass) ≡ Ok (nothing (in_phase Idle a))
 last_moment a = refl
 
 -- a birth behind the last stamp there is
-pub no_stamp_left : (a : Asked) → rules alone (record a { phase = Connecting; stamp = Some (2 ^ 63 - 1) }) (at_moment 5 Accepted) ≡ Err fault.ClockEnd
+pub no_stamp_left : (a : Asked) → rules alone 0 (record a { phase = Connecting; stamp = Some (2 ^ 63 - 1) }) (at_moment 5 Accepted) ≡ Err fault.ClockEnd
 no_stamp_left a = refl
 
 pub stamps : (later_stamp (Some 9) 5 ≡ 9) × (later_stamp (Some 9) 12 ≡ 12) × (birth_stamp (Some 9) 5 ≡ 10) × (birth_stamp (Some 9) 10 ≡ 10) × (birth_stamp (Some 9) 12 ≡ 12) × (birth_stamp None 5 ≡ 5)

@@ -1,5 +1,5 @@
 -- What the rules can give: nothing, one message, or births.
-use Rattle.std.proofs.Common.{◌≡◌, ℕ, ◌≤◌, ◌^◌, Bool, true, false, not, ◌&&◌, cond, List, [], ◌∷◌, length, Option, Some, None, is_some, Result, Ok, Err, refl, sym, ◌∙◌, subst, arith, nat_lt}
+use Rattle.std.proofs.Common.{◌≡◌, ℕ, zero, suc, ◌≤◌, ◌^◌, Bool, true, false, not, ◌&&◌, cond, List, [], ◌∷◌, length, Option, Some, None, is_some, Result, Ok, Err, refl, sym, ◌∙◌, subst, arith, nat_lt}
 use Rattle.std.proofs.lemmas.Bool.{true≢false, and_parts}
 use Rattle.std.proofs.lemmas.List.Sums.{prefix_len-le-length}
 use Rattle.spk_device.specs.Step.{set_refusal, turn_refusal}
@@ -18,10 +18,11 @@ use Rattle.spk_edge_rules.specs.Births.{births_at, birth_stamp, later_stamp, own
 use Rattle.spk_edge_rules.specs.Claims.{Link, Closed, Asked, Joined, accepted_by, link_by}
 use Rattle.spk_edge_rules.specs.Commands.{Order, command_of, wants_rebirth, writes_in}
 use Rattle.spk_edge_rules.specs.Config.{Config}
+use Rattle.spk_edge_rules.specs.History.{can_go, front_going, front_run, have_one_owner, longest}
 use Rattle.spk_edge_rules.specs.Inputs.{Act, Open, Accepted, Change, Turn, Command, State, Drain, Stop, Cut, TurnedAway, Pass, Input, ChangeData}
 use Rattle.spk_edge_rules.specs.Messages.{Draft, opens}
 use Rattle.spk_edge_rules.specs.Rules as rule
-use Rattle.spk_edge_rules.specs.Rules.{Given, acked, acts, changing, commanded, draining, fits, front_run, heard_in, hearing, is_born, is_connecting, is_idle, is_joined, is_timely, is_waiting, joining, leaving, nothing, obeying, on_ok, opening, refused_or, rules, stating, telling, timely, turned_away, turning, born}
+use Rattle.spk_edge_rules.specs.Rules.{Given, acked, acts, changing, commanded, draining, fits, heard_in, hearing, is_born, is_connecting, is_idle, is_joined, is_timely, is_waiting, joining, leaving, nothing, obeying, on_ok, opening, refused_or, rules, stating, telling, timely, turned_away, turning, born}
 use Rattle.spk_edge_rules.specs.Step.{is_open}
 
 -- ---- pushing a fact through tests
@@ -41,26 +42,26 @@ refused-gives P (Some r) g p = tt
 -- ---- taken
 
 -- an input that the rules take: its phase fits, its moment is below 2^63, and the acts give what is acknowledged
-pub record Taken (c : Config) (a : rule.Asked) (i : Input) (g : Given) : Type 0 where
+pub record Taken (c : Config) (k : ℕ) (a : rule.Asked) (i : Input) (g : Given) : Type 0 where
   pub fitting : fits a.phase i.act ≡ true
   pub now : nat_lt i.now (2 ^ 63) ≡ true
   pub given : Given
-  pub acted : acts c a i.now i.act ≡ Ok given
+  pub acted : acts c k a i.now i.act ≡ Ok given
   pub is : g ≡ acked i.ack given
   pub in_time : is_timely (acked i.ack given) ≡ true
 
-pub rules-taken : (c : Config) (a : rule.Asked) (i : Input) (g : Given) → rules c a i ≡ Ok g → Taken c a i g
-rules-taken c a i g = by (fits a.phase i.act) (nat_lt i.now (2 ^ 63)) (acts c a i.now i.act) refl refl refl
+pub rules-taken : (c : Config) (k : ℕ) (a : rule.Asked) (i : Input) (g : Given) → rules c k a i ≡ Ok g → Taken c k a i g
+rules-taken c k a i g = by (fits a.phase i.act) (nat_lt i.now (2 ^ 63)) (acts c k a i.now i.act) refl refl refl
   where
-    in_time : (given : Given) (b : Bool) → fits a.phase i.act ≡ true → nat_lt i.now (2 ^ 63) ≡ true → acts c a i.now i.act ≡ Ok given
-        → is_timely (acked i.ack given) ≡ b → cond b (Ok (acked i.ack given)) (Err fault.ClockEnd) ≡ Ok g → Taken c a i g
+    in_time : (given : Given) (b : Bool) → fits a.phase i.act ≡ true → nat_lt i.now (2 ^ 63) ≡ true → acts c k a i.now i.act ≡ Ok given
+        → is_timely (acked i.ack given) ≡ b → cond b (Ok (acked i.ack given)) (Err fault.ClockEnd) ≡ Ok g → Taken c k a i g
     in_time given true f n e t is =
         let same : acked i.ack given ≡ g = cc in
         record { fitting = f; now = n; given = given; acted = e; is = sym same; in_time = t }
     in_time given false f n e t is = absurd (let x : ⊥ = cc in x)
 
-    by : (b1 b2 : Bool) (r : Result Given EdgeFault) → fits a.phase i.act ≡ b1 → nat_lt i.now (2 ^ 63) ≡ b2 → acts c a i.now i.act ≡ r
-        → cond (not b1) (Err fault.WrongPhase) (cond (not b2) (Err fault.ClockEnd) (on_ok r (λ g. timely (acked i.ack g)))) ≡ Ok g → Taken c a i g
+    by : (b1 b2 : Bool) (r : Result Given EdgeFault) → fits a.phase i.act ≡ b1 → nat_lt i.now (2 ^ 63) ≡ b2 → acts c k a i.now i.act ≡ r
+        → cond (not b1) (Err fault.WrongPhase) (cond (not b2) (Err fault.ClockEnd) (on_ok r (λ g. timely (acked i.ack g)))) ≡ Ok g → Taken c k a i g
     by false b2 r f n e is = absurd (let x : ⊥ = cc in x)
     by true false r f n e is = absurd (let x : ⊥ = cc in x)
     by true true (Err why) f n e is = absurd (let x : ⊥ = cc in x)
@@ -121,38 +122,40 @@ commanded-course a now topic payload (Some orders) joined =
     by_if (Course a now (Command topic payload)) (wants_rebirth orders && is_born a.phase) (born a now g) g
     (λ e. Births refl (joined-busy a.phase joined) refl refl) (λ e. Quiet refl (λ b. (b, refl)))
 
-draining-course : (a : rule.Asked) (now : ℕ) (changes : List ChangeData) → is_born a.phase ≡ true → Course a now Drain (draining a now changes)
-draining-course a now [] is_up = quiet a now Drain refl
-draining-course a now (x ∷ xs) is_up =
-    by_if (Course a now Drain) (owner_is_up a.book x.owner) _ _ (λ e. One _ refl refl refl is_up is_up refl) (λ e. Quiet refl (λ b. (b, refl)))
+draining-course : (c : Config) (k : ℕ) (a : rule.Asked) (now : ℕ) (changes : List ChangeData) → is_born a.phase ≡ true → Course a now Drain (draining c k a now changes)
+draining-course c k a now [] is_up = quiet a now Drain refl
+draining-course c k a now (x ∷ xs) is_up =
+    let n = front_going c k a.book x.owner (later_stamp a.stamp now) (x ∷ xs) in
+    by_if (Course a now Drain) (owner_is_up a.book x.owner) _ _
+    (λ e. by_if (Course a now Drain) (nat_lt 0 n) _ _ (λ some. One _ refl refl refl is_up is_up refl) (λ none. Quiet refl (λ b. (b, refl)))) (λ e. Quiet refl (λ b. (b, refl)))
 
-acts-course : (c : Config) (a : rule.Asked) (now : ℕ) (act : Act) → fits a.phase act ≡ true → Gives (Course a now act) (acts c a now act)
-acts-course c a now Open fit = away a now Open (opening c a now) refl refl
-acts-course c a now Accepted fit =
+acts-course : (c : Config) (k : ℕ) (a : rule.Asked) (now : ℕ) (act : Act) → fits a.phase act ≡ true → Gives (Course a now act) (acts c k a now act)
+acts-course c k a now Open fit = away a now Open (opening c a now) refl refl
+acts-course c k a now Accepted fit =
     by_if (Course a now Accepted) (is_some c.primary) (joining c a) (born a now (joining c a))
     (λ e. away a now Accepted (joining c a) refl refl) (λ e. Births refl (connecting-busy a.phase fit) refl refl)
-acts-course c a now (Change alias value) fit =
+acts-course c k a now (Change alias value) fit =
     refused-gives (Course a now (Change alias value)) (set_refusal a.book alias value) (changing a now alias value)
     (λ accepted. by_if (Course a now (Change alias value)) (not (rule.is_same_value a.book alias value) && owner_is_up a.book (owner_at a.book alias)) (telling a now alias value) (nothing a)
     (λ e. by_if (Course a now (Change alias value)) (is_born a.phase) _ _ (λ b. One _ refl refl refl b b refl) (λ b. Quiet refl (λ k. (k, refl))))
     (λ e. quiet a now (Change alias value) refl))
-acts-course c a now (Turn name up) fit =
+acts-course c k a now (Turn name up) fit =
     refused-gives (Course a now (Turn name up)) (turn_refusal a.book name) (turning a now name up)
     (λ accepted. by_if (Course a now (Turn name up)) (not (rule.is_so_already a.book name up) && is_born a.phase) _ (nothing a)
     (λ e. One (turn_draft a.book (later_stamp a.stamp now) name up) refl (turn-opens a (later_stamp a.stamp now) name up) (turn-stamp a (later_stamp a.stamp now) name up)
     (and_parts (not (rule.is_so_already a.book name up)) (is_born a.phase) e).1 (and_parts (not (rule.is_so_already a.book name up)) (is_born a.phase) e).1 refl)
     (λ e. quiet a now (Turn name up) refl))
-acts-course c a now (Command topic payload) fit = commanded-course a now topic payload (command_of c a.book topic payload) fit
-acts-course c a now (State payload) fit =
+acts-course c k a now (Command topic payload) fit = commanded-course a now topic payload (command_of c a.book topic payload) fit
+acts-course c k a now (State payload) fit =
     by_if (Gives (Course a now (State payload))) (is_some c.primary) (heard_in c a now (state_at payload)) (Ok (nothing a))
     (λ e. heard-course c a now payload (state_at payload) fit) (λ e. quiet a now (State payload) refl)
-acts-course c a now Drain fit = draining-course a now a.store.items fit
-acts-course c a now Stop fit = away a now Stop (leaving c a) refl refl
-acts-course c a now Cut fit = away a now Cut (record (nothing a) { phase = Idle }) refl refl
-acts-course c a now TurnedAway fit =
+acts-course c k a now Drain fit = draining-course c k a now a.store.items fit
+acts-course c k a now Stop fit = away a now Stop (leaving c a) refl refl
+acts-course c k a now Cut fit = away a now Cut (record (nothing a) { phase = Idle }) refl refl
+acts-course c k a now TurnedAway fit =
     by_if (Course a now TurnedAway) (is_connecting a.phase) (record (nothing a) { close = true; phase = Idle }) (nothing a)
     (λ e. away a now TurnedAway (record (nothing a) { close = true; phase = Idle }) refl refl) (λ e. quiet a now TurnedAway refl)
-acts-course c a now Pass fit = quiet a now Pass refl
+acts-course c k a now Pass fit = quiet a now Pass refl
 
 -- ---- the link
 
@@ -195,32 +198,34 @@ commanded-link a now topic payload (Some orders) joined =
     let g = record (nothing a) { writes = writes_in orders } in
     by_if (Links a (Command topic payload)) (wants_rebirth orders && is_born a.phase) (born a now g) g (λ e. joined-link a.phase joined) (λ e. refl)
 
-draining-link : (a : rule.Asked) (now : ℕ) (changes : List ChangeData) → Links a Drain (draining a now changes)
-draining-link a now [] = refl
-draining-link a now (x ∷ xs) = by_if (Links a Drain) (owner_is_up a.book x.owner) _ _ (λ e. refl) (λ e. refl)
+draining-link : (c : Config) (k : ℕ) (a : rule.Asked) (now : ℕ) (changes : List ChangeData) → Links a Drain (draining c k a now changes)
+draining-link c k a now [] = refl
+draining-link c k a now (x ∷ xs) =
+    by_if (Links a Drain) (owner_is_up a.book x.owner) _ _
+    (λ e. by_if (Links a Drain) (nat_lt 0 (front_going c k a.book x.owner (later_stamp a.stamp now) (x ∷ xs))) _ _ (λ some. refl) (λ none. refl)) (λ e. refl)
 
-acts-link : (c : Config) (a : rule.Asked) (now : ℕ) (act : Act) → fits a.phase act ≡ true → Gives (Links a act) (acts c a now act)
-acts-link c a now Open fit = refl
-acts-link c a now Accepted fit =
+acts-link : (c : Config) (k : ℕ) (a : rule.Asked) (now : ℕ) (act : Act) → fits a.phase act ≡ true → Gives (Links a act) (acts c k a now act)
+acts-link c k a now Open fit = refl
+acts-link c k a now Accepted fit =
     by_if (Links a Accepted) (is_some c.primary) (joining c a) (born a now (joining c a))
     (λ e. connecting-accepted a.phase fit) (λ e. connecting-accepted a.phase fit)
-acts-link c a now (Change alias value) fit =
+acts-link c k a now (Change alias value) fit =
     refused-gives (Links a (Change alias value)) (set_refusal a.book alias value) (changing a now alias value)
     (λ accepted. by_if (Links a (Change alias value)) (not (rule.is_same_value a.book alias value) && owner_is_up a.book (owner_at a.book alias)) (telling a now alias value) (nothing a)
     (λ e. by_if (Links a (Change alias value)) (is_born a.phase) _ _ (λ b. refl) (λ b. refl)) (λ e. refl))
-acts-link c a now (Turn name up) fit =
+acts-link c k a now (Turn name up) fit =
     refused-gives (Links a (Turn name up)) (turn_refusal a.book name) (turning a now name up)
     (λ accepted. by_if (Links a (Turn name up)) (not (rule.is_so_already a.book name up) && is_born a.phase) _ (nothing a) (λ e. refl) (λ e. refl))
-acts-link c a now (Command topic payload) fit = commanded-link a now topic payload (command_of c a.book topic payload) fit
-acts-link c a now (State payload) fit =
+acts-link c k a now (Command topic payload) fit = commanded-link a now topic payload (command_of c a.book topic payload) fit
+acts-link c k a now (State payload) fit =
     by_if (Gives (Links a (State payload))) (is_some c.primary) (heard_in c a now (state_at payload)) (Ok (nothing a))
     (λ e. heard-link c a now payload (state_at payload) fit) (λ e. refl)
-acts-link c a now Drain fit = draining-link a now a.store.items
-acts-link c a now Stop fit = refl
-acts-link c a now Cut fit = refl
-acts-link c a now TurnedAway fit =
+acts-link c k a now Drain fit = draining-link c k a now a.store.items
+acts-link c k a now Stop fit = refl
+acts-link c k a now Cut fit = refl
+acts-link c k a now TurnedAway fit =
     by_if (Links a TurnedAway) (is_connecting a.phase) (record (nothing a) { close = true; phase = Idle }) (nothing a) (λ e. refl) (λ e. refl)
-acts-link c a now Pass fit = refl
+acts-link c k a now Pass fit = refl
 
 -- ---- the kept changes: no more are dropped than are kept
 
@@ -232,14 +237,22 @@ KeepsLaw a (Some (DropFront n is_lost)) = n ≤ length a.store.items
 abbrev Keeps : rule.Asked → Given → Type 0
 Keeps a g = KeepsLaw a g.store
 
-front-few : (x : ChangeData) (xs : List ChangeData) → front_run (x ∷ xs) ≤ length (x ∷ xs)
-front-few x xs = let e = prefix_len-le-length (rule.have_one_owner x) (x ∷ xs) in omega (arith, e)
+pub front-few : (x : ChangeData) (xs : List ChangeData) → front_run (x ∷ xs) ≤ length (x ∷ xs)
+front-few x xs = let e = prefix_len-le-length (have_one_owner x) (x ∷ xs) in omega (arith, e)
 
-draining-keeps : (a : rule.Asked) (now : ℕ) (changes : List ChangeData) → a.store.items ≡ changes → Keeps a (draining a now changes)
-draining-keeps a now [] is = tt
-draining-keeps a now (x ∷ xs) is =
+pub longest-few : (holds : ℕ → Bool) (n : ℕ) → longest holds n ≤ n
+longest-few holds zero = omega arith
+longest-few holds (suc n) =
+    by_if (λ m. m ≤ suc n) (holds (suc n)) (suc n) (longest holds n) (λ e. omega arith) (λ e. let l = longest-few holds n in omega (arith, l))
+
+draining-keeps : (c : Config) (k : ℕ) (a : rule.Asked) (now : ℕ) (changes : List ChangeData) → a.store.items ≡ changes → Keeps a (draining c k a now changes)
+draining-keeps c k a now [] is = tt
+draining-keeps c k a now (x ∷ xs) is =
     let few : front_run (x ∷ xs) ≤ length a.store.items = subst (λ (cs : List ChangeData). front_run (x ∷ xs) ≤ length cs) (sym is) (front-few x xs) in
-    by_if (Keeps a) (owner_is_up a.book x.owner) _ _ (λ e. few) (λ e. few)
+    let one : 1 ≤ length a.store.items = subst (λ (cs : List ChangeData). 1 ≤ length cs) (sym is) (omega arith) in
+    let going = longest-few (can_go c k a.book x.owner (later_stamp a.stamp now) (x ∷ xs)) (front_run (x ∷ xs)) in
+    by_if (Keeps a) (owner_is_up a.book x.owner) _ _
+    (λ e. by_if (Keeps a) (nat_lt 0 (front_going c k a.book x.owner (later_stamp a.stamp now) (x ∷ xs))) _ _ (λ some. omega (arith, few, going)) (λ none. one)) (λ e. few)
 
 hearing-keeps : (c : Config) (a : rule.Asked) (now : ℕ) (heard : Heard) → Keeps a (hearing c a now heard)
 hearing-keeps c a now Online = by_if (Keeps a) (is_waiting a.phase) (born a now (nothing a)) (nothing a) (λ e. tt) (λ e. tt)
@@ -256,24 +269,24 @@ commanded-keeps a now (Some orders) =
     let g = record (nothing a) { writes = writes_in orders } in
     by_if (Keeps a) (wants_rebirth orders && is_born a.phase) (born a now g) g (λ e. tt) (λ e. tt)
 
-acts-keeps : (c : Config) (a : rule.Asked) (now : ℕ) (act : Act) → Gives (Keeps a) (acts c a now act)
-acts-keeps c a now Open = tt
-acts-keeps c a now Accepted = by_if (Keeps a) (is_some c.primary) (joining c a) (born a now (joining c a)) (λ e. tt) (λ e. tt)
-acts-keeps c a now (Change alias value) =
+acts-keeps : (c : Config) (k : ℕ) (a : rule.Asked) (now : ℕ) (act : Act) → Gives (Keeps a) (acts c k a now act)
+acts-keeps c k a now Open = tt
+acts-keeps c k a now Accepted = by_if (Keeps a) (is_some c.primary) (joining c a) (born a now (joining c a)) (λ e. tt) (λ e. tt)
+acts-keeps c k a now (Change alias value) =
     refused-gives (Keeps a) (set_refusal a.book alias value) (changing a now alias value)
     (λ accepted. by_if (Keeps a) (not (rule.is_same_value a.book alias value) && owner_is_up a.book (owner_at a.book alias)) (telling a now alias value) (nothing a)
     (λ e. by_if (Keeps a) (is_born a.phase) _ _ (λ b. tt) (λ b. tt)) (λ e. tt))
-acts-keeps c a now (Turn name up) =
+acts-keeps c k a now (Turn name up) =
     refused-gives (Keeps a) (turn_refusal a.book name) (turning a now name up)
     (λ accepted. by_if (Keeps a) (not (rule.is_so_already a.book name up) && is_born a.phase) _ (nothing a) (λ e. tt) (λ e. tt))
-acts-keeps c a now (Command topic payload) = commanded-keeps a now (command_of c a.book topic payload)
-acts-keeps c a now (State payload) =
+acts-keeps c k a now (Command topic payload) = commanded-keeps a now (command_of c a.book topic payload)
+acts-keeps c k a now (State payload) =
     by_if (Gives (Keeps a)) (is_some c.primary) (heard_in c a now (state_at payload)) (Ok (nothing a)) (λ e. heard-keeps c a now (state_at payload)) (λ e. tt)
-acts-keeps c a now Drain = draining-keeps a now a.store.items refl
-acts-keeps c a now Stop = tt
-acts-keeps c a now Cut = tt
-acts-keeps c a now TurnedAway = by_if (Keeps a) (is_connecting a.phase) (record (nothing a) { close = true; phase = Idle }) (nothing a) (λ e. tt) (λ e. tt)
-acts-keeps c a now Pass = tt
+acts-keeps c k a now Drain = draining-keeps c k a now a.store.items refl
+acts-keeps c k a now Stop = tt
+acts-keeps c k a now Cut = tt
+acts-keeps c k a now TurnedAway = by_if (Keeps a) (is_connecting a.phase) (record (nothing a) { close = true; phase = Idle }) (nothing a) (λ e. tt) (λ e. tt)
+acts-keeps c k a now Pass = tt
 
 -- ---- all of it of what the rules give
 
@@ -296,11 +309,11 @@ acked-keeps : (a : rule.Asked) (ack : Option ℕ) (g : Given) → Keeps a g → 
 acked-keeps a None g keeps = keeps
 acked-keeps a (Some id) g keeps = keeps
 
-pub rules-lawful : (c : Config) (a : rule.Asked) (i : Input) (g : Given) → rules c a i ≡ Ok g → Lawful a i g
-rules-lawful c a i g is =
-    let t = rules-taken c a i g is in
+pub rules-lawful : (c : Config) (k : ℕ) (a : rule.Asked) (i : Input) (g : Given) → rules c k a i ≡ Ok g → Lawful a i g
+rules-lawful c k a i g is =
+    let t = rules-taken c k a i g is in
     subst (λ g. Lawful a i g) (sym t.is) (record {
-      course = acked-course a i.now i.act i.ack t.given (subst (Gives (Course a i.now i.act)) t.acted (acts-course c a i.now i.act t.fitting));
-      links = acked-links a i.act i.ack t.given (subst (Gives (Links a i.act)) t.acted (acts-link c a i.now i.act t.fitting));
-      keeps = acked-keeps a i.ack t.given (subst (Gives (Keeps a)) t.acted (acts-keeps c a i.now i.act));
+      course = acked-course a i.now i.act i.ack t.given (subst (Gives (Course a i.now i.act)) t.acted (acts-course c k a i.now i.act t.fitting));
+      links = acked-links a i.act i.ack t.given (subst (Gives (Links a i.act)) t.acted (acts-link c k a i.now i.act t.fitting));
+      keeps = acked-keeps a i.ack t.given (subst (Gives (Keeps a)) t.acted (acts-keeps c k a i.now i.act));
     })

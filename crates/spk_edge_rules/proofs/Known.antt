@@ -1,5 +1,5 @@
 -- No message has a value that isn't known: each is one that its datatype writes.
-use Rattle.std.proofs.Common.{◌≡◌, ℕ, Bool, true, false, not, ◌&&◌, cond, List, [], ◌∷◌, map, Option, Some, None, is_some, Ok, subst, ◌^◌}
+use Rattle.std.proofs.Common.{◌≡◌, ℕ, Bool, true, false, not, ◌&&◌, cond, List, [], ◌∷◌, map, Option, Some, None, is_some, Ok, subst, ◌^◌, nat_lt}
 use Rattle.std.specs.Prelude.{◌==◌}
 use Rattle.std.specs.List.{AllByRecursion, enumerate_from, filter}
 use Rattle.std.specs.Option.{option_and_then, option_map_or}
@@ -18,6 +18,7 @@ use Rattle.spk_edge_rules.specs.declared.phase.Phase.TheVariants.{Idle}
 use Rattle.spk_edge_rules.specs.Births.{births_at, birth_stamp, device_birth, kept_metric, later_stamp, own_metrics, owner_at, owner_is_up, stamped, turn_draft}
 use Rattle.spk_edge_rules.specs.Commands.{Order, command_of, wants_rebirth, writes_in}
 use Rattle.spk_edge_rules.specs.Config.{Config}
+use Rattle.spk_edge_rules.specs.History.{front_going}
 use Rattle.spk_edge_rules.specs.Inputs.{Act, Open, Accepted, Change, Turn, Command, State, Drain, Stop, Cut, TurnedAway, Pass, ChangeData}
 use Rattle.spk_edge_rules.specs.Messages.{Draft}
 use Rattle.spk_edge_rules.specs.Rules as rule
@@ -233,29 +234,31 @@ commanded-known a now (Some orders) =
     let g = record (nothing a) { writes = writes_in orders } in
     by_if Knows (wants_rebirth orders && is_born a.phase) (born a now g) g (λ e. births-known a.book a.will_bd (birth_stamp a.stamp now)) (λ e. tt)
 
-draining-known : (a : rule.Asked) (now : ℕ) (changes : List ChangeData) → Knows (draining a now changes)
-draining-known a now [] = tt
-draining-known a now (x ∷ xs) = by_if Knows (owner_is_up a.book x.owner) _ _ (λ e. (kept-known a.book _, tt)) (λ e. tt)
+draining-known : (c : Config) (k : ℕ) (a : rule.Asked) (now : ℕ) (changes : List ChangeData) → Knows (draining c k a now changes)
+draining-known c k a now [] = tt
+draining-known c k a now (x ∷ xs) =
+    by_if Knows (owner_is_up a.book x.owner) _ _
+    (λ e. by_if Knows (nat_lt 0 (front_going c k a.book x.owner (later_stamp a.stamp now) (x ∷ xs))) _ _ (λ some. (kept-known a.book _, tt)) (λ none. tt)) (λ e. tt)
 
-pub acts-known : (c : Config) (a : rule.Asked) (now : ℕ) (act : Act) → Gives Knows (acts c a now act)
-acts-known c a now Open = tt
-acts-known c a now Accepted = by_if Knows (is_some c.primary) (joining c a) (born a now (joining c a)) (λ e. tt) (λ e. births-known a.book a.will_bd (birth_stamp a.stamp now))
-acts-known c a now (Change alias value) =
+pub acts-known : (c : Config) (k : ℕ) (a : rule.Asked) (now : ℕ) (act : Act) → Gives Knows (acts c k a now act)
+acts-known c k a now Open = tt
+acts-known c k a now Accepted = by_if Knows (is_some c.primary) (joining c a) (born a now (joining c a)) (λ e. tt) (λ e. births-known a.book a.will_bd (birth_stamp a.stamp now))
+acts-known c k a now (Change alias value) =
     refused-gives Knows (set_refusal a.book alias value) (changing a now alias value)
     (λ accepted. by_if Knows (not (rule.is_same_value a.book alias value) && owner_is_up a.book (owner_at a.book alias)) (telling a now alias value) (nothing a)
     (λ e. by_if Knows (is_born a.phase) _ _ (λ b. ((maybe-known (option_map_or (λ g. g.datatype) (gauge_at a.book alias) 0) value, tt), tt)) (λ b. tt)) (λ e. tt))
-acts-known c a now (Turn name up) =
+acts-known c k a now (Turn name up) =
     refused-gives Knows (turn_refusal a.book name) (turning a now name up)
     (λ accepted. by_if Knows (not (rule.is_so_already a.book name up) && is_born a.phase) _ (nothing a)
     (λ e. (turn-known a.book (later_stamp a.stamp now) name up, tt)) (λ e. tt))
-acts-known c a now (Command topic payload) = commanded-known a now (command_of c a.book topic payload)
-acts-known c a now (State payload) =
+acts-known c k a now (Command topic payload) = commanded-known a now (command_of c a.book topic payload)
+acts-known c k a now (State payload) =
     by_if (Gives Knows) (is_some c.primary) (heard_in c a now (state_at payload)) (Ok (nothing a)) (λ e. heard-known c a now (state_at payload)) (λ e. tt)
-acts-known c a now Drain = draining-known a now a.store.items
-acts-known c a now Stop = tt
-acts-known c a now Cut = tt
-acts-known c a now TurnedAway = by_if Knows (is_connecting a.phase) (record (nothing a) { close = true; phase = Idle }) (nothing a) (λ e. tt) (λ e. tt)
-acts-known c a now Pass = tt
+acts-known c k a now Drain = draining-known c k a now a.store.items
+acts-known c k a now Stop = tt
+acts-known c k a now Cut = tt
+acts-known c k a now TurnedAway = by_if Knows (is_connecting a.phase) (record (nothing a) { close = true; phase = Idle }) (nothing a) (λ e. tt) (λ e. tt)
+acts-known c k a now Pass = tt
 
-pub given-known : (c : Config) (a : rule.Asked) (now : ℕ) (act : Act) (g : Given) → acts c a now act ≡ Ok g → DraftsKnown g.drafts
-given-known c a now act g is = subst (Gives Knows) is (acts-known c a now act)
+pub given-known : (c : Config) (k : ℕ) (a : rule.Asked) (now : ℕ) (act : Act) (g : Given) → acts c k a now act ≡ Ok g → DraftsKnown g.drafts
+given-known c k a now act g is = subst (Gives Knows) is (acts-known c k a now act)

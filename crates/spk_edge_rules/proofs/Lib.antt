@@ -12,3 +12,5 @@ pub mod Known
 mod Published
 mod Alive
 mod Farewells
+mod Drains
+mod Later

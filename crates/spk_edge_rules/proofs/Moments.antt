@@ -97,7 +97,7 @@ store-call : (s : Setup) (h : List Done) (call : Option (Call ChangeData)) → k
 store-call s h None lawful = sym (kept-right s h lawful)
 store-call s h (Some call) lawful = ap (λ (k : Kept ChangeData). store_after k (Some call)) (sym (kept-right s h lawful))
 
-store-step : (s : Setup) (h : List Done) (now : ℕ) (ack : Option ℕ) (act : Act) (g : Given) → KeepsLaw (asked_of s h) g.store → kept.IsLawful s.capacity (calls_of h)
+pub store-step : (s : Setup) (h : List Done) (now : ℕ) (ack : Option ℕ) (act : Act) (g : Given) → KeepsLaw (asked_of s h) g.store → kept.IsLawful s.capacity (calls_of h)
     → store_after (kept_of s h) g.store ≡ kept_of s (done_of now ack act g ∷ h)
 store-step s h now ack act g keeps lawful =
     store-call s h g.store lawful ∙ kept-right s (done_of now ack act g ∷ h) (keeps-lawful s h g.store keeps lawful)

@@ -28,11 +28,12 @@ use Rattle.spk_edge_rules.specs.Births.{births_at, birth_stamp, data_draft, devi
 use Rattle.spk_edge_rules.specs.Claims.{HasNames, IsUnreserved, SaysSessionOnce, is_numbered, is_session, numbers_at, numbers_from}
 use Rattle.spk_edge_rules.specs.Commands.{Order, command_of, wants_rebirth, writes_in}
 use Rattle.spk_edge_rules.specs.Config.{Config, Setup}
+use Rattle.spk_edge_rules.specs.History.{front_going}
 use Rattle.spk_edge_rules.specs.Inputs.{Act, Open, Accepted, Change, Turn, Command, State, Drain, Stop, Cut, TurnedAway, Pass, Input, ChangeData}
 use Rattle.spk_edge_rules.specs.Messages.{Draft, named_by, opens, spark_of}
 use Rattle.spk_edge_rules.specs.Rules as rule
 use Rattle.spk_edge_rules.specs.Rules.{Given, acked, acts, born, changing, commanded, draining, heard_in, hearing, is_born, is_connecting, is_waiting, joining, leaving, nothing, rules, telling, turning}
-use Rattle.spk_edge_rules.specs.Run.{Done, Message, asked_of, births_in, book_of, device_by, gauge_by, opened, opened_at, posts, published, right_at, run_of, with_done}
+use Rattle.spk_edge_rules.specs.Run.{Done, Message, asked_of, births_in, book_of, device_by, gauge_by, next_number, opened, opened_at, posts, published, right_at, run_of, with_done}
 use Rattle.spk_edge_rules.proofs.Courses.{Gives, by_if, refused-gives, rules-lawful, rules-taken}
 use Rattle.spk_edge_rules.proofs.Numbers.{numbers-right}
 use Rattle.spk_edge_rules.specs.Step.{standing_of}
@@ -208,31 +209,33 @@ commanded-fine c a now (Some orders) =
     let g = record (nothing a) { writes = writes_in orders } in
     by_if (Fine c a) (wants_rebirth orders && is_born a.phase) (born a now g) g (λ e. fine-births c a.book a.will_bd (birth_stamp a.stamp now)) (λ e. tt)
 
-draining-fine : (c : Config) (a : rule.Asked) (now : ℕ) (changes : List ChangeData) → Fine c a (draining a now changes)
-draining-fine c a now [] = tt
-draining-fine c a now (x ∷ xs) = by_if (Fine c a) (owner_is_up a.book x.owner) _ _ (λ e. (fine-data c a.book x.owner _ _, tt)) (λ e. tt)
+draining-fine : (c : Config) (k : ℕ) (a : rule.Asked) (now : ℕ) (changes : List ChangeData) → Fine c a (draining c k a now changes)
+draining-fine c k a now [] = tt
+draining-fine c k a now (x ∷ xs) =
+    by_if (Fine c a) (owner_is_up a.book x.owner) _ _
+    (λ e. by_if (Fine c a) (nat_lt 0 (front_going c k a.book x.owner (later_stamp a.stamp now) (x ∷ xs))) _ _ (λ some. (fine-data c a.book x.owner _ _, tt)) (λ none. tt)) (λ e. tt)
 
-acts-fine : (c : Config) (a : rule.Asked) (now : ℕ) (act : Act) → Gives (Fine c a) (acts c a now act)
-acts-fine c a now Open = tt
-acts-fine c a now Accepted = by_if (Fine c a) (is_some c.primary) (joining c a) (born a now (joining c a)) (λ e. tt) (λ e. fine-births c a.book a.will_bd (birth_stamp a.stamp now))
-acts-fine c a now (Change alias value) =
+acts-fine : (c : Config) (k : ℕ) (a : rule.Asked) (now : ℕ) (act : Act) → Gives (Fine c a) (acts c k a now act)
+acts-fine c k a now Open = tt
+acts-fine c k a now Accepted = by_if (Fine c a) (is_some c.primary) (joining c a) (born a now (joining c a)) (λ e. tt) (λ e. fine-births c a.book a.will_bd (birth_stamp a.stamp now))
+acts-fine c k a now (Change alias value) =
     refused-gives (Fine c a) (set_refusal a.book alias value) (changing a now alias value)
     (λ accepted. by_if (Fine c a) (not (rule.is_same_value a.book alias value) && owner_is_up a.book (owner_at a.book alias)) (telling a now alias value) (nothing a)
     (λ e. by_if (Fine c a) (is_born a.phase) _ _ (λ b. (fine-data c a.book (owner_at a.book alias) _ _, tt)) (λ b. tt)) (λ e. tt))
-acts-fine c a now (Turn name up) =
+acts-fine c k a now (Turn name up) =
     refused-gives (Fine c a) (turn_refusal a.book name) (turning a now name up)
     (λ accepted. by_if (Fine c a) (not (rule.is_so_already a.book name up) && is_born a.phase) _ (nothing a)
     (λ e. (fine-turn c a.book (later_stamp a.stamp now) name up accepted, tt)) (λ e. tt))
-acts-fine c a now (Command topic payload) = commanded-fine c a now (command_of c a.book topic payload)
-acts-fine c a now (State payload) =
+acts-fine c k a now (Command topic payload) = commanded-fine c a now (command_of c a.book topic payload)
+acts-fine c k a now (State payload) =
     by_if (Gives (Fine c a)) (is_some c.primary) (heard_in c a now (state_at payload)) (Ok (nothing a)) (λ e. heard-fine c a now (state_at payload)) (λ e. tt)
-acts-fine c a now Drain = draining-fine c a now a.store.items
-acts-fine c a now Stop = tt
-acts-fine c a now Cut = tt
-acts-fine c a now TurnedAway = by_if (Fine c a) (is_connecting a.phase) (record (nothing a) { close = true; phase = Idle }) (nothing a) (λ e. tt) (λ e. tt)
-acts-fine c a now Pass = tt
+acts-fine c k a now Drain = draining-fine c k a now a.store.items
+acts-fine c k a now Stop = tt
+acts-fine c k a now Cut = tt
+acts-fine c k a now TurnedAway = by_if (Fine c a) (is_connecting a.phase) (record (nothing a) { close = true; phase = Idle }) (nothing a) (λ e. tt) (λ e. tt)
+acts-fine c k a now Pass = tt
 
-acked-drafts : (ack : Option ℕ) (g : Given) → (acked ack g).drafts ≡ g.drafts
+pub acked-drafts : (ack : Option ℕ) (g : Given) → (acked ack g).drafts ≡ g.drafts
 acked-drafts None g = refl
 acked-drafts (Some id) g = refl
 
@@ -271,11 +274,11 @@ good-drafts s h (d ∷ ds) fine timely =
       good-drafts s h ds fine.1 parts.1,
     )
 
-good-given : (s : Setup) (h : List Done) (i : Input) (g : Given) → rules s.config (asked_of s h) i ≡ Ok g → AllByRecursion (IsGood s) g.drafts
+good-given : (s : Setup) (h : List Done) (i : Input) (g : Given) → rules s.config (next_number s h) (asked_of s h) i ≡ Ok g → AllByRecursion (IsGood s) g.drafts
 good-given s h i g is =
-    let t = rules-taken s.config (asked_of s h) i g is in
+    let t = rules-taken s.config (next_number s h) (asked_of s h) i g is in
     let same : g.drafts ≡ t.given.drafts = ap (λ (g : Given). g.drafts) t.is ∙ acked-drafts i.ack t.given in
-    let fine : AllFine s.config (book_of s h) t.given.drafts = subst (Gives (Fine s.config (asked_of s h))) t.acted (acts-fine s.config (asked_of s h) i.now i.act) in
+    let fine : AllFine s.config (book_of s h) t.given.drafts = subst (Gives (Fine s.config (asked_of s h))) t.acted (acts-fine s.config (next_number s h) (asked_of s h) i.now i.act) in
     subst (AllByRecursion (IsGood s)) (sym same)
     (good-drafts s h t.given.drafts fine
     (ap (λ (ds : List Draft). list_all (λ (d : Draft). nat_lt d.stamp (2 ^ 63)) ds) (sym (acked-drafts i.ack t.given)) ∙ t.in_time))
@@ -321,14 +324,14 @@ grows s (i ∷ later) is =
 
 pub moment-of : (s : Setup) (is : List Input) (i : Input) (answer : Answer) → right_at s (run_of s is) i ≡ Ok answer → i.now < 2 ^ 63
 moment-of s is i answer e =
-    ltb-true i.now (2 ^ 63) (rules-taken s.config (asked_of s (run_of s is)) i answer.given (right-given s (run_of s is) i answer e)).now
+    ltb-true i.now (2 ^ 63) (rules-taken s.config (next_number s (run_of s is)) (asked_of s (run_of s is)) i answer.given (right-given s (run_of s is) i answer e)).now
 
 opened-run : (s : Setup) (h : List Done) → AllRight s h → opened_at h < 2 ^ 63
 opened-run s [] right = omega arith
 opened-run s (e ∷ h) right = by (is_open e.input.act) (opened-run s h right.1)
   where
     now : e.input.now < 2 ^ 63
-    now = ltb-true e.input.now (2 ^ 63) (rules-taken s.config (asked_of s h) e.input e.given right.0).now
+    now = ltb-true e.input.now (2 ^ 63) (rules-taken s.config (next_number s h) (asked_of s h) e.input e.given right.0).now
 
     by : (b : Bool) → opened_at h < 2 ^ 63 → cond b e.input.now (opened_at h) < 2 ^ 63
     by true before = now
@@ -345,6 +348,6 @@ sent-under s is i answer e =
     let h = run_of s is in
     let told = told-all s is in
     let given = right-given s h i answer e in
-    let posted = posted-of s h i answer.given (runs-all s h told.right) (rules-lawful s.config (asked_of s h) i answer.given given).course in
+    let posted = posted-of s h i answer.given (runs-all s h told.right) (rules-lawful s.config (next_number s h) (asked_of s h) i answer.given given).course in
     numbers-right s (opened h - 1) answer.given.drafts (published h) (standing_of s is).seq posted told.seq
     ∙ ap (λ (ms : List Message). numbers_at s ms (length (published h)) answer.given.drafts) (sym (ap (λ r. published (with_done h i r)) e))

@@ -1,37 +1,39 @@
 -- What holds of every run, and that stepping the data answers as the run does.
-use Rattle.std.proofs.Common.{◌≡◌, ◌⊎◌, ℕ, ◌+◌, ◌-◌, ◌<◌, ◌≤◌, ◌%◌, Bool, true, false, cond, List, [], ◌∷◌, ◌++◌, map, Option, Some, Result, Ok, Err, refl, sym, ◌∙◌, ap, subst, arith, inl, inr}
+use Rattle.std.proofs.Common.{◌≡◌, ◌⊎◌, ℕ, ◌+◌, ◌-◌, ◌<◌, ◌≤◌, ◌%◌, ◌^◌, Bool, true, false, not, cond, nat_lt, List, [], ◌∷◌, ◌++◌, map, Option, Some, Result, Ok, Err, refl, sym, ◌∙◌, ap, subst, arith, inl, inr}
 use Rattle.std.specs.List.{AllByRecursion, enumerate_from, filter, list_all}
 use Rattle.std.proofs.lemmas.Bool.{true≢false}
 use Rattle.std.proofs.lemmas.List.{append-nil}
 use Rattle.spk_payload.specs.Meaning.{MetricData}
 use Rattle.spk_packets.specs.Message as packets
 use Rattle.spk_device.specs.Book.{Book, DeviceData}
+use Rattle.spk_device.specs.declared.owner.Owner.TheVariants.{Node}
 use Rattle.spk_store.specs.Kept as kept
 use Rattle.spk_edge_rules.specs.declared.fault.EdgeFault.{EdgeFault}
-use Rattle.spk_edge_rules.specs.declared.fault.EdgeFault.TheVariants.{TooLarge}
+use Rattle.spk_edge_rules.specs.declared.fault.EdgeFault.TheVariants.{ClockEnd, TooLarge, WrongPhase}
 use Rattle.spk_edge_rules.specs.declared.phase.Phase.{Phase}
 use Rattle.spk_edge_rules.specs.declared.phase.Phase.TheVariants.{Idle, Connecting, Waiting, Born}
-use Rattle.spk_edge_rules.specs.Answers.{Answer, checked, is_writable}
-use Rattle.spk_edge_rules.specs.Births.{birth_stamp, device_birth, later_stamp, node_birth}
+use Rattle.spk_edge_rules.specs.Answers.{Answer, checked}
+use Rattle.spk_edge_rules.specs.Writable.{is_writable}
+use Rattle.spk_edge_rules.specs.Births.{birth_stamp, data_draft, device_birth, later_stamp, node_birth}
 use Rattle.spk_edge_rules.specs.Claims.{Link, Closed, SaysSession, link_by, link_of}
-use Rattle.spk_edge_rules.specs.Config.{Setup}
+use Rattle.spk_edge_rules.specs.Config.{Config, Setup}
 use Rattle.spk_edge_rules.specs.Inputs.{Act, Open, Accepted, Change, Turn, Command, State, Drain, Stop, Cut, TurnedAway, Pass, Input}
 use Rattle.spk_edge_rules.specs.Messages.{Draft, opens}
 use Rattle.spk_edge_rules.specs.Packets.{session_metric}
 use Rattle.spk_edge_rules.specs.Rules as rule
 use Rattle.spk_edge_rules.specs.Rules.{Given, is_born, is_idle, on_ok, rules}
-use Rattle.spk_edge_rules.specs.Step.{Standing, after_answer, answer_at, asked_after, is_open, seq_after, standing_of, stepped, wires}
-use Rattle.spk_edge_rules.specs.Run.{Done, Message, asked_of, births_in, calls_of, opened, packets_of, phase_of, posts, published, right_at, run_of, session_number, stamp_of, with_done, with_posts}
+use Rattle.spk_edge_rules.specs.Step.{Standing, after_answer, answer_at, asked_after, begins_anew, is_open, seq_after, standing_of, stepped, wires}
+use Rattle.spk_edge_rules.specs.Run.{Done, Message, asked_of, births_in, calls_of, next_number, opened, packets_of, phase_of, posts, published, right_at, run_of, session_number, stamp_of, with_done, with_posts}
 use Rattle.spk_edge_rules.proofs.Chains.{Ends, IsNext, ends-first, ends-more, last-stamp}
 use Rattle.spk_edge_rules.proofs.Courses.{Births, Course, Lawful, One, Quiet, link_in, rules-lawful}
 use Rattle.spk_edge_rules.proofs.Moments.{asked-first, asked-step, keeps-lawful}
-use Rattle.spk_edge_rules.proofs.Numbers.{Posted, SeqBy, SeqIs, post, posted-last, seq-right, wires-right, with_post}
+use Rattle.spk_edge_rules.proofs.Numbers.{Posted, SeqBy, SeqIs, number-post, post, posted-last, seq-right, wires-right, with_post}
 use Rattle.spk_sequence.specs.NodeRecord.{Numbering, RunsOn, Restarts}
 
 -- each input gave what the rules give
 abbrev pub AllRight : Setup → List Done → Type 0
 AllRight s [] = Unit {0}
-AllRight s (e ∷ h) = (rules s.config (asked_of s h) e.input ≡ Ok e.given) × AllRight s h
+AllRight s (e ∷ h) = (rules s.config (next_number s h) (asked_of s h) e.input ≡ Ok e.given) × AllRight s h
 
 -- nothing was published, or the last message is of a session that was opened
 abbrev pub Top : List Message → ℕ → Type 0
@@ -241,9 +243,9 @@ says-course s h i g (Births all busy stays not_open) =
 
 -- ---- every run
 
-pub runs-step : (s : Setup) (h : List Done) (i : Input) (g : Given) → Runs s h → rules s.config (asked_of s h) i ≡ Ok g → Runs s (after_it h i g)
+pub runs-step : (s : Setup) (h : List Done) (i : Input) (g : Given) → Runs s h → rules s.config (next_number s h) (asked_of s h) i ≡ Ok g → Runs s (after_it h i g)
 runs-step s h i g runs is =
-    let lawful = rules-lawful s.config (asked_of s h) i g is in
+    let lawful = rules-lawful s.config (next_number s h) (asked_of s h) i g is in
     let posted = posted-of s h i g runs lawful.course in
     record {
       link = ap (λ l. cond g.close Closed (link_by i.act l)) runs.link ∙ lawful.links;
@@ -280,8 +282,8 @@ abbrev gave : Given → Result Given EdgeFault
 gave g = Ok g
 
 -- what was answered was given by the rules
-pub right-given : (s : Setup) (h : List Done) (i : Input) (answer : Answer) → right_at s h i ≡ Ok answer → rules s.config (asked_of s h) i ≡ Ok answer.given
-right-given s h i answer = by (rules s.config (asked_of s h) i)
+pub right-given : (s : Setup) (h : List Done) (i : Input) (answer : Answer) → right_at s h i ≡ Ok answer → rules s.config (next_number s h) (asked_of s h) i ≡ Ok answer.given
+right-given s h i answer = by (rules s.config (next_number s h) (asked_of s h) i)
   where
     writable : (g : Given) (b : Bool) → cond b (answered (record { given = g; packets = packets_of s h g })) (Err TooLarge) ≡ Ok answer → gave g ≡ Ok answer.given
     writable g true e =
@@ -294,17 +296,66 @@ right-given s h i answer = by (rules s.config (asked_of s h) i)
     by (Ok g) e = writable g (list_all is_writable (packets_of s h g)) e
     by (Err f) e = absurd (let x : ⊥ = cc in x)
 
+-- ---- the number that comes next
+
+-- the rules look at it only where the node is born
+same-acts : (c : Config) (m n : ℕ) (a : rule.Asked) (now : ℕ) (act : Act) → rule.fits a.phase act ≡ true → (is_born a.phase ≡ true → m ≡ n)
+    → rule.acts c m a now act ≡ rule.acts c n a now act
+same-acts c m n a now Open fit same = refl
+same-acts c m n a now Accepted fit same = refl
+same-acts c m n a now (Change alias value) fit same = refl
+same-acts c m n a now (Turn name up) fit same = refl
+same-acts c m n a now (Command topic payload) fit same = refl
+same-acts c m n a now (State payload) fit same = refl
+same-acts c m n a now Drain fit same = ap (λ k. gave (rule.draining c k a now a.store.items)) (same fit)
+same-acts c m n a now Stop fit same = refl
+same-acts c m n a now Cut fit same = refl
+same-acts c m n a now TurnedAway fit same = refl
+same-acts c m n a now Pass fit same = refl
+
+same-rules : (c : Config) (m n : ℕ) (a : rule.Asked) (i : Input) → (is_born a.phase ≡ true → m ≡ n) → rules c m a i ≡ rules c n a i
+same-rules c m n a i same = by (rule.fits a.phase i.act) refl
+  where
+    behind : Result Given EdgeFault → Result Given EdgeFault
+    behind r = cond (not (nat_lt i.now (2 ^ 63))) (Err ClockEnd) (on_ok r (λ g. rule.timely (rule.acked i.ack g)))
+
+    by : (b : Bool) → rule.fits a.phase i.act ≡ b → cond (not b) (Err WrongPhase) (behind (rule.acts c m a i.now i.act)) ≡ cond (not b) (Err WrongPhase) (behind (rule.acts c n a i.now i.act))
+    by false e = refl
+    by true e = ap behind (same-acts c m n a i.now i.act e same)
+
+pub no-birth-number : (numbering : Numbering) (seq : ℕ) (d : Draft) → opens d ≡ false → cond (begins_anew numbering d) 0 seq ≡ seq
+no-birth-number RunsOn seq d closed = refl
+no-birth-number Restarts seq d closed = ap (λ b. cond b 0 seq) closed
+
+pub number-next : (s : Setup) (h : List Done) (seq : ℕ) → Runs s h → SeqIs s (published h) seq → is_born (phase_of h) ≡ true → next_number s h ≡ seq
+number-next s h seq runs is is_up =
+    let (m, ends, last) = runs.born is_up in
+    let session = opened h - 1 in
+    let d = data_draft s.book Node (later_stamp (stamp_of s h) 0) [] in
+    let stamps = later-above m.draft.stamp 0 (stamp_of s h) (last-stamp s.stamp (published h) m ends) in
+    let next : IsNext m (post session (published h) d) = inl (record {
+      no_birth = refl;
+      birth = let n = ends.births in omega (arith, n);
+      session = omega (arith, last);
+      stamp = stamps;
+    }) in
+    number-post s session (published h) d seq is (ends-more (published h) m (post session (published h) d) ends next)
+    ∙ no-birth-number s.config.numbering seq d refl
+
 pub same-step : (s : Setup) (is : List Input) (i : Input) → Told s is → answer_at s.config (standing_of s is) i ≡ right_at s (run_of s is) i
 same-step s is i told =
-    ap (λ a. on_ok (rules s.config a i) (λ g. checked g (g.plain ++ wires s.config (standing_of s is).seq g.drafts))) told.asked
-    ∙ by (rules s.config (asked_of s (run_of s is)) i) refl
+    ap (λ a. on_ok (rules s.config (standing_of s is).seq a i) (λ g. checked g (g.plain ++ wires s.config (standing_of s is).seq g.drafts))) told.asked
+    ∙ ap (λ r. on_ok r (λ g. checked g (g.plain ++ wires s.config (standing_of s is).seq g.drafts)))
+    (same-rules s.config (standing_of s is).seq (next_number s (run_of s is)) (asked_of s (run_of s is)) i
+    (λ is_up. sym (number-next s (run_of s is) (standing_of s is).seq (runs-all s (run_of s is) told.right) told.seq is_up)))
+    ∙ by (rules s.config (next_number s (run_of s is)) (asked_of s (run_of s is)) i) refl
   where
-    by : (r : Result Given EdgeFault) → rules s.config (asked_of s (run_of s is)) i ≡ r
+    by : (r : Result Given EdgeFault) → rules s.config (next_number s (run_of s is)) (asked_of s (run_of s is)) i ≡ r
         → on_ok r (λ g. checked g (g.plain ++ wires s.config (standing_of s is).seq g.drafts)) ≡ on_ok r (λ g. checked g (packets_of s (run_of s is) g))
     by (Err f) e = refl
     by (Ok g) e =
         let h = run_of s is in
-        let posted = posted-of s h i g (runs-all s h told.right) (rules-lawful s.config (asked_of s h) i g e).course in
+        let posted = posted-of s h i g (runs-all s h told.right) (rules-lawful s.config (next_number s h) (asked_of s h) i g e).course in
         ap (λ (ws : List packets.Message). checked g (g.plain ++ ws)) (wires-right s (opened h - 1) g.drafts (published h) (standing_of s is).seq posted told.seq)
 
 pub told-all : (s : Setup) (is : List Input) → Told s is
@@ -329,7 +380,7 @@ told-all s (i ∷ is) = by (right_at s (run_of s is) i) refl (told-all s is)
         let g = answer.given in
         let given = right-given s (run_of s is) i answer e in
         let runs = runs-all s (run_of s is) told.right in
-        let lawful = rules-lawful s.config (asked_of s (run_of s is)) i g given in
+        let lawful = rules-lawful s.config (next_number s (run_of s is)) (asked_of s (run_of s is)) i g given in
         let posted = posted-of s (run_of s is) i g runs lawful.course in
         let run : run_of s (i ∷ is) ≡ after_it (run_of s is) i g = ap (with_done (run_of s is) i) e in
         let data_ : standing_of s (i ∷ is) ≡ stepped s.config (standing_of s is) i g = ap (after_answer s.config (standing_of s is) i) (same-step s is i told ∙ e) in

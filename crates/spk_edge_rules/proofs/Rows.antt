@@ -3,6 +3,7 @@ use Rattle.std.proofs.Common.{◌≡◌, ℕ, Bool, true, false, List, [], ◌�
 use Rattle.spk_packets.specs.Message.{PubAck}
 use Rattle.spk_packets.specs.Spelling as packet
 use Rattle.spk_payload.specs.Spelling as payload
+use Rattle.std.specs.Prelude.{◌==◌, nat_le}
 use Rattle.std.specs.Str.{is_utf8, chars}
 use lib.Utf8.{encode}
 use Rattle.serde_json.proofs.OnLiterals.{serde_json_on_literals}
@@ -20,8 +21,9 @@ use Rattle.spk_edge_rules.specs.declared.fault.EdgeFault.{EdgeFault}
 use Rattle.spk_edge_rules.specs.declared.fault.EdgeFault.TheVariants as fault
 use Rattle.spk_edge_rules.specs.Answers.{Answer}
 use Rattle.spk_edge_rules.specs.Config.{Config, Setup}
+use Rattle.spk_edge_rules.specs.History.{front_run, longest}
 use Rattle.spk_edge_rules.specs.Inputs.{Input, Act, ChangeData, Open, Accepted, Change, Turn, Command, State, Drain, Stop, Cut}
-use Rattle.spk_edge_rules.specs.Rules.{Asked, acked, draining, front_run, leaving}
+use Rattle.spk_edge_rules.specs.Rules.{Asked, acked, draining, leaving}
 use Rattle.spk_edge_rules.specs.Step.{answer_at, record_at, standing_of}
 use Rattle.spk_edge_rules.specs.Run.{kept_of, record_of, right_at, run_of}
 
@@ -237,13 +239,27 @@ pub another_owner_waits : front_run (a_change Node ∷ a_change Node ∷ a_chang
 another_owner_waits = refl
 
 -- of a device that isn't up, what is dropped counts as lost, and nothing is sent
-pub dropped_is_lost : (a : Asked) → ((draining (record a { book = t_book 0 }) 5 (a_change (Device 0) ∷ a_change (Device 0) ∷ a_change Node ∷ [])).store ≡ Some (DropFront 2 true))
-    × ((draining (record a { book = t_book 0 }) 5 (a_change (Device 0) ∷ a_change (Device 0) ∷ a_change Node ∷ [])).drafts ≡ [])
+pub dropped_is_lost : (a : Asked) → ((draining alone.config 0 (record a { book = t_book 0 }) 5 (a_change (Device 0) ∷ a_change (Device 0) ∷ a_change Node ∷ [])).store ≡ Some (DropFront 2 true))
+    × ((draining alone.config 0 (record a { book = t_book 0 }) 5 (a_change (Device 0) ∷ a_change (Device 0) ∷ a_change Node ∷ [])).drafts ≡ [])
 dropped_is_lost a = (refl, refl)
 
 -- what is sent doesn't
-pub sent_is_not_lost : (a : Asked) → (draining (record a { book = t_book 0 }) 5 (a_change Node ∷ [])).store ≡ Some (DropFront 1 false)
+pub sent_is_not_lost : (a : Asked) → (draining alone.config 0 (record a { book = t_book 0; stamp = None }) 5 (a_change Node ∷ [])).store ≡ Some (DropFront 1 false)
+unfolding packet.spelling packet.body packet.shortest packet.has_bad_text packet.has_bad_body packet.is_qos_two payload.spelling payload.metric_spelling wire.varint wire.groups_of wire.bytes_field
 sent_is_not_lost a = refl
+
+-- the greatest number of which a fact holds, and not the first one
+pub longest_is_greatest : (longest (λ k. nat_le k 5) 32 ≡ 5) × (longest (λ k. nat_le k 5) 4 ≡ 4) × (longest (λ k. k == 3) 32 ≡ 3) × (longest (λ k. false) 32 ≡ 0)
+longest_is_greatest = (refl, refl, refl, refl)
+
+-- of a node whose topics hold U+0000 no message can be written, so its changes are lost one by one
+abbrev unwritten : Config
+unwritten = record alone.config { group = 0 ∷ [] }
+
+pub first_is_lost : (a : Asked) → ((draining unwritten 0 (record a { book = t_book 0; stamp = None }) 5 (a_change Node ∷ a_change Node ∷ [])).store ≡ Some (DropFront 1 true))
+    × ((draining unwritten 0 (record a { book = t_book 0; stamp = None }) 5 (a_change Node ∷ a_change Node ∷ [])).drafts ≡ [])
+unfolding packet.spelling packet.body packet.shortest packet.has_bad_text packet.has_bad_body packet.is_qos_two payload.spelling payload.metric_spelling wire.varint wire.groups_of wire.bytes_field
+first_is_lost a = (refl, refl)
 
 -- the acknowledgement of a STATE stands before the death that it brings
 pub acknowledges_before_the_death : (c : Config) (a : Asked) → (acked (Some 7) (leaving c a)).plain ≡ PubAck 7 ∷ (leaving c a).plain

@@ -1,5 +1,5 @@
 -- What births list, and when messages are given.
-use Rattle.std.proofs.Common.{◌≡◌, ℕ, suc, ◌+◌, ◌<◌, Bool, true, false, not, ◌&&◌, cond, List, [], ◌∷◌, ◌++◌, length, map, Option, Some, None, is_some, Ok, refl, sym, ◌∙◌, ap, subst, arith, inl, inr, append_assoc, length-append}
+use Rattle.std.proofs.Common.{◌≡◌, ℕ, suc, ◌+◌, ◌<◌, Bool, true, false, not, ◌&&◌, cond, List, [], ◌∷◌, ◌++◌, length, map, Option, Some, None, is_some, Ok, refl, sym, ◌∙◌, ap, subst, arith, inl, inr, append_assoc, length-append, nat_lt}
 use Rattle.std.specs.Prelude.{slice_get}
 use Rattle.std.specs.List.{AllByRecursion, enumerate_from, filter, position_from}
 use Rattle.std.specs.Option.{option_map_or}
@@ -21,6 +21,7 @@ use Rattle.spk_edge_rules.specs.Births.{births_at, birth_stamp, device_birth, la
 use Rattle.spk_edge_rules.specs.Claims.{AreWholeBirths, Joined, IsDeviceBirth, ListsWhatIs}
 use Rattle.spk_edge_rules.specs.Commands.{Order, command_of, wants_rebirth, writes_in}
 use Rattle.spk_edge_rules.specs.Config.{Config}
+use Rattle.spk_edge_rules.specs.History.{front_going}
 use Rattle.spk_edge_rules.specs.Inputs.{Act, Open, Accepted, Change, Turn, Command, State, Drain, Stop, Cut, TurnedAway, Pass, Input, ChangeData}
 use Rattle.spk_edge_rules.specs.Messages.{Draft, opens}
 use Rattle.spk_edge_rules.specs.Rules as rule
@@ -127,39 +128,41 @@ commanded-lists a now (Some orders) =
     let g = record (nothing a) { writes = writes_in orders } in
     by_if (Lists a) (wants_rebirth orders && is_born a.phase) (born a now g) g (λ e. births-list a.book a.will_bd (birth_stamp a.stamp now)) (λ e. tt)
 
-draining-lists : (a : rule.Asked) (now : ℕ) (changes : List ChangeData) → Lists a (draining a now changes)
-draining-lists a now [] = tt
-draining-lists a now (x ∷ xs) = by_if (Lists a) (owner_is_up a.book x.owner) _ _ (λ e. ((λ birth. no_birth birth), tt)) (λ e. tt)
+draining-lists : (c : Config) (k : ℕ) (a : rule.Asked) (now : ℕ) (changes : List ChangeData) → Lists a (draining c k a now changes)
+draining-lists c k a now [] = tt
+draining-lists c k a now (x ∷ xs) =
+    by_if (Lists a) (owner_is_up a.book x.owner) _ _
+    (λ e. by_if (Lists a) (nat_lt 0 (front_going c k a.book x.owner (later_stamp a.stamp now) (x ∷ xs))) _ _ (λ some. ((λ birth. no_birth birth), tt)) (λ none. tt)) (λ e. tt)
 
-acts-lists : (c : Config) (a : rule.Asked) (now : ℕ) (act : Act) → Gives (Lists a) (acts c a now act)
-acts-lists c a now Open = tt
-acts-lists c a now Accepted =
+acts-lists : (c : Config) (k : ℕ) (a : rule.Asked) (now : ℕ) (act : Act) → Gives (Lists a) (acts c k a now act)
+acts-lists c k a now Open = tt
+acts-lists c k a now Accepted =
     by_if (Lists a) (is_some c.primary) (joining c a) (born a now (joining c a)) (λ e. tt) (λ e. births-list a.book a.will_bd (birth_stamp a.stamp now))
-acts-lists c a now (Change alias value) =
+acts-lists c k a now (Change alias value) =
     refused-gives (Lists a) (set_refusal a.book alias value) (changing a now alias value)
     (λ accepted. by_if (Lists a) (not (rule.is_same_value a.book alias value) && owner_is_up a.book (owner_at a.book alias)) (telling a now alias value) (nothing a)
     (λ e. by_if (Lists a) (is_born a.phase) _ _ (λ b. ((λ birth. no_birth birth), tt)) (λ b. tt)) (λ e. tt))
-acts-lists c a now (Turn name up) =
+acts-lists c k a now (Turn name up) =
     refused-gives (Lists a) (turn_refusal a.book name) (turning a now name up)
     (λ accepted. by_if (Lists a) (not (rule.is_so_already a.book name up) && is_born a.phase) _ (nothing a)
     (λ e. (turn-lists a.book a.will_bd (later_stamp a.stamp now) name up accepted, tt)) (λ e. tt))
-acts-lists c a now (Command topic payload) = commanded-lists a now (command_of c a.book topic payload)
-acts-lists c a now (State payload) =
+acts-lists c k a now (Command topic payload) = commanded-lists a now (command_of c a.book topic payload)
+acts-lists c k a now (State payload) =
     by_if (Gives (Lists a)) (is_some c.primary) (heard_in c a now (state_at payload)) (Ok (nothing a)) (λ e. heard-lists c a now (state_at payload)) (λ e. tt)
-acts-lists c a now Drain = draining-lists a now a.store.items
-acts-lists c a now Stop = tt
-acts-lists c a now Cut = tt
-acts-lists c a now TurnedAway = by_if (Lists a) (is_connecting a.phase) (record (nothing a) { close = true; phase = Idle }) (nothing a) (λ e. tt) (λ e. tt)
-acts-lists c a now Pass = tt
+acts-lists c k a now Drain = draining-lists c k a now a.store.items
+acts-lists c k a now Stop = tt
+acts-lists c k a now Cut = tt
+acts-lists c k a now TurnedAway = by_if (Lists a) (is_connecting a.phase) (record (nothing a) { close = true; phase = Idle }) (nothing a) (λ e. tt) (λ e. tt)
+acts-lists c k a now Pass = tt
 
 acked-lists : (a : rule.Asked) (ack : Option ℕ) (g : Given) → Lists a g → Lists a (acked ack g)
 acked-lists a None g all = all
 acked-lists a (Some id) g all = all
 
-pub rules-list : (c : Config) (a : rule.Asked) (i : Input) (g : Given) → rules c a i ≡ Ok g → Lists a g
-rules-list c a i g is =
-    let t = rules-taken c a i g is in
-    subst (Lists a) (sym t.is) (acked-lists a i.ack t.given (subst (Gives (Lists a)) t.acted (acts-lists c a i.now i.act)))
+pub rules-list : (c : Config) (k : ℕ) (a : rule.Asked) (i : Input) (g : Given) → rules c k a i ≡ Ok g → Lists a g
+rules-list c k a i g is =
+    let t = rules-taken c k a i g is in
+    subst (Lists a) (sym t.is) (acked-lists a i.ack t.given (subst (Gives (Lists a)) t.acted (acts-lists c k a i.now i.act)))
 
 -- ---- whole births
 

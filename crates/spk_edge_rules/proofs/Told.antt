@@ -13,7 +13,7 @@ use Rattle.spk_edge_rules.specs.Config.{Setup}
 use Rattle.spk_edge_rules.specs.Inputs.{Input}
 use Rattle.spk_edge_rules.specs.Messages.{opens}
 use Rattle.spk_edge_rules.specs.Rules.{Asked}
-use Rattle.spk_edge_rules.specs.Run.{Message, asked_of, book_of, calls_of, opened, outline, published, record_of, right_at, run_of, session_number, with_done}
+use Rattle.spk_edge_rules.specs.Run.{Message, asked_of, book_of, calls_of, next_number, opened, outline, published, record_of, right_at, run_of, session_number, with_done}
 use Rattle.spk_edge_rules.specs.Step.{Record, after_answer, answer_at, record_at, seq_kept, standing_of}
 use Rattle.spk_edge_rules.proofs.Chains.{Chain, no_draft, node-record, opens-at}
 use Rattle.spk_edge_rules.proofs.Courses.{rules-lawful}
@@ -71,13 +71,13 @@ sessions s is = (runs-of s is).says
 pub births : (s : Setup) (is : List Input) (i : Input) (answer : Answer) → right_at s (run_of s is) i ≡ Ok answer
     → AllByRecursion (ListsWhatIs (book_of s (run_of s is)) (session_number s (opened (run_of s is) - 1))) answer.given.drafts
 births s is i answer e =
-    rules-list s.config (asked_of s (run_of s is)) i answer.given (right-given s (run_of s is) i answer e)
+    rules-list s.config (next_number s (run_of s is)) (asked_of s (run_of s is)) i answer.given (right-given s (run_of s is) i answer e)
 
 pub whole_births : (s : Setup) (is : List Input) (i : Input) (answer : Answer) → right_at s (run_of s is) i ≡ Ok answer
     → AreWholeBirths (book_of s (run_of s is)) (session_number s (opened (run_of s is) - 1)) answer.given.drafts
 whole_births s is i answer e =
     let a = asked_of s (run_of s is) in
-    course-births a i.now i.act answer.given (rules-lawful s.config a i answer.given (right-given s (run_of s is) i answer e)).course
+    course-births a i.now i.act answer.given (rules-lawful s.config (next_number s (run_of s is)) a i answer.given (right-given s (run_of s is) i answer e)).course
 
 pub joined : (s : Setup) (is : List Input) (i : Input) (answer : Answer) → right_at s (run_of s is) i ≡ Ok answer → 0 < length answer.given.drafts
     → link_of (run_of s (i ∷ is)) ≡ Joined
@@ -86,7 +86,7 @@ joined s is i answer e some =
     let given = right-given s (run_of s is) i answer e in
     let runs = runs-step s (run_of s is) i answer.given (runs-of s is) given in
     ap (λ r. link_of (with_done (run_of s is) i r)) e ∙ runs.link
-    ∙ course-joined a i.now i.act answer.given (rules-lawful s.config a i answer.given given).course some
+    ∙ course-joined a i.now i.act answer.given (rules-lawful s.config (next_number s (run_of s is)) a i answer.given given).course some
 
 pub kept_lawful : (s : Setup) (is : List Input) → kept.IsLawful s.capacity (calls_of (run_of s is))
 kept_lawful s is = (runs-of s is).kept

@@ -1,5 +1,5 @@
 -- What the laws say of every run, in the standard's words.
-use Rattle.std.specs.Prelude.{◌≡◌, ℕ, ◌⊎◌, ◌&&◌, Bool, true, false, List, [], ◌∷◌, Option, Some, None, is_some, slice_get, All, codes, map, if◌then◌else◌}
+use Rattle.std.specs.Prelude.{◌≡◌, ℕ, ◌⊎◌, ◌&&◌, ◌<◌, ◌≤◌, Bool, true, false, List, [], ◌∷◌, Option, Some, None, is_some, slice_get, All, codes, drop, length, map, if◌then◌else◌}
 use Rattle.std.specs.List.{AllByRecursion, enumerate_from}
 use Rattle.std.specs.Option.{option_map_or}
 use Rattle.std.specs.Str.{bytes_eq}
@@ -11,16 +11,20 @@ use Rattle.spk_device.specs.Book.{Book, DeviceData}
 use Rattle.spk_device.specs.Book as book
 use Rattle.spk_device.specs.Lawful.{is_level}
 use Rattle.spk_device.specs.Step.{is_taken}
+use Rattle.spk_device.specs.declared.owner.Owner.{Owner}
 use Rattle.spk_device.specs.declared.owner.Owner.TheVariants.{Node, Device}
+use Rattle.spk_store.specs.Calls.{DropFront}
 use Rattle.spk_topics.specs.Spark.{is_name}
 use Rattle.spk_topics.specs.declared.spark.Verb.{Verb}
 use Rattle.spk_topics.specs.declared.spark.Verb.TheVariants.{Birth, Death, Data}
 use Rattle.spk_topics.specs.declared.spark.Verb.TheVariants as verb
 use Rattle.spk_edge_rules.specs.Births.{births_at, own_metrics, rebirth_metric}
 use Rattle.spk_edge_rules.specs.Config.{Config, Setup}
-use Rattle.spk_edge_rules.specs.Inputs.{Act, Open, Accepted, Change, Turn, Command, State, Drain, Stop, Cut, TurnedAway, Pass}
+use Rattle.spk_edge_rules.specs.History.{can_go, front_run, history, most}
+use Rattle.spk_edge_rules.specs.Inputs.{Act, ChangeData, Open, Accepted, Change, Turn, Command, State, Drain, Stop, Cut, TurnedAway, Pass}
 use Rattle.spk_edge_rules.specs.Messages.{Draft, is_birth, opens, payload_of, wire}
 use Rattle.spk_edge_rules.specs.Packets.{session_metric}
+use Rattle.spk_edge_rules.specs.Rules.{Given}
 use Rattle.spk_edge_rules.specs.Run.{Done, Message, number_at, session_number}
 use Rattle.spk_edge_rules.specs.Step.{next_of, number_of}
 
@@ -178,3 +182,27 @@ topic_in _ = []
 abbrev pub payload_in : packets.Message → List ℕ
 payload_in (packets.Publish dup qos retain topic id payload) = payload
 payload_in _ = []
+
+-- ---- drains
+
+-- the greatest number, at most so many, of which a fact holds, or 0
+pub record IsLongest (fact : ℕ → Bool) (most n : ℕ) : Type 0 where
+  pub few : n ≤ most
+  pub holds : 0 < n → fact n ≡ true
+  pub greatest : (k : ℕ) → n < k → k ≤ most → fact k ≡ false
+
+-- How many of the changes at the front go, by what can be written: their message is given, and they count as sent. Where none
+-- can go, nothing is given, and the first one counts as lost.
+pub record SendsLongest (c : Config) (number : ℕ) (b : Book) (owner : Owner) (stamp : ℕ) (changes : List ChangeData) (g : Given) : Type 0 where
+  pub count : ℕ
+  pub longest : IsLongest (can_go c number b owner stamp changes) (front_run changes) count
+  pub sent : 0 < count → (g.drafts ≡ history b owner stamp changes count ∷ []) × (g.store ≡ Some (DropFront count false))
+  pub lost : count ≡ 0 → (g.drafts ≡ []) × (g.store ≡ Some (DropFront 1 true))
+
+-- one kept change at least has left the store, and no more than go into one message
+pub record TakesSome (before after : List ChangeData) : Type 0 where
+  pub count : ℕ
+  pub some : 1 ≤ count
+  pub few : count ≤ most
+  pub there : count ≤ length before
+  pub left : after ≡ drop count before

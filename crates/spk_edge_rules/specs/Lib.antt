@@ -4,10 +4,13 @@ pub mod Inputs
 pub mod Packets
 pub mod Births
 pub mod Commands
+pub mod Writable
+pub mod History
 pub mod Rules
 pub mod Arriving
 pub mod Answers
 pub mod Step
 pub mod Run
+pub mod Later
 pub mod Claims
 pub mod Fault

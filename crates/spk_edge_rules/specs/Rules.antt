@@ -1,16 +1,16 @@
 -- What an edge node does at an input (Sparkplug 3.0.0, chapters 5 and 6; the phases, the stamps and what is kept are own
--- rules), from what may be asked of it before.
-use Rattle.std.specs.Prelude.{ℕ, ◌^◌, min, Bool, true, false, not, ◌&&◌, List, [], ◌∷◌, map, take, Option, Some, None, Result, Ok, Err, is_some, nat_lt, if◌then◌else◌}
+-- rules), from what may be asked of it before and the sequence number that comes next.
+use Rattle.std.specs.Prelude.{ℕ, ◌^◌, Bool, true, false, not, ◌&&◌, List, [], ◌∷◌, Option, Some, None, Result, Ok, Err, is_some, nat_lt, if◌then◌else◌}
 use Rattle.std.specs.List.{list_all}
 use Rattle.std.specs.Option.{option_map_or}
 use Rattle.spk_payload.specs.Typing.{Typed}
 use Rattle.spk_packets.specs.Message.{Message, PubAck}
-use Rattle.spk_device.specs.Book.{Book, gauge_at, is_owner, is_up}
+use Rattle.spk_device.specs.Book.{Book, gauge_at, is_up}
 use Rattle.spk_device.specs.Step.{set_refusal, turn_refusal}
 use Rattle.spk_device.specs.Values.{flag_eq, value_eq}
 use Rattle.spk_device.specs.declared.fault.Refusal.{Refusal}
+use Rattle.spk_device.specs.declared.owner.Owner.{Owner}
 use Rattle.spk_store.specs.Data.{Kept}
-use Rattle.spk_store.specs.Step.{run_of}
 use Rattle.spk_store.specs.Calls.{Call, Push, DropFront}
 use Rattle.spk_state.specs.Step.{heard_as}
 use Rattle.spk_state.specs.Text.{state_at}
@@ -22,9 +22,10 @@ use Rattle.spk_edge_rules.specs.declared.fault.EdgeFault.{EdgeFault}
 use Rattle.spk_edge_rules.specs.declared.fault.EdgeFault.TheVariants as fault
 use Rattle.spk_edge_rules.specs.declared.phase.Phase.{Phase}
 use Rattle.spk_edge_rules.specs.declared.phase.Phase.TheVariants.{Idle, Connecting, Waiting, Born}
-use Rattle.spk_edge_rules.specs.Births.{births_at, birth_stamp, data_draft, data_metric, kept_metric, later_stamp, owner_at, owner_is_up, turn_draft}
+use Rattle.spk_edge_rules.specs.Births.{births_at, birth_stamp, data_draft, data_metric, later_stamp, owner_at, owner_is_up, turn_draft}
 use Rattle.spk_edge_rules.specs.Commands.{Order, command_of, writes_in, wants_rebirth}
 use Rattle.spk_edge_rules.specs.Config.{Config}
+use Rattle.spk_edge_rules.specs.History.{front_going, front_run, history}
 use Rattle.spk_edge_rules.specs.Inputs.{Act, Open, Accepted, Change, Turn, Command, State, Drain, Stop, Cut, TurnedAway, Pass, Input, ChangeData, WriteData}
 use Rattle.spk_edge_rules.specs.Messages.{Draft}
 use Rattle.spk_edge_rules.specs.Packets.{connect_of, subscribe_of, farewell}
@@ -184,43 +185,37 @@ stating c a now payload = if is_some c.primary then heard_in c a now (state_at p
 
 -- ---- kept changes
 
--- two changes are of one owner
-abbrev pub have_one_owner : ChangeData → ChangeData → Bool
-have_one_owner x y = is_owner x.owner y.owner
+-- So many of the changes, which are an owner's, go out as historical data; where none can, the first one is dropped, as lost.
+abbrev pub sending : Asked → Owner → ℕ → List ChangeData → ℕ → Given
+sending a owner stamp changes n =
+    if nat_lt 0 n
+    then record (nothing a) { drafts = history a.book owner stamp changes n ∷ []; store = Some (DropFront n false) }
+    else record (nothing a) { store = Some (DropFront 1 true) }
 
--- at most so many go into one message
-abbrev pub most : ℕ
-most = 32
-
-abbrev pub front_run : List ChangeData → ℕ
-front_run changes = min most (run_of have_one_owner changes)
-
--- The front run of one owner goes out as historical data; one whose device is down is dropped, as lost.
-abbrev pub draining : Asked → ℕ → List ChangeData → Given
-draining a now [] = nothing a
-draining a now (x ∷ xs) =
-    let n = front_run (x ∷ xs) in
+-- The longest front of the front run goes that can be written, under the number that comes next; a run whose device is down is
+-- dropped, as lost.
+abbrev pub draining : Config → ℕ → Asked → ℕ → List ChangeData → Given
+draining c number a now [] = nothing a
+draining c number a now (x ∷ xs) =
+    let stamp = later_stamp a.stamp now in
     if owner_is_up a.book x.owner
-    then record (nothing a) {
-      drafts = data_draft a.book x.owner (later_stamp a.stamp now) (map (kept_metric a.book) (take n (x ∷ xs))) ∷ [];
-      store = Some (DropFront n false);
-    }
-    else record (nothing a) { store = Some (DropFront n true) }
+    then sending a x.owner stamp (x ∷ xs) (front_going c number a.book x.owner stamp (x ∷ xs))
+    else record (nothing a) { store = Some (DropFront (front_run (x ∷ xs)) true) }
 
 -- ---- all of them
 
-abbrev pub acts : Config → Asked → ℕ → Act → Result Given EdgeFault
-acts c a now Open = Ok (opening c a now)
-acts c a now Accepted = Ok (accepting c a now)
-acts c a now (Change alias value) = refused_or (set_refusal a.book alias value) (changing a now alias value)
-acts c a now (Turn name up) = refused_or (turn_refusal a.book name) (turning a now name up)
-acts c a now (Command topic payload) = commanded a now (command_of c a.book topic payload)
-acts c a now (State payload) = stating c a now payload
-acts c a now Drain = Ok (draining a now a.store.items)
-acts c a now Stop = Ok (leaving c a)
-acts c a now Cut = Ok (record (nothing a) { phase = Idle })
-acts c a now TurnedAway = Ok (turned_away a)
-acts c a now Pass = Ok (nothing a)
+abbrev pub acts : Config → ℕ → Asked → ℕ → Act → Result Given EdgeFault
+acts c number a now Open = Ok (opening c a now)
+acts c number a now Accepted = Ok (accepting c a now)
+acts c number a now (Change alias value) = refused_or (set_refusal a.book alias value) (changing a now alias value)
+acts c number a now (Turn name up) = refused_or (turn_refusal a.book name) (turning a now name up)
+acts c number a now (Command topic payload) = commanded a now (command_of c a.book topic payload)
+acts c number a now (State payload) = stating c a now payload
+acts c number a now Drain = Ok (draining c number a now a.store.items)
+acts c number a now Stop = Ok (leaving c a)
+acts c number a now Cut = Ok (record (nothing a) { phase = Idle })
+acts c number a now TurnedAway = Ok (turned_away a)
+acts c number a now Pass = Ok (nothing a)
 
 abbrev pub on_ok : {A B E : Type 0} → Result A E → (A → Result B E) → Result B E
 on_ok (Ok x) f = f x
@@ -239,8 +234,8 @@ acked None g = g
 acked (Some id) g = record g { plain = PubAck id ∷ g.plain }
 
 -- The order of refusals: the phase, the clock, then what the act itself refuses, and last a stamp past the clock's end.
-abbrev pub rules : Config → Asked → Input → Result Given EdgeFault
-rules c a i =
+abbrev pub rules : Config → ℕ → Asked → Input → Result Given EdgeFault
+rules c number a i =
     if not (fits a.phase i.act) then Err fault.WrongPhase
     else if not (nat_lt i.now (2 ^ 63)) then Err fault.ClockEnd
-    else on_ok (acts c a i.now i.act) (λ g. timely (acked i.ack g))
+    else on_ok (acts c number a i.now i.act) (λ g. timely (acked i.ack g))

@@ -7,6 +7,7 @@ use Rattle.std.specs.Str.{bytes_eq}
 use Rattle.spk_payload.specs.Typing.{Typed}
 use Rattle.spk_packets.specs.Message as packets
 use Rattle.spk_device.specs.Book.{Book, DeviceData, GaugeData}
+use Rattle.spk_device.specs.declared.owner.Owner.TheVariants.{Node}
 use Rattle.spk_sequence.specs.NodeRecord as sequence
 use Rattle.spk_store.specs.Data.{Kept}
 use Rattle.spk_store.specs.Calls.{Call}
@@ -16,6 +17,7 @@ use Rattle.spk_edge_rules.specs.declared.fault.EdgeFault.{EdgeFault}
 use Rattle.spk_edge_rules.specs.declared.phase.Phase.{Phase}
 use Rattle.spk_edge_rules.specs.declared.phase.Phase.TheVariants.{Idle}
 use Rattle.spk_edge_rules.specs.Answers.{Answer, checked}
+use Rattle.spk_edge_rules.specs.Births.{data_draft, later_stamp}
 use Rattle.spk_edge_rules.specs.Config.{Config, Setup}
 use Rattle.spk_edge_rules.specs.Inputs.{Act, Change, Turn, State, Input, ChangeData}
 use Rattle.spk_edge_rules.specs.Messages.{Draft, opens, wire}
@@ -186,6 +188,12 @@ record_of s h = record {
 
 -- ---- the right answer: each message under the number of its position
 
+-- the number of a data message that is published next: that of the position behind what was published
+abbrev pub next_number : Setup → List Done → ℕ
+next_number s h =
+    let d = data_draft s.book Node (later_stamp (stamp_of s h) 0) [] in
+    number_at s (with_posts (published h) (opened h - 1) (d ∷ [])) (length (published h))
+
 abbrev pub wires_at : Setup → List Message → ℕ → List Draft → List packets.Message
 wires_at s messages p drafts = map (λ e. wire s.config (number_at s messages e.0) e.1) (enumerate_from p drafts)
 
@@ -194,7 +202,7 @@ packets_of s h g =
     g.plain ++ wires_at s (with_posts (published h) (opened h - 1) g.drafts) (length (published h)) g.drafts
 
 abbrev pub right_at : Setup → List Done → Input → Result Answer EdgeFault
-right_at s h i = on_ok (rules s.config (asked_of s h) i) (λ g. checked g (packets_of s h g))
+right_at s h i = on_ok (rules s.config (next_number s h) (asked_of s h) i) (λ g. checked g (packets_of s h g))
 
 abbrev pub with_done : List Done → Input → Result Answer EdgeFault → List Done
 with_done h i (Ok answer) = (record { input = i; given = answer.given }) ∷ h

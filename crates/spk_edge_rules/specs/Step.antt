@@ -118,7 +118,7 @@ stepped c st i g = record { asked = asked_after c st.asked i g; seq = seq_after 
 -- ---- answers
 
 abbrev pub answer_at : Config → Standing → Input → Result Answer EdgeFault
-answer_at c st i = on_ok (rules c st.asked i) (λ g. checked g (g.plain ++ wires c st.seq g.drafts))
+answer_at c st i = on_ok (rules c st.seq st.asked i) (λ g. checked g (g.plain ++ wires c st.seq g.drafts))
 
 -- a refused input leaves the data as they were
 abbrev pub after_answer : Config → Standing → Input → Result Answer EdgeFault → Standing

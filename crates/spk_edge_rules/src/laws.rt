@@ -1,24 +1,29 @@
 //! Laws on lists of inputs: functions that do nothing, whose contracts speak of definitions alone.
-ghost use Rattle.std.specs.Prelude.{◌≡◌, ℕ, ◌-◌, ◌^◌, ◌<◌, List, [], ◌∷◌, ◌++◌, length, min, slice_get, take, Some, None, Ok, Err, IsTrue, true, false};
+ghost use Rattle.std.specs.Prelude.{◌≡◌, ℕ, ◌-◌, ◌^◌, ◌<◌, ◌≤◌, List, [], ◌∷◌, ◌++◌, filter, length, map, min, slice_get, take, Some, None, Ok, Err, IsTrue, true, false};
 ghost use Rattle.std.specs.List.{AllByRecursion, list_any};
 ghost use Rattle.spk_payload.specs.Meaning.{MeansPayload, PayloadData};
 ghost use Rattle.spk_payload.specs.Spelling.{spelling};
 ghost use Rattle.spk_packets.specs.Grammar.{Spells};
 ghost use Rattle.spk_packets.specs.Message as packets;
 ghost use Rattle.spk_topics.specs.Spark.{has_names, topic_of};
+ghost use Rattle.spk_topics.specs.declared.spark.Verb.TheVariants.{Data};
 ghost use Rattle.spk_sequence.specs.NodeRecord as sequence;
 ghost use Rattle.spk_store.specs.Kept as kept;
 ghost use Rattle.spk_device.specs.Book.{DeviceData};
 ghost use Rattle.spk_edge_rules.specs.declared.fault.EdgeFault.{EdgeFault};
+ghost use Rattle.spk_edge_rules.specs.declared.fault.EdgeFault.TheVariants.{TooLarge};
 ghost use Rattle.spk_edge_rules.specs.declared.phase.Phase.TheVariants.{Born};
 ghost use Rattle.spk_edge_rules.specs.Answers.{Answer};
-ghost use Rattle.spk_edge_rules.specs.Claims.{AreNumbered, AreWholeBirths, HasNames, IsAlive, IsUnreserved, IsWhole, Joined, ListsWhatIs, SaysSession, SaysSessionOnce, is_disconnect, is_numbered, link_of, numbers_at, numbers_from, payload_in, topic_in};
+ghost use Rattle.spk_edge_rules.specs.Births.{later_stamp, owner_is_up};
+ghost use Rattle.spk_edge_rules.specs.Claims.{AreNumbered, AreWholeBirths, HasNames, IsAlive, IsUnreserved, IsWhole, Joined, ListsWhatIs, SaysSession, SaysSessionOnce, SendsLongest, TakesSome, is_disconnect, is_numbered, link_of, numbers_at, numbers_from, payload_in, topic_in};
 ghost use Rattle.spk_edge_rules.specs.Config.{Config, Setup};
-ghost use Rattle.spk_edge_rules.specs.Inputs.{Input, Open, Stop};
+ghost use Rattle.spk_edge_rules.specs.History.{can_go, front_run, history};
+ghost use Rattle.spk_edge_rules.specs.Inputs.{ChangeData, Drain, Input, Open, Stop};
+ghost use Rattle.spk_edge_rules.specs.Later.{all_historical, historical_in, said_later};
 ghost use Rattle.spk_edge_rules.specs.Messages.{Draft, is_birth, named_by, opens, payload_of, wire};
 ghost use Rattle.spk_edge_rules.specs.Packets.{connect_of, death_payload, farewell, will_of};
-ghost use Rattle.spk_edge_rules.specs.Run.{Message, asked_of, births_in, book_of, calls_of, number_at, opened, opened_at, outline, phase_of, published, record_of, right_at, run_of, session_number};
-ghost use Rattle.spk_edge_rules.specs.Step.{answer_at, record_at, standing_of};
+ghost use Rattle.spk_edge_rules.specs.Run.{Message, asked_of, births_in, book_of, calls_of, kept_of, next_number, number_at, opened, opened_at, outline, phase_of, published, record_of, right_at, run_of, session_number, stamp_of};
+ghost use Rattle.spk_edge_rules.specs.Step.{Standing, answer_at, record_at, standing_of};
 
 /// For every node and every list of inputs, newest first, whatever the node begins with.
 pub fn any_list()
@@ -140,6 +145,64 @@ pub fn published()
 {
     spk_sequence::laws::records();
 }
+
+/// Of each Drain, whatever the node begins with and for every list of inputs, newest first.
+pub fn drains()
+    // it is never refused with TooLarge, whatever the data are, where nothing acknowledges it
+    ensures never { (c : Config) (st : Standing) (i : Input) → i.act ≡ Drain → i.ack ≡ None
+        → answer_at c st i ≡ Err TooLarge → ⊥ }
+    ensures never_along { (s : Setup) (is : List Input) (i : Input) → i.act ≡ Drain → i.ack ≡ None
+        → right_at s (run_of s is) i ≡ Err TooLarge → ⊥ }
+
+    // one that is done takes at least one of the changes kept, and 32 at the most
+    ensures takes { (s : Setup) (is : List Input) (i : Input) (answer : Answer) → i.act ≡ Drain
+        → right_at s (run_of s is) i ≡ Ok answer
+        → 0 < length (kept_of s (run_of s is)).items
+        → TakesSome (kept_of s (run_of s is)).items (kept_of s (run_of s (i ∷ is))).items }
+
+    // what it sends of an owner that is up is the longest front of the front run that can be written
+    ensures longest { (s : Setup) (is : List Input) (i : Input) (answer : Answer) (x : ChangeData)
+        (xs : List ChangeData) → i.act ≡ Drain → right_at s (run_of s is) i ≡ Ok answer
+        → (kept_of s (run_of s is)).items ≡ x ∷ xs
+        → owner_is_up (book_of s (run_of s is)) x.owner ≡ true
+        → SendsLongest s.config (next_number s (run_of s is)) (book_of s (run_of s is)) x.owner
+        (later_stamp (stamp_of s (run_of s is)) i.now) (x ∷ xs) answer.given }
+
+    // so a front run that can be written goes whole
+    ensures whole { (s : Setup) (is : List Input) (i : Input) (answer : Answer) (x : ChangeData)
+        (xs : List ChangeData) → i.act ≡ Drain → right_at s (run_of s is) i ≡ Ok answer
+        → (kept_of s (run_of s is)).items ≡ x ∷ xs
+        → owner_is_up (book_of s (run_of s is)) x.owner ≡ true
+        → can_go s.config (next_number s (run_of s is)) (book_of s (run_of s is)) x.owner
+        (later_stamp (stamp_of s (run_of s is)) i.now) (x ∷ xs) (front_run (x ∷ xs)) ≡ true
+        → answer.given.drafts
+        ≡ history (book_of s (run_of s is)) x.owner (later_stamp (stamp_of s (run_of s is)) i.now)
+        (x ∷ xs) (front_run (x ∷ xs)) ∷ [] }
+{}
+
+/// Of kept changes, whatever the node begins with and for every list of inputs, newest first.
+pub fn history()
+    // the historical metrics of all that was published are, in order, the changes that left the store as sent, each under its
+    // owner's topic, by its alias, with the time at which it came and its value
+    ensures sent { (s : Setup) (is : List Input)
+        → all_historical (published (run_of s is))
+        ≡ map (said_later s.book) (kept.sent_of s.capacity (calls_of (run_of s is))) }
+
+    // and each change that was pushed has left, sent or lost, or is kept, in order; as many are lost as are counted
+    ensures fates { (s : Setup) (is : List Input)
+        → map (λ e. e.0) (kept.left_of s.capacity (calls_of (run_of s is)))
+        ++ kept.kept_of s.capacity (calls_of (run_of s is)) ≡ kept.pushed (calls_of (run_of s is)) }
+    ensures counted { (s : Setup) (is : List Input)
+        → kept.lost_of s.capacity (calls_of (run_of s is))
+        ≡ length (filter (λ e. e.1) (kept.left_of s.capacity (calls_of (run_of s is)))) }
+
+    // no message has more than 32 of them, and only data has any
+    ensures few { (s : Setup) (is : List Input) (p : ℕ) (m : Message)
+        → slice_get (published (run_of s is)) p ≡ Some m → length (historical_in m.draft) ≤ 32 }
+    ensures data { (s : Setup) (is : List Input) (p : ℕ) (m : Message)
+        → slice_get (published (run_of s is)) p ≡ Some m → 0 < length (historical_in m.draft)
+        → m.draft.verb ≡ Data }
+{}
 
 /// Of each message's bytes: whoever reads them by the grammar reads that message and nothing else.
 pub fn messages()

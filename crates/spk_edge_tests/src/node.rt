@@ -182,6 +182,15 @@ pub(crate) trait Plays {
 
     fn plan_of(&self, now: u64, act: Act<'_>) -> Result<Plan, EdgeFault>;
 
+    fn tell_value(
+        &mut self,
+        now: u64,
+        alias: Alias,
+        value: &Option<Value>,
+    ) -> Result<Out, EdgeFault>;
+
+    fn tell_plan(&mut self, now: u64, act: Act<'_>) -> Result<Out, EdgeFault>;
+
     fn taken(&mut self, plan: Plan) -> Vec<Published>;
 
     fn lose_connection(&mut self);
@@ -221,6 +230,20 @@ impl Plays for EdgeNode {
             ack: None,
             act,
         })
+    }
+
+    fn tell_value(
+        &mut self,
+        now: u64,
+        alias: Alias,
+        value: &Option<Value>,
+    ) -> Result<Out, EdgeFault> {
+        self.change(now, alias, value)
+    }
+
+    fn tell_plan(&mut self, now: u64, act: Act<'_>) -> Result<Out, EdgeFault> {
+        let plan = self.plan_of(now, act)?;
+        Ok(self.take_up(plan).out)
     }
 
     fn taken(&mut self, plan: Plan) -> Vec<Published> {

@@ -24,7 +24,7 @@ use Rattle.spk_ingress.specs.declared.frame.Frame.{Frame}
 use Rattle.spk_ingress.specs.declared.frame.Frame.TheVariants as frame
 use Rattle.spk_reading.specs.Data as said
 use Rattle.spk_reading.specs.Data.{ContentData, HeardData, NumberedData}
-use Rattle.spk_edge_rules.specs.Answers.{is_writable}
+use Rattle.spk_edge_rules.specs.Writable.{is_writable}
 use Rattle.spk_host_session.specs.Data.{Config, is_address, is_good, is_short_name}
 use Rattle.spk_host_session.specs.Packets.{connect_of, filter_of, offline, online_of, rebirth_of, subscribe_of}
 use Rattle.spk_host_session.specs.Step as session

@@ -20,13 +20,14 @@ use Rattle.spk_broker_rules.specs.Listening.{IsPlain, plain_publish}
 use Rattle.spk_ingress.specs.declared.frame.Frame.{Frame}
 use Rattle.spk_ingress.specs.declared.frame.Frame.TheVariants as frame
 use Rattle.spk_edge_rules.specs.declared.fault.EdgeFault.{EdgeFault}
-use Rattle.spk_edge_rules.specs.Answers.{Answer, checked, is_writable}
+use Rattle.spk_edge_rules.specs.Answers.{Answer, checked}
+use Rattle.spk_edge_rules.specs.Writable.{is_writable}
 use Rattle.spk_edge_rules.specs.Claims.{HasNames, is_numbered}
 use Rattle.spk_edge_rules.specs.Config.{Config, Setup}
 use Rattle.spk_edge_rules.specs.Inputs.{Input}
 use Rattle.spk_edge_rules.specs.Messages.{Draft, named_by, opens, payload_of, wire}
 use Rattle.spk_edge_rules.specs.Rules.{Given, on_ok, rules}
-use Rattle.spk_edge_rules.specs.Run.{Done, Message, asked_of, number_at, opened, packets_of, posts, published, right_at, run_of, with_done, with_posts, wires_at, births_in}
+use Rattle.spk_edge_rules.specs.Run.{Done, Message, asked_of, next_number, number_at, opened, packets_of, posts, published, right_at, run_of, with_done, with_posts, wires_at, births_in}
 use Rattle.spk_edge.specs.Along.{AllWhole}
 use Rattle.spk_edge_body.specs.Frames.{cut_if, frames_at, frames_by, frames_of, is_cut, packet_frame}
 use Rattle.spk_relay.specs.Speech.{HasTexts}
@@ -288,7 +289,7 @@ ok-err : (x : Answer) (f : EdgeFault) → ◌≡◌ {A = Result Answer EdgeFault
 ok-err x f e = cc
 
 answer-is : (s : Setup) (h : List Done) (i : Input) (answer : Answer) → right_at s h i ≡ Ok answer → IsAnswer s h i answer
-answer-is s h i answer e = by (rules s.config (asked_of s h) i) (own-rules s.config (asked_of s h) i) e
+answer-is s h i answer e = by (rules s.config (next_number s h) (asked_of s h) i) (own-rules s.config (next_number s h) (asked_of s h) i) e
   where
     can-be : (g : Given) → AreOwn s.config g.plain → (b : Bool) → list_all is_writable (packets_of s h g) ≡ b →
         cond b (Ok (record { given = g; packets = packets_of s h g })) (Err Rattle.spk_edge_rules.specs.declared.fault.EdgeFault.TheVariants.TooLarge) ≡ Ok answer → IsAnswer s h i answer

@@ -13,15 +13,16 @@ use Rattle.spk_state.specs.declared.primary.Heard.{Heard}
 use Rattle.spk_state.specs.declared.primary.Heard.TheVariants.{Online, Offline, Ignored}
 use Rattle.spk_state.specs.declared.state.State as read
 use Rattle.spk_edge_rules.specs.Commands.{Order, command_of, wants_rebirth}
-use Rattle.spk_edge_rules.specs.Births.{owner_at, owner_is_up}
+use Rattle.spk_edge_rules.specs.Births.{later_stamp, owner_at, owner_is_up}
 use Rattle.spk_edge_rules.specs.declared.fault.EdgeFault.TheVariants as fault
 use Rattle.spk_device.specs.Step.{set_refusal, turn_refusal}
 use Rattle.spk_state.specs.Step.{heard_as}
 use Rattle.spk_state.specs.Text.{state_at}
 use Rattle.spk_edge_rules.specs.declared.fault.EdgeFault.{EdgeFault}
-use Rattle.spk_edge_rules.specs.Answers.{is_writable}
+use Rattle.spk_edge_rules.specs.Writable.{is_writable}
 use Rattle.spk_edge_rules.specs.Claims.{HasNames}
 use Rattle.spk_edge_rules.specs.Config.{Config, Setup}
+use Rattle.spk_edge_rules.specs.History.{front_going}
 use Rattle.spk_edge_rules.specs.Inputs.{Act, Open, Accepted, Change, Turn, Command, State, Drain, Stop, Cut, TurnedAway, Pass, ChangeData, Input}
 use Rattle.spk_edge_rules.specs.Packets.{connect_of, death_topic, subscribe_of}
 use Rattle.spk_edge_rules.specs.Rules.{Asked, Given, accepting, acked, acts, born, changing, is_born, is_connecting, is_same_value, is_so_already, is_waiting, commanded, draining, fits, hearing, heard_in, is_timely, joining, leaving, nothing, obeying, on_ok, refused_or, rules, telling, timely, turned_away, turning}
@@ -81,9 +82,11 @@ own-hear c a now Online = own-cond c (is_waiting a.phase) (born a now (nothing a
 own-hear c a now Offline = own-cond c (is_born a.phase) (leaving c a) (nothing a) (own-leave c a) (own-nothing c a)
 own-hear c a now Ignored = own-nothing c a
 
-own-drain : (c : Config) (a : Asked) (now : ℕ) (xs : List ChangeData) → IsOwnGiven c (draining a now xs)
-own-drain c a now [] = own-nothing c a
-own-drain c a now (x ∷ xs) = own-cond c (owner_is_up a.book x.owner) _ _ (record { own = tt }) (record { own = tt })
+own-drain : (c : Config) (k : ℕ) (a : Asked) (now : ℕ) (xs : List ChangeData) → IsOwnGiven c (draining c k a now xs)
+own-drain c k a now [] = own-nothing c a
+own-drain c k a now (x ∷ xs) =
+    own-cond c (owner_is_up a.book x.owner) _ _
+    (own-cond c (nat_lt 0 (front_going c k a.book x.owner (later_stamp a.stamp now) (x ∷ xs))) _ _ (record { own = tt }) (record { own = tt })) (record { own = tt })
 
 own-turned-away : (c : Config) (a : Asked) → IsOwnGiven c (turned_away a)
 own-turned-away c a = own-cond c (is_connecting a.phase) _ (nothing a) (record { own = tt }) (own-nothing c a)
@@ -91,25 +94,25 @@ own-turned-away c a = own-cond c (is_connecting a.phase) _ (nothing a) (record {
 own-accept : (c : Config) (a : Asked) (now : ℕ) → IsOwnGiven c (accepting c a now)
 own-accept c a now = own-cond c (is_some c.primary) (joining c a) (born a now (joining c a)) (record { own = (Subscribes refl, tt) }) (record { own = (Subscribes refl, tt) })
 
-own-acts : (c : Config) (a : Asked) (now : ℕ) (act : Act) → GivesOwn c (acts c a now act)
-own-acts c a now Open = record { own = (Connects a.bd now refl, tt) }
-own-acts c a now Accepted = own-accept c a now
-own-acts c a now (Change alias value) = by (set_refusal a.book alias value)
+own-acts : (c : Config) (k : ℕ) (a : Asked) (now : ℕ) (act : Act) → GivesOwn c (acts c k a now act)
+own-acts c k a now Open = record { own = (Connects a.bd now refl, tt) }
+own-acts c k a now Accepted = own-accept c a now
+own-acts c k a now (Change alias value) = by (set_refusal a.book alias value)
   where
     by : (o : Option Refusal) → GivesOwn c (refused_or o (changing a now alias value))
     by None = own-change c a now alias value
     by (Some r) = tt
-own-acts c a now (Turn name up) = by (turn_refusal a.book name)
+own-acts c k a now (Turn name up) = by (turn_refusal a.book name)
   where
     by : (o : Option Refusal) → GivesOwn c (refused_or o (turning a now name up))
     by None = own-turn c a now name up
     by (Some r) = tt
-own-acts c a now (Command topic payload) = by (command_of c a.book topic payload)
+own-acts c k a now (Command topic payload) = by (command_of c a.book topic payload)
   where
     by : (o : Option (List Order)) → GivesOwn c (commanded a now o)
     by None = tt
     by (Some orders) = own-obey c a now orders
-own-acts c a now (State payload) = by (is_some c.primary) (state_at payload)
+own-acts c k a now (State payload) = by (is_some c.primary) (state_at payload)
   where
     state : (o : Option read.State) → GivesOwn c (heard_in c a now o)
     state None = tt
@@ -118,11 +121,11 @@ own-acts c a now (State payload) = by (is_some c.primary) (state_at payload)
     by : (b : Bool) (o : Option read.State) → GivesOwn c (cond b (heard_in c a now o) (Ok (nothing a)))
     by true o = state o
     by false o = own-nothing c a
-own-acts c a now Drain = own-drain c a now a.store.items
-own-acts c a now Stop = own-leave c a
-own-acts c a now Cut = record { own = tt }
-own-acts c a now TurnedAway = own-turned-away c a
-own-acts c a now Pass = own-nothing c a
+own-acts c k a now Drain = own-drain c k a now a.store.items
+own-acts c k a now Stop = own-leave c a
+own-acts c k a now Cut = record { own = tt }
+own-acts c k a now TurnedAway = own-turned-away c a
+own-acts c k a now Pass = own-nothing c a
 
 own-timely : (c : Config) (g : Given) → IsOwnGiven c g → GivesOwn c (timely g)
 own-timely c g own = by (is_timely g)
@@ -139,13 +142,13 @@ own-on : (c : Config) (ack : Option ℕ) (r : Result Given EdgeFault) → GivesO
 own-on c ack (Ok g) own = own-timely c (acked ack g) (own-acked c ack g own)
 own-on c ack (Err f) own = tt
 
-pub own-rules : (c : Config) (a : Asked) (i : Input) → GivesOwn c (rules c a i)
-own-rules c a i = by (fits a.phase i.act) (nat_lt i.now (2 ^ 63))
+pub own-rules : (c : Config) (k : ℕ) (a : Asked) (i : Input) → GivesOwn c (rules c k a i)
+own-rules c k a i = by (fits a.phase i.act) (nat_lt i.now (2 ^ 63))
   where
-    given : GivesOwn c (on_ok (acts c a i.now i.act) (λ g. timely (acked i.ack g)))
-    given = own-on c i.ack (acts c a i.now i.act) (own-acts c a i.now i.act)
+    given : GivesOwn c (on_ok (acts c k a i.now i.act) (λ g. timely (acked i.ack g)))
+    given = own-on c i.ack (acts c k a i.now i.act) (own-acts c k a i.now i.act)
 
-    by : (x y : Bool) → GivesOwn c (cond (not x) (Err fault.WrongPhase) (cond (not y) (Err fault.ClockEnd) (on_ok (acts c a i.now i.act) (λ g. timely (acked i.ack g)))))
+    by : (x y : Bool) → GivesOwn c (cond (not x) (Err fault.WrongPhase) (cond (not y) (Err fault.ClockEnd) (on_ok (acts c k a i.now i.act) (λ g. timely (acked i.ack g)))))
     by false y = tt
     by true false = tt
     by true true = given

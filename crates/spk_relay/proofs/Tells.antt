@@ -22,7 +22,7 @@ use Rattle.spk_broker_body.specs.Data.{Input, Says, Breaks, Cuts, Ends}
 use Rattle.spk_broker_body.specs.Log.{Means}
 use Rattle.spk_ingress.specs.declared.frame.Frame.{Frame}
 use Rattle.spk_ingress.specs.declared.frame.Frame.TheVariants as frame
-use Rattle.spk_edge_rules.specs.Answers.{is_writable}
+use Rattle.spk_edge_rules.specs.Writable.{is_writable}
 use Rattle.spk_edge_rules.specs.Config.{Config}
 use Rattle.spk_edge_rules.specs.Packets.{client_of, connect_of, death_topic, subscribe_of, state_filter, will_of}
 use Rattle.spk_relay.specs.Shown.{AsksAlike, is_on, is_publish_on}

@@ -4,7 +4,7 @@ use Rattle.spk_payload.specs.Spelling.{HoldsOther}
 use Rattle.spk_packets.specs.Message.{Message}
 use Rattle.spk_packets.specs.Spelling.{spelling}
 use Rattle.spk_edge_rules.specs.declared.fault.EdgeFault.TheVariants as edge
-use Rattle.spk_edge_rules.specs.Answers.{is_writable}
+use Rattle.spk_edge_rules.specs.Writable.{is_writable}
 use Rattle.spk_reading.specs.Meaning.{IsReadFault, Says}
 use Rattle.spk_reading.specs.declared.fault.ReadFault.{ReadFault}
 use Rattle.spk_host_session.specs.declared.fault.HostFault.TheVariants as refused

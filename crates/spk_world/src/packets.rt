@@ -2,7 +2,7 @@
 ghost use Rattle.std.specs.Prelude.{◌≡◌, ◌⊎◌, false, None, IfOk, IfErr, OnErr, OnOk};
 ghost use Rattle.spk_packets.specs.Message.{Publish};
 ghost use Rattle.spk_packets.specs.Spelling.{spelling};
-ghost use Rattle.spk_edge_rules.specs.Answers.{is_writable};
+ghost use Rattle.spk_edge_rules.specs.Writable.{is_writable};
 ghost use Rattle.spk_edge.specs.View.{config_view};
 ghost use Rattle.spk_reading.specs.Data.{HeardData};
 ghost use Rattle.spk_reading.specs.Meaning.{Says};

@@ -12,12 +12,13 @@ use Rattle.spk_packets.specs.declared.fault.PacketFault.TheVariants.{BadText, Ba
 use Rattle.spk_payload.specs.Spelling as payload
 use Rattle.spk_edge_rules.specs.declared.fault.EdgeFault.{EdgeFault}
 use Rattle.spk_edge_rules.specs.declared.fault.EdgeFault.TheVariants as fault
-use Rattle.spk_edge_rules.specs.Answers.{Answer, checked, is_writable}
+use Rattle.spk_edge_rules.specs.Answers.{Answer, checked}
+use Rattle.spk_edge_rules.specs.Writable.{is_writable}
 use Rattle.spk_edge_rules.specs.Config.{Setup}
 use Rattle.spk_edge_rules.specs.Inputs.{Act, Open, Accepted, Change, Turn, Command, State, Drain, Stop, Cut, TurnedAway, Pass, Input}
 use Rattle.spk_edge_rules.specs.Packets.{client_of, connect_of, death_payload, death_topic, will_of}
 use Rattle.spk_edge_rules.specs.Rules.{Given, on_ok, rules}
-use Rattle.spk_edge_rules.specs.Run.{asked_of, opened, packets_of, right_at, run_of, session_number}
+use Rattle.spk_edge_rules.specs.Run.{asked_of, next_number, opened, packets_of, right_at, run_of, session_number}
 use Rattle.spk_edge_rules.specs.Step.{is_open}
 use Rattle.spk_world_run.specs.Step.{death_of}
 
@@ -83,7 +84,7 @@ answer-ok a = Ok a
 
 -- what is answered can be written
 pub all-writable : (s : Setup) (is : List Input) (i : Input) (answer : Answer) → right_at s (run_of s is) i ≡ Ok answer → list_all is_writable answer.packets ≡ true
-all-writable s is i answer = by (rules s.config (asked_of s (run_of s is)) i)
+all-writable s is i answer = by (rules s.config (next_number s (run_of s is)) (asked_of s (run_of s is)) i)
   where
     writable : (g : Given) (b : Bool) → list_all is_writable (packets_of s (run_of s is) g) ≡ b
         → cond b (answer-ok (record { given = g; packets = packets_of s (run_of s is) g })) (Err fault.TooLarge) ≡ Ok answer → list_all is_writable answer.packets ≡ true

@@ -9,7 +9,7 @@ use Rattle.spk_payload.specs.Spelling.{ContentFits, HoldsOther, MetricFits, Payl
 use Rattle.spk_packets.specs.Grammar.{Spells}
 use Rattle.spk_packets.specs.Message as packet
 use Rattle.spk_packets.specs.Spelling.{spelling}
-use Rattle.spk_edge_rules.specs.Answers.{is_writable}
+use Rattle.spk_edge_rules.specs.Writable.{is_writable}
 use Rattle.spk_edge_rules.specs.Claims.{HasNames, IsUnreserved, IsWhole}
 use Rattle.spk_edge_rules.specs.Config.{Config, Setup}
 use Rattle.spk_edge_rules.specs.Inputs.{Input}

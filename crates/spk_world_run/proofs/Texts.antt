@@ -12,7 +12,7 @@ use Rattle.spk_packets.specs.Grammar.{Spells}
 use Rattle.spk_packets.specs.Message.{Message, Publish}
 use Rattle.spk_packets.specs.Spelling.{HasWords, PacketFits, spelling, unwritable}
 use Rattle.spk_packets.specs.declared.fault.PacketFault.{PacketFault}
-use Rattle.spk_edge_rules.specs.Answers.{is_writable}
+use Rattle.spk_edge_rules.specs.Writable.{is_writable}
 use Rattle.spk_edge_rules.specs.Config.{Config}
 use Rattle.spk_edge_rules.specs.Packets.{death_topic}
 use Rattle.spk_world_run.specs.Step.{death_of}

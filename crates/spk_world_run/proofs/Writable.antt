@@ -4,7 +4,8 @@ use Rattle.std.specs.Prelude.{slice_get}
 use Rattle.std.specs.List.{list_all}
 use Rattle.std.proofs.lemmas.Bool.{and_parts}
 use Rattle.std.proofs.lemmas.List.Folds.{list_all-append}
-use Rattle.spk_edge_rules.specs.Answers.{Answer, is_writable}
+use Rattle.spk_edge_rules.specs.Answers.{Answer}
+use Rattle.spk_edge_rules.specs.Writable.{is_writable}
 use Rattle.spk_edge_rules.specs.Config.{Setup}
 use Rattle.spk_edge_rules.specs.Inputs.{Input}
 use Rattle.spk_edge_rules.specs.Messages.{Draft, opens, wire}

@@ -9,7 +9,7 @@ use Rattle.spk_sequence.specs.NodeRecord.{opens, session_at, start_of}
 use Rattle.spk_sequence.specs.Window.{handed_of}
 use Rattle.spk_topics.specs.Spark.{topic_of}
 use Rattle.spk_edge.specs.Along.{AllWhole, node_of}
-use Rattle.spk_edge_rules.specs.Answers.{is_writable}
+use Rattle.spk_edge_rules.specs.Writable.{is_writable}
 use Rattle.spk_edge_rules.specs.Claims.{HasNames, IsUnreserved}
 use Rattle.spk_edge_rules.specs.Config.{Setup}
 use Rattle.spk_edge_rules.specs.Inputs as edge

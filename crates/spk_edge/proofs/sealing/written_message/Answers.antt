@@ -1,6 +1,6 @@
 use Rattle.std.proofs.Common.{◌≡◌, ap, sym, ◌∙◌, ℕ, List, false, None}
 use Rattle.std.proofs.lemmas.Str.{IsUtf8-string_bytes}
-use Rattle.spk_edge_rules.specs.Answers.{is_writable}
+use Rattle.spk_edge_rules.specs.Writable.{is_writable}
 use Rattle.spk_packets.specs.Message.{Publish}
 use Rattle.spk_payload.specs.Spelling.{spelling}
 use Rattle.spk_edge.specs.Sealing.{wire_of}

@@ -2,7 +2,7 @@ use Rattle.std.proofs.Common.{◌∙◌, sym, ap, map, subst, List}
 use Rattle.std.proofs.lemmas.Result.{err_from_is_err_and}
 use Rattle.std.specs.List.{list_all}
 use Rattle.spk_packets.specs.Spelling as packet
-use Rattle.spk_edge_rules.specs.Answers.{is_writable}
+use Rattle.spk_edge_rules.specs.Writable.{is_writable}
 use Rattle.spk_edge.specs.Sealing.{AreKnown, AreWhole, IsWhole, wire_of}
 use Rattle.spk_edge.specs.View.{message_view}
 use Rattle.spk_edge.specs.declared.message.Published.{Published}

@@ -3,7 +3,7 @@ use Rattle.std.specs.List.{list_all}
 use Rattle.spk_packets.specs.Spelling as packet
 use Rattle.spk_edge.specs.Sealing.{AreWhole, wire_of}
 use Rattle.spk_edge.specs.View.{message_view}
-use Rattle.spk_edge_rules.specs.Answers.{is_writable}
+use Rattle.spk_edge_rules.specs.Writable.{is_writable}
 use Rattle.spk_edge.specs.Sealing.{bytes_of}
 use Rattle.spk_edge.proofs.sealing.written_messages.Given as goal
 

@@ -3,7 +3,7 @@ use Rattle.std.proofs.lemmas.Result.{err_from_is_err_and}
 use Rattle.std.specs.List.{list_all}
 use Rattle.spk_packets.specs.Spelling as packet
 use Rattle.spk_packets.specs.View.{view}
-use Rattle.spk_edge_rules.specs.Answers.{is_writable}
+use Rattle.spk_edge_rules.specs.Writable.{is_writable}
 use Rattle.spk_edge.proofs.Written.{bytes_more, unwritten_at, whole, writable_more}
 use Rattle.spk_edge.proofs.sealing.written_packets.Goals as goal
 

@@ -2,7 +2,7 @@ use Rattle.std.proofs.Common.{◌≡◌, true, map, take}
 use Rattle.std.specs.List.{list_all}
 use Rattle.spk_packets.specs.Spelling as packet
 use Rattle.spk_packets.specs.View.{view}
-use Rattle.spk_edge_rules.specs.Answers.{is_writable}
+use Rattle.spk_edge_rules.specs.Writable.{is_writable}
 use Rattle.spk_edge.specs.Sealing.{bytes_of}
 use Rattle.spk_edge.proofs.sealing.written_packets.Given as goal
 

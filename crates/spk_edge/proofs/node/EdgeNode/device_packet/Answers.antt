@@ -1,6 +1,6 @@
 use Rattle.std.proofs.Common.{◌≡◌, ◌∙◌, ap, sym, subst, ℕ, List, true, false, None}
 use Rattle.std.specs.Str.{IsUtf8}
-use Rattle.spk_edge_rules.specs.Answers.{is_writable}
+use Rattle.spk_edge_rules.specs.Writable.{is_writable}
 use Rattle.spk_packets.specs.Message.{Publish}
 use Rattle.spk_topics.specs.Spark.{topic_of}
 use Rattle.spk_topics.specs.Spark.Named.{of_device}

@@ -31,7 +31,7 @@ returns-in_ok-leaving-in-Stop-clause-given c =
 pub returns-in_ok-draining-in-Drain-clause-given : goal.returns-in_ok-draining-in-Drain-clause-given
 returns-in_ok-draining-in-Drain-clause-given c =
     let n = c.args.self.now in
-    gave-is n c.args.input Drain (rule.draining n.standing.asked c.args.input.now n.standing.asked.store.items) c.in_ok-draining-in-Drain.field-0 c.in-Drain.is refl c.in_ok-draining-in-Drain.ensures.given
+    gave-is n c.args.input Drain (rule.draining n.config n.standing.seq n.standing.asked c.args.input.now n.standing.asked.store.items) c.in_ok-draining-in-Drain.field-0 c.in-Drain.is refl c.in_ok-draining-in-Drain.ensures.given
 
 pub returns-in-Cut-clause-given : goal.returns-in-Cut-clause-given
 returns-in-Cut-clause-given c =

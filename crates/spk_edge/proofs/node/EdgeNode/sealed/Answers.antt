@@ -4,7 +4,7 @@ use Rattle.std.proofs.lemmas.Result.{err_from_is_err_and}
 use Rattle.spk_packets.specs.Spelling.{spelling}
 use Rattle.spk_packets.specs.View.{view}
 use Rattle.spk_packets.specs.declared.packet.Packet.{Packet}
-use Rattle.spk_edge_rules.specs.Answers.{is_writable}
+use Rattle.spk_edge_rules.specs.Writable.{is_writable}
 use Rattle.spk_edge.specs.Patch.{are_timely, numbers_of, packets_of}
 use Rattle.spk_edge.specs.Sealing.{AreWhole, seq_past, wire_of}
 use Rattle.spk_edge.specs.View.{MessageData, NodeData, given_view, message_view, numbering_view}
