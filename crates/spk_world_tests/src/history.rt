@@ -27,10 +27,10 @@ fn registry(alloc: Global) -> Result<Registry, DeviceFault> {
     Ok(registry)
 }
 
-fn edge(rt: &(impl Abort + AllocGlobal)) -> Result<EdgeNode, EdgeFault> {
+fn edge(alloc: Global) -> Result<EdgeNode, EdgeFault> {
     let config = EdgeConfig {
-        group: String::from_str(rt.alloc(), "G").expect(rt, "a group"),
-        node: String::from_str(rt.alloc(), "N").expect(rt, "a name"),
+        group: String::from_str(alloc, "G")?,
+        node: String::from_str(alloc, "N")?,
         primary: None,
         keep: 60,
         capacity: 8,
@@ -41,26 +41,27 @@ fn edge(rt: &(impl Abort + AllocGlobal)) -> Result<EdgeNode, EdgeFault> {
         bd: 0,
         stamp: None,
     };
-    EdgeNode::new(
-        rt.alloc(),
-        config,
-        record,
-        registry(rt.alloc()).expect(rt, "a registry"),
-    )
+    let Ok(registry) = registry(alloc) else {
+        return Err(EdgeFault::NoMemory);
+    };
+    EdgeNode::new(alloc, config, record, registry)
 }
 
-fn host(rt: &(impl Abort + AllocGlobal)) -> Result<Host, HostFault> {
+fn host_of(alloc: Global, width: Width) -> Result<Host, HostFault> {
+    let (Ok(name), Ok(group)) = (String::from_str(alloc, "H"), String::from_str(alloc, "G")) else {
+        return Err(HostFault::NoMemory);
+    };
     let config = HostConfig {
-        name: String::from_str(rt.alloc(), "H").expect(rt, "a name"),
-        group: String::from_str(rt.alloc(), "G").expect(rt, "a group"),
+        name,
+        group,
         wait: 2000,
         keep: 0,
-        width: Width::new(96).expect(rt, "a width"),
+        width,
     };
-    Host::new(rt.alloc(), config)
+    Host::new(alloc, config)
 }
 
-/// What the test asks of a node.
+/// What the test asks of a node. A call that is refused memory is made again.
 trait Keeps {
     fn keeps(&mut self, alias: u64, value: &Option<Value>) -> bool;
 
@@ -73,16 +74,27 @@ trait Keeps {
 
 impl Keeps for EdgeNode {
     fn keeps(&mut self, alias: u64, value: &Option<Value>) -> bool {
-        self.change(5, alias, value).is_ok()
+        match self.change(5, alias, value) {
+            Err(EdgeFault::NoMemory) => self.change(5, alias, value).is_ok(),
+            answer => answer.is_ok(),
+        }
     }
 
     fn joins(&mut self) -> Result<Out, EdgeFault> {
-        self.open(6)?;
-        self.accepted(7)
+        if self.open(6).is_err() {
+            self.open(6)?;
+        }
+        match self.accepted(7) {
+            Err(EdgeFault::NoMemory) => self.accepted(7),
+            answer => answer,
+        }
     }
 
     fn drains(&mut self) -> Result<Out, EdgeFault> {
-        self.drain(8)
+        match self.drain(8) {
+            Err(EdgeFault::NoMemory) => self.drain(8),
+            answer => answer,
+        }
     }
 
     fn left(&self) -> (usize, u64) {
@@ -114,11 +126,15 @@ fn said(metrics: &[Metric]) -> usize {
 
 impl Hears for Host {
     fn begins(&mut self) -> bool {
-        self.connected(5).is_ok()
+        self.connected(5).is_ok() || self.connected(5).is_ok()
     }
 
     fn takes(&mut self, bytes: &[u8]) -> (usize, usize) {
-        match self.packet(bytes, 9) {
+        let answer = match self.packet(bytes, 9) {
+            Err(HostFault::NoMemory) => self.packet(bytes, 9),
+            answer => answer,
+        };
+        match answer {
             Ok(out) => {
                 let mut size = 0usize;
                 for taken in &out.consumed {
@@ -143,7 +159,11 @@ static DRAINS: [(usize, usize); 3] = [(1, LONG), (1, LONG), (0, 0)];
 
 fn carry(rt: &(impl Abort + AllocGlobal), node: &mut impl Keeps, host: &mut impl Hears) {
     for alias in 1u64..3 {
-        let long = Some(Value::Words(letters(rt.alloc()).expect(rt, "a text")));
+        let text = match letters(rt.alloc()) {
+            Ok(text) => text,
+            Err(_) => letters(rt.alloc()).expect(rt, "a text"),
+        };
+        let long = Some(Value::Words(text));
         assert!(rt; node.keeps(alias, &long));
     }
     for alias in 1u64..3 {
@@ -166,7 +186,15 @@ fn carry(rt: &(impl Abort + AllocGlobal), node: &mut impl Keeps, host: &mut impl
 
 #[test]
 fn two_texts_that_no_packet_can_say_reach_a_host(rt: HostRuntime) {
-    let mut node = edge(&rt).expect(&rt, "a node");
-    let mut host = host(&rt).expect(&rt, "a host");
+    let alloc = rt.alloc();
+    let mut node = match edge(alloc) {
+        Ok(node) => node,
+        Err(_) => edge(alloc).expect(&rt, "a node"),
+    };
+    let width = Width::new(96).expect(&rt, "a width");
+    let mut host = match host_of(alloc, width) {
+        Ok(host) => host,
+        Err(_) => host_of(alloc, width).expect(&rt, "a host"),
+    };
     carry(&rt, &mut node, &mut host);
 }
