@@ -5,13 +5,13 @@ ghost use Rattle.spk_record.specs.Fault.{number_of};
 use std::alloc::AllocError;
 use thiserror::Error;
 
-/// Why bytes are no record, or none could be written.
+/// Why bytes are no record, or none was written.
 #[derive(Clone, Copy, Debug, PartialEq, Eq, Error)]
 pub enum RecordFault {
     /// A growth was refused.
     #[error("NoMemory")]
     NoMemory = 1,
-    /// The bytes are no JSON object with a whole `bd` below 256 and a whole `stamp` below 2^63.
+    /// The bytes are no JSON object with a whole `bd` below 256 and a whole `stamp` below 2^63, or a record that is to be written has a stamp of 2^63 or more.
     #[error("BadRecord")]
     BadRecord = 110,
 }

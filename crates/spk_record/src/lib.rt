@@ -5,6 +5,8 @@
 mod fault;
 pub mod laws;
 mod record;
+#[cfg(test)]
+mod tests;
 
 pub use fault::RecordFault;
 pub use record::Record;

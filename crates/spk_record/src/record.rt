@@ -58,13 +58,17 @@ impl Record {
         Record::read(alloc, bytes)
     }
 
-    /// Writes a record's text, as `{"bd":7,"stamp":5}`.
+    /// Writes a record's text, as `{"bd":7,"stamp":5}`. Refused with BadRecord (110) where the stamp is 2^63 or more: no text means such a record.
     pub fn encode(&self, alloc: Global) -> Result<String, RecordFault>
         ensures text { IfOk result (λ t. string_bytes t ≡ record_text self.now) }
-        ensures read_back { IfOk result
-            (λ t. self.now.stamp < 2 ^ 63 → MeansRecord (string_bytes t) self.now) }
-        ensures memory { IfErr result (λ e. e ≡ RecordFault.NoMemory) }
+        ensures read_back { IfOk result (λ t. MeansRecord (string_bytes t) self.now) }
+        // A stamp past the last moment is BadRecord, whatever memory there is, and no other record is refused but for memory.
+        ensures refused { IfErr result (λ e. ((e ≡ RecordFault.BadRecord) × (2 ^ 63 ≤ self.now.stamp))
+            ⊎ ((e ≡ RecordFault.NoMemory) × (self.now.stamp < 2 ^ 63))) }
     {
+        if self.stamp >= END {
+            return Err(RecordFault::BadRecord);
+        }
         Ok(self.value(alloc)?.to_string(alloc)?)
     }
 
