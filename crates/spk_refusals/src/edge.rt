@@ -1,16 +1,16 @@
 //! Calls of `spk_edge`.
-ghost use Rattle.std.specs.Prelude.{◌≡◌, IfOk, IfErr, OnErr};
+ghost use Rattle.std.specs.Prelude.{◌≡◌, true, false, IfOk, IfErr, OnErr, Err};
 ghost use Rattle.std.specs.Option.{option_map};
 ghost use Rattle.spk_payload.specs.Typing.{typed_view};
 ghost use Rattle.spk_edge_rules.specs.Inputs as inputs;
 ghost use Rattle.spk_edge.specs.Patch as patch;
-ghost use Rattle.spk_refusals.specs.Wrong.{IsBytesAlone};
+ghost use Rattle.spk_refusals.specs.Wrong.{AreTurned, IsCutPlan, IsStampRepeated, IsTurnedAnswer, further_on, not_passed, with_taken_up};
 
+use crate::turning::{Turn, turn_packets};
 use spk_device::{Alias, Registry};
-use spk_edge::{Act, EdgeConfig, EdgeFault, EdgeNode, Input, Out, Record};
-use spk_packets::{Packet, PublishRef};
-use spk_payload::{Payload, Value};
-use std::alloc::{AllocError, Global};
+use spk_edge::{Act, EdgeConfig, EdgeFault, EdgeNode, Input, Numbering, Out, Plan, Record};
+use spk_payload::Value;
+use std::alloc::Global;
 use std::marker::Model;
 
 /// A `spk_edge::EdgeNode`, and memory for wrong bodies.
@@ -60,135 +60,116 @@ impl Edge {
     }
 }
 
-/// The topic and the payload of a PUBLISH.
-fn message_of(alloc: Global, bytes: &[u8]) -> Option<(String, Payload)> {
-    let (packet, _size) = spk_packets::decode(alloc, bytes).ok()?;
-    let Packet::Publish { topic, payload, .. } = packet else {
-        return None;
-    };
-    let payload = spk_payload::decode(alloc, &payload).ok()?;
-    Some((topic, payload))
-}
-
-/// A PUBLISH of a topic and a payload.
-fn publish_of(alloc: Global, topic: &str, payload: &Payload) -> Option<Vec<u8>> {
-    let payload = spk_payload::encode(alloc, payload).ok()?;
-    let publish = PublishRef {
-        dup: false,
-        qos: 0,
-        retain: false,
-        topic,
-        id: None,
-        payload: &payload,
-    };
-    publish.encode(alloc).ok()
-}
-
-/// Each device's messages have numbers of their own, from 0.
-fn number_per_device(alloc: Global, answer: Result<Out, EdgeFault>) -> Result<Out, EdgeFault>
-    ensures { IsBytesAlone answer result }
+/// Each packet of an answer is turned that can be; all else stays.
+fn turned_out(alloc: Global, turn: Turn, out: Out) -> Out
+    ensures packets { AreTurned turn out.packets.items result.packets.items }
+    ensures writes { result.writes ≡ out.writes }
+    ensures close { result.close ≡ out.close }
 {
-    let mut out = answer?;
-    for packet in out.packets.iter_mut() {
-        if let Some((topic, mut payload)) = message_of(alloc, packet)
-            && topic
-                .as_bytes()
-                .iter()
-                .filter(|byte| **byte == b'/')
-                .count()
-                == 4
-        {
-            payload.seq = Some(0);
-            if let Some(bytes) = publish_of(alloc, topic.as_str(), &payload) {
-                *packet = bytes;
-            }
-        }
+    let mut out = out;
+    turn_packets(alloc, turn, &mut out.packets);
+    out
+}
+
+fn turned_answer(
+    alloc: Global,
+    turn: Turn,
+    answer: Result<Out, EdgeFault>,
+) -> Result<Out, EdgeFault>
+    ensures { IsTurnedAnswer turn answer result }
+{
+    match answer {
+        Ok(out) => Ok(turned_out(alloc, turn, out)),
+        Err(fault) => Err(fault),
     }
-    Ok(out)
+}
+
+/// The births of devices have number 0, as if each device counted its own messages.
+fn number_per_device(
+    turns: bool,
+    alloc: Global,
+    answer: Result<Out, EdgeFault>,
+) -> Result<Out, EdgeFault>
+    ensures control { turns ≡ false → result ≡ answer }
+    ensures turned { turns ≡ true → IsTurnedAnswer Turn.DeviceNumber answer result }
+{
+    if turns {
+        turned_answer(alloc, Turn::DeviceNumber, answer)
+    } else {
+        answer
+    }
 }
 
 /// The stamp of births is the last one again, where the clock isn't past it.
 fn birth_repeats_stamp(
+    turns: bool,
     alloc: Global,
     last: Option<u64>,
     now: u64,
     answer: Result<Out, EdgeFault>,
 ) -> Result<Out, EdgeFault>
-    ensures { IsBytesAlone answer result }
+    ensures control { turns ≡ false → result ≡ answer }
+    ensures turned { turns ≡ true → IsStampRepeated (not_passed last now) answer result }
+    ensures refusal { IfErr result (λ e. answer ≡ Err e) }
 {
-    let mut out = answer?;
-    if last < Some(now) {
-        return Ok(out);
+    match last {
+        Some(stamp) if turns && now <= stamp => turned_answer(alloc, Turn::Stamp(stamp), answer),
+        _ => answer,
     }
-    for packet in out.packets.iter_mut() {
-        if let Some((topic, mut payload)) = message_of(alloc, packet) {
-            payload.timestamp = last;
-            for metric in payload.metrics.iter_mut() {
-                metric.timestamp = last;
-            }
-            if let Some(bytes) = publish_of(alloc, topic.as_str(), &payload) {
-                *packet = bytes;
-            }
-        }
-    }
-    Ok(out)
 }
 
-/// A copy of what a node is.
-fn copied(alloc: Global, config: &EdgeConfig) -> Result<EdgeConfig, AllocError> {
-    let primary = match &config.primary {
-        Some(name) => Some(name.clone()?),
-        None => None,
-    };
-    Ok(EdgeConfig {
-        group: config.group.clone()?,
-        node: config.node.clone()?,
-        primary,
-        keep: config.keep,
-        capacity: config.capacity,
-        numbering: config.numbering,
-    })
-}
-
-/// A change that is kept spends a number: the node takes up a plan of another one, whose record is one number further.
-fn kept_change_takes_number(
-    answer: Result<Out, EdgeFault>,
-    alloc: Global,
-    node: &mut EdgeNode,
-    kept: usize,
-) -> Result<Out, EdgeFault>
-    ensures { result ≡ answer }
+/// Another node, with names of its own and without metrics, that goes on with this one's record, one number further.
+fn further_on(alloc: Global, node: &EdgeNode) -> Result<EdgeNode, EdgeFault>
+    ensures made { IfOk result (λ n. n ≡ further_on node.now) }
+    ensures fault { IfErr result (λ e. e ≡ EdgeFault.NoMemory) }
 {
-    if node.kept() > kept {
-        spend_number(alloc, node);
-    }
-    answer
-}
-
-fn spend_number(alloc: Global, node: &mut EdgeNode) {
-    if let Ok(other) = further(alloc, node) {
-        take_cut(node, &other);
-    }
-}
-
-/// Another node, without metrics, whose record is one number further.
-fn further(alloc: Global, node: &EdgeNode) -> Result<EdgeNode, EdgeFault> {
     let record = node.record();
     let start = Record {
         seq: record.seq.wrapping_add(1),
         bd: record.bd,
         stamp: record.stamp,
     };
-    let config = copied(alloc, node.config())?;
+    let config = EdgeConfig {
+        group: String::from_str(alloc, "g")?,
+        node: String::from_str(alloc, "n")?,
+        primary: None,
+        keep: 0,
+        capacity: 1,
+        numbering: Numbering::RunsOn,
+    };
     EdgeNode::new(alloc, config, start, Registry::new(alloc))
 }
 
-fn take_cut(node: &mut EdgeNode, other: &EdgeNode) {
-    if let Ok(plan) = other.plan(Input {
+/// The plan of a cut of such a node.
+fn plan_further_on(alloc: Global, node: &EdgeNode) -> Result<Plan, EdgeFault>
+    ensures planned { IfOk result (IsCutPlan (further_on node.now)) }
+    ensures fault { IfErr result (λ e. e ≡ EdgeFault.NoMemory) }
+{
+    let other = further_on(alloc, node)?;
+    other.plan(Input {
         now: 0,
         ack: None,
         act: Act::Cut,
-    }) {
-        let _taken = node.take_up(plan);
+    })
+}
+
+/// A change that is kept spends a number: where more are kept than before, the node takes up this plan, of another one that is a number further.
+fn kept_change_takes_number(
+    turns: bool,
+    answer: Result<Out, EdgeFault>,
+    node: &mut EdgeNode,
+    kept: usize,
+    plan: Option<Plan>,
+) -> Result<Out, EdgeFault>
+    ensures answer { result ≡ answer }
+    ensures control { turns ≡ false → node.new ≡ node.old }
+    ensures turned { turns ≡ true → node.new ≡ with_taken_up kept plan node.old }
+{
+    match plan {
+        Some(plan) if turns && node.kept() > kept => {
+            let _taken = node.take_up(plan);
+        }
+        _ => {}
     }
+    answer
 }

@@ -6,5 +6,6 @@ pub mod edge;
 pub mod packets;
 pub mod payload;
 pub mod plant;
+mod turning;
 pub mod view;
 pub mod world;

@@ -1,12 +1,12 @@
 //! Calls of `spk_packets`.
-ghost use Rattle.std.specs.Prelude.{◌≡◌, ℕ, ◌≤◌, length, take, IfOk, IfErr, IsTrue, OnOk, Ok, None, false};
+ghost use Rattle.std.specs.Prelude.{◌≡◌, ℕ, ◌≤◌, length, take, IfOk, IfErr, IsTrue, OnOk, Ok, None, true, false};
 ghost use Rattle.spk_packets.specs.Fault.{Gives, IsNamed, first_of, is_of_bytes};
 ghost use Rattle.spk_packets.specs.Message.{Message};
 ghost use Rattle.spk_packets.specs.Grammar.{Spells, keeps};
 ghost use Rattle.spk_packets.specs.Refusals.{refusals};
 ghost use Rattle.spk_packets.specs.Spelling.{spelling, unwritable};
 ghost use Rattle.spk_packets.specs.View.{view, front_view};
-ghost use Rattle.spk_refusals.specs.Wrong.{is_long, longer, refused_where};
+ghost use Rattle.spk_refusals.specs.Wrong.{IsLengthened, is_long, refused_where};
 
 use spk_packets::{Packet, PacketFault};
 use std::alloc::Global;
@@ -35,13 +35,28 @@ pub fn decode(alloc: Global, bytes: &[u8]) -> Result<(Packet, usize), PacketFaul
 }
 
 /// A remaining length of one byte is written in two.
-fn long_length_written(answer: Result<Vec<u8>, PacketFault>) -> Result<Vec<u8>, PacketFault>
-    ensures ok { IfOk result (λ v. IfOk answer (λ real. v.items ≡ longer real.items)) }
+fn long_length_written(
+    turns: bool,
+    answer: Result<Vec<u8>, PacketFault>,
+) -> Result<Vec<u8>, PacketFault>
+    ensures control { turns ≡ false → result ≡ answer }
+    ensures turned { turns ≡ true → IsLengthened answer result }
 {
-    let mut bytes = answer?;
+    if turns { lengthened(answer) } else { answer }
+}
+
+fn lengthened(answer: Result<Vec<u8>, PacketFault>) -> Result<Vec<u8>, PacketFault>
+    ensures { IsLengthened answer result }
+{
+    let mut bytes = match answer {
+        Ok(bytes) => bytes,
+        Err(fault) => return Err(fault),
+    };
     if bytes.len() >= 2 && bytes[1] < 128 {
         bytes[1] += 128;
-        bytes.insert(2, 0)?;
+        if bytes.insert(2, 0).is_err() {
+            return Err(PacketFault::NoMemory);
+        }
     }
     Ok(bytes)
 }

@@ -1,8 +1,9 @@
 //! Calls of `spk_plant`.
-ghost use Rattle.std.specs.Prelude.{◌≡◌, [], false, IfOk, IfErr, OnOk};
+ghost use Rattle.std.specs.Prelude.{◌≡◌, true, false, IfOk, IfErr, OnOk};
 ghost use Rattle.spk_plan_rules.specs.Plan.{CanRun, IsMade};
 ghost use Rattle.spk_plant.specs.Choice.{IsFault};
 ghost use Rattle.spk_plant.specs.Report.{RunsAs};
+ghost use Rattle.spk_refusals.specs.Wrong.{IsEmptied, IsReportEmptied};
 
 use spk_plan::{Gate, Plan, PlantFault};
 use spk_plant::Report;
@@ -26,13 +27,10 @@ pub fn run_plant<R: Threads + Wait + Sync, G: Gate + Sync>(
 }
 
 /// Nothing is said of what was taken, refused and given.
-fn empty_report(alloc: Global, answer: Result<Report, PlantFault>) -> Result<Report, PlantFault>
-    ensures { IfOk result (λ r. IfOk answer (λ real. (r.nodes ≡ real.nodes) × (r.taken.items ≡ [])
-        × (r.refusals.items ≡ []) × (r.given.items ≡ []) × (r.accepted.items ≡ [])
-        × (r.refused ≡ 0) × (r.is_cut ≡ false))) }
+fn emptied(alloc: Global, report: Report) -> Report
+    ensures { IsEmptied report result }
 {
-    let report = answer?;
-    Ok(Report {
+    Report {
         taken: Vec::new(alloc),
         refusals: Vec::new(alloc),
         nodes: report.nodes,
@@ -40,5 +38,23 @@ fn empty_report(alloc: Global, answer: Result<Report, PlantFault>) -> Result<Rep
         accepted: Vec::new(alloc),
         refused: 0,
         is_cut: false,
-    })
+    }
+}
+
+/// A report says nothing of what was taken, refused and given.
+fn empty_report(
+    turns: bool,
+    alloc: Global,
+    answer: Result<Report, PlantFault>,
+) -> Result<Report, PlantFault>
+    ensures control { turns ≡ false → result ≡ answer }
+    ensures turned { turns ≡ true → IsReportEmptied answer result }
+{
+    if !turns {
+        return answer;
+    }
+    match answer {
+        Ok(report) => Ok(emptied(alloc, report)),
+        Err(fault) => Err(fault),
+    }
 }
