@@ -12,6 +12,8 @@ mod indexed;
 #[cfg(test)]
 mod limits;
 #[cfg(test)]
+mod pressure;
+#[cfg(test)]
 mod serve;
 #[cfg(test)]
 mod twin;

@@ -1,5 +1,6 @@
 -- How long others wait for one client (own rules). Moments and times are in milliseconds.
 use Rattle.std.specs.Prelude.{ℕ, ◌+◌, ◌-◌, min, nat_lt, nat_le, Bool, true, false, Option, Some, None, if◌then◌else◌}
+use Rattle.std.specs.Option.{option_map}
 
 pub record Waits : Type 0 where
   -- when the second began
@@ -45,3 +46,11 @@ tried now w = if nat_lt w.used most_waited then record w { since = Some now } el
 
 abbrev pub began : ℕ → Waits → Waits
 began now w = if lasts now w then w else tried now (renewed now (ended now w))
+
+-- the greatest moment: it has 64 bits
+abbrev pub last_moment : ℕ
+last_moment = 18446744073709551615
+
+-- when the wait that goes on is over at the latest
+abbrev pub until : Waits → Option ℕ
+until w = option_map (λ since. min (since + min (most_waited - w.used) most_at_once) last_moment) w.since

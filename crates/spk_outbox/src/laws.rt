@@ -3,7 +3,7 @@
 ghost use Rattle.std.specs.Prelude.{◌≡◌, ◌+◌, ◌-◌, ◌<◌, ◌≤◌, ◌++◌, ℕ, List, Some, None, true, false};
 ghost use Rattle.spk_outbox.specs.Data.{fresh_outbox, waiting};
 ghost use Rattle.spk_outbox.specs.Calls.{Call, after, owed, sent};
-ghost use Rattle.spk_outbox.specs.Waits.{Waits, began, ended, lasts, most_at_once, most_waited};
+ghost use Rattle.spk_outbox.specs.Waits.{Waits, began, ended, lasts, last_moment, most_at_once, most_waited, until};
 
 /// What was written and what waits are together the packets that were taken, byte for byte and in order.
 pub fn written_and_waiting_are_owed()
@@ -22,4 +22,6 @@ pub fn waits_are_bounded()
         → since + most_at_once ≤ now → most_waited ≤ (ended now w).used }
     ensures added { (w : Waits) (now since : ℕ) → w.since ≡ Some since → lasts now w ≡ true
         → (ended now w).used ≡ w.used + (now - since) }
+    ensures over { (w : Waits) (now last : ℕ) → until w ≡ Some last → last ≤ now → now < last_moment
+        → lasts now w ≡ false }
 {}

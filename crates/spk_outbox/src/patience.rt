@@ -1,6 +1,6 @@
 //! How long others wait for one slow client.
 ghost use Rattle.std.specs.Prelude.{◌≡◌};
-ghost use Rattle.spk_outbox.specs.Waits.{began, ended, fresh_waits, lasts};
+ghost use Rattle.spk_outbox.specs.Waits.{began, ended, fresh_waits, lasts, until};
 
 use std::marker::Model;
 
@@ -54,8 +54,10 @@ impl Patience {
         }
     }
 
-    /// When the wait that goes on is over at the latest; none where nobody waits. No contract speaks of it.
-    pub fn until(&self) -> Option<u64> {
+    /// When the wait that goes on is over at the latest; none where nobody waits.
+    pub fn until(&self) -> Option<u64>
+        ensures { result ≡ until self.now }
+    {
         let since = self.since?;
         Some(since.saturating_add(MOST.saturating_sub(self.used).min(WAIT)))
     }

@@ -1,0 +1,5 @@
+pub mod Allowed
+pub mod Rooms
+pub mod Runs
+pub mod Taking
+pub mod Times

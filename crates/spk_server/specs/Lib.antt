@@ -1,2 +1,7 @@
 pub mod Answers
+pub mod Calls
+pub mod Data
 pub mod Fault
+pub mod Log
+pub mod Rooms
+pub mod Step

@@ -1,10 +1,8 @@
 //! The calls of the broker for a client that it may not know any more.
-ghost use Rattle.std.specs.Prelude.{◌≡◌, IfOk, OnErr, false};
-ghost use Rattle.std.specs.Option.{IfSome, IfNone};
+ghost use Rattle.std.specs.Prelude.{◌≡◌, IfOk, OnErr};
 ghost use Rattle.spk_packets.specs.View.{view};
 ghost use Rattle.spk_broker_rules.specs.Plan as event;
-ghost use Rattle.spk_broker_rules.specs.Step.{knows};
-ghost use Rattle.spk_server.specs.Answers.{Answers};
+ghost use Rattle.spk_server.specs.Answers.{AnswersOn};
 
 use crate::fault::ServerFault;
 use spk_broker::{Broker, BrokerFault, Conn, Out};
@@ -18,9 +16,7 @@ pub(crate) fn packet_on(
     packet: &Packet,
     now: u64,
 ) -> Result<Option<Out>, ServerFault>
-    ensures some { IfOk result (λ o. IfSome o
-        (λ out. Answers broker.old broker.new (event.Packet conn (view packet.now) now) out)) }
-    ensures none { IfOk result (λ o. IfNone o ((broker.new ≡ broker.old) × (knows broker.old conn ≡ false))) }
+    ensures on { IfOk result (AnswersOn conn broker.old broker.new (event.Packet conn (view packet.now) now)) }
     ensures err { OnErr result (broker.new ≡ broker.old) }
 {
     match broker.packet(conn, packet, now) {
@@ -37,9 +33,7 @@ pub(crate) fn fault_on(
     fault: PacketFault,
     now: u64,
 ) -> Result<Option<Out>, ServerFault>
-    ensures some { IfOk result (λ o. IfSome o
-        (λ out. Answers broker.old broker.new (event.Fault conn fault now) out)) }
-    ensures none { IfOk result (λ o. IfNone o ((broker.new ≡ broker.old) × (knows broker.old conn ≡ false))) }
+    ensures on { IfOk result (AnswersOn conn broker.old broker.new (event.Fault conn fault now)) }
     ensures err { OnErr result (broker.new ≡ broker.old) }
 {
     match broker.fault(conn, fault, now) {
@@ -55,9 +49,7 @@ pub(crate) fn closed_on(
     conn: Conn,
     now: u64,
 ) -> Result<Option<Out>, ServerFault>
-    ensures some { IfOk result (λ o. IfSome o
-        (λ out. Answers broker.old broker.new (event.Closed conn now) out)) }
-    ensures none { IfOk result (λ o. IfNone o ((broker.new ≡ broker.old) × (knows broker.old conn ≡ false))) }
+    ensures on { IfOk result (AnswersOn conn broker.old broker.new (event.Closed conn now)) }
     ensures err { OnErr result (broker.new ≡ broker.old) }
 {
     match broker.closed(conn, now) {
@@ -74,9 +66,7 @@ pub(crate) fn refused_on(
     sort: Sort,
     now: u64,
 ) -> Result<Option<Out>, ServerFault>
-    ensures some { IfOk result (λ o. IfSome o
-        (λ out. Answers broker.old broker.new (event.Refused conn sort now) out)) }
-    ensures none { IfOk result (λ o. IfNone o ((broker.new ≡ broker.old) × (knows broker.old conn ≡ false))) }
+    ensures on { IfOk result (AnswersOn conn broker.old broker.new (event.Refused conn sort now)) }
     ensures err { OnErr result (broker.new ≡ broker.old) }
 {
     match broker.refused(conn, sort, now) {

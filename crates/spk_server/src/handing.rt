@@ -1,7 +1,13 @@
 //! What the broker answers: packets to clients, and ends.
-ghost use Rattle.std.specs.Prelude.{◌≡◌, ℕ, OnOk, Ok, false, true};
+ghost use Rattle.std.specs.Prelude.{◌≡◌, ◌⊎◌, ◌++◌, ◌∷◌, [], ℕ, List, Option, Some, None, map, IfOk, OnOk, Ok, false, true};
+ghost use Rattle.spk_broker.specs.Sent.{sent_view};
+ghost use Rattle.spk_broker_rules.specs.Plan as event;
+ghost use Rattle.spk_clients.specs.Data.{AreNoted, IsSettled};
+ghost use Rattle.spk_server.specs.Data.{InHand, Offer, Slow};
+ghost use Rattle.spk_server.specs.Step.{called_on, changed, grace, later, left, offer_of};
+ghost use Rattle.spk_server.specs.Log.{Reaches, follows};
+ghost use Rattle.spk_server.specs.Rooms.{amid, closes_in, offers_in, offers_of, pressed, room_of};
 ghost use Rattle.spk_clients.specs.Client.{leaves};
-ghost use Rattle.spk_clients.specs.Data.{AreNoted, Becomes, IsSettled};
 
 use crate::answers::{closed_on, refused_on};
 use crate::fault::ServerFault;
@@ -13,23 +19,27 @@ use spk_session::Sort;
 const GRACE: u64 = 5_000;
 
 impl Server {
-    /// Puts a packet behind those that wait for its client, or notes that it was refused.
-    fn offer(&mut self, send: Outgoing) -> Result<(), ServerFault>
+    /// Puts a packet behind those that wait for its client, or notes that it was refused. The client where many wait for it by
+    /// now, else who was slow before.
+    fn offer(&mut self, send: Outgoing, slow: Option<Conn>) -> Result<Option<Conn>, ServerFault>
+        ensures hands { IfOk result (λ r. (by : Option ℕ) (rest : List Offer) (closes : List ℕ)
+            (before : Option Slow) → Reaches follows
+            (amid self.old (offer_of by (sent_view send) ∷ rest) closes (pressed by slow before))
+            (amid self.new rest closes (pressed by r before))) }
         ensures noted { OnOk result (AreNoted self.old.clients → AreNoted self.new.clients) }
     {
         let Outgoing { conn, sort, bytes } = send;
         let (_, has_many) = self.clients.offer(conn, sort, bytes)?;
         if has_many {
-            self.pressing = Some(conn);
+            return Ok(Some(conn));
         }
-        Ok(())
+        Ok(slow)
     }
 
     /// A client's end came. Its socket is shut once all is written, at once or within five seconds.
     pub(crate) fn over(&mut self, conn: Conn) -> Result<(), ServerFault>
-        ensures ended { OnOk result ((until : ℕ)
-            × Becomes (leaves until) conn self.old.clients self.new.clients) }
-        ensures broker { self.new.broker ≡ self.old.broker }
+        ensures ended { OnOk result (room_of self.new
+            ≡ changed (leaves (later grace self.old.now)) conn (room_of self.old)) }
         ensures noted { OnOk result (AreNoted self.old.clients → AreNoted self.new.clients) }
     {
         let until = self.now.saturating_add(GRACE);
@@ -38,18 +48,25 @@ impl Server {
         Ok(())
     }
 
-    /// Offers these packets, in order.
-    fn offer_all(&mut self, sends: Vec<Outgoing>) -> Result<(), ServerFault>
+    /// Offers these packets, in order. The last client among theirs for whom many wait.
+    fn offer_all(&mut self, sends: Vec<Outgoing>) -> Result<Option<Conn>, ServerFault>
+        ensures hands { IfOk result (λ r. (by : Option ℕ) (closes : List ℕ) (before : Option Slow)
+            → Reaches follows (amid self.old (offers_of by sends.items) closes before)
+            (amid self.new [] closes (pressed by r before))) }
         ensures noted { OnOk result (AreNoted self.old.clients → AreNoted self.new.clients) }
     {
+        let mut slow = None;
         for send in sends {
-            self.offer(send)?;
+            slow = self.offer(send, slow)?;
         }
-        Ok(())
+        Ok(slow)
     }
 
     /// The ends of these clients came.
     fn end_all(&mut self, closes: Vec<Conn>) -> Result<(), ServerFault>
+        ensures hands { OnOk result ((more : List ℕ) (slow : Option Slow)
+            → Reaches follows (amid self.old [] (closes.items ++ more) slow)
+            (amid self.new [] more slow)) }
         ensures noted { OnOk result (AreNoted self.old.clients → AreNoted self.new.clients) }
     {
         for conn in closes {
@@ -58,53 +75,70 @@ impl Server {
         Ok(())
     }
 
-    /// Offers what a call answered, in order, and then ends those whom it closes.
-    pub(crate) fn hand_out(&mut self, out: Out) -> Result<(), ServerFault>
+    /// Offers what a call answered, in order, and then ends those whom it closes. The last client among those it sends to for
+    /// whom many wait.
+    fn hand_out(&mut self, out: Out) -> Result<Option<Conn>, ServerFault>
+        ensures hands { IfOk result (λ r. (by : Option ℕ) (more : List ℕ) (before : Option Slow)
+            → Reaches follows
+            (amid self.old (offers_of by out.sends.items) (out.closes.items ++ more) before)
+            (amid self.new [] more (pressed by r before))) }
         ensures noted { OnOk result (AreNoted self.old.clients → AreNoted self.new.clients) }
     {
         let Out { sends, closes } = out;
-        self.offer_all(sends)?;
+        let slow = self.offer_all(sends)?;
         self.end_all(closes)?;
-        Ok(())
+        Ok(slow)
     }
 
-    /// A client's end comes to the broker.
-    pub(crate) fn come_to_end(&mut self, conn: Conn) -> Result<(), ServerFault>
+    /// The same, where there is an answer.
+    pub(crate) fn hand_on(&mut self, answer: Option<Out>) -> Result<Option<Conn>, ServerFault>
+        ensures hands { IfOk result (λ r. (by : Option ℕ) (more : List ℕ) (before : Option Slow)
+            → Reaches follows
+            (amid self.old (offers_in by answer) (closes_in answer ++ more) before)
+            (amid self.new [] more (pressed by r before))) }
         ensures noted { OnOk result (AreNoted self.old.clients → AreNoted self.new.clients) }
     {
-        let Some(out) = closed_on(&mut self.broker, conn, self.now)? else {
-            return Ok(());
+        let Some(out) = answer else {
+            return Ok(None);
         };
-        self.hand_out(out)?;
-        Ok(())
+        let slow = self.hand_out(out)?;
+        Ok(slow)
     }
 
     /// Ends a client's connection without its packet: its will is routed.
     pub(crate) fn end(&mut self, conn: Conn) -> Result<(), ServerFault>
+        ensures ends { OnOk result ((before : Option Slow)
+            → Reaches follows (left conn (amid self.old [] [] before))
+            (amid self.new [] [] before)) }
         ensures noted { OnOk result (AreNoted self.old.clients → AreNoted self.new.clients) }
     {
         self.over(conn)?;
-        self.come_to_end(conn)?;
+        let answer = closed_on(&mut self.broker, conn, self.now)?;
+        self.hand_on(answer)?;
         Ok(())
     }
 
     /// A refused packet comes to the broker. Where memory is refused its client is ended.
     fn come_refused(&mut self, conn: Conn, sort: Sort) -> Result<(), ServerFault>
+        ensures tells { OnOk result ((before : Option Slow)
+            → Reaches follows
+            (called_on None conn (event.Refused conn sort self.old.now) (amid self.old [] [] before))
+            (amid self.new [] [] before)
+            ⊎ Reaches follows (left conn (amid self.old [] [] before)) (amid self.new [] [] before)) }
         ensures noted { OnOk result (AreNoted self.old.clients → AreNoted self.new.clients) }
     {
         let Ok(answer) = refused_on(&mut self.broker, conn, sort, self.now) else {
             self.end(conn)?;
             return Ok(());
         };
-        let Some(out) = answer else {
-            return Ok(());
-        };
-        self.hand_out(out)?;
+        self.hand_on(answer)?;
         Ok(())
     }
 
     /// Tells the broker of the next refused packet. Whether there was one.
     fn tell(&mut self) -> Result<bool, ServerFault>
+        ensures tells { OnOk result ((before : Option Slow)
+            → Reaches follows (amid self.old [] [] before) (amid self.new [] [] before)) }
         ensures noted { OnOk result (AreNoted self.old.clients → AreNoted self.new.clients) }
         ensures told { result ≡ Ok false → AreNoted self.old.clients → IsSettled self.new.clients }
     {
@@ -120,6 +154,8 @@ impl Server {
 
     /// Tells the broker of all refused packets.
     pub(crate) fn tell_all(&mut self) -> Result<(), ServerFault>
+        ensures tells { OnOk result ((before : Option Slow)
+            → Reaches follows (amid self.old [] [] before) (amid self.new [] [] before)) }
         ensures settled { OnOk result (AreNoted self.old.clients → IsSettled self.new.clients) }
     {
         for _ in 0..u64::MAX {

@@ -1,6 +1,14 @@
 //! What time brings.
-ghost use Rattle.std.specs.Prelude.{◌≡◌, OnOk, Ok, false, true};
-ghost use Rattle.spk_clients.specs.Data.{AreNoted, IsSettled};
+ghost use Rattle.std.specs.Prelude.{◌≡◌, [], Option, OnOk, Ok, false, true};
+ghost use Rattle.spk_clients.specs.Client.{is_due};
+ghost use Rattle.spk_clients.specs.Data.{AreNoted, IsSettled, client_at};
+ghost use Rattle.std.specs.Option.{option_map_or};
+ghost use Rattle.spk_server.specs.Step.{is_quiet};
+ghost use Rattle.spk_server.specs.Data.{Slow};
+ghost use Rattle.spk_server.specs.Calls.{IsDone};
+ghost use Rattle.spk_server.specs.Calls as call;
+ghost use Rattle.spk_server.specs.Log.{HasClient, Reaches, calls, follows};
+ghost use Rattle.spk_server.specs.Rooms.{amid, room_of};
 
 use crate::fault::ServerFault;
 use crate::server::Server;
@@ -13,6 +21,8 @@ const TICK: u64 = 1_000;
 impl Server {
     /// Tells the broker of the time, where it has gone on. Where memory is refused it is told later.
     pub(crate) fn tick(&mut self) -> Result<(), ServerFault>
+        ensures ticks { OnOk result (IsSettled self.old.clients → (before : Option Slow)
+            → Reaches follows (amid self.old [] [] before) (amid self.new [] [] before)) }
         ensures settled { OnOk result (IsSettled self.old.clients → IsSettled self.new.clients) }
     {
         if self.now <= self.ticked {
@@ -22,16 +32,29 @@ impl Server {
             return Ok(());
         };
         self.ticked = self.now;
-        self.hand_out(out)?;
+        self.hand_on(Some(out))?;
         self.tell_all()?;
         Ok(())
     }
 
+    /// Whether a client sent no packet yet.
+    fn is_quiet(&self, conn: Conn) -> bool
+        ensures { result ≡ option_map_or (λ c. is_quiet c.phase) (client_at self.entry.now.clients conn) false }
+    {
+        match self.clients.get(conn) {
+            Some(client) => matches!(client.phase, Phase::Quiet),
+            None => false,
+        }
+    }
+
     /// A client's moment has come: one without CONNECT is ended, and the socket of one whose end came is shut.
     fn call(&mut self, conn: Conn) -> Result<(), ServerFault>
+        ensures calls { OnOk result (IsSettled self.old.clients
+            → HasClient (λ c. is_due self.old.now c ≡ true) conn (room_of self.old)
+            → Reaches calls (room_of self.old) (room_of self.new)) }
         ensures settled { OnOk result (IsSettled self.old.clients → IsSettled self.new.clients) }
     {
-        if self.clients.phase(conn) == Some(Phase::Quiet) {
+        if self.is_quiet(conn) {
             self.give_up(conn)?;
             return Ok(());
         }
@@ -41,6 +64,8 @@ impl Server {
 
     /// Calls those whose moment has come.
     fn call_all(&mut self) -> Result<(), ServerFault>
+        ensures calls { OnOk result (IsSettled self.old.clients
+            → Reaches calls (room_of self.old) (room_of self.new)) }
         ensures settled { OnOk result (IsSettled self.old.clients → IsSettled self.new.clients) }
     {
         for _ in 0..self.clients.len() {
@@ -54,6 +79,8 @@ impl Server {
 
     /// Calls the next one whose moment has come. Whether there was one: where there is none, nothing changes.
     fn call_next(&mut self) -> Result<bool, ServerFault>
+        ensures calls { OnOk result (IsSettled self.old.clients
+            → Reaches calls (room_of self.old) (room_of self.new)) }
         ensures none { result ≡ Ok false → self.new ≡ self.old }
         ensures settled { OnOk result (IsSettled self.old.clients → IsSettled self.new.clients) }
     {
@@ -66,6 +93,8 @@ impl Server {
 
     /// Calls those whose moment has come, where one has.
     fn call_due(&mut self) -> Result<(), ServerFault>
+        ensures calls { OnOk result (IsSettled self.old.clients
+            → Reaches calls (room_of self.old) (room_of self.new)) }
         ensures settled { OnOk result (IsSettled self.old.clients → IsSettled self.new.clients) }
     {
         if self.now < self.soonest {
@@ -77,6 +106,8 @@ impl Server {
 
     /// Tells the broker of the time, once a second.
     fn tick_due(&mut self) -> Result<(), ServerFault>
+        ensures calls { OnOk result (IsSettled self.old.clients
+            → Reaches calls (room_of self.old) (room_of self.new)) }
         ensures settled { OnOk result (IsSettled self.old.clients → IsSettled self.new.clients) }
     {
         if self.now < self.ticked.saturating_add(TICK) {
@@ -88,6 +119,8 @@ impl Server {
 
     /// Time has passed: it is to be called when `due` says, and may be called at any time.
     pub fn moment(&mut self, now: u64) -> Result<(), ServerFault>
+        ensures done { OnOk result (IsSettled self.old.clients
+            → IsDone (call.Moment now) (room_of self.old) (room_of self.new)) }
         ensures settled { OnOk result (IsSettled self.old.clients → IsSettled self.new.clients) }
     {
         self.at(now);

@@ -1,6 +1,18 @@
 //! What clients send.
-ghost use Rattle.std.specs.Prelude.{◌≡◌, OnOk, Ok, false, true};
-ghost use Rattle.spk_clients.specs.Data.{AreNoted, IsSettled};
+ghost use Rattle.std.specs.Prelude.{◌≡◌, ◌≢◌, ◌⊎◌, [], Option, IfOk, OnOk, Ok, false, true};
+ghost use Rattle.spk_packets.specs.Fault.{first_of, IsNamed};
+ghost use Rattle.spk_packets.specs.Refusals.{refusals};
+ghost use Rattle.spk_packets.specs.View.{view};
+ghost use Rattle.spk_packets.specs.declared.fault.PacketFault.TheVariants as PacketFault;
+ghost use Rattle.spk_broker_rules.specs.Plan as event;
+ghost use Rattle.spk_clients.specs.Client.{is_over};
+ghost use Rattle.spk_clients.specs.Data.{AreNoted, IsSettled, client_at};
+ghost use Rattle.spk_server.specs.Calls.{IsDone, IsTakenUp, RanOut, TookUp};
+ghost use Rattle.spk_server.specs.Calls as call;
+ghost use Rattle.spk_server.specs.Data.{Slow};
+ghost use Rattle.spk_server.specs.Step.{broke, ends_behind, is_disconnect, is_publish, left};
+ghost use Rattle.spk_server.specs.Log.{HasClient, Reaches, follows, is_open, takes};
+ghost use Rattle.spk_server.specs.Rooms.{amid, room_of, slow_for, with_packet};
 
 use crate::answers::{fault_on, packet_on};
 use crate::fault::ServerFault;
@@ -8,80 +20,100 @@ use crate::server::Server;
 use spk_broker::Conn;
 use spk_packets::{Packet, PacketFault};
 
+/// Whether a packet publishes.
+fn is_publish(packet: &Packet) -> bool
+    ensures { result ≡ is_publish (view packet.now) }
+{
+    matches!(packet, Packet::Publish { .. })
+}
+
+/// Whether a packet is a client's own end.
+fn is_disconnect(packet: &Packet) -> bool
+    ensures { result ≡ is_disconnect (view packet.now) }
+{
+    matches!(packet, Packet::Disconnect)
+}
+
 impl Server {
-    /// A packet of a client comes to the broker. Where memory is refused the client is ended.
-    fn come_packet(&mut self, conn: Conn, packet: &Packet) -> Result<(), ServerFault>
-        ensures noted { OnOk result (AreNoted self.old.clients → AreNoted self.new.clients) }
-    {
-        self.clients.heard(conn, packet);
-        let Ok(answer) = packet_on(&mut self.broker, conn, packet, self.now) else {
-            self.end(conn)?;
-            return Ok(());
-        };
-        let Some(out) = answer else {
-            return Ok(());
-        };
-        self.hand_out(out)?;
-        Ok(())
-    }
-
-    /// A client's end came, besides.
-    fn leave(&mut self, conn: Conn) -> Result<(), ServerFault>
-        ensures noted { OnOk result (AreNoted self.old.clients → AreNoted self.new.clients) }
-    {
-        self.over(conn)?;
-        Ok(())
-    }
-
     /// Behind a DISCONNECT a client's end came.
     fn leave_behind(&mut self, conn: Conn, packet: &Packet) -> Result<(), ServerFault>
+        ensures ends { OnOk result ((before : Option Slow) → Reaches follows
+            (amid self.old [] (ends_behind (record { conn = conn; packet = view packet.now })) before)
+            (amid self.new [] [] before)) }
         ensures noted { OnOk result (AreNoted self.old.clients → AreNoted self.new.clients) }
     {
-        if matches!(packet, Packet::Disconnect) {
-            self.leave(conn)?;
+        if is_disconnect(packet) {
+            self.over(conn)?;
             return Ok(());
         }
         Ok(())
     }
 
+    /// A packet of a client comes to the broker. Where memory is refused the client is ended. Of a PUBLISH the last of those to
+    /// whom it goes and for whom many packets wait.
+    fn come_packet(&mut self, conn: Conn, packet: &Packet) -> Result<Option<Conn>, ServerFault>
+        ensures comes { IfOk result (λ slow. Reaches (takes conn)
+            (with_packet conn (view packet.now) (room_of self.old))
+            (amid self.new [] [] (slow_for conn slow))) }
+        ensures noted { OnOk result (AreNoted self.old.clients → AreNoted self.new.clients) }
+    {
+        self.clients.heard(conn, packet);
+        let Ok(answer) = packet_on(&mut self.broker, conn, packet, self.now) else {
+            self.end(conn)?;
+            return Ok(None);
+        };
+        let slow = self.hand_on(answer)?;
+        self.leave_behind(conn, packet)?;
+        if is_publish(packet) {
+            return Ok(slow);
+        }
+        Ok(None)
+    }
+
     /// A packet of a client, and what comes of it.
-    fn packet(&mut self, conn: Conn, packet: &Packet) -> Result<(), ServerFault>
+    fn packet(&mut self, conn: Conn, packet: &Packet) -> Result<Option<Conn>, ServerFault>
+        ensures comes { IfOk result (λ slow. AreNoted self.old.clients → Reaches (takes conn)
+            (with_packet conn (view packet.now) (room_of self.old))
+            (amid self.new [] [] (slow_for conn slow))) }
         ensures settled { OnOk result (AreNoted self.old.clients → IsSettled self.new.clients) }
     {
-        self.come_packet(conn, packet)?;
-        self.leave_behind(conn, packet)?;
+        let slow = self.come_packet(conn, packet)?;
         self.tell_all()?;
         self.tick()?;
-        Ok(())
+        Ok(slow)
     }
 
     /// Bytes of a client that are no packet come to the broker. Where memory is refused the client is ended.
     fn come_fault(&mut self, conn: Conn, fault: PacketFault) -> Result<(), ServerFault>
+        ensures comes { OnOk result (Reaches follows
+            (broke conn (event.Fault conn fault self.old.now) (room_of self.old)) (room_of self.new)
+            ⊎ Reaches follows (left conn (room_of self.old)) (room_of self.new)) }
         ensures noted { OnOk result (AreNoted self.old.clients → AreNoted self.new.clients) }
     {
         let Ok(answer) = fault_on(&mut self.broker, conn, fault, self.now) else {
             self.end(conn)?;
             return Ok(());
         };
-        let Some(out) = answer else {
-            return Ok(());
-        };
-        self.hand_out(out)?;
+        self.hand_on(answer)?;
+        self.over(conn)?;
         Ok(())
     }
 
     /// Bytes of a client that are no packet, and what comes of them.
     fn fault(&mut self, conn: Conn, fault: PacketFault) -> Result<(), ServerFault>
+        ensures comes { OnOk result (Reaches follows
+            (broke conn (event.Fault conn fault self.old.now) (room_of self.old)) (room_of self.new)
+            ⊎ Reaches follows (left conn (room_of self.old)) (room_of self.new)) }
         ensures settled { OnOk result (AreNoted self.old.clients → IsSettled self.new.clients) }
     {
         self.come_fault(conn, fault)?;
-        self.leave(conn)?;
         self.tell_all()?;
         Ok(())
     }
 
     /// Ends a client's connection.
     pub(crate) fn give_up(&mut self, conn: Conn) -> Result<(), ServerFault>
+        ensures ends { OnOk result (Reaches follows (left conn (room_of self.old)) (room_of self.new)) }
         ensures settled { OnOk result (AreNoted self.old.clients → IsSettled self.new.clients) }
     {
         self.end(conn)?;
@@ -89,8 +121,44 @@ impl Server {
         Ok(())
     }
 
-    /// Takes one packet of a client, or its fault. Whether there was one.
-    fn take_front(&mut self, conn: Conn) -> Result<bool, ServerFault>
+    /// Takes the fault at the front of what a client sent.
+    fn take_fault(&mut self, conn: Conn, fault: PacketFault) -> Result<(), ServerFault>
+        ensures takes { OnOk result (IsSettled self.old.clients
+            → HasClient (λ c. (is_over c ≡ false) × IsNamed fault (first_of (refusals c.feed)))
+            conn (room_of self.old) → fault ≢ PacketFault.More
+            → Reaches (takes conn) (room_of self.old) (room_of self.new)) }
+        ensures settled { OnOk result (AreNoted self.old.clients → IsSettled self.new.clients) }
+    {
+        match fault {
+            PacketFault::NoMemory => {
+                self.give_up(conn)?;
+                return Ok(());
+            }
+            _ => {
+                self.fault(conn, fault)?;
+                return Ok(());
+            }
+        }
+    }
+
+    /// Takes a packet of a client. Whether it is to wait for another behind it.
+    fn take_whole(&mut self, conn: Conn, packet: &Packet) -> Result<bool, ServerFault>
+        ensures takes { IfOk result (λ held. AreNoted self.old.clients
+            → Reaches (takes conn) (with_packet conn (view packet.now) (room_of self.old))
+            (room_of self.new)) }
+        ensures waits { result ≡ Ok true → IsTakenUp (client_at self.new.clients conn) }
+        ensures settled { OnOk result (AreNoted self.old.clients → IsSettled self.new.clients) }
+    {
+        let slow = self.packet(conn, packet)?;
+        let held = self.holds(conn, slow)?;
+        Ok(held)
+    }
+
+    /// Takes one packet of a client, or its fault. Whether it may go on.
+    fn take_packet(&mut self, conn: Conn) -> Result<bool, ServerFault>
+        ensures takes { OnOk result (IsSettled self.old.clients
+            → Reaches (takes conn) (room_of self.old) (room_of self.new)) }
+        ensures up { result ≡ Ok false → IsTakenUp (client_at self.new.clients conn) }
         ensures settled { OnOk result (IsSettled self.old.clients → IsSettled self.new.clients) }
     {
         let Some(front) = self.clients.next(conn) else {
@@ -98,33 +166,21 @@ impl Server {
         };
         match front {
             Ok(packet) => {
-                self.packet(conn, &packet)?;
-                return Ok(true);
-            }
-            Err(PacketFault::NoMemory) => {
-                self.give_up(conn)?;
-                return Ok(true);
+                let held = self.take_whole(conn, &packet)?;
+                return Ok(!held);
             }
             Err(fault) => {
-                self.fault(conn, fault)?;
+                self.take_fault(conn, fault)?;
                 return Ok(true);
             }
         }
-    }
-
-    /// Takes one packet of a client, or its fault. Whether it may go on.
-    fn take_packet(&mut self, conn: Conn) -> Result<bool, ServerFault>
-        ensures settled { OnOk result (IsSettled self.old.clients → IsSettled self.new.clients) }
-    {
-        if !self.take_front(conn)? {
-            return Ok(false);
-        }
-        let held = self.holds(conn)?;
-        Ok(!held)
     }
 
     /// Takes the whole packets of a client, until it is to wait for another.
     pub(crate) fn take_packets(&mut self, conn: Conn) -> Result<(), ServerFault>
+        ensures takes { OnOk result (IsSettled self.old.clients
+            → Reaches (takes conn) (room_of self.old) (room_of self.new)) }
+        ensures up { OnOk result (IsTakenUp (client_at self.new.clients conn)) }
         ensures settled { OnOk result (IsSettled self.old.clients → IsSettled self.new.clients) }
     {
         for _ in 0..u64::MAX {
@@ -135,12 +191,13 @@ impl Server {
         Err(ServerFault::NoMemory)
     }
 
-    /// Bytes of a client were read: its whole packets come to the broker. What follows its end is passed over. Refused, where
-    /// memory is refused twice, the server is at its end.
-    pub fn read(&mut self, conn: Conn, piece: &[u8], now: u64) -> Result<(), ServerFault>
+    /// Bytes of a client are put behind what it sent, and its packets are taken. Where there is no memory it is ended.
+    fn take_in(&mut self, conn: Conn, piece: &[u8]) -> Result<(), ServerFault>
+        ensures done { OnOk result (IsSettled self.old.clients → is_open (room_of self.old) conn ≡ true
+            → TookUp conn piece.now (room_of self.old) (room_of self.new)
+            ⊎ RanOut conn (room_of self.old) (room_of self.new)) }
         ensures settled { OnOk result (IsSettled self.old.clients → IsSettled self.new.clients) }
     {
-        self.at(now);
         if self.clients.feed(conn, piece) {
             self.take_packets(conn)?;
             return Ok(());
@@ -149,8 +206,25 @@ impl Server {
         Ok(())
     }
 
+    /// Bytes of a client were read: its whole packets come to the broker. What follows its end is passed over. Refused, where
+    /// memory is refused twice, the server is at its end.
+    pub fn read(&mut self, conn: Conn, piece: &[u8], now: u64) -> Result<(), ServerFault>
+        ensures done { OnOk result (IsSettled self.old.clients
+            → IsDone (call.Read conn piece.now now) (room_of self.old) (room_of self.new)) }
+        ensures settled { OnOk result (IsSettled self.old.clients → IsSettled self.new.clients) }
+    {
+        self.at(now);
+        if self.is_open(conn) {
+            self.take_in(conn, piece)?;
+            return Ok(());
+        }
+        Ok(())
+    }
+
     /// Whether a client is here and its end didn't come.
-    fn is_open(&self, conn: Conn) -> bool {
+    fn is_open(&self, conn: Conn) -> bool
+        ensures { result ≡ is_open (room_of self.entry.now) conn }
+    {
         match self.clients.get(conn) {
             Some(client) => !client.is_over(),
             None => false,
@@ -159,6 +233,8 @@ impl Server {
 
     /// A client sends no more.
     pub fn gone(&mut self, conn: Conn, now: u64) -> Result<(), ServerFault>
+        ensures done { OnOk result (IsSettled self.old.clients
+            → IsDone (call.Gone conn now) (room_of self.old) (room_of self.new)) }
         ensures settled { OnOk result (IsSettled self.old.clients → IsSettled self.new.clients) }
     {
         self.at(now);

@@ -1,8 +1,10 @@
 //! The server, and how clients come.
 
-ghost use Rattle.std.specs.Prelude.{◌≡◌};
-ghost use Rattle.spk_broker_rules.specs.Data.{fresh_broker};
-ghost use Rattle.spk_clients.specs.Data.{IsSettled};
+ghost use Rattle.std.specs.Prelude.{◌≡◌, ◌<◌, nat_le, IfOk, OnOk, OnErr};
+ghost use Rattle.spk_clients.specs.Data.{AreNoted, IsSettled, client_count};
+ghost use Rattle.spk_server.specs.Calls.{IsDone, fresh_room, timed};
+ghost use Rattle.spk_server.specs.Calls as call;
+ghost use Rattle.spk_server.specs.Rooms.{room_of};
 
 use crate::fault::ServerFault;
 use spk_broker::{Broker, BrokerFault, Conn};
@@ -27,8 +29,6 @@ pub struct Server {
     pub(crate) clients: Clients,
     /// Who isn't read, since it waits for another, each once.
     pub(crate) held: VecDeque<Conn>,
-    /// For whom more waits than others should add to, of the last packet taken.
-    pub(crate) pressing: Option<Conn>,
     /// No client's moment comes before.
     pub(crate) soonest: u64,
     /// The latest moment.
@@ -46,14 +46,13 @@ impl fmt::Debug for Server {
 impl Server {
     /// A broker without clients.
     pub fn new(alloc: Global) -> Server
-        ensures broker { result.broker ≡ fresh_broker 128 }
+        ensures fresh { room_of result ≡ fresh_room }
         ensures settled { IsSettled result.clients }
     {
         Server {
             broker: Broker::new(alloc, LIMIT),
             clients: Clients::new(alloc),
             held: VecDeque::new(alloc),
-            pressing: None,
             soonest: u64::MAX,
             now: 0,
             ticked: 0,
@@ -61,18 +60,23 @@ impl Server {
     }
 
     /// How many clients are here, those among them whose end came and whose sockets aren't shut yet.
-    pub fn clients(&self) -> usize {
+    pub fn clients(&self) -> usize
+        ensures { result ≡ client_count self.entry.now.clients }
+    {
         self.clients.len()
     }
 
     /// Whether no further client may come: 1,000 are here (own rule).
-    pub fn is_full(&self) -> bool {
+    pub fn is_full(&self) -> bool
+        ensures { result ≡ nat_le 1000 (client_count self.entry.now.clients) }
+    {
         self.clients.len() >= MOST_CLIENTS
     }
 
     /// Time goes on.
     pub(crate) fn at(&mut self, now: u64)
-        ensures { (self.new.broker ≡ self.old.broker) × (self.new.clients ≡ self.old.clients) }
+        ensures timed { room_of self.new ≡ timed now (room_of self.old) }
+        ensures clients { self.new.clients ≡ self.old.clients }
     {
         self.now = self.now.max(now);
     }

@@ -1,10 +1,11 @@
 //! What is to be written, and whose sockets are to be shut.
 
-ghost use Rattle.std.specs.Prelude.{◌≡◌, ◌++◌, ◌-◌, OnOk, Some, None, length, take, IfSome, IfNone};
+ghost use Rattle.std.specs.Prelude.{◌≡◌, ◌++◌, ◌-◌, OnOk, length, take, IfSome, IfNone};
 ghost use Rattle.spk_outbox.specs.Data.{rest_of_first};
-ghost use Rattle.spk_clients.specs.declared.client.Phase.TheVariants as Phase;
-ghost use Rattle.spk_clients.specs.Client.{cut_off, untouched, written_to};
-ghost use Rattle.spk_clients.specs.Data.{AllStay, Becomes, IsSettled, OthersStay, client_at, phase_at, waiting_at};
+ghost use Rattle.spk_clients.specs.Data.{IsSettled, client_at, waiting_at};
+ghost use Rattle.spk_server.specs.Calls.{IsDone};
+ghost use Rattle.spk_server.specs.Calls as call;
+ghost use Rattle.spk_server.specs.Rooms.{room_of};
 
 use crate::fault::ServerFault;
 use crate::server::Server;
@@ -13,8 +14,7 @@ use spk_broker::Conn;
 impl Server {
     /// The next client to whom something is to be written.
     pub fn next_to_write(&mut self) -> Option<Conn>
-        ensures some { IfSome result (λ k. Becomes untouched k self.old.clients self.new.clients) }
-        ensures none { IfNone result (AllStay self.old.clients self.new.clients) }
+        ensures done { IsDone (call.NextToWrite result) (room_of self.old) (room_of self.new) }
         ensures settled { IsSettled self.old.clients → IsSettled self.new.clients }
     {
         self.clients.next_to_write()
@@ -41,7 +41,8 @@ impl Server {
     /// So many bytes of what waits for a client were written. The socket of one whose end came is to be shut where nothing is
     /// left.
     pub fn wrote(&mut self, conn: Conn, count: usize) -> Result<(), ServerFault>
-        ensures done { OnOk result (Becomes (written_to count) conn self.old.clients self.new.clients) }
+        ensures done { OnOk result
+            (IsDone (call.Wrote conn count) (room_of self.old) (room_of self.new)) }
         ensures settled { OnOk result (IsSettled self.old.clients → IsSettled self.new.clients) }
     {
         self.clients.wrote(conn, count)?;
@@ -50,7 +51,7 @@ impl Server {
 
     /// A client's socket takes no more: once its end comes it is to be shut.
     pub fn cut(&mut self, conn: Conn) -> Result<(), ServerFault>
-        ensures done { OnOk result (Becomes cut_off conn self.old.clients self.new.clients) }
+        ensures done { OnOk result (IsDone (call.Cut conn) (room_of self.old) (room_of self.new)) }
         ensures settled { OnOk result (IsSettled self.old.clients → IsSettled self.new.clients) }
     {
         self.clients.cut(conn)?;
@@ -59,9 +60,7 @@ impl Server {
 
     /// The next client whose socket is to be shut. It is forgotten.
     pub fn next_to_shut(&mut self) -> Option<Conn>
-        ensures some { IfSome result (λ k. (phase_at self.old.clients k ≡ Some Phase.Done)
-            × (client_at self.new.clients k ≡ None) × OthersStay k self.old.clients self.new.clients) }
-        ensures none { IfNone result (AllStay self.old.clients self.new.clients) }
+        ensures done { IsDone (call.NextToShut result) (room_of self.old) (room_of self.new) }
         ensures settled { IsSettled self.old.clients → IsSettled self.new.clients }
     {
         self.clients.next_to_shut()

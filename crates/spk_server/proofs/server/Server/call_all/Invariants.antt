@@ -1,6 +1,11 @@
 use Rattle.spk_clients.specs.Data.{IsSettled}
+use Rattle.spk_server.specs.Log.{Reaches, calls}
+use Rattle.spk_server.specs.Rooms.{room_of}
 use Rattle.spk_server.proofs.server.Server.call_all.Given as goal
 
--- what holds, if it held when it began
+-- those before were called
 abbrev pub invariant-loop : goal.invariant-loop
-invariant-loop l = IsSettled l.fn.self.clients → IsSettled l.self.clients
+invariant-loop l = record {
+  calls : IsSettled l.fn.self.clients → Reaches calls (room_of l.fn.self) (room_of l.self);
+  settled : IsSettled l.fn.self.clients → IsSettled l.self.clients;
+}

@@ -1,6 +1,15 @@
+use Rattle.std.proofs.Common.{ℕ, List, [], ◌++◌, Option}
+use Rattle.std.specs.Vec.Iter.{into_iter_items}
 use Rattle.spk_clients.specs.Data.{AreNoted}
+use Rattle.spk_server.specs.Data.{Slow}
+use Rattle.spk_server.specs.Log.{Reaches, follows}
+use Rattle.spk_server.specs.Rooms.{amid}
 use Rattle.spk_server.proofs.server.Server.end_all.Given as goal
 
--- what holds, if it held when it began
+-- those who are left are to be ended
 abbrev pub invariant-loop-conn : goal.invariant-loop-conn
-invariant-loop-conn l = AreNoted l.fn.self.clients → AreNoted l.self.clients
+invariant-loop-conn l = record {
+  hands : (more : List ℕ) (slow : Option Slow) → Reaches follows (amid l.fn.self [] (l.fn.closes.items ++ more) slow)
+      (amid l.self [] (into_iter_items l.conn-iterator ++ more) slow);
+  noted : AreNoted l.fn.self.clients → AreNoted l.self.clients;
+}

@@ -1,0 +1,14 @@
+use Rattle.std.proofs.Common.{◌<◌, None, [], Some, arith, refl}
+use Rattle.spk_server.specs.Log.{follows}
+use Rattle.spk_server.proofs.Rooms.{hands_none}
+use Rattle.spk_server.proofs.Runs.{and_then}
+use Rattle.spk_server.proofs.Times.{ticks_is}
+use Rattle.spk_server.proofs.server.Server.tick.Goals as goal
+
+pub returns-clause-ticks : goal.returns-clause-ticks
+returns-clause-ticks c settled before =
+    let less : c.args.self.now.ticked < c.args.self.now.now = omega arith in
+    ticks_is c.args.self.now c.tick.new.self c.in-Ok.out _ before settled less (record { done = c.in-Ok.ensures.done; sends = c.in-Ok.ensures.sends; closes = c.in-Ok.ensures.closes })
+    (and_then follows _ _ _
+    (hands_none (record c.args.self.now { broker = c.tick.new.self; ticked = c.args.self.now.now }) c.hand_on.new.self (Some c.in-Ok.out) c.in_ok-hand_on.field-0 before (c.in_ok-hand_on.ensures.hands None [] before))
+    (c.in_ok-tell_all.ensures.tells before))

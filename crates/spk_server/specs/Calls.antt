@@ -1,0 +1,94 @@
+-- The calls of a server (own rules): what each did, as a run of deeds, and lists of calls.
+use Rattle.std.specs.Prelude.{◌≡◌, ◌⊎◌, ℕ, ◌+◌, true, false, List, [], ◌∷◌, Option, Some, None}
+use Rattle.spk_packets.specs.Fault.{first_of}
+use Rattle.spk_packets.specs.Refusals.{refusals}
+use Rattle.spk_packets.specs.declared.fault.PacketFault.TheVariants.{More}
+use Rattle.spk_broker_rules.specs.Data.{fresh_broker}
+use Rattle.spk_broker_rules.specs.Step.{is_full}
+use Rattle.spk_clients.specs.declared.client.Client.{Client}
+use Rattle.spk_clients.specs.declared.client.Phase.TheVariants.{Done}
+use Rattle.spk_clients.specs.Client.{is_over}
+use Rattle.spk_server.specs.Data.{Deed, Room, Want}
+use Rattle.spk_server.specs.Data as deed
+use Rattle.spk_server.specs.Step.{after}
+use Rattle.spk_server.specs.Log.{HasClient, Reaches, calls, follows, goes_on, is_open, takes}
+
+-- a call, with what the loop told the server or was told by it
+pub data Call : Type 0 where
+  Accepted : (conn : ℕ) (now : ℕ) → Call
+  Read : (conn : ℕ) (piece : List ℕ) (now : ℕ) → Call
+  Gone : (conn : ℕ) (now : ℕ) → Call
+  GoOn : (now : ℕ) → Call
+  Moment : (now : ℕ) → Call
+  Wrote : (conn : ℕ) (count : ℕ) → Call
+  Cut : (conn : ℕ) → Call
+  NextToWrite : (conn : Option ℕ) → Call
+  NextToShut : (conn : Option ℕ) → Call
+
+abbrev pub IsHeld : Option ℕ → Type 0
+IsHeld None = ⊥
+IsHeld (Some slow) = Unit {0}
+
+-- Nothing more is to be taken of what a client sent: its end came, or no whole packet stands at the front, or it waits for another.
+abbrev pub IsTakenUp : Option Client → Type 0
+IsTakenUp None = Unit {0}
+IsTakenUp (Some c) = (is_over c ≡ true) ⊎ ((first_of (refusals c.feed) ≡ Some More) ⊎ IsHeld c.waits_for)
+
+-- its moment comes first
+abbrev pub timed : ℕ → Room → Room
+timed now r = after (deed.Timed now) r
+
+-- bytes were read of a client: they are put behind what it sent, and its packets are taken
+pub record TookUp (conn : ℕ) (piece : List ℕ) (r s : Room) : Type 0 where
+  pub here : is_open r conn ≡ true
+  pub taken : Reaches (takes conn) (after (deed.Fed conn piece) r) s
+  pub up : IsTakenUp (s.clients conn)
+
+-- its end had come: they are passed over
+pub record PassedOver (conn : ℕ) (r s : Room) : Type 0 where
+  pub over : is_open r conn ≡ false
+  pub same : s ≡ r
+
+-- there was no memory for them, or more would wait than may: it is ended
+pub record RanOut (conn : ℕ) (r s : Room) : Type 0 where
+  pub here : is_open r conn ≡ true
+  pub ended : Reaches follows (after (deed.Left conn Want) r) s
+
+-- a client sends no more: it is ended, if that is new
+pub record WasEnded (conn : ℕ) (r s : Room) : Type 0 where
+  pub here : is_open r conn ≡ true
+  pub ended : Reaches follows (after (deed.Left conn deed.Gone) r) s
+
+abbrev pub IsDone : Call → Room → Room → Type 0
+IsDone (Accepted conn now) r s =
+    (is_full r.broker ≡ false) × (conn ≡ r.broker.given + 1) × (s ≡ after (deed.Joined conn) (timed now r))
+IsDone (Read conn piece now) r s =
+    TookUp conn piece (timed now r) s ⊎ (PassedOver conn (timed now r) s ⊎ RanOut conn (timed now r) s)
+IsDone (Gone conn now) r s = WasEnded conn (timed now r) s ⊎ PassedOver conn (timed now r) s
+IsDone (GoOn now) r s = Reaches goes_on (timed now r) s
+IsDone (Moment now) r s = Reaches calls (timed now r) s
+IsDone (Wrote conn count) r s = s ≡ after (deed.Wrote conn count) r
+IsDone (Cut conn) r s = s ≡ after (deed.Blocked conn) r
+IsDone (NextToWrite None) r s = s ≡ r
+IsDone (NextToWrite (Some conn)) r s = s ≡ after (deed.Named conn) r
+IsDone (NextToShut None) r s = s ≡ r
+IsDone (NextToShut (Some conn)) r s = HasClient (λ c. c.phase ≡ Done) conn r × (s ≡ after (deed.Forgot conn) r)
+
+-- a new server
+abbrev pub fresh_room : Room
+fresh_room = record {
+  broker = fresh_broker 128;
+  clients = λ k. None;
+  now = 0;
+  ticked = 0;
+  held = [];
+  in_hand = None;
+  pending = [];
+  closing = [];
+  slow = None;
+}
+
+-- each of these calls was done, one after the other
+abbrev pub AreDone : Room → List Call → Room → Type 0
+AreDone r [] s = r ≡ s
+AreDone r (c ∷ cs) s = (m : Room) × IsDone c r m × AreDone m cs s

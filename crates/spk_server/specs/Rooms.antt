@@ -1,0 +1,55 @@
+-- What a server's fields hold, as a room.
+use Rattle.std.specs.Prelude.{ℕ, List, [], map, Option, Some, None}
+use Rattle.std.specs.Option.{option_map, option_map_or}
+use Rattle.spk_packets.specs.Message.{Message}
+use Rattle.spk_broker.specs.Sent.{sent_view}
+use Rattle.spk_broker.specs.declared.out.Out.{Out}
+use Rattle.spk_broker.specs.declared.out.Outgoing.{Outgoing}
+use Rattle.spk_clients.specs.Client.{after_hearing}
+use Rattle.spk_clients.specs.Data.{client_at}
+use Rattle.spk_server.specs.declared.server.Server.{Server}
+use Rattle.spk_server.specs.Data.{InHand, Offer, Room, Slow}
+use Rattle.spk_server.specs.Step.{changed, offer_of}
+
+-- between two calls
+abbrev pub room_of : Server → Room
+room_of s = record {
+  broker = s.broker;
+  clients = client_at s.clients;
+  now = s.now;
+  ticked = s.ticked;
+  held = s.held.items;
+  in_hand = None;
+  pending = [];
+  closing = [];
+  slow = None;
+}
+
+-- in the midst of one
+abbrev pub amid : Server → List Offer → List ℕ → Option Slow → Room
+amid s pending closing slow = record (room_of s) { pending = pending; closing = closing; slow = slow }
+
+-- the sends of an answer, as offers
+abbrev pub offers_of : Option ℕ → List Outgoing → List Offer
+offers_of by sends = map (offer_of by) (map sent_view sends)
+
+abbrev pub offers_in : Option ℕ → Option Out → List Offer
+offers_in by None = []
+offers_in by (Some out) = offers_of by out.sends.items
+
+abbrev pub closes_in : Option Out → List ℕ
+closes_in None = []
+closes_in (Some out) = out.closes.items
+
+-- where a client published and one of those whom that went to is slow, they are noted
+abbrev pub pressed : Option ℕ → Option ℕ → Option Slow → Option Slow
+pressed by None before = before
+pressed by (Some client) before = option_map_or (λ p. Some (record { publisher = p; client = client })) by before
+
+-- a client that published, and who is slow of those whom that went to
+abbrev pub slow_for : ℕ → Option ℕ → Option Slow
+slow_for conn slow = option_map (λ client. record { publisher = conn; client = client }) slow
+
+-- a packet of a client was heard, and comes to the broker next
+abbrev pub with_packet : ℕ → Message → Room → Room
+with_packet conn p r = record (changed (after_hearing p) conn r) { in_hand = Some (record { conn = conn; packet = p }) }

@@ -1,0 +1,211 @@
+-- What a server holds after a deed, from what it held before (own rules). What the broker does is said by its rules.
+use Rattle.std.specs.Prelude.{ℕ, ◌+◌, min, max, ◌==◌, nat_lt, Bool, true, false, List, [], ◌∷◌, ◌++◌, map, Option, Some, None, is_some, if◌then◌else◌}
+use Rattle.std.specs.Option.{option_map, option_map_or}
+use Rattle.spk_packets.specs.Message.{Message, Connect, ConnAck, Publish, PubAck, Subscribe, SubAck, Unsubscribe, UnsubAck, PingReq, PingResp, Disconnect}
+use Rattle.spk_session.specs.declared.answer.Sort.{Sort}
+use Rattle.spk_broker.specs.Sent.{Sent, outgoing}
+use Rattle.spk_broker_rules.specs.Plan.{Event}
+use Rattle.spk_broker_rules.specs.Plan as event
+use Rattle.spk_broker_rules.specs.Step.{Turn, step, knows}
+use Rattle.spk_outbox.specs.Waits.{until}
+use Rattle.spk_clients.specs.declared.client.Client.{Client}
+use Rattle.spk_clients.specs.declared.client.Phase.{Phase}
+use Rattle.spk_clients.specs.declared.client.Phase.TheVariants.{Quiet, Open, Over, Done}
+use Rattle.spk_clients.specs.declared.client.Offered.{Offered}
+use Rattle.spk_clients.specs.declared.client.Offered.TheVariants.{Taken, Refused, Passed}
+use Rattle.spk_clients.specs.Client.{after_hearing, awaited, cut_off, freed, fresh_client, given_up, has_many, has_some, is_awaited, leaves, most_number, refused_with, takes_in, taken_in, told, untouched, waiting_for, written_to}
+use Rattle.spk_server.specs.Data.{Deed, InHand, Offer, Room, Slow, Why, Timed, Joined, Fed, Skipped, Took, Came, Broke, Left, Ticked, Handed, Shut, Told, Cut, Tried, Waited, Freed, Dropped, Wrote, Blocked, Named, Forgot}
+
+-- how long a client may send nothing
+abbrev pub quiet : ℕ
+quiet = 10000
+
+-- how long a client whose end came may read what is left
+abbrev pub grace : ℕ
+grace = 5000
+
+-- so much later; a moment has 64 bits, and stands at the greatest
+abbrev pub later : ℕ → ℕ → ℕ
+later span now = min (now + span) most_number
+
+-- ---- clients
+
+abbrev pub Clients : Type 0
+Clients = ℕ → Option Client
+
+-- one client is made something else, if it is there
+abbrev pub change : (Client → Client) → ℕ → Clients → Clients
+change f conn clients = λ k. if k == conn then option_map f (clients k) else clients k
+
+abbrev pub changed : (Client → Client) → ℕ → Room → Room
+changed f conn r = record r { clients = change f conn r.clients }
+
+abbrev pub placed : Option Client → ℕ → Clients → Clients
+placed c conn clients = λ k. if k == conn then c else clients k
+
+-- it sent no packet yet
+abbrev pub is_quiet : Phase → Bool
+is_quiet Quiet = true
+is_quiet Open = false
+is_quiet Over = false
+is_quiet Done = false
+
+-- ---- what comes to the broker
+
+abbrev pub offer_of : Option ℕ → Sent → Offer
+offer_of by s = record { by = by; send = s }
+
+-- its sends are to be offered, and then those whom it closes are ended
+abbrev pub answered : Option ℕ → Turn → Room → Room
+answered by t r = record r {
+  broker = t.broker;
+  pending = r.pending ++ map (offer_of by) (map outgoing t.sends);
+  closing = r.closing ++ t.closes;
+}
+
+abbrev pub called : Option ℕ → Event → Room → Room
+called by e r = answered by (step r.broker e) r
+
+-- an event of a connection, where the broker knows it
+abbrev pub called_on : Option ℕ → ℕ → Event → Room → Room
+called_on by conn e r = if knows r.broker conn then called by e r else r
+
+abbrev pub is_publish : Message → Bool
+is_publish (Publish dup qos retain topic id payload) = true
+is_publish (Connect client clean keep will) = false
+is_publish (ConnAck present code) = false
+is_publish (PubAck id) = false
+is_publish (Subscribe id entries) = false
+is_publish (SubAck id codes) = false
+is_publish (Unsubscribe id filters) = false
+is_publish (UnsubAck id) = false
+is_publish PingReq = false
+is_publish PingResp = false
+is_publish Disconnect = false
+
+abbrev pub is_disconnect : Message → Bool
+is_disconnect Disconnect = true
+is_disconnect (Publish dup qos retain topic id payload) = false
+is_disconnect (Connect client clean keep will) = false
+is_disconnect (ConnAck present code) = false
+is_disconnect (PubAck id) = false
+is_disconnect (Subscribe id entries) = false
+is_disconnect (SubAck id codes) = false
+is_disconnect (Unsubscribe id filters) = false
+is_disconnect (UnsubAck id) = false
+is_disconnect PingReq = false
+is_disconnect PingResp = false
+
+-- whose own PUBLISH a packet is, if it is one
+abbrev pub publisher : InHand → Option ℕ
+publisher h = if is_publish h.packet then Some h.conn else None
+
+-- behind a DISCONNECT a client's end comes
+abbrev pub ends_behind : InHand → List ℕ
+ends_behind h = if is_disconnect h.packet then h.conn ∷ [] else []
+
+abbrev pub ended_behind : List ℕ → Room → Room
+ended_behind conns r = record r { closing = r.closing ++ conns }
+
+abbrev pub came : Option InHand → Room → Room
+came None r = r
+came (Some h) r = ended_behind (ends_behind h)
+    (called_on (publisher h) h.conn (event.Packet h.conn h.packet r.now) (record r { in_hand = None }))
+
+abbrev pub broke : ℕ → Event → Room → Room
+broke conn e r = ended_behind (conn ∷ []) (called_on None conn e r)
+
+-- its end comes, and comes to the broker; a packet of it that is in hand is given up
+abbrev pub left : ℕ → Room → Room
+left conn r = called_on None conn (event.Closed conn r.now) (record (changed (leaves (later grace r.now)) conn r) { in_hand = None })
+
+-- ---- what goes out
+
+abbrev pub offered : Sent → Offered → Client → Client
+offered s Taken c = record (taken_in s.bytes c) { touched = true }
+offered s Refused c = refused_with s.sort c
+offered s Passed c = c
+
+-- the client of this send is slow, where a client published it and many packets wait
+abbrev pub slowed : Offer → Option Client → Option Slow → Option Slow
+slowed o c before = if option_map_or (has_many false) c false
+    then option_map_or (λ (p : ℕ). Some (record { publisher = p; client = o.send.conn })) o.by before else before
+
+abbrev pub behind : {X : Type 0} → List X → List X
+behind [] = []
+behind (x ∷ xs) = xs
+
+abbrev pub handed : Offer → Offered → Room → Room
+handed o fate r = record r {
+  clients = change (offered o.send fate) o.send.conn r.clients;
+  pending = behind r.pending;
+  slow = slowed o (option_map (offered o.send fate) (r.clients o.send.conn)) r.slow;
+}
+
+-- ---- who waits
+
+-- until when others wait for this client at the latest, if they are to wait still
+abbrev pub wait_until : Bool → Client → Option ℕ
+wait_until own c = if has_some own c then until c.patience else None
+
+abbrev pub wait_for : ℕ → Clients → Option ℕ → Option ℕ
+wait_for conn clients None = None
+wait_for conn clients (Some slow) = option_map_or (wait_until (slow == conn)) (clients slow) None
+
+abbrev pub slow_of : Clients → ℕ → Option ℕ
+slow_of clients conn = option_map_or (λ (c : Client). c.waits_for) (clients conn) None
+
+-- until when a client waits at the latest; none where it may go on
+abbrev pub waits_until : Clients → ℕ → Option ℕ
+waits_until clients conn = wait_for conn clients (slow_of clients conn)
+
+abbrev pub still_waits : ℕ → Clients → ℕ → Bool
+still_waits now clients conn = option_map_or (λ last. nat_lt now last) (waits_until clients conn) false
+
+-- When the wait for a client ended, as far as it counts: never began, where fewer packets are left of it.
+abbrev pub counted : ℕ → Bool → Client → ℕ
+counted now own c = if is_some (wait_until own c) then now else 0
+
+abbrev pub set_free : ℕ → Bool → Client → Client
+set_free now own c = freed (counted now own c) c
+
+abbrev pub freed_from : Option ℕ → ℕ → Room → Room
+freed_from None conn r = r
+freed_from (Some slow) conn r = changed (set_free r.now (slow == conn)) slow r
+
+-- its client waits, where others are to wait for the slow one
+abbrev pub tried_at : Bool → Slow → Room → Room
+tried_at false s r = r
+tried_at true s r = record (changed (waiting_for (Some s.client)) s.publisher r) { held = r.held ++ s.publisher ∷ [] }
+
+abbrev pub is_slow : Slow → Room → Bool
+is_slow s r = option_map_or (is_awaited (s.client == s.publisher) r.now) (r.clients s.client) false
+
+abbrev pub tried : Option Slow → Room → Room
+tried None r = r
+tried (Some s) r = record (tried_at (is_slow s r) s (changed (awaited (s.client == s.publisher) r.now) s.client r)) { slow = None }
+
+-- ---- a deed
+
+abbrev pub after : Deed → Room → Room
+after (Timed moment) r = record r { now = max r.now moment }
+after (Joined conn) r = record r { broker = (step r.broker (event.Open r.now)).broker; clients = placed (Some (fresh_client (later quiet r.now))) conn r.clients }
+after (Fed conn piece) r = changed (takes_in piece) conn r
+after (Skipped conn piece) r = r
+after (Took conn p rest) r = record (changed (λ c. after_hearing p (record c { feed = rest })) conn r) { in_hand = Some (record { conn = conn; packet = p }); slow = None }
+after Came r = came r.in_hand r
+after (Broke conn fault) r = broke conn (event.Fault conn fault r.now) r
+after (Left conn why) r = left conn r
+after Ticked r = record (called None (event.Tick r.now) r) { ticked = r.now }
+after (Handed o fate) r = handed o fate r
+after (Shut conn) r = record (changed (leaves (later grace r.now)) conn r) { closing = behind r.closing }
+after (Told conn s) r = called_on None conn (event.Refused conn s r.now) (changed told conn r)
+after (Cut conn s) r = left conn (changed told conn r)
+after Tried r = tried r.slow r
+after (Waited conn) r = record r { held = behind r.held ++ conn ∷ [] }
+after (Freed conn) r = changed (waiting_for None) conn (freed_from (slow_of r.clients conn) conn (record r { held = behind r.held }))
+after (Dropped conn) r = changed given_up conn r
+after (Wrote conn count) r = changed (written_to count) conn r
+after (Blocked conn) r = changed cut_off conn r
+after (Named conn) r = changed untouched conn r
+after (Forgot conn) r = record r { clients = placed None conn r.clients }
