@@ -23,7 +23,7 @@ at_start f r m s e t = subst (λ x. Reaches f x s) (sym e) t
 pub at_end : (f : Deed → Bool) (r m s : Room) → Reaches f r m → m ≡ s → Reaches f r s
 at_end f r m s t e = subst (Reaches f r) e t
 
-widened : (f g : Deed → Bool) → ((d : Deed) → f d ≡ true → g d ≡ true) → (ds : List Deed) (r s : Room) → IsRun f r ds s → IsRun g r ds s
+pub widened : (f g : Deed → Bool) → ((d : Deed) → f d ≡ true → g d ≡ true) → (ds : List Deed) (r s : Room) → IsRun f r ds s → IsRun g r ds s
 widened f g h [] r s a = a
 widened f g h (d ∷ ds) r s a = (h d a.0, a.1, widened f g h ds (after d r) s a.2)
 

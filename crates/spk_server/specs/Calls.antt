@@ -1,5 +1,6 @@
 -- The calls of a server (own rules): what each did, as a run of deeds, and lists of calls.
-use Rattle.std.specs.Prelude.{◌≡◌, ◌⊎◌, ℕ, ◌+◌, true, false, List, [], ◌∷◌, Option, Some, None}
+use Rattle.std.specs.Prelude.{◌≡◌, ◌⊎◌, ℕ, ◌+◌, true, false, List, [], ◌∷◌, ◌++◌, Option, Some, None}
+use Rattle.std.specs.List.{list_all}
 use Rattle.spk_packets.specs.Fault.{first_of}
 use Rattle.spk_packets.specs.Refusals.{refusals}
 use Rattle.spk_packets.specs.declared.fault.PacketFault.TheVariants.{More}
@@ -11,7 +12,7 @@ use Rattle.spk_clients.specs.Client.{is_over}
 use Rattle.spk_server.specs.Data.{Deed, Room, Want}
 use Rattle.spk_server.specs.Data as deed
 use Rattle.spk_server.specs.Step.{after}
-use Rattle.spk_server.specs.Log.{HasClient, Reaches, calls, follows, goes_on, is_open, takes}
+use Rattle.spk_server.specs.Log.{HasClient, IsRested, Reaches, calls, follows, goes_on, is_open, takes}
 
 -- a call, with what the loop told the server or was told by it
 pub data Call : Type 0 where
@@ -88,7 +89,34 @@ fresh_room = record {
   slow = None;
 }
 
--- each of these calls was done, one after the other
+-- Each of these calls was done, one after the other, and the broker is told of each refused send behind each.
 abbrev pub AreDone : Room → List Call → Room → Type 0
 AreDone r [] s = r ≡ s
-AreDone r (c ∷ cs) s = (m : Room) × IsDone c r m × AreDone m cs s
+AreDone r (c ∷ cs) s = (m : Room) × IsDone c r m × IsRested m × AreDone m cs s
+
+-- ---- the deeds of a call
+
+-- bytes that were read, as a deed
+abbrev pub IsIntake : ℕ → List ℕ → Deed → Type 0
+IsIntake conn piece d = (d ≡ deed.Fed conn piece) ⊎ ((d ≡ deed.Skipped conn piece) ⊎ (d ≡ deed.Left conn Want))
+
+-- which deeds are those of a call
+abbrev pub IsLogOf : Call → List Deed → Type 0
+IsLogOf (Accepted conn now) log = log ≡ deed.Timed now ∷ deed.Joined conn ∷ []
+IsLogOf (Read conn piece now) log =
+    (d : Deed) × (ds : List Deed) × (log ≡ deed.Timed now ∷ d ∷ ds) × IsIntake conn piece d × (list_all (takes conn) ds ≡ true)
+IsLogOf (Gone conn now) log = (ds : List Deed) × (log ≡ deed.Timed now ∷ ds) × ((ds ≡ []) ⊎ ((es : List Deed)
+    × (ds ≡ deed.Left conn deed.Gone ∷ es) × (list_all follows es ≡ true)))
+IsLogOf (GoOn now) log = (ds : List Deed) × (log ≡ deed.Timed now ∷ ds) × (list_all goes_on ds ≡ true)
+IsLogOf (Moment now) log = (ds : List Deed) × (log ≡ deed.Timed now ∷ ds) × (list_all calls ds ≡ true)
+IsLogOf (Wrote conn count) log = log ≡ deed.Wrote conn count ∷ []
+IsLogOf (Cut conn) log = log ≡ deed.Blocked conn ∷ []
+IsLogOf (NextToWrite None) log = log ≡ []
+IsLogOf (NextToWrite (Some conn)) log = log ≡ deed.Named conn ∷ []
+IsLogOf (NextToShut None) log = log ≡ []
+IsLogOf (NextToShut (Some conn)) log = log ≡ deed.Forgot conn ∷ []
+
+-- the deeds of these calls, one call behind the other
+abbrev pub LogOf : List Call → List Deed → Type 0
+LogOf [] log = log ≡ []
+LogOf (c ∷ cs) log = (own : List Deed) × (rest : List Deed) × (log ≡ own ++ rest) × IsLogOf c own × LogOf cs rest

@@ -1,0 +1,57 @@
+//! What holds of each list of calls, and of each run of deeds.
+
+ghost use Rattle.std.specs.Prelude.{◌≡◌, ◌++◌, [], List, Some, ℕ};
+ghost use Rattle.spk_packets.specs.Message.{Message};
+ghost use Rattle.spk_packets.specs.Stream as stream;
+ghost use Rattle.spk_outbox.specs.Calls as outbox;
+ghost use Rattle.spk_outbox.specs.Data.{fresh_outbox, waiting};
+ghost use Rattle.spk_clients.specs.Data.{IsSettled};
+ghost use Rattle.spk_clients.specs.declared.client.Client.{Client};
+ghost use Rattle.spk_server.specs.declared.server.Server.{Server};
+ghost use Rattle.spk_server.specs.Data.{Deed, Room};
+ghost use Rattle.spk_server.specs.Calls.{AreDone, Call, LogOf, fresh_room};
+ghost use Rattle.spk_server.specs.Log.{IsRested, IsRun, any_deed};
+ghost use Rattle.spk_server.specs.Past.{handed_of, outbox_of, sends_from, stream_of};
+ghost use Rattle.spk_server.specs.Rooms.{room_of};
+
+/// Whatever calls were done, one after the other, from a new server on: there is one run of deeds that is all that they did, call by
+/// call, and it leads to what the server holds.
+pub fn calls_are_deeds()
+    ensures log { (calls : List Call) (r : Room) → AreDone fresh_room calls r
+        → (log : List Deed) × LogOf calls log × IsRun any_deed fresh_room log r }
+    ensures rested { (s : Server) → IsSettled s.clients → IsRested (room_of s) }
+{}
+
+/// For each client: its packets that came are, in order, those which the bytes spell that were taken in since it came; what is left
+/// waits to be whole packets. Whatever other pieces the same bytes, and maybe more, are fed in: the packets that come of them begin
+/// with these.
+pub fn packets_are_spelled()
+    ensures stream { (log : List Deed) (r : Room) (k : ℕ) (c : Client)
+        → IsRun any_deed fresh_room log r → r.clients k ≡ Some c
+        → stream.IsRun [] (stream_of k log) c.feed }
+    ensures first { (log : List Deed) (r : Room) (k : ℕ) (c : Client) (others : List stream.Event)
+        (more y : List ℕ) → IsRun any_deed fresh_room log r → r.clients k ≡ Some c
+        → stream.IsRun [] others y → stream.fed (stream_of k log) ++ more ≡ stream.fed others
+        → stream.HasNoPacket y → (later : List Message)
+        × (stream.given others ≡ stream.given (stream_of k log) ++ later) }
+{
+    spk_packets::laws::any_pieces();
+}
+
+/// What the broker's rules send for the events of a run is offered to its clients, all of it and in order, once nothing is left to
+/// be offered.
+pub fn sends_are_offered()
+    ensures { (log : List Deed) (r : Room) → IsRun any_deed fresh_room log r → r.pending ≡ []
+        → handed_of log ≡ sends_from fresh_room log }
+{}
+
+/// For each client: what was written to it since it came and what waits for it are together the sends that it was offered and that
+/// were taken, byte for byte and in order.
+pub fn written_and_waiting_are_owed()
+    ensures { (log : List Deed) (r : Room) (k : ℕ) (c : Client) → IsRun any_deed fresh_room log r
+        → r.clients k ≡ Some c
+        → outbox.sent (outbox_of k log) fresh_outbox ++ waiting c.outbox
+        ≡ outbox.owed (outbox_of k log) }
+{
+    spk_outbox::laws::written_and_waiting_are_owed();
+}
