@@ -1,7 +1,7 @@
 -- The clients of a server, by the numbers of their connections (own rules).
-use Rattle.std.specs.Prelude.{◌≡◌, ◌≢◌, ℕ, nat_eq, Bool, true, false, List, [], Option, Some, None, Result, Contains}
+use Rattle.std.specs.Prelude.{◌≡◌, ◌≢◌, ◌<◌, ℕ, nat_eq, Bool, true, false, List, [], Option, Some, None, Result, Contains}
 use Rattle.std.specs.Option.{option_map, option_map_or, IfSome}
-use Rattle.std.specs.HashMap.{get, hash_map_len}
+use Rattle.std.specs.HashMap.{get, hash_map_len, spare}
 use Rattle.spk_session.specs.declared.answer.Sort.{Sort}
 use Rattle.spk_clients.specs.declared.client.Client.{Client}
 use Rattle.spk_clients.specs.declared.client.Phase.{Phase}
@@ -29,6 +29,10 @@ OfferedTo sort bytes (Some c) r None = ⊥
 -- whoever was refused a packet of which the broker isn't told is among those that are to be told
 abbrev pub AreNoted : Clients → Type 0
 AreNoted cs = (k : ℕ) → IfSome (client_at cs k) (λ c. is_untold c ≡ true → Contains cs.untold.items k)
+
+-- the table has room for one more client
+abbrev pub HasRoom : Clients → Type 0
+HasRoom cs = 0 < spare cs.table
 
 abbrev pub client_count : Clients → ℕ
 client_count cs = hash_map_len cs.table

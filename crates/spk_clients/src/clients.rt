@@ -1,9 +1,9 @@
 //! The clients, and how they come.
-ghost use Rattle.std.specs.Prelude.{◌≡◌, ◌≢◌, ℕ, nat_eq, Some, None, OnOk, OnErr, IfSome, IfNone};
+ghost use Rattle.std.specs.Prelude.{◌≡◌, ◌≢◌, ℕ, nat_eq, Some, None, IsOk, OnOk, OnErr, IfSome, IfNone};
 ghost use Rattle.std.specs.Option.{option_map, option_copied};
 ghost use Rattle.std.specs.HashMap.{get, hash_map_len};
 ghost use Rattle.spk_clients.specs.Client.{fresh_client};
-ghost use Rattle.spk_clients.specs.Data.{AreNoted, IsSettled, OthersStay, client_at, client_count};
+ghost use Rattle.spk_clients.specs.Data.{AllStay, AreNoted, HasRoom, IsSettled, OthersStay, client_at, client_count};
 
 use crate::client::Client;
 use std::alloc::{AllocError, Global};
@@ -58,27 +58,31 @@ impl Clients {
         self.table.get(&conn)
     }
 
-    /// Room in each list for one more client, so that none grows in the midst of a call.
-    fn reserve(&mut self) -> Result<(), AllocError>
-        ensures { (self.new.table ≡ self.old.table) × (self.new.untold.items ≡ self.old.untold.items) }
+    /// Room for one more client, so that `insert` isn't refused, and in each list, so that none grows in the midst of a call.
+    pub fn reserve(&mut self) -> Result<(), AllocError>
+        ensures stay { AllStay self.old self.new }
+        ensures room { OnOk result (HasRoom self.new) }
+        ensures noted { AreNoted self.old → AreNoted self.new }
+        ensures untold { self.new.untold.items ≡ self.old.untold.items }
     {
         let count = self.table.len().saturating_add(1);
         self.touched.reserve(count)?;
         self.untold.reserve(count)?;
         self.done.reserve(count)?;
+        self.table.reserve(1)?;
         Ok(())
     }
 
     /// A client came. It is to be shut at this moment, in milliseconds, if it sent nothing until then. Where memory is refused
-    /// nobody came.
+    /// nobody came; behind `reserve` none is.
     pub fn insert(&mut self, conn: u64, until: u64) -> Result<(), AllocError>
         ensures here { OnOk result (client_at self.new conn ≡ Some (fresh_client until)) }
         ensures others { OnOk result (OthersStay conn self.old self.new) }
         ensures err { OnErr result ((k : ℕ) → client_at self.new k ≡ client_at self.old k) }
+        ensures room { HasRoom self.old → IsOk result }
         ensures noted { AreNoted self.old → AreNoted self.new }
         ensures untold { self.new.untold.items ≡ self.old.untold.items }
     {
-        self.reserve()?;
         self.table.insert(conn, Client::new(self.alloc, until))?;
         Ok(())
     }

@@ -4,7 +4,7 @@ use Rattle.std.specs.List.{list_all}
 use Rattle.spk_server.specs.Data.{Deed, Room, Want}
 use Rattle.spk_server.specs.Data as deed
 use Rattle.spk_server.specs.Step.{after}
-use Rattle.spk_server.specs.Calls.{AreDone, Call, Accepted, Read, Gone, GoOn, Moment, Wrote, Cut, NextToWrite, NextToShut, IsDone, IsLogOf, LogOf, PassedOver, RanOut, TookUp, WasEnded, fresh_room, timed}
+use Rattle.spk_server.specs.Calls.{AreDone, Call, Accepted, TurnedAway, Read, Gone, GoOn, Moment, Wrote, Cut, NextToWrite, NextToShut, IsDone, IsLogOf, LogOf, PassedOver, RanOut, TookUp, WasEnded, fresh_room, timed}
 use Rattle.spk_server.specs.Log.{IsRested, IsRun, any_deed, calls, follows, goes_on, takes}
 use Rattle.spk_server.proofs.Allowed.{follows_takes}
 use Rattle.spk_server.proofs.Runs.{joined, widened}
@@ -47,6 +47,7 @@ gone_log conn now r m rest (inr p) = (deed.Timed now ∷ [], ([], refl, inl refl
 
 done_log : (c : Call) (r m : Room) → IsRested r → IsDone c r m → HasLog c r m
 done_log (Accepted conn now) r m rest d = (deed.Timed now ∷ deed.Joined conn ∷ [], refl, (refl, rest, (refl, (rest, d.0, d.1), sym d.2)))
+done_log (TurnedAway now) r m rest d = (deed.Timed now ∷ [], refl, (refl, rest, sym d))
 done_log (Read conn piece now) r m rest d = read_log conn piece now r m rest d
 done_log (Gone conn now) r m rest d = gone_log conn now r m rest d
 done_log (GoOn now) r m rest d = (deed.Timed now ∷ d.0, (d.0, refl, all_of goes_on d.0 (timed now r) m d.1), (refl, rest, any_of goes_on d.0 (timed now r) m d.1))

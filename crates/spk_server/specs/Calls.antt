@@ -17,6 +17,8 @@ use Rattle.spk_server.specs.Log.{HasClient, IsRested, Reaches, calls, follows, g
 -- a call, with what the loop told the server or was told by it
 pub data Call : Type 0 where
   Accepted : (conn : ℕ) (now : ℕ) → Call
+  -- one was refused
+  TurnedAway : (now : ℕ) → Call
   Read : (conn : ℕ) (piece : List ℕ) (now : ℕ) → Call
   Gone : (conn : ℕ) (now : ℕ) → Call
   GoOn : (now : ℕ) → Call
@@ -63,6 +65,7 @@ pub record WasEnded (conn : ℕ) (r s : Room) : Type 0 where
 abbrev pub IsDone : Call → Room → Room → Type 0
 IsDone (Accepted conn now) r s =
     (is_full r.broker ≡ false) × (conn ≡ r.broker.given + 1) × (s ≡ after (deed.Joined conn) (timed now r))
+IsDone (TurnedAway now) r s = s ≡ timed now r
 IsDone (Read conn piece now) r s =
     TookUp conn piece (timed now r) s ⊎ (PassedOver conn (timed now r) s ⊎ RanOut conn (timed now r) s)
 IsDone (Gone conn now) r s = WasEnded conn (timed now r) s ⊎ PassedOver conn (timed now r) s
@@ -103,6 +106,7 @@ IsIntake conn piece d = (d ≡ deed.Fed conn piece) ⊎ ((d ≡ deed.Skipped con
 -- which deeds are those of a call
 abbrev pub IsLogOf : Call → List Deed → Type 0
 IsLogOf (Accepted conn now) log = log ≡ deed.Timed now ∷ deed.Joined conn ∷ []
+IsLogOf (TurnedAway now) log = log ≡ deed.Timed now ∷ []
 IsLogOf (Read conn piece now) log =
     (d : Deed) × (ds : List Deed) × (log ≡ deed.Timed now ∷ d ∷ ds) × IsIntake conn piece d × (list_all (takes conn) ds ≡ true)
 IsLogOf (Gone conn now) log = (ds : List Deed) × (log ≡ deed.Timed now ∷ ds) × ((ds ≡ []) ⊎ ((es : List Deed)

@@ -185,11 +185,18 @@ abbrev pub tried : Option Slow → Room → Room
 tried None r = r
 tried (Some s) r = record (tried_at (is_slow s r) s (changed (awaited (s.client == s.publisher) r.now) s.client r)) { slow = None }
 
+-- a connection is opened, and its client is to be shut then, if it sent nothing
+abbrev pub joined : ℕ → ℕ → Room → Room
+joined conn until r = record r {
+  broker = (step r.broker (event.Open r.now)).broker;
+  clients = placed (Some (fresh_client until)) conn r.clients;
+}
+
 -- ---- a deed
 
 abbrev pub after : Deed → Room → Room
 after (Timed moment) r = record r { now = max r.now moment }
-after (Joined conn) r = record r { broker = (step r.broker (event.Open r.now)).broker; clients = placed (Some (fresh_client (later quiet r.now))) conn r.clients }
+after (Joined conn) r = joined conn (later quiet r.now) r
 after (Fed conn piece) r = changed (takes_in piece) conn r
 after (Skipped conn piece) r = r
 after (Took conn p rest) r = record (changed (λ c. after_hearing p (record c { feed = rest })) conn r) { in_hand = Some (record { conn = conn; packet = p }); slow = None }

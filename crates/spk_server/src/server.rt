@@ -1,10 +1,12 @@
 //! The server, and how clients come.
 
-ghost use Rattle.std.specs.Prelude.{◌≡◌, ◌<◌, nat_le, IfOk, OnOk, OnErr};
+ghost use Rattle.std.specs.Prelude.{◌≡◌, ◌+◌, ◌<◌, nat_le, IfOk, OnOk, OnErr, false};
+ghost use Rattle.spk_broker_rules.specs.Step.{is_full};
 ghost use Rattle.spk_clients.specs.Data.{AreNoted, IsSettled, client_count};
 ghost use Rattle.spk_server.specs.Calls.{IsDone, fresh_room, timed};
 ghost use Rattle.spk_server.specs.Calls as call;
 ghost use Rattle.spk_server.specs.Rooms.{room_of};
+ghost use Rattle.spk_server.specs.Step.{joined};
 
 use crate::fault::ServerFault;
 use spk_broker::{Broker, BrokerFault, Conn};
@@ -81,27 +83,35 @@ impl Server {
         self.now = self.now.max(now);
     }
 
-    /// Opens a connection, and keeps its client.
+    /// Opens a connection, and keeps its client. Where it fails nothing has changed.
     fn open(&mut self, until: u64) -> Result<Conn, ServerFault>
-        ensures { IsSettled self.old.clients → IsSettled self.new.clients }
+        ensures joins { IfOk result (λ conn. (is_full self.old.broker ≡ false)
+            × (conn ≡ self.old.broker.given + 1)
+            × (room_of self.new ≡ joined conn until (room_of self.old))) }
+        ensures err { OnErr result (room_of self.new ≡ room_of self.old) }
+        ensures settled { IsSettled self.old.clients → IsSettled self.new.clients }
     {
         self.held.reserve(self.clients.len().saturating_add(1))?;
+        self.clients.reserve()?;
         let conn = match self.broker.open(self.now) {
             Ok(conn) => conn,
             Err(BrokerFault::NoMemory) => return Err(ServerFault::NoMemory),
             Err(_) => return Err(ServerFault::Limit),
         };
-        if self.clients.insert(conn, until).is_err() {
-            let _ = self.broker.closed(conn, self.now);
-            return Err(ServerFault::NoMemory);
+        match self.clients.insert(conn, until) {
+            Ok(()) => Ok(conn),
+            Err(_) => unreachable!(),
         }
-        Ok(conn)
     }
 
     /// A client came: the number of its connection. It has ten seconds for its CONNECT (own rule). Refused with Limit (31)
-    /// where 1,000 clients are here.
+    /// where 1,000 clients are here or the broker may have no further connection. Where it fails nobody came.
     pub fn accepted(&mut self, now: u64) -> Result<Conn, ServerFault>
-        ensures { IsSettled self.old.clients → IsSettled self.new.clients }
+        ensures done { IfOk result
+            (λ conn. IsDone (call.Accepted conn now) (room_of self.old) (room_of self.new)) }
+        ensures err { OnErr result (IsDone (call.TurnedAway now) (room_of self.old) (room_of self.new)) }
+        ensures few { OnOk result (client_count self.old.clients < 1000) }
+        ensures settled { IsSettled self.old.clients → IsSettled self.new.clients }
     {
         self.at(now);
         if self.is_full() {
