@@ -1,5 +1,5 @@
 -- One client of a server (own rules).
-use Rattle.std.specs.Prelude.{◌≡◌, ◌≢◌, ◌⊎◌, ℕ, ◌+◌, ◌-◌, ◌<◌, min, nat_lt, nat_le, ◌==◌, Bool, true, false, not, ◌&&◌, ◌||◌, List, [], ◌∷◌, ◌++◌, length, Option, Some, None, Result, Ok, Err, if◌then◌else◌}
+use Rattle.std.specs.Prelude.{◌≡◌, ◌≢◌, ◌⊎◌, ℕ, ◌+◌, ◌-◌, ◌<◌, ◌≤◌, min, nat_lt, nat_le, ◌==◌, Bool, true, false, not, ◌&&◌, ◌||◌, List, [], ◌∷◌, ◌++◌, length, Option, Some, None, Result, Ok, Err, if◌then◌else◌}
 use Rattle.spk_packets.specs.Message.{Message, PubAck, Connect, ConnAck, Publish, Subscribe, SubAck, Unsubscribe, UnsubAck, PingReq, PingResp, Disconnect}
 use Rattle.spk_packets.specs.Fault.{first_of, IsNamed}
 use Rattle.spk_packets.specs.Refusals.{refusals}
@@ -10,7 +10,7 @@ use Rattle.spk_packets.specs.declared.fault.PacketFault.{PacketFault}
 use Rattle.spk_packets.specs.declared.fault.PacketFault.TheVariants.{More}
 use Rattle.spk_session.specs.declared.answer.Sort.{Sort}
 use Rattle.spk_session.specs.declared.answer.Sort.TheVariants.{QosZero, Other}
-use Rattle.spk_outbox.specs.Data.{fresh_outbox}
+use Rattle.spk_outbox.specs.Data.{first_room, fresh_outbox}
 use Rattle.spk_outbox.specs.Step.{put, written}
 use Rattle.spk_outbox.specs.Waits.{began, ended, fresh_waits, lasts}
 use Rattle.spk_clients.specs.declared.client.Client.{Client}
@@ -66,9 +66,10 @@ abbrev pub refused_with : Sort → Client → Client
 refused_with QosZero c = record c { drops = min (c.drops + 1) most_number }
 refused_with Other c = record c { lost = true }
 
+-- It is taken, or refused, which it is only where others wait; behind its client's end it is passed over.
 abbrev pub IsOffered : Sort → List ℕ → Client → Offered → Client → Type 0
 IsOffered sort bytes old Taken new = (is_over old ≡ false) × (new ≡ record (taken_in bytes old) { touched = true })
-IsOffered sort bytes old Refused new = (is_over old ≡ false) × (new ≡ refused_with sort old)
+IsOffered sort bytes old Refused new = (is_over old ≡ false) × (first_room ≤ length old.outbox.packets) × (new ≡ refused_with sort old)
 IsOffered sort bytes old Passed new = (is_over old ≡ true) × (new ≡ old)
 
 -- ---- what the broker isn't told

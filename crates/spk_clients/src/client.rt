@@ -1,5 +1,5 @@
 //! One client.
-ghost use Rattle.std.specs.Prelude.{◌≡◌, ◌≢◌, ◌⊎◌, ◌++◌, ◌||◌, ◌&&◌, nat_lt, nat_le, length, true, false, IfSome, IfNone, None, OnOk, OnErr};
+ghost use Rattle.std.specs.Prelude.{◌≡◌, ◌≢◌, ◌⊎◌, ◌++◌, ◌||◌, ◌&&◌, nat_lt, nat_le, length, true, false, IfOk, IfSome, IfNone, None, OnOk, OnErr};
 ghost use Rattle.spk_packets.specs.Fault.{first_of, IsNamed};
 ghost use Rattle.spk_packets.specs.Refusals.{refusals};
 ghost use Rattle.spk_packets.specs.declared.fault.PacketFault.TheVariants as PacketFault;
@@ -10,7 +10,7 @@ use spk_bytes::Bytes;
 use spk_outbox::{Outbox, Patience};
 use spk_packets::{Feed, Packet, PacketFault};
 use spk_session::Sort;
-use std::alloc::Global;
+use std::alloc::{AllocError, Global};
 
 /// Above so many packets that wait or aren't acknowledged others wait for a client (own rule).
 const MANY: usize = 512;
@@ -35,7 +35,7 @@ pub enum Phase {
 pub enum Offered {
     /// It waits to be written.
     Taken,
-    /// 1,024 packets wait, or memory was refused: the broker is to be told.
+    /// 1,024 packets wait, or four and memory was refused: the broker is to be told.
     Refused,
     /// The client isn't there, or its end came before.
     Passed,
@@ -75,14 +75,15 @@ fn is_numbered(bytes: &[u8]) -> bool
 }
 
 impl Client {
-    /// One that just came.
-    pub fn new(alloc: Global, until: u64) -> Client
-        ensures { result ≡ fresh_client until }
+    /// One that just came. Refused only where memory is.
+    pub fn new(alloc: Global, until: u64) -> Result<Client, AllocError>
+        ensures { IfOk result (λ c. c ≡ fresh_client until) }
     {
-        Client {
+        let outbox = Outbox::new(alloc)?;
+        Ok(Client {
             phase: Phase::Quiet,
             feed: Feed::new(alloc),
-            outbox: Outbox::new(alloc),
+            outbox,
             until,
             touched: false,
             cut: false,
@@ -91,7 +92,7 @@ impl Client {
             waits_for: None,
             drops: 0,
             lost: false,
-        }
+        })
     }
 
     /// Whether its end came.

@@ -1,8 +1,8 @@
 //! The clients, and how they come.
-ghost use Rattle.std.specs.Prelude.{◌≡◌, ◌≢◌, ℕ, nat_eq, Some, None, IsOk, OnOk, OnErr, IfSome, IfNone};
+ghost use Rattle.std.specs.Prelude.{◌≡◌, ◌≢◌, ℕ, nat_eq, Some, None, false, IsOk, IfOk, OnOk, OnErr, IfSome, IfNone};
 ghost use Rattle.std.specs.Option.{option_map, option_copied};
 ghost use Rattle.std.specs.HashMap.{get, hash_map_len};
-ghost use Rattle.spk_clients.specs.Client.{fresh_client};
+ghost use Rattle.spk_clients.specs.Client.{fresh_client, is_untold};
 ghost use Rattle.spk_clients.specs.Data.{AllStay, AreNoted, HasRoom, IsSettled, OthersStay, client_at, client_count};
 
 use crate::client::Client;
@@ -73,17 +73,24 @@ impl Clients {
         Ok(())
     }
 
-    /// A client came. It is to be shut at this moment, in milliseconds, if it sent nothing until then. Where memory is refused
-    /// nobody came; behind `reserve` none is.
-    pub fn insert(&mut self, conn: u64, until: u64) -> Result<(), AllocError>
-        ensures here { OnOk result (client_at self.new conn ≡ Some (fresh_client until)) }
+    /// A client that just came, for `insert`. It is to be shut at this moment, in milliseconds, if it sent nothing until then.
+    /// Refused only where memory is.
+    pub fn client(&self, until: u64) -> Result<Client, AllocError>
+        ensures { IfOk result (λ c. c ≡ fresh_client until) }
+    {
+        Client::new(self.alloc, until)
+    }
+
+    /// A client came. Where memory is refused nobody came; behind `reserve` none is.
+    pub fn insert(&mut self, conn: u64, client: Client) -> Result<(), AllocError>
+        ensures here { OnOk result (client_at self.new conn ≡ Some client) }
         ensures others { OnOk result (OthersStay conn self.old self.new) }
         ensures err { OnErr result ((k : ℕ) → client_at self.new k ≡ client_at self.old k) }
         ensures room { HasRoom self.old → IsOk result }
-        ensures noted { AreNoted self.old → AreNoted self.new }
+        ensures noted { AreNoted self.old → is_untold client ≡ false → AreNoted self.new }
         ensures untold { self.new.untold.items ≡ self.old.untold.items }
     {
-        self.table.insert(conn, Client::new(self.alloc, until))?;
+        self.table.insert(conn, client)?;
         Ok(())
     }
 }

@@ -8,6 +8,10 @@ pub record Outbox : Type 0 where
   -- how many bytes of the first were written
   pub written : ℕ
 
+-- for so many packets there is room from the start
+abbrev pub first_room : ℕ
+first_room = 4
+
 abbrev pub fresh_outbox : Outbox
 fresh_outbox = record { packets = []; written = 0 }
 

@@ -1,17 +1,20 @@
 //! The packets that wait to be written to one client.
-ghost use Rattle.std.specs.Prelude.{◌≡◌, ◌-◌, ◌+◌, ◌<◌, ◌≤◌, ◌==◌, ◌++◌, ◌∷◌, [], length, take, drop, OnOk, OnErr, IfErr, IfSome, IfNone};
-ghost use Rattle.spk_outbox.specs.Data.{fresh_outbox, rest_of_first, waiting};
+ghost use Rattle.std.specs.Prelude.{◌≡◌, ◌-◌, ◌+◌, ◌<◌, ◌≤◌, ◌==◌, ◌++◌, ◌∷◌, [], length, take, drop, OnOk, OnErr, IfOk, IfErr, IfSome, IfNone};
+ghost use Rattle.spk_outbox.specs.Data.{first_room, fresh_outbox, rest_of_first, waiting};
 ghost use Rattle.spk_outbox.specs.Step.{most_waiting, put, written};
 
 use crate::fault::OfferFault;
 use spk_bytes::Bytes;
-use std::alloc::Global;
+use std::alloc::{AllocError, Global};
 use std::collections::VecDeque;
 use std::fmt;
 use std::marker::Model;
 
 /// The most packets that may wait (own rule).
 const MOST_WAITING: usize = 1_024;
+
+/// For so many packets there is room from the start: while fewer wait none is refused (own rule).
+const FIRST: usize = 4;
 
 /// What is joined to one write, in bytes (own rule).
 const BATCH: usize = 65_536;
@@ -30,13 +33,16 @@ impl fmt::Debug for Outbox {
 }
 
 impl Model for Outbox {
+    ghost use Rattle.std.specs.Prelude.{◌≤◌};
+    ghost use Rattle.std.specs.VecDeque.{deque_capacity};
     ghost use Rattle.spk_outbox.specs.Data as plain;
 
     ghost Value = { plain.Outbox };
 
     ghost view = { λ o. record { packets = o.packets.items; written = o.written } };
 
-    ghost invariant = { λ o. plain.IsPartOfFirst o.written o.packets.items };
+    ghost invariant = { λ o. plain.IsPartOfFirst o.written o.packets.items
+        × (plain.first_room ≤ deque_capacity o.packets) };
 }
 
 /// What stands behind the first so many bytes.
@@ -56,14 +62,15 @@ fn packet_at(packets: &VecDeque<Bytes>, place: usize) -> &[u8]
 }
 
 impl Outbox {
-    /// Nothing waits.
-    pub fn new(alloc: Global) -> Outbox
-        ensures { result ≡ fresh_outbox }
+    /// Nothing waits, and there is room for four packets. Refused only where memory is.
+    pub fn new(alloc: Global) -> Result<Outbox, AllocError>
+        ensures { IfOk result (λ o. o ≡ fresh_outbox) }
     {
-        Outbox {
-            packets: VecDeque::new(alloc),
+        let packets = VecDeque::with_capacity(alloc, FIRST)?;
+        Ok(Outbox {
+            packets,
             written: 0,
-        }
+        })
     }
 
     /// How many packets wait, one that was written in part among them.
@@ -80,8 +87,8 @@ impl Outbox {
         self.packets.is_empty()
     }
 
-    /// One more packet, behind those that wait. Refused with Full (91) exactly where 1,024 wait, else only where memory is. A
-    /// refused one changes nothing.
+    /// One more packet, behind those that wait. Refused with Full (91) exactly where 1,024 wait, else only where memory is, and never
+    /// while fewer than four wait. A refused one changes nothing.
     pub fn offer(&mut self, packet: Bytes) -> Result<(), OfferFault>
         ensures ok { OnOk result (self.new ≡ put packet self.old) }
         ensures room { OnOk result (length self.old.packets < most_waiting) }
@@ -89,6 +96,7 @@ impl Outbox {
             (λ e. e ≡ OfferFault.Full → most_waiting ≤ length self.old.packets) }
         ensures no_memory { IfErr result
             (λ e. e ≡ OfferFault.NoMemory → length self.old.packets < most_waiting) }
+        ensures first { OnErr result (first_room ≤ length self.old.packets) }
         ensures err { OnErr result (self.new ≡ self.old) }
     {
         if self.packets.len() >= MOST_WAITING {

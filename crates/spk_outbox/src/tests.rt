@@ -17,7 +17,7 @@ fn gathered(alloc: Global, outbox: &Outbox) -> Vec<u8> {
 #[test]
 fn packets_are_written_in_pieces(rt: HostRuntime) -> Result<(), Fail> {
     let alloc = rt.alloc();
-    let mut outbox = Outbox::new(alloc);
+    let mut outbox = Outbox::new(alloc)?;
     assert!(rt; outbox.is_empty());
     assert_eq!(rt; outbox.first(), None);
     outbox.offer(packet(alloc, b"abc")?).ok();
@@ -36,7 +36,7 @@ fn packets_are_written_in_pieces(rt: HostRuntime) -> Result<(), Fail> {
 #[test]
 fn packet_1025_is_refused(rt: HostRuntime) -> Result<(), Fail> {
     let alloc = rt.alloc();
-    let mut outbox = Outbox::new(alloc);
+    let mut outbox = Outbox::new(alloc)?;
     for _ in 0..1_024 {
         assert!(rt; outbox.offer(packet(alloc, b"x")?).is_ok());
     }

@@ -17,13 +17,13 @@ use Rattle.spk_clients.specs.declared.client.Client.{Client}
 use Rattle.spk_clients.specs.declared.client.Offered.{Offered}
 use Rattle.spk_clients.specs.declared.client.Offered.TheVariants.{Taken, Refused, Passed}
 use Rattle.spk_clients.specs.declared.clients.Clients.{Clients}
-use Rattle.spk_clients.specs.Client.{has_many, is_untold, leaves, refused_with, sort_untold, taken_in, told}
+use Rattle.spk_clients.specs.Client.{fresh_client, has_many, is_untold, leaves, refused_with, sort_untold, taken_in, told}
 use Rattle.spk_clients.specs.Data.{Becomes, IsSettled, OfferedTo, OthersStay, client_at}
 use Rattle.spk_server.specs.declared.server.Server.{Server}
 use Rattle.spk_server.specs.Answers.{Answers, AnswersOn}
 use Rattle.spk_server.specs.Data.{Deed, InHand, Offer, Room, Slow}
 use Rattle.spk_server.specs.Data as deed
-use Rattle.spk_server.specs.Step.{after, answered, called, called_on, change, changed, grace, handed, later, left, offer_of, offered, placed, slowed}
+use Rattle.spk_server.specs.Step.{after, answered, joined, called, called_on, change, changed, grace, handed, later, left, offer_of, offered, placed, slowed}
 use Rattle.spk_server.specs.Log.{IsIdle, IsRested, May, MayFall, Reaches, follows}
 use Rattle.spk_server.specs.Rooms.{amid, closes_in, offers_in, offers_of, pressed, room_of}
 use Rattle.spk_server.proofs.Runs.{at_end, at_start, begins, stays}
@@ -76,7 +76,7 @@ pressed_none (Some c) before = refl
 
 may_fall : (s : Sort) (bytes : List ℕ) (fate : Offered) (c d : Option Client) → OfferedTo s bytes c fate d → MayFall fate c
 may_fall s bytes Taken (Some c) (Some d) h = h.0
-may_fall s bytes Refused (Some c) (Some d) h = h.0
+may_fall s bytes Refused (Some c) (Some d) h = (h.0, h.1)
 may_fall s bytes Passed (Some c) (Some d) h = h.0
 may_fall s bytes Passed None None h = tt
 may_fall s bytes Taken None None h = cc
@@ -90,7 +90,7 @@ may_fall s bytes Passed (Some c) None h = absurd h
 
 offered_is : (s : Sent) (fate : Offered) (c d : Option Client) → OfferedTo s.sort s.bytes c fate d → d ≡ option_map (offered s fate) c
 offered_is s Taken (Some c) (Some d) h = ap Some h.1
-offered_is s Refused (Some c) (Some d) h = ap Some h.1
+offered_is s Refused (Some c) (Some d) h = ap Some h.2
 offered_is s Passed (Some c) (Some d) h = ap Some h.1
 offered_is s Passed None None h = refl
 offered_is s Taken None None h = refl
@@ -213,3 +213,14 @@ tells_is old n conn s new before b is (inr t) =
 pub nothing_left : {X : Type 0} (xs : List X) → length xs ≡ 0 → xs ≡ []
 nothing_left [] e = refl
 nothing_left (x ∷ xs) e = absurd (omega arith)
+
+-- a client came
+pub joined_is : (old : Server) (m n : Clients) (b : Broker) (h : List ℕ) (conn until : ℕ) (c : Client)
+    → b ≡ (step old.broker (event.Open old.now)).broker → ((k : ℕ) → client_at m k ≡ client_at old.clients k)
+    → client_at n conn ≡ Some c → OthersStay conn m n → c ≡ fresh_client until → h ≡ old.held.items
+    → record (room_of old) { broker = b; clients = client_at n; held = h } ≡ joined conn until (room_of old)
+joined_is old m n b h conn until c done stay here others fresh held =
+    ap {B = Room} (λ x. record (room_of old) { broker = x; clients = client_at n; held = h }) done
+    ∙ ap {B = Room} (λ cs. record (room_of old) { broker = (step old.broker (event.Open old.now)).broker; clients = cs; held = h })
+        (placed_is conn (Some (fresh_client until)) (client_at old.clients) (client_at n) (here ∙ ap Some fresh) (λ k ne. others k ne ∙ stay k))
+    ∙ ap {B = Room} (λ x. record (joined conn until (room_of old)) { held = x }) held

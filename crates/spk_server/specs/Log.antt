@@ -9,6 +9,7 @@ use Rattle.spk_packets.specs.Stream.{TakesPacket}
 use Rattle.spk_packets.specs.declared.fault.PacketFault.TheVariants.{More, NoMemory}
 use Rattle.spk_session.specs.declared.answer.Sort.{Sort}
 use Rattle.spk_broker_rules.specs.Step.{is_full}
+use Rattle.spk_outbox.specs.Data.{first_room}
 use Rattle.spk_clients.specs.declared.client.Client.{Client}
 use Rattle.spk_clients.specs.declared.client.Offered.{Offered}
 use Rattle.spk_clients.specs.declared.client.Offered.TheVariants.{Taken, Refused, Passed}
@@ -38,10 +39,10 @@ HasClient P conn r = (c : Client) × (r.clients conn ≡ Some c) × P c
 abbrev pub is_open : Room → ℕ → Bool
 is_open r conn = option_map_or (λ c. if is_over c then false else true) (r.clients conn) false
 
--- what becomes of an offer: it is taken or refused where its client is here and its end didn't come, else passed over
+-- what becomes of an offer: it is taken, or refused where some wait, where its client is here and its end didn't come, else passed over
 abbrev pub MayFall : Offered → Option Client → Type 0
 MayFall Taken (Some c) = is_over c ≡ false
-MayFall Refused (Some c) = is_over c ≡ false
+MayFall Refused (Some c) = (is_over c ≡ false) × (first_room ≤ length c.outbox.packets)
 MayFall Passed (Some c) = is_over c ≡ true
 MayFall Taken None = ⊥
 MayFall Refused None = ⊥

@@ -93,12 +93,13 @@ impl Server {
     {
         self.held.reserve(self.clients.len().saturating_add(1))?;
         self.clients.reserve()?;
+        let client = self.clients.client(until)?;
         let conn = match self.broker.open(self.now) {
             Ok(conn) => conn,
             Err(BrokerFault::NoMemory) => return Err(ServerFault::NoMemory),
             Err(_) => return Err(ServerFault::Limit),
         };
-        match self.clients.insert(conn, until) {
+        match self.clients.insert(conn, client) {
             Ok(()) => Ok(conn),
             Err(_) => unreachable!(),
         }
