@@ -1,5 +1,5 @@
 -- Whoever was refused a packet stays noted.
-use Rattle.std.proofs.Common.{◌≡◌, ℕ, nat_eq, Bool, true, false, cond, Option, Some, None, Contains, sym, subst, arith}
+use Rattle.std.proofs.Common.{◌≡◌, ℕ, nat_eq, Bool, true, false, cond, Option, Some, Contains, sym, subst, arith}
 use Rattle.std.specs.Option.{IfSome}
 use Rattle.spk_clients.specs.declared.client.Client.{Client}
 use Rattle.spk_clients.specs.declared.clients.Clients.{Clients}

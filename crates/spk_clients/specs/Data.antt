@@ -1,5 +1,5 @@
 -- The clients of a server, by the numbers of their connections (own rules).
-use Rattle.std.specs.Prelude.{◌≡◌, ◌≢◌, ◌<◌, ℕ, nat_eq, Bool, true, false, List, [], Option, Some, None, Result, Contains}
+use Rattle.std.specs.Prelude.{◌≡◌, ◌≢◌, ◌<◌, ℕ, nat_eq, true, List, [], Option, Some, None, Result, Contains}
 use Rattle.std.specs.Option.{option_map, option_map_or, IfSome}
 use Rattle.std.specs.HashMap.{get, hash_map_len, spare}
 use Rattle.spk_session.specs.declared.answer.Sort.{Sort}

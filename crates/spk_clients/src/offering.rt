@@ -1,7 +1,8 @@
 //! Packets for clients, and which of them were refused.
-ghost use Rattle.std.specs.Prelude.{◌≡◌, ◌≢◌, ℕ, nat_eq, length, [], Some, None, OnOk, IfOk, IfSome, IfNone, true, false};
+ghost use Rattle.std.specs.Prelude.{◌≡◌, ◌≢◌, ◌⊎◌, ◌++◌, ◌∷◌, ℕ, nat_eq, length, [], Some, None, OnOk, IfOk, IfSome, IfNone, true, false};
 ghost use Rattle.std.specs.Option.{option_map, option_map_or};
 ghost use Rattle.std.specs.HashMap.{get};
+ghost use Rattle.spk_clients.specs.declared.client.Offered.TheVariants as Offered;
 ghost use Rattle.spk_clients.specs.Client.{has_many, is_untold, sort_untold, told};
 ghost use Rattle.spk_clients.specs.Data.{AllStay, AreNoted, Becomes, IsSettled, OfferedTo, OthersStay, client_at};
 
@@ -26,6 +27,7 @@ fn offer_at(table: &mut HashMap<u64, Client>, conn: u64, sort: Sort, bytes: Byte
     ensures here { OfferedTo sort bytes (get nat_eq table.old conn) result.offered (get nat_eq table.new conn) }
     ensures others { (k : ℕ) → k ≢ conn → get nat_eq table.new k ≡ get nat_eq table.old k }
     ensures was_untold { IfSome (get nat_eq table.old conn) (λ c. result.was_untold ≡ is_untold c) }
+    ensures was_touched { result.was_touched ≡ option_map_or (λ c. c.touched) (get nat_eq table.old conn) true }
     ensures many { result.has_many ≡ option_map_or (has_many false) (get nat_eq table.new conn) false }
 {
     match table.get_mut(&conn) {
@@ -79,6 +81,10 @@ impl Clients {
         ensures others { OthersStay conn self.old self.new }
         ensures many { IfOk result
             (λ r. r.1 ≡ option_map_or (has_many false) (client_at self.new conn) false) }
+        // Whoever a packet waits for is named to be written to, once.
+        ensures named { IfOk result (λ r. r.0 ≡ Offered.Taken
+            → (option_map_or (λ c. c.touched) (client_at self.old conn) true ≡ true)
+            ⊎ (self.new.touched.items ≡ self.old.touched.items ++ conn ∷ [])) }
         ensures noted { OnOk result (AreNoted self.old → AreNoted self.new) }
     {
         let answer = offer_at(&mut self.table, conn, sort, bytes);

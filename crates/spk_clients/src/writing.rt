@@ -1,5 +1,5 @@
 //! What is to be written.
-ghost use Rattle.std.specs.Prelude.{◌≡◌, ◌≢◌, ◌++◌, ◌-◌, ℕ, nat_eq, length, take, Some, None, OnOk, IfSome, IfNone};
+ghost use Rattle.std.specs.Prelude.{◌≡◌, ◌≢◌, ◌++◌, ◌∷◌, [], ◌-◌, ℕ, nat_eq, length, take, Some, None, OnOk, IfSome, IfNone};
 ghost use Rattle.std.specs.Option.{option_map, option_map_or};
 ghost use Rattle.std.specs.HashMap.{get};
 ghost use Rattle.spk_outbox.specs.Data.{waiting, rest_of_first};
@@ -54,6 +54,9 @@ impl Clients {
     pub fn next_to_write(&mut self) -> Option<u64>
         ensures some { IfSome result (λ k. Becomes untouched k self.old self.new) }
         ensures none { IfNone result ((k : ℕ) → client_at self.new k ≡ client_at self.old k) }
+        ensures first { IfSome result
+            (λ k. self.old.touched.items ≡ k ∷ self.new.touched.items) }
+        ensures nobody { IfNone result (self.old.touched.items ≡ []) }
         ensures noted { AreNoted self.old → AreNoted self.new }
         ensures untold { self.new.untold.items ≡ self.old.untold.items }
     {

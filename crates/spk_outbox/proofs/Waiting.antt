@@ -1,13 +1,13 @@
 -- What waits, after each call.
-use Rattle.std.proofs.Common.{◌≡◌, ℕ, zero, suc, ◌+◌, ◌-◌, ◌<◌, ◌≤◌, nat_le, Bool, true, false, if◌then◌else◌, List, [], ◌∷◌, ◌++◌, length, take, drop, refl, sym, ◌∙◌, ap, arith, append_assoc, length-append}
+use Rattle.std.proofs.Common.{◌≡◌, ℕ, zero, suc, ◌+◌, ◌-◌, ◌≤◌, nat_le, true, false, if◌then◌else◌, List, [], ◌∷◌, ◌++◌, length, take, drop, refl, sym, ◌∙◌, ap, arith, append_assoc, length-append}
 use Rattle.std.specs.List.{concat}
 use Rattle.std.proofs.lemmas.Bool.{leb-true}
 use Rattle.std.proofs.lemmas.List.{take-append-drop, drop-append-le, append-nil}
 use Rattle.std.proofs.lemmas.List.Folds.{concat-append}
 use Rattle.std.proofs.Math.Seq.{drop-append-add, take-append_seam, take-append-add}
-use Rattle.spk_outbox.specs.Data.{Outbox, fresh_outbox, IsPartOfFirst, waiting}
+use Rattle.spk_outbox.specs.Data.{Outbox, IsPartOfFirst, waiting}
 use Rattle.spk_outbox.specs.Step.{put, left_of, written}
-use Rattle.spk_outbox.specs.Calls.{Call, Took, Wrote, after_call, after, owed, sent}
+use Rattle.spk_outbox.specs.Calls.{Call, Took, Wrote, after, owed, sent}
 
 pub drop-nil : (n : ℕ) → drop n (let e : List ℕ = [] in e) ≡ []
 drop-nil zero = refl

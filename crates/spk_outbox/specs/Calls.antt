@@ -1,5 +1,5 @@
 -- Lists of calls of an outbox: what it was owed, what was written of it, and what waits (own rules).
-use Rattle.std.specs.Prelude.{ℕ, ◌+◌, min, List, [], ◌∷◌, ◌++◌, length, take}
+use Rattle.std.specs.Prelude.{ℕ, List, [], ◌∷◌, ◌++◌, take}
 use Rattle.spk_outbox.specs.Data.{Outbox, waiting}
 use Rattle.spk_outbox.specs.Step.{put, written}
 

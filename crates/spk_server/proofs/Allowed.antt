@@ -1,6 +1,6 @@
 -- Which deeds are allowed where.
 use Rattle.std.proofs.Common.{◌≡◌, ℕ, ◌==◌, ◌&&◌, Bool, true, false, refl}
-use Rattle.spk_server.specs.Data.{Deed, Why, Gone, Silent, Want, Timed, Joined, Fed, Skipped, Took, Came, Broke, Left, Ticked, Handed, Shut, Told, Cut, Tried, Waited, Freed, Dropped, Wrote, Blocked, Named, Forgot}
+use Rattle.spk_server.specs.Data.{Deed, Why, Timed, Joined, Fed, Skipped, Took, Came, Broke, Left, Ticked, Handed, Shut, Told, Cut, Tried, Waited, Freed, Dropped, Wrote, Blocked, Named, Forgot}
 use Rattle.spk_server.specs.Log.{calls, follows, goes_on, is_want, takes}
 
 no : {A : Type 0} → false ≡ true → A

@@ -1,5 +1,5 @@
 -- What a run of deeds leaves of what a client sent, of what waits for it, and of what is to be offered.
-use Rattle.std.proofs.Common.{◌≡◌, ◌≢◌, inl, inr, ℕ, ◌==◌, if◌then◌else◌, Bool, true, false, List, [], ◌∷◌, ◌++◌, length, map, Option, Some, None, refl, sym, ◌∙◌, ap, subst, append_assoc}
+use Rattle.std.proofs.Common.{◌≡◌, ℕ, ◌==◌, if◌then◌else◌, Bool, true, false, List, [], ◌∷◌, ◌++◌, Option, Some, None, refl, sym, ◌∙◌, ap, subst, append_assoc}
 use Rattle.std.proofs.lemmas.List.{append-nil}
 use Rattle.std.proofs.lemmas.Bool.{eqb-true, eq-eqb}
 use Rattle.std.specs.List.{flat_map}
@@ -13,13 +13,13 @@ use Rattle.spk_outbox.specs.Calls as outbox
 use Rattle.spk_clients.specs.declared.client.Client.{Client}
 use Rattle.spk_clients.specs.declared.client.Offered.{Offered}
 use Rattle.spk_clients.specs.declared.client.Offered.TheVariants.{Taken, Refused, Passed}
-use Rattle.spk_clients.specs.Client.{after_hearing, awaited, cut_off, fresh_client, given_up, is_over, leaves, over_until, settled, takes_in, told, untouched, waiting_for, written_to}
+use Rattle.spk_clients.specs.Client.{after_hearing, awaited, cut_off, fresh_client, given_up, is_over, leaves, over_until, takes_in, told, untouched, waiting_for, written_to}
 use Rattle.spk_outbox.specs.Step.{written}
 use Rattle.spk_server.specs.Data.{Deed, InHand, Offer, Room, Slow, Timed, Joined, Skipped, Took, Came, Broke, Left, Ticked, Handed, Shut, Told, Cut, Tried, Waited, Freed, Dropped, Wrote, Blocked, Named, Forgot}
 use Rattle.spk_server.specs.Data as deed
 use Rattle.spk_server.specs.Step.{after, behind, change, changed, freed_from, grace, is_slow, later, offered, placed, publisher, quiet, set_free, slow_of, tried, tried_at}
 use Rattle.spk_server.specs.Log.{HasClient, IsRun, May, is_open}
-use Rattle.spk_server.specs.Past.{event_at, handed_in, handed_of, in_outbox, in_stream, joins, of_hand, on_conn, outbox_of, sends_at, sends_from, since, since_from, stream_of}
+use Rattle.spk_server.specs.Past.{event_at, handed_in, handed_of, in_outbox, in_stream, joins, of_hand, sends_at, sends_from, since}
 use Rattle.spk_server.proofs.Lives.{Steady, called_keeps, came_keeps, either, here, kept, lives, others, pick, sends_called, steady_feed, steady_outbox}
 
 -- ---- what no deed but a few changes
@@ -74,7 +74,7 @@ open_at (Some c) e = (c, refl, not_over (is_over c) e)
     not_over true e = cc
     not_over false e = refl
 
-unequal : (a b : ℕ) → (a == b) ≡ false → (b == a) ≡ false
+pub unequal : (a b : ℕ) → (a == b) ≡ false → (b == a) ≡ false
 unequal a b e = pick (λ q. (b == a) ≡ q → q ≡ false) (b == a) (λ t h. absurd (clash (eq-eqb a b (sym (eqb-true b a t))) e)) (λ t h. refl) refl
   where
     clash : (a == b) ≡ true → (a == b) ≡ false → ⊥

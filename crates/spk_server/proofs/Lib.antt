@@ -1,4 +1,5 @@
 pub mod Allowed
+pub mod Ends
 pub mod Histories
 pub mod Lives
 pub mod Logs

@@ -1,29 +1,17 @@
 -- Induction over the deeds since a client came, and what a deed leaves of a client.
-use Rattle.std.proofs.Common.{◌≡◌, ◌≢◌, inl, inr, ℕ, ◌-◌, ◌==◌, if◌then◌else◌, Bool, true, false, List, [], ◌∷◌, ◌++◌, length, map, Option, Some, None, refl, sym, ◌∙◌, ap, subst, append_assoc}
+use Rattle.std.proofs.Common.{◌≡◌, ℕ, ◌-◌, ◌==◌, if◌then◌else◌, Bool, true, false, List, [], ◌∷◌, ◌++◌, Option, Some, None, refl, sym, ◌∙◌, ap, subst}
 use Rattle.std.proofs.lemmas.List.{append-nil}
-use Rattle.std.proofs.lemmas.Bool.Decides.{eqb_tells}
-use Rattle.std.specs.List.{flat_map}
-use Rattle.std.specs.Option.{option_map, option_map_or}
-use Rattle.spk_packets.specs.Message.{Message}
-use Rattle.spk_packets.specs.Stream.{Fed, Gave, IsRun as IsStream, TakesPacket}
-use Rattle.spk_packets.specs.Stream as stream
-use Rattle.spk_broker.specs.Sent.{outgoing}
-use Rattle.spk_broker_rules.specs.Data.{Broker}
+use Rattle.std.specs.Option.{option_map}
 use Rattle.spk_broker_rules.specs.Plan.{Event}
-use Rattle.spk_broker_rules.specs.Step.{step, knows}
-use Rattle.spk_outbox.specs.Data.{Outbox, fresh_outbox}
-use Rattle.spk_outbox.specs.Calls as outbox
+use Rattle.spk_broker_rules.specs.Step.{knows}
 use Rattle.spk_clients.specs.declared.client.Client.{Client}
-use Rattle.spk_clients.specs.declared.client.Offered.{Offered}
-use Rattle.spk_clients.specs.declared.client.Offered.TheVariants.{Taken, Refused, Passed}
 use Rattle.spk_session.specs.declared.answer.Sort.{Sort}
 use Rattle.spk_session.specs.declared.answer.Sort.TheVariants as sort
-use Rattle.spk_clients.specs.Client.{after_hearing, awaited, cut_off, freed, given_up, is_over, leaves, may_be_awaited, over_until, refused_with, settled, settles, is_leaving, takes_in, told, untouched, waiting_for, written_to, has_many}
-use Rattle.spk_server.specs.Data.{Deed, InHand, Offer, Room, Slow, Timed, Joined, Skipped, Took, Came, Broke, Left, Ticked, Handed, Shut, Told, Cut, Tried, Waited, Freed, Dropped, Wrote, Blocked, Named, Forgot}
-use Rattle.spk_server.specs.Data as deed
-use Rattle.spk_server.specs.Step.{after, called_on, called, came, change, changed, freed_from, offered, placed, set_free, tried, tried_at, is_slow}
+use Rattle.spk_clients.specs.Client.{awaited, given_up, is_over, may_be_awaited, over_until, refused_with, settled, settles, is_leaving, told, untouched, waiting_for}
+use Rattle.spk_server.specs.Data.{Deed, InHand, Room}
+use Rattle.spk_server.specs.Step.{after, called_on, called, came, change, set_free}
 use Rattle.spk_server.specs.Log.{IsRun, May}
-use Rattle.spk_server.specs.Past.{event_at, handed_in, handed_of, in_outbox, in_stream, joins, of_hand, on_conn, sends_at, sends_from, since, since_from}
+use Rattle.spk_server.specs.Past.{joins, on_conn, sends_at, since_from}
 
 pub pick : (T : Bool → Type 0) (b : Bool) → (b ≡ true → T true) → (b ≡ false → T false) → T b
 pick T true t f = t refl

@@ -7,26 +7,26 @@ use Rattle.std.proofs.lemmas.List.{append-nil}
 use Rattle.std.specs.Option.{IfSome, option_map, option_map_or}
 use Rattle.spk_session.specs.declared.answer.Sort.{Sort}
 use Rattle.spk_session.specs.declared.answer.Sort.TheVariants as sort
-use Rattle.spk_broker.specs.Sent.{Sent, outgoing, sent_view}
+use Rattle.spk_broker.specs.Sent.{Sent, outgoing}
 use Rattle.spk_broker.specs.declared.out.Out.{Out}
 use Rattle.spk_broker_rules.specs.Data.{Broker}
 use Rattle.spk_broker_rules.specs.Plan.{Event}
 use Rattle.spk_broker_rules.specs.Plan as event
-use Rattle.spk_broker_rules.specs.Step.{Turn, step, knows}
+use Rattle.spk_broker_rules.specs.Step.{step}
 use Rattle.spk_clients.specs.declared.client.Client.{Client}
 use Rattle.spk_clients.specs.declared.client.Offered.{Offered}
 use Rattle.spk_clients.specs.declared.client.Offered.TheVariants.{Taken, Refused, Passed}
 use Rattle.spk_clients.specs.declared.clients.Clients.{Clients}
-use Rattle.spk_clients.specs.Client.{fresh_client, has_many, is_untold, leaves, refused_with, sort_untold, taken_in, told}
+use Rattle.spk_clients.specs.Client.{fresh_client, has_many, is_untold, leaves, sort_untold, told}
 use Rattle.spk_clients.specs.Data.{Becomes, IsSettled, OfferedTo, OthersStay, client_at}
 use Rattle.spk_server.specs.declared.server.Server.{Server}
-use Rattle.spk_server.specs.Answers.{Answers, AnswersOn}
+use Rattle.spk_server.specs.Answers.{AnswersOn}
 use Rattle.spk_server.specs.Data.{Deed, InHand, Offer, Room, Slow}
 use Rattle.spk_server.specs.Data as deed
-use Rattle.spk_server.specs.Step.{after, answered, joined, called, called_on, change, changed, grace, handed, later, left, offer_of, offered, placed, slowed}
-use Rattle.spk_server.specs.Log.{IsIdle, IsRested, May, MayFall, Reaches, follows}
+use Rattle.spk_server.specs.Step.{joined, called, called_on, change, changed, grace, later, left, offer_of, offered, slowed}
+use Rattle.spk_server.specs.Log.{IsRested, MayFall, Reaches, follows}
 use Rattle.spk_server.specs.Rooms.{amid, closes_in, offers_in, offers_of, pressed, room_of}
-use Rattle.spk_server.proofs.Runs.{at_end, at_start, begins, stays}
+use Rattle.spk_server.proofs.Runs.{at_end, begins, stays}
 
 -- ---- clients
 
@@ -222,5 +222,5 @@ pub joined_is : (old : Server) (m n : Clients) (b : Broker) (h : List ℕ) (conn
 joined_is old m n b h conn until c done stay here others fresh held =
     ap {B = Room} (λ x. record (room_of old) { broker = x; clients = client_at n; held = h }) done
     ∙ ap {B = Room} (λ cs. record (room_of old) { broker = (step old.broker (event.Open old.now)).broker; clients = cs; held = h })
-        (placed_is conn (Some (fresh_client until)) (client_at old.clients) (client_at n) (here ∙ ap Some fresh) (λ k ne. others k ne ∙ stay k))
+    (placed_is conn (Some (fresh_client until)) (client_at old.clients) (client_at n) (here ∙ ap Some fresh) (λ k ne. others k ne ∙ stay k))
     ∙ ap {B = Room} (λ x. record (joined conn until (room_of old)) { held = x }) held

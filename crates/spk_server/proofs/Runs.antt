@@ -1,5 +1,5 @@
 -- Runs of deeds, put together.
-use Rattle.std.proofs.Common.{◌≡◌, ℕ, Bool, true, false, List, [], ◌∷◌, ◌++◌, refl, sym, subst}
+use Rattle.std.proofs.Common.{◌≡◌, Bool, true, List, [], ◌∷◌, ◌++◌, refl, sym, subst}
 use Rattle.spk_server.specs.Data.{Deed, Room}
 use Rattle.spk_server.specs.Step.{after}
 use Rattle.spk_server.specs.Log.{IsRun, May, Reaches}

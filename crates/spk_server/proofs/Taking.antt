@@ -1,5 +1,5 @@
 -- What clients send, as deeds.
-use Rattle.std.proofs.Common.{◌≡◌, ◌≢◌, ◌⊎◌, inl, inr, ℕ, ◌==◌, ◌&&◌, if◌then◌else◌, Bool, true, false, List, [], ◌∷◌, ◌++◌, Option, Some, None, Result, Ok, Err, refl, sym, ◌∙◌, ap, subst}
+use Rattle.std.proofs.Common.{◌≡◌, ◌≢◌, ◌⊎◌, inl, inr, ℕ, ◌==◌, ◌&&◌, if◌then◌else◌, Bool, true, false, List, [], ◌∷◌, ◌++◌, Option, Some, None, Ok, Err, refl, sym, ◌∙◌, ap, subst}
 use Rattle.std.proofs.Math.Path.{fun_ext}
 use Rattle.std.proofs.lemmas.Bool.{eq-eqb}
 use Rattle.std.proofs.lemmas.Bool.Decides.{eqb_tells}
@@ -22,7 +22,7 @@ use Rattle.spk_server.specs.declared.server.Server.{Server}
 use Rattle.spk_server.specs.Answers.{AnswersOn}
 use Rattle.spk_server.specs.Data.{Deed, Room, Slow, Want}
 use Rattle.spk_server.specs.Data as deed
-use Rattle.spk_server.specs.Step.{after, broke, called_on, change, changed, ended_behind, ends_behind, grace, is_publish, later, left, publisher, tried_at}
+use Rattle.spk_server.specs.Step.{broke, called_on, change, changed, ended_behind, ends_behind, grace, is_publish, later, left, publisher, tried_at}
 use Rattle.spk_server.specs.Log.{HasClient, Reaches, follows, takes}
 use Rattle.spk_server.specs.Rooms.{amid, closes_in, offers_in, pressed, room_of, slow_for, with_packet}
 use Rattle.spk_server.proofs.Allowed.{follows_takes}

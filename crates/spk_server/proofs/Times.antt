@@ -1,6 +1,6 @@
 -- What time brings, and what calls of it leave, as deeds.
-use Rattle.std.proofs.Common.{◌≡◌, ◌≢◌, ◌⊎◌, inl, inr, ℕ, ◌<◌, ◌==◌, nat_le, ◌&&◌, if◌then◌else◌, Bool, true, false, List, [], ◌∷◌, ◌++◌, map, Option, Some, None, refl, sym, ◌∙◌, ap, subst}
-use Rattle.std.specs.Option.{option_map, option_map_or}
+use Rattle.std.proofs.Common.{◌≡◌, ℕ, ◌<◌, nat_le, ◌&&◌, Bool, true, false, List, [], ◌∷◌, ◌++◌, map, Option, Some, None, refl, sym, ◌∙◌, ap}
+use Rattle.std.specs.Option.{option_map_or}
 use Rattle.spk_broker.specs.Sent.{outgoing}
 use Rattle.spk_broker.specs.declared.out.Out.{Out}
 use Rattle.spk_broker_rules.specs.Data.{Broker}
@@ -11,7 +11,7 @@ use Rattle.spk_clients.specs.declared.client.Phase.{Phase}
 use Rattle.spk_clients.specs.declared.client.Phase.TheVariants as phase
 use Rattle.spk_clients.specs.declared.clients.Clients.{Clients}
 use Rattle.spk_clients.specs.Client.{given_up, has_moment, is_due, waiting_for}
-use Rattle.spk_clients.specs.Data.{Becomes, IsSettled, client_at, phase_at}
+use Rattle.spk_clients.specs.Data.{Becomes, IsSettled, client_at}
 use Rattle.spk_server.specs.declared.server.Server.{Server}
 use Rattle.spk_server.specs.Answers.{Answers}
 use Rattle.spk_server.specs.Data.{Deed, Room, Slow, Silent}
@@ -21,7 +21,7 @@ use Rattle.spk_server.specs.Log.{HasClient, Reaches, calls, follows, goes_on, ta
 use Rattle.spk_server.specs.Rooms.{amid, closes_in, offers_in, offers_of, room_of}
 use Rattle.spk_server.proofs.Allowed.{follows_calls, takes_goes_on}
 use Rattle.spk_server.proofs.Rooms.{change_is, rested}
-use Rattle.spk_server.proofs.Runs.{and_then, at_end, at_start, begins, stays, wider}
+use Rattle.spk_server.proofs.Runs.{at_end, at_start, begins, stays, wider}
 
 pub ticked_is : (old : Server) (b : Broker) (out : Out) (before : Option Slow) → Answers old.broker b (event.Tick old.now) out
     → record (called None (event.Tick old.now) (amid old [] [] before)) { ticked = old.now } ≡ amid (record old { broker = b; ticked = old.now }) (offers_in None (Some out)) (closes_in (Some out)) before

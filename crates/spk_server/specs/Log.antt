@@ -1,13 +1,10 @@
 -- Runs of deeds (own rules): what each deed must find, and the lists that are read off a run. A run stands oldest first.
-use Rattle.std.specs.Prelude.{◌≡◌, ◌≢◌, ◌⊎◌, ℕ, ◌+◌, ◌<◌, ◌≤◌, ◌==◌, Bool, true, false, ◌&&◌, ◌||◌, List, [], ◌∷◌, ◌++◌, length, Option, Some, None, if◌then◌else◌}
-use Rattle.std.specs.List.{list_all}
+use Rattle.std.specs.Prelude.{◌≡◌, ◌≢◌, ℕ, ◌+◌, ◌<◌, ◌≤◌, ◌==◌, Bool, true, false, ◌&&◌, List, [], ◌∷◌, length, Option, Some, None, if◌then◌else◌}
 use Rattle.std.specs.Option.{option_map_or, IfSome}
 use Rattle.spk_packets.specs.Fault.{first_of, IsNamed}
-use Rattle.spk_packets.specs.Message.{Message}
 use Rattle.spk_packets.specs.Refusals.{refusals}
 use Rattle.spk_packets.specs.Stream.{TakesPacket}
 use Rattle.spk_packets.specs.declared.fault.PacketFault.TheVariants.{More, NoMemory}
-use Rattle.spk_session.specs.declared.answer.Sort.{Sort}
 use Rattle.spk_broker_rules.specs.Step.{is_full}
 use Rattle.spk_outbox.specs.Data.{first_room}
 use Rattle.spk_clients.specs.declared.client.Client.{Client}
@@ -15,7 +12,7 @@ use Rattle.spk_clients.specs.declared.client.Offered.{Offered}
 use Rattle.spk_clients.specs.declared.client.Offered.TheVariants.{Taken, Refused, Passed}
 use Rattle.spk_clients.specs.declared.client.Phase.TheVariants.{Quiet, Over, Done}
 use Rattle.spk_clients.specs.Client.{is_due, is_over, is_untold, sort_untold}
-use Rattle.spk_server.specs.Data.{Deed, InHand, Offer, Room, Slow, Why, Gone, Silent, Want, Timed, Joined, Fed, Skipped, Took, Came, Broke, Left, Ticked, Handed, Shut, Told, Cut, Tried, Waited, Freed, Dropped, Wrote, Blocked, Named, Forgot}
+use Rattle.spk_server.specs.Data.{Deed, InHand, Room, Slow, Why, Gone, Silent, Want, Timed, Joined, Fed, Skipped, Took, Came, Broke, Left, Ticked, Handed, Shut, Told, Cut, Tried, Waited, Freed, Dropped, Wrote, Blocked, Named, Forgot}
 use Rattle.spk_server.specs.Step.{after, still_waits}
 
 -- ---- what a deed must find

@@ -1,5 +1,5 @@
 -- What is read off a run of deeds (own rules): for each client what it sent and what it is owed, and for the broker what came to it.
-use Rattle.std.specs.Prelude.{◌≡◌, ℕ, ◌==◌, Bool, true, false, List, [], ◌∷◌, ◌++◌, map, Option, Some, None, if◌then◌else◌}
+use Rattle.std.specs.Prelude.{ℕ, ◌==◌, Bool, false, List, [], ◌∷◌, ◌++◌, map, Option, Some, None, if◌then◌else◌}
 use Rattle.std.specs.List.{flat_map}
 use Rattle.spk_packets.specs.Stream.{Fed, Gave}
 use Rattle.spk_packets.specs.Stream as stream
@@ -9,7 +9,7 @@ use Rattle.spk_broker_rules.specs.Plan.{Event}
 use Rattle.spk_broker_rules.specs.Plan as event
 use Rattle.spk_broker_rules.specs.Step.{step, knows}
 use Rattle.spk_outbox.specs.Calls as outbox
-use Rattle.spk_clients.specs.declared.client.Offered.TheVariants.{Taken, Refused, Passed}
+use Rattle.spk_clients.specs.declared.client.Offered.TheVariants.{Taken}
 use Rattle.spk_server.specs.Data.{Deed, InHand, Offer, Room, Timed, Joined, Skipped, Took, Came, Broke, Left, Ticked, Handed, Shut, Told, Cut, Tried, Waited, Freed, Dropped, Wrote, Blocked, Named, Forgot}
 use Rattle.spk_server.specs.Data as deed
 use Rattle.spk_server.specs.Step.{after, offer_of, publisher}
@@ -86,3 +86,10 @@ handed_in _ = []
 -- the sends that were offered, in order
 abbrev pub handed_of : List Deed → List Offer
 handed_of log = flat_map handed_in log
+
+-- a deed by which something of a client is taken in, or comes of it
+abbrev pub hears : ℕ → Deed → Bool
+hears k (deed.Fed conn piece) = conn == k
+hears k (Took conn p rest) = conn == k
+hears k (Broke conn fault) = conn == k
+hears k _ = false

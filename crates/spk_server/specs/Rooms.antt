@@ -8,7 +8,7 @@ use Rattle.spk_broker.specs.declared.out.Outgoing.{Outgoing}
 use Rattle.spk_clients.specs.Client.{after_hearing}
 use Rattle.spk_clients.specs.Data.{client_at}
 use Rattle.spk_server.specs.declared.server.Server.{Server}
-use Rattle.spk_server.specs.Data.{InHand, Offer, Room, Slow}
+use Rattle.spk_server.specs.Data.{Offer, Room, Slow}
 use Rattle.spk_server.specs.Step.{changed, offer_of}
 
 -- between two calls

@@ -2,7 +2,6 @@
 use Rattle.std.specs.Prelude.{ℕ, ◌+◌, min, max, ◌==◌, nat_lt, Bool, true, false, List, [], ◌∷◌, ◌++◌, map, Option, Some, None, is_some, if◌then◌else◌}
 use Rattle.std.specs.Option.{option_map, option_map_or}
 use Rattle.spk_packets.specs.Message.{Message, Connect, ConnAck, Publish, PubAck, Subscribe, SubAck, Unsubscribe, UnsubAck, PingReq, PingResp, Disconnect}
-use Rattle.spk_session.specs.declared.answer.Sort.{Sort}
 use Rattle.spk_broker.specs.Sent.{Sent, outgoing}
 use Rattle.spk_broker_rules.specs.Plan.{Event}
 use Rattle.spk_broker_rules.specs.Plan as event
@@ -14,7 +13,7 @@ use Rattle.spk_clients.specs.declared.client.Phase.TheVariants.{Quiet, Open, Ove
 use Rattle.spk_clients.specs.declared.client.Offered.{Offered}
 use Rattle.spk_clients.specs.declared.client.Offered.TheVariants.{Taken, Refused, Passed}
 use Rattle.spk_clients.specs.Client.{after_hearing, awaited, cut_off, freed, fresh_client, given_up, has_many, has_some, is_awaited, leaves, most_number, refused_with, takes_in, taken_in, told, untouched, waiting_for, written_to}
-use Rattle.spk_server.specs.Data.{Deed, InHand, Offer, Room, Slow, Why, Timed, Joined, Fed, Skipped, Took, Came, Broke, Left, Ticked, Handed, Shut, Told, Cut, Tried, Waited, Freed, Dropped, Wrote, Blocked, Named, Forgot}
+use Rattle.spk_server.specs.Data.{Deed, InHand, Offer, Room, Slow, Timed, Joined, Fed, Skipped, Took, Came, Broke, Left, Ticked, Handed, Shut, Told, Cut, Tried, Waited, Freed, Dropped, Wrote, Blocked, Named, Forgot}
 
 -- how long a client may send nothing
 abbrev pub quiet : ℕ

@@ -1,6 +1,7 @@
 //! What holds of each list of calls, and of each run of deeds.
 
-ghost use Rattle.std.specs.Prelude.{◌≡◌, ◌++◌, [], List, Some, ℕ};
+ghost use Rattle.std.specs.Prelude.{◌≡◌, ◌++◌, [], List, Some, ℕ, not, true, false};
+ghost use Rattle.std.specs.List.{list_all};
 ghost use Rattle.spk_packets.specs.Message.{Message};
 ghost use Rattle.spk_packets.specs.Stream as stream;
 ghost use Rattle.spk_outbox.specs.Calls as outbox;
@@ -10,8 +11,8 @@ ghost use Rattle.spk_clients.specs.declared.client.Client.{Client};
 ghost use Rattle.spk_server.specs.declared.server.Server.{Server};
 ghost use Rattle.spk_server.specs.Data.{Deed, Room};
 ghost use Rattle.spk_server.specs.Calls.{AreDone, Call, LogOf, fresh_room};
-ghost use Rattle.spk_server.specs.Log.{IsRested, IsRun, any_deed};
-ghost use Rattle.spk_server.specs.Past.{handed_of, outbox_of, sends_from, stream_of};
+ghost use Rattle.spk_server.specs.Log.{IsRested, IsRun, any_deed, is_open};
+ghost use Rattle.spk_server.specs.Past.{handed_of, hears, joins, outbox_of, sends_from, stream_of};
 ghost use Rattle.spk_server.specs.Rooms.{room_of};
 
 /// Whatever calls were done, one after the other, from a new server on: there is one run of deeds that is all that they did, call by
@@ -55,3 +56,9 @@ pub fn written_and_waiting_are_owed()
 {
     spk_outbox::laws::written_and_waiting_are_owed();
 }
+
+/// Behind a client's end, or where it isn't here, nothing that it sends is taken in or comes of it, as long as it doesn't come anew.
+pub fn nothing_comes_behind_an_end()
+    ensures { (log : List Deed) (r s : Room) (k : ℕ) → IsRun any_deed r log s → is_open r k ≡ false
+        → list_all (λ d. not (joins k d)) log ≡ true → list_all (λ d. not (hears k d)) log ≡ true }
+{}

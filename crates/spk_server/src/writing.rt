@@ -1,6 +1,6 @@
 //! What is to be written, and whose sockets are to be shut.
 
-ghost use Rattle.std.specs.Prelude.{◌≡◌, ◌++◌, ◌-◌, OnOk, length, take, IfSome, IfNone};
+ghost use Rattle.std.specs.Prelude.{◌≡◌, ◌++◌, ◌∷◌, [], ◌-◌, OnOk, length, take, IfSome, IfNone};
 ghost use Rattle.spk_outbox.specs.Data.{rest_of_first};
 ghost use Rattle.spk_clients.specs.Data.{IsSettled, client_at, waiting_at};
 ghost use Rattle.spk_server.specs.Calls.{IsDone};
@@ -12,9 +12,12 @@ use crate::server::Server;
 use spk_broker::Conn;
 
 impl Server {
-    /// The next client to whom something is to be written.
+    /// The next client to whom something is to be written: each that is named, once. None exactly where nobody is named.
     pub fn next_to_write(&mut self) -> Option<Conn>
         ensures done { IsDone (call.NextToWrite result) (room_of self.old) (room_of self.new) }
+        ensures first { IfSome result
+            (λ k. self.old.clients.touched.items ≡ k ∷ self.new.clients.touched.items) }
+        ensures nobody { IfNone result (self.old.clients.touched.items ≡ []) }
         ensures settled { IsSettled self.old.clients → IsSettled self.new.clients }
     {
         self.clients.next_to_write()

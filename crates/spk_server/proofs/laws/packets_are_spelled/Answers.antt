@@ -1,4 +1,4 @@
-use Rattle.std.proofs.Common.{ap, refl, []}
+use Rattle.std.proofs.Common.{ap, refl}
 use Rattle.std.specs.Option.{option_map}
 use Rattle.spk_clients.specs.declared.client.Client.{Client}
 use Rattle.spk_server.specs.Calls.{fresh_room}

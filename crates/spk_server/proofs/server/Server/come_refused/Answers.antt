@@ -1,4 +1,4 @@
-use Rattle.std.proofs.Common.{None, [], inl, inr, subst, sym}
+use Rattle.std.proofs.Common.{None, [], inl, inr, subst}
 use Rattle.spk_broker_rules.specs.Plan as event
 use Rattle.spk_broker_rules.specs.Data.{Broker}
 use Rattle.spk_server.specs.Log.{Reaches, follows}

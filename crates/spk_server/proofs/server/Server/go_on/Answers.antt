@@ -1,4 +1,4 @@
-use Rattle.std.proofs.Common.{◌≡◌, sym, subst}
+use Rattle.std.proofs.Common.{sym, subst}
 use Rattle.spk_clients.specs.Data.{IsSettled}
 use Rattle.spk_server.specs.Log.{goes_on}
 use Rattle.spk_server.proofs.Runs.{and_then, at_start, stays}

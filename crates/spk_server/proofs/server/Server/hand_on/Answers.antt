@@ -1,8 +1,7 @@
-use Rattle.std.proofs.Common.{ℕ, List, ◌++◌, [], Option, None, subst, sym}
+use Rattle.std.proofs.Common.{◌++◌, [], Option, subst, sym}
 use Rattle.spk_broker.specs.declared.out.Out.{Out}
 use Rattle.spk_server.specs.Log.{Reaches, follows}
 use Rattle.spk_server.specs.Rooms.{amid, closes_in, offers_in, pressed}
-use Rattle.spk_server.proofs.Runs.{stays}
 use Rattle.spk_server.proofs.server.Server.hand_on.Goals as goal
 
 pub returns-clause-hands : goal.returns-clause-hands

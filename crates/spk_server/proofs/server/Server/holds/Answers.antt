@@ -1,4 +1,4 @@
-use Rattle.std.proofs.Common.{◌≡◌, Option, ℕ, [], false, true, subst, sym, ap}
+use Rattle.std.proofs.Common.{Option, ℕ, [], subst, sym, ap}
 use Rattle.spk_server.specs.Data.{Room}
 use Rattle.spk_server.specs.Log.{Reaches, takes}
 use Rattle.spk_server.specs.Rooms.{amid, room_of, slow_for}

@@ -1,4 +1,4 @@
-use Rattle.std.proofs.Common.{List, ℕ, [], ◌∷◌, if◌then◌else◌, sym, ap, ◌∙◌}
+use Rattle.std.proofs.Common.{[], ◌∷◌, if◌then◌else◌, sym, ap, ◌∙◌}
 use Rattle.spk_server.specs.Data.{Room}
 use Rattle.spk_server.specs.Log.{follows}
 use Rattle.spk_server.specs.Rooms.{amid}

@@ -1,5 +1,4 @@
-use Rattle.std.proofs.Common.{◌≡◌, sym, subst}
-use Rattle.spk_clients.specs.declared.clients.Clients.{Clients}
+use Rattle.std.proofs.Common.{sym, subst}
 use Rattle.spk_clients.specs.Data.{IsSettled}
 use Rattle.spk_server.specs.Log.{calls}
 use Rattle.spk_server.proofs.Runs.{and_then, at_start}

@@ -1,4 +1,4 @@
-use Rattle.std.proofs.Common.{◌≡◌, refl, sym, subst, [], arith}
+use Rattle.std.proofs.Common.{◌≡◌, subst, [], arith}
 use Rattle.std.specs.Vec.Iter.{into_iter_items}
 use Rattle.spk_server.specs.Log.{Reaches, follows}
 use Rattle.spk_server.specs.Rooms.{amid, offers_of, pressed}

@@ -1,4 +1,4 @@
-use Rattle.std.proofs.Common.{ℕ, List, [], map, Option}
+use Rattle.std.proofs.Common.{ℕ, List, Option}
 use Rattle.std.specs.Vec.Iter.{into_iter_items}
 use Rattle.spk_clients.specs.Data.{AreNoted}
 use Rattle.spk_server.specs.Data.{Slow}

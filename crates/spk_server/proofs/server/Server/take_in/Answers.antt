@@ -1,12 +1,12 @@
-use Rattle.std.proofs.Common.{◌≡◌, ◌∙◌, ℕ, Option, inl, inr, ap, sym}
+use Rattle.std.proofs.Common.{◌∙◌, ℕ, Option, inl, inr, ap, sym}
 use Rattle.spk_clients.specs.declared.client.Client.{Client}
 use Rattle.spk_clients.specs.Client.{takes_in}
-use Rattle.spk_clients.specs.Data.{IsSettled, client_at}
+use Rattle.spk_clients.specs.Data.{IsSettled}
 use Rattle.spk_server.specs.Data.{Room}
 use Rattle.spk_server.specs.Log.{follows, takes}
 use Rattle.spk_server.specs.Rooms.{room_of}
 use Rattle.spk_server.specs.Step.{left}
-use Rattle.spk_server.proofs.Rooms.{all_stay_is, change_is, same_after}
+use Rattle.spk_server.proofs.Rooms.{change_is, same_after}
 use Rattle.spk_server.proofs.Runs.{at_start}
 use Rattle.spk_server.proofs.server.Server.take_in.Goals as goal
 

@@ -1,4 +1,4 @@
-use Rattle.std.proofs.Common.{◌≡◌, ◌∙◌, ap, sym}
+use Rattle.std.proofs.Common.{◌∙◌, ap, sym}
 use Rattle.spk_clients.specs.Data.{IsSettled}
 use Rattle.spk_server.specs.Data.{Room}
 use Rattle.spk_server.specs.Log.{takes}

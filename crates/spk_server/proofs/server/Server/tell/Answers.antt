@@ -1,6 +1,4 @@
-use Rattle.std.proofs.Common.{◌≡◌, [], sym, ap, ◌∙◌, Option}
-use Rattle.spk_clients.specs.declared.client.Client.{Client}
-use Rattle.spk_clients.specs.Data.{client_at}
+use Rattle.std.proofs.Common.{[], sym, ap, ◌∙◌}
 use Rattle.spk_server.specs.Data.{Room}
 use Rattle.spk_server.specs.Log.{follows}
 use Rattle.spk_server.specs.Rooms.{amid}

@@ -1,4 +1,4 @@
-use Rattle.std.proofs.Common.{◌<◌, None, [], Some, arith, refl}
+use Rattle.std.proofs.Common.{◌<◌, None, [], Some, arith}
 use Rattle.spk_server.specs.Log.{follows}
 use Rattle.spk_server.proofs.Rooms.{hands_none}
 use Rattle.spk_server.proofs.Runs.{and_then}
