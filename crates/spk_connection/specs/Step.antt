@@ -1,10 +1,13 @@
 -- A connection after each call, and what a call is refused for. Moments are in milliseconds.
-use Rattle.std.specs.Prelude.{◌≡◌, ℕ, ◌+◌, ◌<◌, ◌==◌, Bool, true, false, List, [], ◌∷◌, ◌++◌, length, drop, if◌then◌else◌}
+use Rattle.std.specs.Prelude.{◌≡◌, ℕ, ◌+◌, ◌<◌, ◌≤◌, ◌==◌, Bool, true, false, List, [], ◌∷◌, ◌++◌, length, take, drop, Result, Ok, Err, if◌then◌else◌}
 use Rattle.spk_link.specs.declared.stand.Stand.{Stand}
 use Rattle.spk_link.specs.declared.stand.Stand.TheVariants.{Off, On}
 use Rattle.spk_link.specs.Step as link
+use Rattle.spk_packets.specs.Grammar.{Spells}
 use Rattle.spk_packets.specs.Message.{Message}
 use Rattle.spk_packets.specs.Stream.{TakesPacket, most_waiting}
+use Rattle.spk_packets.specs.declared.fault.PacketFault.{PacketFault}
+use Rattle.spk_packets.specs.declared.fault.PacketFault.TheVariants as packet
 use Rattle.spk_connection.specs.declared.fault.ConnectionFault.{ConnectionFault}
 use Rattle.spk_connection.specs.declared.fault.ConnectionFault.TheVariants.{NoMemory, TooLarge, NotOpen}
 use Rattle.spk_connection.specs.Data.{Connection}
@@ -38,6 +41,28 @@ after_read c piece now = record c { link = link.after_heard c.link now; unread =
 pub record IsTaken (old : Connection) (p : Message) (new : Connection) : Type 0 where
   pub front : TakesPacket old.unread p new.unread
   pub stays : new ≡ record old { unread = new.unread }
+
+-- so many bytes at the front are a packet
+pub record IsFront (bytes : List ℕ) (size : ℕ) : Type 0 where
+  pub packet : Message
+  pub within : size ≤ length bytes
+  pub spelled : Spells (take size bytes) packet
+
+-- the packet at the front has as many bytes as this, unless memory ran out
+abbrev pub IsSize : List ℕ → Result ℕ PacketFault → Type 0
+IsSize front (Ok size) = size ≡ length front
+IsSize front (Err e) = e ≡ packet.NoMemory
+
+-- these bytes stand at the front of what was read, and are a packet
+pub record IsLent (c : Connection) (bytes : List ℕ) : Type 0 where
+  pub packet : Message
+  pub rest : List ℕ
+  pub spelled : Spells bytes packet
+  pub parts : c.unread ≡ bytes ++ rest
+
+-- so many bytes of what was read are passed over; more than wait are all
+abbrev pub after_passed : Connection → ℕ → Connection
+after_passed c size = record c { unread = drop size c.unread }
 
 abbrev pub after_sent : Connection → List ℕ → Connection
 after_sent c packet = record c { unwritten = c.unwritten ++ packet }

@@ -2,7 +2,7 @@
 ghost use Rattle.std.specs.Prelude.{◌≡◌, ◌≢◌, ◌↔◌, ℕ, ◌-◌, ◌<◌, ◌^◌, List, ◌++◌, true, false, Some, IfOk, IfErr, IfSome, IfNone, IsTrue, MatchOption, OnErr, OnOk};
 ghost use Rattle.spk_link.specs.Step as link;
 ghost use Rattle.spk_packets.specs.Fault.{first_of, is_of_bytes, IsNamed};
-ghost use Rattle.spk_packets.specs.Grammar.{Spells, keeps};
+ghost use Rattle.spk_packets.specs.Grammar.{Spells, begins_publish, keeps};
 ghost use Rattle.spk_packets.specs.Message.{Message};
 ghost use Rattle.spk_packets.specs.Refusals.{refusals};
 ghost use Rattle.spk_packets.specs.Stream.{IsGiven};
@@ -10,9 +10,9 @@ ghost use Rattle.spk_packets.specs.View.{view};
 ghost use Rattle.spk_connection.specs.Step as step;
 
 use crate::fault::ConnectionFault;
-use crate::unwritten::Unwritten;
+use crate::waiting::Waiting;
 use spk_link::{Due, Link, Stand};
-use spk_packets::{Feed, Packet, PacketFault};
+use spk_packets::{Packet, PacketFault, begins_publish, decode, decode_publish};
 use std::alloc::Global;
 use std::fmt;
 use std::marker::Model;
@@ -20,13 +20,16 @@ use std::marker::Model;
 /// PINGREQ (MQTT 3.1.1, section 3.12).
 const PING: [u8; 2] = [0xc0, 0];
 
+/// The most bytes that may wait to be taken (own rule).
+const MOST_WAITING: usize = 2_097_152;
+
 /// A client's connection with a broker, without its socket. Contracts see the `Connection` of `specs/Data.antt`. Moments are in milliseconds.
 #[derive(Drop)]
 pub struct Connection {
     alloc: Global,
     link: Link,
-    feed: Feed,
-    unwritten: Unwritten,
+    unread: Waiting,
+    unwritten: Waiting,
 }
 
 impl fmt::Debug for Connection {
@@ -40,7 +43,59 @@ impl Model for Connection {
 
     ghost Value = { plain.Connection };
 
-    ghost view = { λ c. record { link = c.link; unread = c.feed; unwritten = c.unwritten } };
+    ghost view = { λ c. record { link = c.link; unread = c.unread; unwritten = c.unwritten } };
+}
+
+/// How many bytes the PUBLISH at the front has.
+fn publish_size(bytes: &[u8]) -> Result<usize, PacketFault>
+    requires { begins_publish bytes.now ≡ true }
+    ensures found { IfOk result (λ n. step.IsFront bytes.now n) }
+    ensures only { (front rest : List ℕ) (p : Message) → Spells front p → bytes.now ≡ front ++ rest
+        → step.IsSize front result }
+    ensures refused { IfErr result (λ e. IsNamed e (first_of (refusals bytes.now))) }
+    ensures memory { IfErr result (λ e. IsTrue (is_of_bytes e)) }
+{
+    match decode_publish(bytes) {
+        Ok((_, size)) => Ok(size),
+        Err(fault) => Err(fault),
+    }
+}
+
+/// How many bytes a packet takes that was read.
+fn size_of(front: (Packet, usize)) -> usize
+    ensures { result ≡ front.1 }
+{
+    let (_, size) = front;
+    size
+}
+
+/// How many bytes the packet at the front has.
+fn other_size(alloc: Global, bytes: &[u8]) -> Result<usize, PacketFault>
+    ensures found { IfOk result (λ n. step.IsFront bytes.now n) }
+    ensures only { (front rest : List ℕ) (p : Message) → Spells front p → bytes.now ≡ front ++ rest
+        → step.IsSize front result }
+    ensures refused { IfErr result (λ e. IsNamed e (first_of (refusals bytes.now))) }
+    ensures memory { IfErr result (λ e. is_of_bytes e ≡ false → IsTrue (keeps bytes.now)) }
+{
+    match decode(alloc, bytes) {
+        Ok(front) => Ok(size_of(front)),
+        Err(fault) => Err(fault),
+    }
+}
+
+/// How many bytes the packet at the front has; of a PUBLISH without memory.
+fn front_size(alloc: Global, bytes: &[u8]) -> Result<usize, PacketFault>
+    ensures found { IfOk result (λ n. step.IsFront bytes.now n) }
+    ensures only { (front rest : List ℕ) (p : Message) → Spells front p → bytes.now ≡ front ++ rest
+        → step.IsSize front result }
+    ensures refused { IfErr result (λ e. IsNamed e (first_of (refusals bytes.now))) }
+    ensures memory { IfErr result (λ e. is_of_bytes e ≡ false → IsTrue (keeps bytes.now)) }
+{
+    if begins_publish(bytes) {
+        publish_size(bytes)
+    } else {
+        other_size(alloc, bytes)
+    }
 }
 
 impl Connection {
@@ -51,8 +106,8 @@ impl Connection {
         Connection {
             alloc,
             link: Link::new(keep, spread),
-            feed: Feed::new(alloc),
-            unwritten: Unwritten::new(alloc),
+            unread: Waiting::new(alloc),
+            unwritten: Waiting::new(alloc),
         }
     }
 
@@ -101,17 +156,16 @@ impl Connection {
         if !self.is_open() {
             return Err(ConnectionFault::NotOpen);
         }
-        match self.feed.feed(piece) {
-            Ok(()) => {
-                self.link.heard(now);
-                Ok(())
-            }
-            Err(PacketFault::TooLarge) => Err(ConnectionFault::TooLarge),
-            Err(_) => Err(ConnectionFault::NoMemory),
+        let waiting = self.unread.as_slice().len();
+        if piece.len() > MOST_WAITING.saturating_sub(waiting) {
+            return Err(ConnectionFault::TooLarge);
         }
+        self.unread.put(piece)?;
+        self.link.heard(now);
+        Ok(())
     }
 
-    /// Takes the packet at the front of what was read, if a whole one waits. A fault is answered each time, and then nothing is taken (`Feed::next`):
+    /// Takes the packet at the front of what was read, if a whole one waits. A fault is answered each time, and then nothing is taken :
     /// the connection is to be closed.
     pub fn take(&mut self) -> Result<Option<Packet>, PacketFault>
         ensures taken { IfOk result (λ o. MatchOption o
@@ -125,7 +179,48 @@ impl Connection {
         // A packet that keeps no text, payload or list takes no memory.
         ensures memory { IfErr result (λ e. is_of_bytes e ≡ false → IsTrue (keeps self.old.unread)) }
     {
-        self.feed.next()
+        match decode(self.alloc, self.unread.as_slice()) {
+            Ok((packet, size)) => {
+                self.unread.pass(size);
+                Ok(Some(packet))
+            }
+            Err(fault) => match fault {
+                PacketFault::More => Ok(None),
+                _ => Err(fault),
+            },
+        }
+    }
+
+    /// The bytes of the packet at the front of what was read, if a whole one waits, lent: `pass` takes it then. A fault is the one that `take` answers.
+    /// Of a PUBLISH it takes no memory.
+    pub fn front(&self) -> Result<Option<&[u8]>, PacketFault>
+        ensures lent { IfOk result (λ o. MatchOption o
+            (first_of (refusals self.now.unread) ≡ Some PacketFault.More)
+            (λ bytes. step.IsLent self.now bytes.now)) }
+        ensures only { (front rest : List ℕ) (p : Message) → Spells front p
+            → self.now.unread ≡ front ++ rest
+            → IfOk result (λ o. MatchOption o ⊥ (λ bytes. bytes.now ≡ front)) }
+        ensures only_fault { (front rest : List ℕ) (p : Message) → Spells front p
+            → self.now.unread ≡ front ++ rest → IfErr result (λ e. e ≡ PacketFault.NoMemory) }
+        ensures refused { IfErr result (λ e. IsNamed e (first_of (refusals self.now.unread))
+            × (e ≢ PacketFault.More)) }
+        ensures memory { IfErr result (λ e. is_of_bytes e ≡ false → IsTrue (keeps self.now.unread)) }
+    {
+        let bytes = self.unread.as_slice();
+        match front_size(self.alloc, bytes) {
+            Ok(size) => Ok(Some(&bytes[..size])),
+            Err(fault) => match fault {
+                PacketFault::More => Ok(None),
+                _ => Err(fault),
+            },
+        }
+    }
+
+    /// So many bytes of what was read are passed over: as many as `front` lent, and its packet is taken (`laws::any_list`, `passes`). More than wait are all.
+    pub fn pass(&mut self, size: usize)
+        ensures { self.new ≡ step.after_passed self.old size }
+    {
+        self.unread.pass(size);
     }
 
     /// These bytes are to be written, behind those that wait. Refused with NotOpen (112) exactly where there is no connection, else with NoMemory (1);
@@ -169,7 +264,7 @@ impl Connection {
         if count == 0 {
             return;
         }
-        self.unwritten.wrote(count);
+        self.unwritten.pass(count);
         self.link.sent(now);
     }
 
@@ -179,7 +274,7 @@ impl Connection {
         ensures { self.new ≡ step.after_over self.old now }
     {
         self.link.over(now);
-        self.feed = Feed::new(self.alloc);
-        self.unwritten = Unwritten::new(self.alloc);
+        self.unread = Waiting::new(self.alloc);
+        self.unwritten = Waiting::new(self.alloc);
     }
 }

@@ -2,8 +2,8 @@
 ghost use Rattle.std.specs.Prelude.{◌≡◌, ℕ, ◌<◌, List, ◌∷◌, ◌++◌, [], false, take, drop, length};
 ghost use Rattle.spk_link.specs.Past as link;
 ghost use Rattle.spk_connection.specs.Data.{Connection};
-ghost use Rattle.spk_connection.specs.Run.{AreSpelled, Event, IsRun, IsStep, Wrote, of_link, read_in, sent_in, taken_in, written_in};
-ghost use Rattle.spk_connection.specs.Step.{after_wrote, is_open};
+ghost use Rattle.spk_connection.specs.Run.{AreSpelled, Event, IsRun, IsStep, Took, Wrote, of_link, read_in, sent_in, taken_in, written_in};
+ghost use Rattle.spk_connection.specs.Step.{IsLent, after_passed, after_wrote, is_open};
 
 /// For every keep alive, every spread and every list of calls that were done, newest first.
 pub fn any_list()
@@ -29,4 +29,8 @@ pub fn any_list()
     ensures writes { (c : Connection) (count now first : ℕ) (others : List ℕ)
         → take count c.unwritten ≡ first ∷ others
         → IsStep c (Wrote first others now) (after_wrote c count now) }
+
+    // a pass over the bytes that were lent of the front is a step: their packet is taken
+    ensures passes { (c : Connection) (bytes : List ℕ) (lent : IsLent c bytes)
+        → IsStep c (Took lent.packet) (after_passed c (length bytes)) }
 {}

@@ -8,7 +8,7 @@ mod fault;
 pub mod laws;
 #[cfg(test)]
 mod tests;
-mod unwritten;
+mod waiting;
 
 pub use connection::Connection;
 pub use fault::ConnectionFault;

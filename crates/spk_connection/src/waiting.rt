@@ -1,23 +1,23 @@
-//! The bytes that wait to be written.
+//! Bytes that wait.
 ghost use Rattle.std.specs.Prelude.{◌≡◌, ℕ, ◌+◌, ◌*◌, ◌≤◌, List, [], ◌++◌, drop, length, vec_len, OnOk, OnErr};
 
 use std::alloc::{AllocError, Global};
 use std::marker::Model;
 
-/// The bytes that wait to be written, oldest first. Those that were written are passed over, and their room is used again once they are half of the
-/// buffer, so that it all costs time in proportion to what is written, in whatever pieces.
+/// Bytes that wait to be taken or written, oldest first. Those that are done are passed over, and their room is used again once they are half of the
+/// buffer, so that it all costs time in proportion to the bytes, in whatever pieces.
 #[derive(Drop)]
-pub(crate) struct Unwritten {
+pub(crate) struct Waiting {
     buffer: Vec<u8>,
     start: usize,
 }
 
-impl Model for Unwritten {
+impl Model for Waiting {
     ghost Value = { List ℕ };
 
-    ghost view = { λ u. drop u.start u.buffer.items };
+    ghost view = { λ w. drop w.start w.buffer.items };
 
-    ghost invariant = { λ u. 2 * u.start ≤ vec_len u.buffer };
+    ghost invariant = { λ w. 2 * w.start ≤ vec_len w.buffer };
 }
 
 /// Passes over the front of a buffer: where its rest begins afterwards. At least as many bytes are passed over as moved.
@@ -36,12 +36,12 @@ fn pass(buffer: &mut Vec<u8>, start: usize) -> usize
     0
 }
 
-impl Unwritten {
+impl Waiting {
     /// Nothing waits.
-    pub(crate) fn new(alloc: Global) -> Unwritten
+    pub(crate) fn new(alloc: Global) -> Waiting
         ensures { result ≡ [] }
     {
-        Unwritten {
+        Waiting {
             buffer: Vec::new(alloc),
             start: 0,
         }
@@ -63,8 +63,8 @@ impl Unwritten {
         &self.buffer.as_slice()[self.start..]
     }
 
-    /// So many bytes were written. More than wait are all.
-    pub(crate) fn wrote(&mut self, count: usize)
+    /// So many bytes are passed over. More than wait are all.
+    pub(crate) fn pass(&mut self, count: usize)
         ensures { self.new ≡ drop count self.old }
     {
         let start = self.start + count.min(self.buffer.len() - self.start);
