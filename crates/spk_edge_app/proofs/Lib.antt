@@ -1,0 +1,5 @@
+pub mod Connections
+pub mod Nodes
+pub mod Queues
+pub mod Records
+pub mod Runs

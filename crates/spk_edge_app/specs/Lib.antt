@@ -1,0 +1,6 @@
+pub mod Calls
+pub mod Data
+pub mod Fault
+pub mod Run
+pub mod Step
+pub mod View

@@ -1,0 +1,51 @@
+//! Laws on lists of deeds: functions that do nothing, whose contracts speak of definitions alone.
+ghost use Rattle.std.specs.Prelude.{◌≡◌, ℕ, List, [], ◌++◌, Option, None, true};
+ghost use Rattle.spk_connection.specs.Run as event;
+ghost use Rattle.spk_edge.specs.Along.{node_of};
+ghost use Rattle.spk_edge.specs.Calls.{IsAfterCalls};
+ghost use Rattle.spk_edge.specs.View.{NodeData};
+ghost use Rattle.spk_edge_rules.specs.Config.{Setup};
+ghost use Rattle.spk_record.specs.declared.record.Record.{Record};
+ghost use Rattle.spk_edge_app.specs.Data.{App, Deed, LoginData, Wrote};
+ghost use Rattle.spk_edge_app.specs.Run.{of_connection, of_node};
+ghost use Rattle.spk_edge_app.specs.Step.{IsRun, IsStep, allows, fresh_app};
+
+/// For every program that was made, and every list of deeds that were done, newest first.
+pub fn any_list()
+    // the packets that were taken of the present connection, of each of which came what its deed says, are those that the bytes read of it spell, each once
+    // and in order, and what isn't taken yet stands behind them
+    ensures read { (n : NodeData) (login : Option LoginData) (kept : Record) (spread : ℕ)
+        (deeds : List Deed) (a : App) → IsRun (fresh_app n login kept spread) deeds a
+        → (spelled : List ℕ) × event.AreSpelled (event.taken_in (of_connection deeds)) spelled
+        × (event.read_in (of_connection deeds) ≡ spelled ++ a.connection.unread) }
+
+    // what was written of the present connection, and what waits, are together what was sent on it, byte for byte and in order: the packets of the node's
+    // answers, PUBACKs of what it refused, and PINGREQs
+    ensures written { (n : NodeData) (login : Option LoginData) (kept : Record) (spread : ℕ)
+        (deeds : List Deed) (a : App) → IsRun (fresh_app n login kept spread) deeds a
+        → event.written_in (of_connection deeds) ++ a.connection.unwritten
+        ≡ event.sent_in (of_connection deeds) }
+
+    // all that is of the connection is a list of its calls
+    ensures connection { (n : NodeData) (login : Option LoginData) (kept : Record) (spread : ℕ)
+        (deeds : List Deed) (a : App) → IsRun (fresh_app n login kept spread) deeds a
+        → event.IsRun n.config.keep spread (of_connection deeds) a.connection }
+
+    // and all that is of the node a list of its: so its data are those of the inputs that it was told (`spk_edge::laws::calls`)
+    ensures node { (s : Setup) (login : Option LoginData) (kept : Record) (spread : ℕ)
+        (deeds : List Deed) (a : App) → IsRun (fresh_app (node_of s []) login kept spread) deeds a
+        → IsAfterCalls s (of_node s.config deeds) a.node }
+
+    // where no record is wanted, the one on the disk covers all that the node did
+    ensures record_kept { (n : NodeData) (login : Option LoginData) (kept : Record) (spread : ℕ)
+        (deeds : List Deed) (a : App) → IsRun (fresh_app n login kept spread) deeds a
+        → a.wanted ≡ None → allows a.kept a.node ≡ true }
+
+    // so it does whenever something is written
+    ensures written_behind { (n : NodeData) (login : Option LoginData) (kept : Record) (spread : ℕ)
+        (deeds : List Deed) (a b : App) (first now : ℕ) (others : List ℕ)
+        → IsRun (fresh_app n login kept spread) deeds a → IsStep a (Wrote first others now) b
+        → allows a.kept a.node ≡ true }
+{
+    spk_connection::laws::any_list();
+}
