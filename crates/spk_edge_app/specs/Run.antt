@@ -12,6 +12,22 @@ use Rattle.spk_packets.specs.Message.{Message, Connect, ConnAck, Publish, PubAck
 use Rattle.spk_edge_app.specs.Data.{Coming, Answered, Refused, Dropped, Deed, Opened, Read, Heard, Told, Asked, Wrote, Saved, GaveUp, Stopped, Handed, Over}
 use Rattle.spk_edge_app.specs.Step.{bytes_in, puback}
 
+-- ---- the record
+
+-- the record that was wanted is on the disk
+abbrev pub is_saved : Deed → Bool
+is_saved (Saved saved) = true
+is_saved (Opened now out bytes sent) = false
+is_saved (Read piece now) = false
+is_saved (Heard packet now came) = false
+is_saved (Told input out sent) = false
+is_saved (Asked now) = false
+is_saved (Wrote first others now) = false
+is_saved (GaveUp now) = false
+is_saved Stopped = false
+is_saved Handed = false
+is_saved (Over now) = false
+
 -- ---- the connection
 
 -- these bytes were sent, if there are some

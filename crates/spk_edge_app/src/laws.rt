@@ -1,13 +1,15 @@
 //! Laws on lists of deeds: functions that do nothing, whose contracts speak of definitions alone.
-ghost use Rattle.std.specs.Prelude.{◌≡◌, ℕ, List, [], ◌++◌, Option, None, true};
+ghost use Rattle.std.specs.Prelude.{◌≡◌, ℕ, Bool, List, [], ◌++◌, Option, None, true, false};
+ghost use Rattle.std.specs.List.{AllByRecursion};
 ghost use Rattle.spk_connection.specs.Run as event;
 ghost use Rattle.spk_edge.specs.Along.{node_of};
 ghost use Rattle.spk_edge.specs.Calls.{IsAfterCalls};
 ghost use Rattle.spk_edge.specs.View.{NodeData};
+ghost use Rattle.spk_edge.specs.declared.message.Out.{Out};
 ghost use Rattle.spk_edge_rules.specs.Config.{Setup};
 ghost use Rattle.spk_record.specs.declared.record.Record.{Record};
-ghost use Rattle.spk_edge_app.specs.Data.{App, Deed, LoginData, Wrote};
-ghost use Rattle.spk_edge_app.specs.Run.{of_connection, of_node};
+ghost use Rattle.spk_edge_app.specs.Data.{App, Deed, LoginData, Opened, Wrote};
+ghost use Rattle.spk_edge_app.specs.Run.{is_saved, of_connection, of_node};
 ghost use Rattle.spk_edge_app.specs.Step.{IsRun, IsStep, allows, fresh_app};
 
 /// For every program that was made, and every list of deeds that were done, newest first.
@@ -46,6 +48,14 @@ pub fn any_list()
         (deeds : List Deed) (a b : App) (first now : ℕ) (others : List ℕ)
         → IsRun (fresh_app n login kept spread) deeds a → IsStep a (Wrote first others now) b
         → allows a.kept a.node ≡ true }
+
+    // and from the opening of a session on nothing is written until a record is saved that was wanted since then: each session has its own
+    ensures own_record { (n : NodeData) (login : Option LoginData) (kept : Record) (spread now : ℕ)
+        (out : Out) (bytes : List ℕ) (sent : Bool) (before since : List Deed) (a b c d : App)
+        (first moment : ℕ) (others : List ℕ) → IsRun (fresh_app n login kept spread) before a
+        → IsStep a (Opened now out bytes sent) b → IsRun b since c
+        → AllByRecursion (λ e. is_saved e ≡ false) since
+        → IsStep c (Wrote first others moment) d → ⊥ }
 {
     spk_connection::laws::any_list();
 }
