@@ -1,4 +1,5 @@
 pub mod Connections
+pub mod Lists
 pub mod Nodes
 pub mod Queues
 pub mod Records

@@ -1,5 +1,5 @@
 -- What each call of an edge node's program did, as deeds, and what it is refused for. Moments are in milliseconds.
-use Rattle.std.specs.Prelude.{◌≡◌, ◌≢◌, ◌⊎◌, ℕ, ◌==◌, nat_le, nat_lt, Bool, true, false, ◌&&◌, not, List, [], length, Option, Some, None, is_none, Err, if◌then◌else◌}
+use Rattle.std.specs.Prelude.{◌≡◌, ◌≢◌, ◌⊎◌, ℕ, ◌==◌, nat_le, nat_lt, Bool, true, false, ◌&&◌, not, List, [], length, Option, Some, None, is_none, Err, if◌then◌else◌, min}
 use Rattle.std.specs.List.{AllByRecursion}
 use Rattle.spk_connection.specs.Step as connection
 use Rattle.spk_connection.specs.Step.{after_read, after_wrote, is_open}
@@ -52,7 +52,7 @@ lent None waiting = waiting
 lent (Some wanted) waiting = []
 
 abbrev pub wrote_where : Option Record → ℕ → ℕ → App → App
-wrote_where None count now a = with_connection (after_wrote a.connection count now) a
+wrote_where None count now a = with_connection (after_wrote a.connection (min count (length a.connection.unwritten)) now) a
 wrote_where (Some wanted) count now a = a
 
 abbrev pub is_same : Record → Record → Bool

@@ -168,11 +168,12 @@ impl EdgeApp {
         self.connection.unwritten()
     }
 
-    /// So many bytes of what `unwritten` lends were written. More than it lends are all.
+    /// So many bytes of what `unwritten` lends were written. More than it lends are all; where it is none, nothing changes.
     pub fn wrote(&mut self, count: usize, now: u64)
         ensures { self.new ≡ wrote_where self.old.wanted count now self.old }
     {
         if self.wanted.is_none() {
+            let count = count.min(self.connection.unwritten().len());
             self.connection.wrote(count, now);
         }
     }

@@ -9,6 +9,7 @@ ghost use Rattle.spk_edge.specs.declared.message.Out.{Out};
 ghost use Rattle.spk_edge_rules.specs.Config.{Setup};
 ghost use Rattle.spk_record.specs.declared.record.Record.{Record};
 ghost use Rattle.spk_edge_app.specs.Data.{App, Deed, LoginData, Opened, Wrote};
+ghost use Rattle.spk_edge_app.specs.Lists.{AreDone, Call, IsDone, Reaches};
 ghost use Rattle.spk_edge_app.specs.Run.{is_saved, of_connection, of_node};
 ghost use Rattle.spk_edge_app.specs.Step.{IsRun, IsStep, allows, fresh_app};
 
@@ -56,6 +57,15 @@ pub fn any_list()
         → IsStep a (Opened now out bytes sent) b → IsRun b since c
         → AllByRecursion (λ e. is_saved e ≡ false) since
         → IsStep c (Wrote first others moment) d → ⊥ }
+{
+    spk_connection::laws::any_list();
+}
+
+/// For every list of calls that were done, one after the other, newest first: there is a list of deeds that is all that they did, call by call. So
+/// `any_list` holds of what they left.
+pub fn calls_are_deeds()
+    ensures one_by_one { (call : Call) (a b : App) → IsDone a call b → Reaches a b }
+    ensures all { (calls : List Call) (a b : App) → AreDone a calls b → Reaches a b }
 {
     spk_connection::laws::any_list();
 }
