@@ -151,7 +151,7 @@ impl EdgeApp {
         }
     }
 
-    /// Whether the connection is to be closed, once nothing waits to be written.
+    /// Whether the connection is to be closed, once no record is wanted and `unwritten` lends nothing.
     pub fn is_closing(&self) -> bool
         ensures { result ≡ is_some self.now.closing }
     {
