@@ -1,0 +1,65 @@
+//! What the loop asks of a program.
+
+use spk_link::Due;
+use std::net::SocketAddr;
+
+/// What the loop tells of its connections.
+#[derive(Clone, Copy, Debug, PartialEq, Eq)]
+pub enum Note {
+    /// A connection with this address stands.
+    Connected(SocketAddr),
+    /// No connection came of a try at this address.
+    Failed(SocketAddr),
+    /// The name of the broker of this number, from 0, has no address.
+    NoAddress(usize),
+    /// The connection is over: the broker closed it, it failed, nothing was heard for too long, or its end was asked for.
+    Over,
+}
+
+/// A program that has one connection with a broker, or none. Moments are in milliseconds since 1970, and never fall.
+pub trait App {
+    /// What is due: a try to connect, PINGREQ (which `turn` sends), or the end of a connection on which nothing is heard.
+    fn due(&self, now: u64) -> Due;
+
+    /// How long nothing is to be done if nothing happens, in milliseconds; None where it is for ever.
+    fn pause(&self, now: u64) -> Option<u64>;
+
+    /// A connection stands.
+    fn opened(&mut self, now: u64);
+
+    /// The connection is over, or no connection came of a try.
+    fn over(&mut self, now: u64);
+
+    /// Whether bytes of the connection are to be read.
+    fn may_read(&self) -> bool;
+
+    /// These bytes were read.
+    fn read(&mut self, piece: &[u8], now: u64);
+
+    /// Whether standard input is to be read.
+    fn takes_input(&self) -> bool;
+
+    /// These bytes of standard input were read.
+    fn input(&mut self, piece: &[u8], now: u64);
+
+    /// Standard input is over.
+    fn input_over(&mut self, now: u64);
+
+    /// What is to be done in each round, behind what was read.
+    fn turn(&mut self, now: u64);
+
+    /// The bytes that are to be written.
+    fn unwritten(&self) -> &[u8];
+
+    /// So many of them were written, at least one.
+    fn wrote(&mut self, count: usize, now: u64);
+
+    /// Whether the connection is to be closed, once nothing is to be written.
+    fn is_closing(&self) -> bool;
+
+    /// Whether the program is over, once there is no connection.
+    fn is_done(&self) -> bool;
+
+    /// The loop tells this.
+    fn note(&mut self, note: &Note);
+}

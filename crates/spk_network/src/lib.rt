@@ -1,0 +1,19 @@
+//! A client of an MQTT 3.1.1 broker over TCP: its socket, standard input and the clock in one loop over mio, without threads. What it says
+//! and hears is an `App`'s.
+#![tactic(auto)]
+
+mod app;
+mod brokers;
+mod clockwork;
+mod door;
+mod fault;
+mod looping;
+mod port;
+#[cfg(test)]
+mod tests;
+mod wire;
+
+pub use app::{App, Note};
+pub use fault::NetworkFault;
+pub use looping::run_app;
+pub use port::Port;
