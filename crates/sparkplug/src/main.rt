@@ -1,8 +1,12 @@
-//! The program `sparkplug`: Sparkplug B payloads, MQTT packets, a broker, and worlds and plants of edge nodes and hosts, on the
-//! command line.
+//! The program `sparkplug`: Sparkplug B payloads, MQTT packets, a broker, worlds and plants of edge nodes and hosts, and an edge node over any
+//! broker, on the command line.
 #![tactic(auto)]
 
+mod records;
+
+use records::MachineDisks;
 use spk_commands::{Files, NOT_TEXT, Outcome, plant, run_with_notes, serve_clients};
+use spk_programs::run_edge;
 use std::alloc::{AllocError, Global};
 use std::fs::File;
 use std::process::ExitCode;
@@ -73,6 +77,10 @@ fn main(rt: HostRuntime) -> io::Result<ExitCode> {
             clients,
         } => serve_clients(&rt, bind, port, clients, &mut writer),
         Outcome::Plant(plan) => plant(&rt, plan, &mut writer),
+        Outcome::Edge(plan) => {
+            let mut disks = MachineDisks { rt: &rt };
+            run_edge(&rt, plan, rt.stdin(), &mut disks, writer, notes)
+        }
     };
     Ok(ExitCode::from(status))
 }

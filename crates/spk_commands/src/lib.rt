@@ -1,8 +1,10 @@
-//! The commands of the program `sparkplug`: Sparkplug B payloads, MQTT packets, a broker, worlds and plants of edge nodes and hosts.
+//! The commands of the program `sparkplug`: Sparkplug B payloads, MQTT packets, a broker, worlds and plants of edge nodes and hosts, and an edge
+//! node over any broker.
 //! Words, files and writers are the caller's.
 #![tactic(auto)]
 
 mod broker;
+mod clients;
 mod fault;
 mod files;
 mod packets;

@@ -1,5 +1,6 @@
 //! A run of the program: words in, lines and a status out.
 
+use crate::clients::edge_plan;
 use crate::fault::{Fault, Stop};
 use crate::files::{Files, text_of};
 use crate::packets::packets;
@@ -10,6 +11,7 @@ use crate::world::world;
 use clap::ArgMatches;
 use clap::error::ErrorKind;
 use spk_plan::Plan;
+use spk_programs::EdgePlan;
 use std::alloc::Global;
 use std::io::{self, BufWriter, Write};
 use std::net::IpAddr;
@@ -107,6 +109,8 @@ pub enum Outcome {
     },
     /// This plan is to be run.
     Plant(Plan),
+    /// This edge node is to be run.
+    Edge(EdgePlan),
 }
 
 /// `show`: the payload that digits say.
@@ -199,6 +203,18 @@ fn serving<N: Write>(
     })
 }
 
+/// `edge`: the edge node of a file, which is to be run.
+fn edge<F: Files, N: Write>(
+    alloc: Global,
+    given: &ArgMatches<'_>,
+    files: &mut F,
+    notes: &mut N,
+) -> Result<Outcome, Stop> {
+    let text = noted_text_of(alloc, given, files, notes)?;
+    let plan = edge_plan(alloc, given, text.as_str(), files, notes)?;
+    Ok(Outcome::Edge(plan))
+}
+
 /// The command that was given. Each has a function of its own, since whoever holds all that was given is dear to prove.
 fn chosen<F: Files, W: Write, N: Write>(
     alloc: Global,
@@ -221,6 +237,9 @@ fn chosen<F: Files, W: Write, N: Write>(
     }
     if let Some(given) = matches.subcommand_matches("serve") {
         return serving(alloc, given, notes);
+    }
+    if let Some(given) = matches.subcommand_matches("edge") {
+        return edge(alloc, given, files, notes);
     }
     Ok(Outcome::Over(0))
 }
@@ -273,8 +292,8 @@ fn buffered<F: Files, W: Write + Drop, N: Write>(
 /// Runs the program on its words, the first of which is its own name, and answers its status: 0 where the work was
 /// done or help was asked for, 1 at a fault, which is printed as `fault NAME (number)`, or where the writer failed,
 /// 2 where the words aren't a command. All texts go to the writer. Words that ask to serve clients are answered with
-/// the port and the number of clients: `serve_clients` does that. Words that ask to run a plant are answered with its plan:
-/// `plant` does that.
+/// the port and the number of clients: `serve_clients` does that. Words that ask to run a plant or an edge node are answered with
+/// its plan: `plant` and `spk_programs` do that.
 pub fn run<R: AllocGlobal, F: Files, W: Write>(
     rt: &R,
     words: &[&str],

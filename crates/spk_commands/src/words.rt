@@ -4,7 +4,7 @@ use clap::{Arg, ArgAction, ArgGroup, Command, value_parser};
 use std::alloc::{AllocError, Global};
 
 const ABOUT: &str =
-    "Sparkplug B over MQTT 3.1.1: reads payloads and packets, and runs a broker, worlds and plants";
+    "Sparkplug B over MQTT 3.1.1: reads payloads and packets, and runs a broker, edge nodes, worlds and plants";
 
 const STATUSES: &str = "\
 Status: 0 is done; 1 is a fault, printed as `fault NAME (number)`, or output that could not be written;
@@ -55,6 +55,23 @@ Who publishes to a subscriber that reads too slowly is slowed, for less than 200
 subscriber that loses 128 messages of QoS 0, or one of QoS 1, is closed. docs/SECURITY.md tells more.
 
 Status: 0 is done; 1 is a fault, printed as `fault NAME (number)`, or output that could not be written;
+2 is a command line that isn't one. docs/FAULTS.md tells each fault by its number.";
+
+const EDGE: &str = "\
+Example, with a broker on port 1883 (`sparkplug serve --port 1883`):
+  sparkplug edge examples/edges/pump.json --broker 127.0.0.1:1883 --record pump.record
+The file is a node of a world's file. Each line of standard input tells of its values, and is published at once:
+  {\"metric\":\"level\",\"value\":7}
+  {\"device\":\"motor\",\"up\":true}
+  [{\"device\":\"motor\",\"metric\":\"speed\",\"value\":1500},{\"metric\":\"level\",\"value\":8}]
+A command that asks for a value to be written prints
+  {\"write\":{\"device\":null,\"metric\":\"level\",\"value\":9}}
+
+While there is no session values are kept, and sent as history once there is one. The record is what makes the
+node go on behind a crash without saying a bdSeq or a time twice: one file for one node, and one process. It ends
+once standard input is over and all is said. docs/EDGE.md tells the rest.
+
+Status: 0 is done; 1 is a fault, printed as `fault NAME (number)`, or changes that could not be said;
 2 is a command line that isn't one. docs/FAULTS.md tells each fault by its number.";
 
 const WORLD: &str = "\
@@ -193,6 +210,55 @@ fn serve<'a>(alloc: Global) -> Result<Command<'a>, AllocError> {
     )
 }
 
+/// The words of a client of a broker: where brokers are, how often it is heard of, and its user name and password.
+fn with_broker<'a>(alloc: Global, command: Command<'a>) -> Result<Command<'a>, AllocError> {
+    let broker = Arg::new(alloc, "broker")
+        .long("broker")
+        .value_name("HOST:PORT")
+        .help("A broker; several are tried in turn")
+        .required(true)
+        .action(ArgAction::Append);
+    let keep = Arg::new(alloc, "keep-alive")
+        .long("keep-alive")
+        .value_name("SECONDS")
+        .help("The keep alive of its connection, 0 to 65535; 0 is none")
+        .default_value("30")
+        .value_parser(value_parser!(u16))
+        .action(ArgAction::Set);
+    let user = Arg::new(alloc, "user")
+        .long("user")
+        .value_name("NAME")
+        .help("The user name that it says")
+        .action(ArgAction::Set);
+    let password = Arg::new(alloc, "password-file")
+        .long("password-file")
+        .value_name("NAME")
+        .help("Reads the password from a file; white space at its end is passed over")
+        .requires_arg("user")?
+        .action(ArgAction::Set);
+    command.arg(broker)?.arg(keep)?.arg(user)?.arg(password)
+}
+
+fn edge<'a>(alloc: Global) -> Result<Command<'a>, AllocError> {
+    let file = Arg::new(alloc, "file")
+        .value_name("FILE")
+        .help("The edge node, as JSON of at most 1,048,576 bytes")
+        .required(true)
+        .action(ArgAction::Set);
+    let record = Arg::new(alloc, "record")
+        .long("record")
+        .value_name("NAME")
+        .help("The file of its record: made where there is none")
+        .required(true)
+        .action(ArgAction::Set);
+    let command = Command::new(alloc, "edge").arg(file)?.arg(record)?;
+    Ok(
+        with_broker(alloc, command)?
+            .about("Runs an edge node over any MQTT 3.1.1 broker, with values from standard input")
+            .after_help(EDGE),
+    )
+}
+
 fn world<'a>(alloc: Global) -> Result<Command<'a>, AllocError> {
     let file = Arg::new(alloc, "file")
         .value_name("FILE")
@@ -234,5 +300,6 @@ pub(crate) fn command_line<'a>(alloc: Global) -> Result<Command<'a>, AllocError>
         .subcommand(packets(alloc)?)?
         .subcommand(world(alloc)?)?
         .subcommand(plant(alloc)?)?
-        .subcommand(serve(alloc)?)
+        .subcommand(serve(alloc)?)?
+        .subcommand(edge(alloc)?)
 }

@@ -1,7 +1,8 @@
-//! Files of the program (own format, JSON): a world's edge nodes, hosts and events, and a plant's plan. What is wrong with a file is told
-//! with its place.
+//! Files of the program (own format, JSON): a world's edge nodes, hosts and events, a plant's plan, an edge node, and the lines that tell of its
+//! values. What is wrong with one is told with its place.
 #![tactic(auto)]
 
+mod edge;
 mod events;
 mod fault;
 mod metrics;
@@ -16,8 +17,9 @@ mod twice;
 mod values;
 mod world;
 
+pub use edge::{Said, edge_of, line_of};
 pub use fault::FileFault;
 pub use misfit::{Cause, Misfit, Place};
-pub use nodes::MOST_NODES;
+pub use nodes::{MOST_NODES, Setup};
 pub use plan::{plan_of, read_plan};
 pub use world::{MOST_HOSTS, read_world, world_of};

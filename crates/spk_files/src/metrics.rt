@@ -23,7 +23,7 @@ fn add_devices(registry: &mut Registry, part: Part<'_>) -> Result<(), Misfit> {
 }
 
 /// Whose a metric is: a device's, by its name, or the node's where it is null.
-fn owner_of(registry: &Registry, part: Part<'_>) -> Result<Owner, Misfit> {
+pub(crate) fn owner_of(registry: &Registry, part: Part<'_>) -> Result<Owner, Misfit> {
     if part.json.is_null() {
         return Ok(Owner::Node);
     }

@@ -96,6 +96,8 @@ pub enum Cause {
     Past(u64, &'static str),
     /// No device before it has that name.
     NoDevice,
+    /// The node, or the device that is named, has no metric of that name.
+    NoMetric,
     /// An earlier node has its group and name.
     Namesake,
     /// The registry refuses it.
@@ -124,6 +126,10 @@ impl fmt::Display for Cause {
             Cause::Longer(most) => write!(f, "has more than {most} bytes"),
             Cause::Past(most, what) => write!(f, "is past the {most} {what} of a script"),
             Cause::NoDevice => write!(f, "isn't the name of a device of the node"),
+            Cause::NoMetric => write!(
+                f,
+                "isn't the name of a metric of the node or of that device"
+            ),
             Cause::Namesake => write!(f, "has the group and name of an earlier node"),
             Cause::Registry(refusal) => {
                 let number = refusal.number();

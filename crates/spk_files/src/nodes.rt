@@ -1,5 +1,7 @@
 //! The edge nodes of a file.
-ghost use Rattle.std.specs.Prelude.{◌≤◌, IfOk, length};
+ghost use Rattle.std.specs.Prelude.{◌≡◌, ◌≤◌, true, IfOk, length};
+ghost use Rattle.std.specs.String.{string_bytes};
+ghost use Rattle.spk_topics.specs.Spark.{is_name};
 
 use crate::metrics::registry_of;
 use crate::misfit::{Cause, Misfit};
@@ -25,8 +27,19 @@ const NODE: [&str; 7] = [
     "numbering",
 ];
 
+const EDGE: [&str; 8] = [
+    "group",
+    "node",
+    "primary",
+    "capacity",
+    "devices",
+    "metrics",
+    "numbering",
+    "keep",
+];
+
 /// A node with its devices and metrics.
-pub(crate) type Setup = (EdgeConfig, Registry);
+pub type Setup = (EdgeConfig, Registry);
 
 /// The primary host, or null.
 fn primary_of(alloc: Global, part: Part<'_>) -> Result<Option<String>, Misfit> {
@@ -49,7 +62,12 @@ fn numbering_of(part: Option<Part<'_>>) -> Result<Numbering, Misfit> {
 }
 
 /// What a node is.
-fn config_of(alloc: Global, part: Part<'_>) -> Result<EdgeConfig, Misfit> {
+fn config_of(alloc: Global, part: Part<'_>) -> Result<EdgeConfig, Misfit>
+    ensures group { IfOk result (λ c. is_name (string_bytes c.group) ≡ true) }
+    ensures node { IfOk result (λ c. is_name (string_bytes c.node) ≡ true) }
+    ensures least { IfOk result (λ c. 1 ≤ c.capacity) }
+    ensures most { IfOk result (λ c. c.capacity ≤ 4096) }
+{
     Ok(EdgeConfig {
         group: name_of(alloc, part.member("group")?)?,
         node: name_of(alloc, part.member("node")?)?,
@@ -64,6 +82,26 @@ fn config_of(alloc: Global, part: Part<'_>) -> Result<EdgeConfig, Misfit> {
 fn node_of(alloc: Global, part: Part<'_>) -> Result<Setup, Misfit> {
     part.only(alloc, &NODE)?;
     let config = config_of(alloc, part)?;
+    let registry = registry_of(alloc, part)?;
+    Ok((config, registry))
+}
+
+/// The node of an edge node's file: its numbers restart, and its keep alive is this, where nothing is said of them.
+pub(crate) fn edge_node_of(alloc: Global, part: Part<'_>, keep: u16) -> Result<Setup, Misfit>
+    ensures group { IfOk result (λ r. is_name (string_bytes r.0.group) ≡ true) }
+    ensures node { IfOk result (λ r. is_name (string_bytes r.0.node) ≡ true) }
+    ensures least { IfOk result (λ r. 1 ≤ r.0.capacity) }
+    ensures most { IfOk result (λ r. r.0.capacity ≤ 4096) }
+{
+    part.only(alloc, &EDGE)?;
+    let mut config = config_of(alloc, part)?;
+    if part.find("numbering").is_none() {
+        config.numbering = Numbering::Restarts;
+    }
+    config.keep = match part.find("keep") {
+        Some(keep) => keep.number(0, 65_535)? as u16,
+        None => keep,
+    };
     let registry = registry_of(alloc, part)?;
     Ok((config, registry))
 }

@@ -1,0 +1,81 @@
+//! The command `edge`: what it is to run, from words and files.
+
+use crate::fault::{Fault, Stop};
+use crate::files::{Files, text_of};
+use clap::ArgMatches;
+use spk_files::{Misfit, edge_of};
+use spk_programs::{EdgePlan, Words};
+use std::alloc::{AllocError, Global};
+use std::io::Write;
+
+/// A text of its own.
+fn owned(alloc: Global, given: &ArgMatches<'_>, name: &str) -> Result<String, AllocError> {
+    String::from_str(alloc, given.get_str(name).unwrap_or(""))
+}
+
+/// The brokers, in order.
+fn brokers_of(alloc: Global, given: &ArgMatches<'_>) -> Result<Vec<String>, AllocError> {
+    let mut brokers = Vec::new(alloc);
+    for name in given.get_strs("broker").unwrap_or(&[]) {
+        brokers.push(String::from_str(alloc, name)?)?;
+    }
+    Ok(brokers)
+}
+
+/// The password, where a file has one, without the white space at its end.
+fn password_of<F: Files>(
+    alloc: Global,
+    given: &ArgMatches<'_>,
+    files: &mut F,
+) -> Result<Option<Vec<u8>>, Stop> {
+    let Some(name) = given.get_str("password-file") else {
+        return Ok(None);
+    };
+    let text = text_of(alloc, files, name)?;
+    let text = String::from_str(alloc, text.as_str().trim_end())?;
+    Ok(Some(text.into_bytes()))
+}
+
+/// The user name and the password, where there are some.
+fn login_of<F: Files>(
+    alloc: Global,
+    given: &ArgMatches<'_>,
+    files: &mut F,
+) -> Result<Option<Words>, Stop> {
+    if given.get_str("user").is_none() {
+        return Ok(None);
+    }
+    let user = owned(alloc, given, "user")?;
+    let password = password_of(alloc, given, files)?;
+    Ok(Some(Words { user, password }))
+}
+
+/// What `edge` is to run. What is wrong with its file, and where, is noted.
+pub(crate) fn edge_plan<F: Files, N: Write>(
+    alloc: Global,
+    given: &ArgMatches<'_>,
+    text: &str,
+    files: &mut F,
+    notes: &mut N,
+) -> Result<EdgePlan, Stop> {
+    let keep = given.get_one::<u16>("keep-alive").unwrap_or(30);
+    let (config, registry) = match edge_of(alloc, text, keep) {
+        Ok(setup) => setup,
+        Err(Misfit::NoMemory) => return Err(Stop::no_memory()),
+        Err(Misfit::Wrong(place, cause)) => {
+            let _ = writeln!(notes, "sparkplug: BadPlan: {place} {cause}");
+            return Err(Stop::Fault(Fault::BadPlan));
+        }
+    };
+    let Ok((_again, names)) = edge_of(alloc, text, keep) else {
+        return Err(Stop::no_memory());
+    };
+    Ok(EdgePlan {
+        config,
+        registry,
+        names,
+        brokers: brokers_of(alloc, given)?,
+        login: login_of(alloc, given, files)?,
+        record: owned(alloc, given, "record")?,
+    })
+}

@@ -1,0 +1,14 @@
+//! What is told of connections, on standard error.
+
+use spk_network::Note;
+use std::io::Write;
+
+/// Tells of a connection. What becomes of the line changes nothing else.
+pub(crate) fn write_note<N: Write>(notes: &mut N, note: &Note) {
+    let _ = match note {
+        Note::Connected(address) => writeln!(notes, "sparkplug: connected with {address}"),
+        Note::Failed(address) => writeln!(notes, "sparkplug: no connection with {address}"),
+        Note::NoAddress(number) => { writeln!(notes, "sparkplug: broker {number} has no address") }
+        Note::Over => writeln!(notes, "sparkplug: the connection is over"),
+    };
+}

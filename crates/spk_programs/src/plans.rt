@@ -1,0 +1,31 @@
+//! What the programs are to run.
+
+use spk_device::Registry;
+use spk_edge::EdgeConfig;
+use std::fmt;
+
+/// The user name that CONNECT says, of at most 65,535 bytes and without U+0000, and the password, if there is one, of at most 65,535 bytes (MQTT 3.1.1,
+/// sections 3.1.3.4 and 3.1.3.5).
+#[derive(Drop)]
+pub struct Words {
+    pub user: String,
+    pub password: Option<Vec<u8>>,
+}
+
+/// What `edge` is to run: a node, the brokers that it may be connected with, each HOST:PORT, and the name of its record.
+#[derive(Drop)]
+pub struct EdgePlan {
+    pub config: EdgeConfig,
+    pub registry: Registry,
+    /// The same registry: by its names lines are read.
+    pub names: Registry,
+    pub brokers: Vec<String>,
+    pub login: Option<Words>,
+    pub record: String,
+}
+
+impl fmt::Debug for EdgePlan {
+    fn fmt<W: fmt::Write>(&self, f: &mut fmt::Formatter<W>) -> fmt::Result {
+        f.write_str("EdgePlan { .. }")
+    }
+}

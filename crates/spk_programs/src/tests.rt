@@ -1,0 +1,182 @@
+use crate::disk::Disk;
+use crate::edge::EdgeProgram;
+use crate::lines::{Lines, Listener};
+use crate::running::edge_app;
+use spk_files::edge_of;
+use spk_link::Due;
+use spk_network::App;
+use std::alloc::Global;
+use std::io::{self, Write};
+use std::process::Abort;
+use std::test::Fail;
+
+/// A disk that fails so many times, and then keeps what it is given.
+#[derive(Drop)]
+struct Slow {
+    fails: u32,
+    tries: u32,
+    kept: u32,
+}
+
+impl Disk for Slow {
+    fn read(&mut self, _bytes: &mut Vec<u8>) -> bool {
+        true
+    }
+
+    fn keep(&mut self, _bytes: &[u8]) -> bool {
+        self.tries = self.tries.saturating_add(1);
+        if self.fails > 0 {
+            self.fails = self.fails.saturating_sub(1);
+            return false;
+        }
+        self.kept = self.kept.saturating_add(1);
+        true
+    }
+}
+
+/// A writer that counts lines.
+#[derive(Drop)]
+struct Counted {
+    lines: usize,
+}
+
+impl Write for Counted {
+    fn write(&mut self, buf: &[u8]) -> io::Result<usize> {
+        let lines = buf.iter().filter(|byte| **byte == b'\n').count();
+        self.lines = self.lines.saturating_add(lines);
+        Ok(buf.len())
+    }
+
+    fn flush(&mut self) -> io::Result<()> {
+        Ok(())
+    }
+}
+
+const NODE: &str =
+    "{\"group\":\"G\",\"node\":\"N\",\"primary\":null,\"capacity\":10,\"devices\":[\"D\"],\
+\"metrics\":[{\"device\":null,\"name\":\"x\",\"type\":3,\"value\":0},{\"device\":\"D\",\"name\":\"y\",\"type\":12,\"value\":null}]}";
+
+/// A program of a node that never ran, with this disk.
+fn program(alloc: Global, fails: u32) -> Option<EdgeProgram<Slow, Counted, Counted>> {
+    let (config, registry) = edge_of(alloc, NODE, 30).ok()?;
+    let (_again, names) = edge_of(alloc, NODE, 30).ok()?;
+    let app = edge_app(alloc, config, registry, None, None).ok()?;
+    let disk = Slow {
+        fails,
+        tries: 0,
+        kept: 0,
+    };
+    let out = Counted { lines: 0 };
+    let notes = Counted { lines: 0 };
+    Some(EdgeProgram::new(alloc, app, names, 0, disk, out, notes))
+}
+
+#[test]
+fn nothing_is_to_be_written_before_its_record_is_kept(rt: HostRuntime) -> Result<(), Fail> {
+    let Some(mut program) = program(rt.alloc(), 2) else {
+        assert!(rt; false);
+        return Ok(());
+    };
+    assert_eq!(rt; program.due(1_000), Due::Connect);
+    program.opened(1_000);
+    // at which moment, how many tries were made then, and whether something may be written
+    let rows = [
+        (1_000u64, 1u32, false),
+        (1_999, 1, false),
+        (2_000, 2, false),
+        (2_999, 2, false),
+        (3_000, 3, true),
+        (3_001, 3, true),
+    ];
+    for (now, tries, may) in rows {
+        program.turn(now);
+        assert_eq!(rt; program.disk().tries, tries);
+        assert_eq!(rt; program.unwritten().is_empty(), !may);
+    }
+    assert_eq!(rt; program.unwritten().first().copied(), Some(0x10));
+    Ok(())
+}
+
+#[test]
+fn a_line_that_says_nothing_is_told_and_passed_over(rt: HostRuntime) -> Result<(), Fail> {
+    let rows: [(&[u8], usize, usize); 15] = [
+        (b"{\"metric\":\"x\",\"value\":1}\n", 1, 0),
+        (b"{\"metric\":\"x\",\"value\":0}\n", 0, 0),
+        (b"{\"device\":null,\"metric\":\"x\",\"value\":2}\n", 1, 0),
+        (
+            b"[{\"metric\":\"x\",\"value\":1},{\"metric\":\"x\",\"value\":3}]\n",
+            2,
+            0,
+        ),
+        (b"[]\n", 0, 0),
+        (b"\n  \n", 0, 0),
+        (b"{\"metric\":\"x\",\"value\":\"a\"}\n", 0, 1),
+        (b"{\"metric\":\"z\",\"value\":1}\n", 0, 1),
+        (
+            b"{\"device\":\"E\",\"metric\":\"y\",\"value\":\"a\"}\n",
+            0,
+            1,
+        ),
+        (
+            b"{\"device\":\"D\",\"metric\":\"y\",\"value\":\"a\"}\n",
+            0,
+            0,
+        ),
+        (
+            b"[{\"device\":\"D\",\"up\":true},{\"device\":\"D\",\"metric\":\"y\",\"value\":\"a\"}]\n",
+            1,
+            0,
+        ),
+        (b"{\"metric\":\"x\",\"value\":1,\"more\":1}\n", 0, 1),
+        (b"{\"device\":\"E\",\"up\":true}\n", 0, 1),
+        (b"{\"metric\":\"x\"", 0, 0),
+        (b"\xff\n", 0, 1),
+    ];
+    for (bytes, kept, told) in rows {
+        let Some(mut program) = program(rt.alloc(), 0) else {
+            assert!(rt; false);
+            return Ok(());
+        };
+        program.input(bytes, 1_000);
+        assert_eq!(rt; program.kept(), kept);
+        assert_eq!(rt; program.notes().lines, told);
+    }
+    Ok(())
+}
+
+/// Adds up lines, each by its number.
+#[derive(Drop)]
+struct Sum {
+    sum: u64,
+    passed: u64,
+}
+
+impl Listener for Sum {
+    fn line(&mut self, number: u64, bytes: &[u8], _now: u64) {
+        let length = bytes.len() as u64;
+        self.sum = self
+            .sum
+            .wrapping_mul(100)
+            .wrapping_add(number.wrapping_mul(10).wrapping_add(length));
+    }
+
+    fn passed(&mut self, _number: u64) {
+        self.passed = self.passed.saturating_add(1);
+    }
+}
+
+#[test]
+fn lines_are_the_same_in_whatever_pieces(rt: HostRuntime) -> Result<(), Fail> {
+    let bytes = b"ab\n\nc\nde";
+    for cut in 0..bytes.len() + 1 {
+        let mut lines = Lines::new(rt.alloc());
+        let mut sum = Sum { sum: 0, passed: 0 };
+        lines.take(bytes.get(..cut).unwrap_or(&[]), &mut sum, 0);
+        lines.take(bytes.get(cut..).unwrap_or(&[]), &mut sum, 0);
+        assert_eq!(rt; sum.sum, 122_031);
+        lines.finish(&mut sum, 0);
+        assert_eq!(rt; sum.sum, 12_203_142);
+        assert_eq!(rt; sum.passed, 0);
+    }
+    Ok(())
+}
