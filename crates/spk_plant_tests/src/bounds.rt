@@ -17,31 +17,33 @@ fn opens(rt: &(impl Abort + AllocGlobal), count: usize) -> Vec<u8> {
     script
 }
 
-/// A plan of one node and this script is run, and publishes nothing.
-fn runs<R>(rt: &R, front: &str, script: &[u8])
+/// A plan of one node and this script is run, and is born so often at most: a connection that is left at once may have been accepted before.
+fn runs<R>(rt: &R, front: &str, script: &[u8], most: usize)
 where
     R: AllocGlobal + Threads + Wait + Abort + Sync,
 {
     let script = str::from_utf8(script).expect(rt, "text");
     let outcome = ran_free(rt, &text_of(rt, front, &[("A", script)]));
     let [(births, _published, _consumed), ..] = outcome.counts;
-    assert_eq!(rt; births, 0, "of {front}");
+    assert!(rt; births <= most, "{births} of {front}");
 }
 
 #[test]
 fn plans_at_their_limits_are_run(rt: HostRuntime) {
-    runs(&rt, WIDE, &opens(&rt, 200));
-    runs(&rt, WIDE, br#"["ramp",1,100000]"#);
+    runs(&rt, WIDE, &opens(&rt, 200), 200);
+    runs(&rt, WIDE, br#"["ramp",1,100000]"#, 0);
     runs(
         &rt,
         WIDE,
         br#"["set",1,5],["ramp",1,60000],["ramp",1,39999],["born"]"#,
+        0,
     );
-    runs(&rt, r#""ring":4,"ingress":1,"wait":0,"width":1"#, b"");
+    runs(&rt, r#""ring":4,"ingress":1,"wait":0,"width":1"#, b"", 0);
     runs(
         &rt,
         r#""ring":65536,"ingress":65536,"wait":18446744073709551615,"width":96"#,
         b"",
+        0,
     );
 }
 
