@@ -1,0 +1,6 @@
+pub mod Along
+pub mod Joins
+pub mod Opening
+pub mod Reading
+pub mod Runs
+pub mod Taking
