@@ -1,5 +1,5 @@
 -- The packet at the front of what was read is taken.
-use Rattle.std.proofs.Common.{◌≡◌, ◌∙◌, sym, ap, refl, subst, ℕ, Bool, true, false, ◌||◌, ◌⊎◌, inl, inr, List, [], ◌∷◌, ◌++◌, drop, Option, Some, None, is_some, Result, Ok, Err}
+use Rattle.std.proofs.Common.{◌≡◌, ◌∙◌, sym, ap, refl, subst, ℕ, Bool, true, false, ◌||◌, ◌⊎◌, inl, inr, List, [], ◌∷◌, ◌++◌, drop, Option, Some, None, is_some, Result, Ok, Err, IfOk, OnOk, OnErr}
 use Rattle.spk_packets.specs.Message.{Message}
 use Rattle.spk_packets.specs.Stream.{TakesPacket}
 use Rattle.spk_reading.specs.Data.{HeardData}
@@ -10,13 +10,13 @@ use Rattle.spk_host.specs.Inputs as host
 use Rattle.spk_host.specs.Inputs.{host_with}
 use Rattle.spk_host.specs.Step.{acks, packet_out, spelled}
 use Rattle.spk_connection.specs.Step.{stands_open}
-use Rattle.spk_host_app.specs.Data.{App, Fate, Word}
+use Rattle.spk_host_app.specs.Data.{App, Deed, Fate, Word}
 use Rattle.spk_host_app.specs.Data as word
-use Rattle.spk_host_app.specs.Data.{Whole, Unsent, Lost, Told, Denied, Unsubscribed, GaveUp}
-use Rattle.spk_host_app.specs.Log.{IsAnswered, IsFate, IsGivenUp, IsTold, Reaches, takes}
+use Rattle.spk_host_app.specs.Data.{Whole, Unsent, Lost, Began, Connected, Read, Told, Denied, Unsubscribed, Ticked, Pinged, Stopped, GaveUp, Wrote, Over, Printed}
+use Rattle.spk_host_app.specs.Log.{DoesOne, IsAnswered, IsFate, IsGivenUp, IsTakenUp, IsTold, Reaches, takes, takes_packet}
 use Rattle.spk_host_app.specs.Meant.{IsRefused, id_in, refuses, topic_in}
 use Rattle.spk_host_app.specs.Step.{answered, first_of_heard, ends_heard, is_full, is_within, join, out_words, put_words, taken}
-use Rattle.spk_host_app.proofs.Runs.{one}
+use Rattle.spk_host_app.proofs.Runs.{at_end, one, stays}
 
 -- ---- what came to the host
 
@@ -60,25 +60,71 @@ told_by a x b size h now ws o k over first within out kept ends is (fate, here, 
 
 -- ---- as deeds
 
+pub with_ok : {X E A : Type 0} (r : Result X E) → A → OnOk r A
+with_ok (Ok x) a = a
+with_ok (Err e) a = tt
+
+pub with_err : {X E A : Type 0} (r : Result X E) → A → OnErr r A
+with_err (Ok x) a = tt
+with_err (Err e) a = a
+
+pub any_packet : (d : Deed) → takes_packet d ≡ true → takes d ≡ true
+any_packet (Told p rest h now fate) e = refl
+any_packet (Denied p rest fault fate) e = refl
+any_packet (Unsubscribed p rest) e = refl
+any_packet (Began now) e = absurd cc
+any_packet (Connected now fate) e = absurd cc
+any_packet (Read piece now) e = absurd cc
+any_packet (Ticked now fate) e = absurd cc
+any_packet (Pinged now) e = absurd cc
+any_packet (Stopped now fate) e = absurd cc
+any_packet (GaveUp fault) e = absurd cc
+any_packet (Wrote bytes now) e = absurd cc
+any_packet (Over now) e = absurd cc
+any_packet (Printed w) e = absurd cc
+
+pub packet_taken : (a b : App) → DoesOne takes_packet a b → DoesOne takes a b
+packet_taken a b (d, allowed, may, e) = (d, any_packet d allowed, may, e)
+
+pub given_up : (a b : App) → IsGivenUp a b → DoesOne takes a b
+given_up a b (f, reason, e) = (GaveUp f, refl, reason, e)
+
+pub reaches : (a b : App) → DoesOne takes a b → Reaches takes a b
+reaches a b (d, allowed, may, e) = one takes a b d allowed may e
+
+pub heard_reaches : {E : Type 0} (r : Result Bool E) (a b : App) → IfOk r (λ more. more ≡ true → DoesOne takes_packet a b)
+    → IfOk r (λ more. more ≡ false → (b ≡ a) × IsTakenUp b) → OnErr r (DoesOne takes a b) → Reaches takes a b
+heard_reaches (Ok true) a b took none failed = reaches a b (packet_taken a b (took refl))
+heard_reaches (Ok false) a b took none failed = at_end takes a a b (stays takes a) (sym (none refl).0)
+heard_reaches (Err e) a b took none failed = reaches a b failed
+
 module _ (a b : App) (p : Message) (rest : List ℕ) (front : TakesPacket a.connection.unread p rest) (closing : a.closing ≡ false) (full : is_full a ≡ false) where
-  pub given_reaches : IsGivenUp a b → Reaches takes a b
-  given_reaches (f, reason, e) = one takes a b (GaveUp f) refl reason e
+  pub denied : (fault : HostFault) (topic : List ℕ) (id : Option ℕ) → IsRefused p fault → topic ≡ topic_in p → id ≡ id_in p
+      → IsAnswered (word.Refused fault topic ∷ []) (join (spelled (acks id))) (taken rest a) b → DoesOne takes_packet a b
+  denied fault topic id is same_topic same_id (fate, here, e) = (
+    Denied p rest fault fate,
+    refl,
+    (closing, full, fate_same fate a (taken rest a) refl here, front, is),
+    e ∙ ap (λ t. answered fate (word.Refused fault t ∷ []) (join (spelled (acks id))) (taken rest a)) same_topic
+        ∙ ap (λ i. answered fate (word.Refused fault (topic_in p) ∷ []) (join (spelled (acks i))) (taken rest a)) same_id,
+  )
 
-  pub denied_reaches : (fault : HostFault) (topic : List ℕ) (id : Option ℕ) → IsRefused p fault → topic ≡ topic_in p → id ≡ id_in p
-      → IsAnswered (word.Refused fault topic ∷ []) (join (spelled (acks id))) (taken rest a) b ⊎ IsGivenUp a b → Reaches takes a b
-  denied_reaches fault topic id is same_topic same_id (inr up) = given_reaches up
-  denied_reaches fault topic id is same_topic same_id (inl (fate, here, e)) =
-      one takes a b (Denied p rest fault fate) refl (closing, full, fate_same fate a (taken rest a) refl here, front, is)
-      (e ∙ ap (λ t. answered fate (word.Refused fault t ∷ []) (join (spelled (acks id))) (taken rest a)) same_topic
-      ∙ ap (λ i. answered fate (word.Refused fault (topic_in p) ∷ []) (join (spelled (acks i))) (taken rest a)) same_id)
+  pub unsubscribed : refuses p ≡ true → b ≡ record (taken rest a) { words = put_words (word.SubscriptionRefused ∷ []) a.words; closing = true } → DoesOne takes_packet a b
+  unsubscribed is e = (Unsubscribed p rest, refl, (closing, full, front, is), e)
 
-  pub unsubscribed_reaches : refuses p ≡ true
-      → (b ≡ record (taken rest a) { words = put_words (word.SubscriptionRefused ∷ []) a.words; closing = true }) ⊎ IsGivenUp a b → Reaches takes a b
-  unsubscribed_reaches is (inr up) = given_reaches up
-  unsubscribed_reaches is (inl e) = one takes a b (Unsubscribed p rest) refl (closing, full, front, is) e
+pub told : (a b : App) (p : Message) (size : ℕ) (h : HeardData) (now : ℕ) → TakesPacket a.connection.unread p (drop size a.connection.unread)
+    → a.closing ≡ false → is_full a ≡ false → refuses p ≡ false → heard p ≡ Ok h → IsTold size h now a b → DoesOne takes_packet a b
+told a b p size h now front closing full other says (fate, here, within, e) =
+    (Told p (drop size a.connection.unread) h now fate, refl, ((within, closing, full), here, front, other, says), e)
 
-pub told_reaches : (a b : App) (p : Message) (size : ℕ) (h : HeardData) (now : ℕ) → TakesPacket a.connection.unread p (drop size a.connection.unread)
-    → a.closing ≡ false → is_full a ≡ false → refuses p ≡ false → heard p ≡ Ok h → IsTold size h now a b ⊎ IsGivenUp a b → Reaches takes a b
-told_reaches a b p size h now front closing full other says (inr up) = given_reaches a b p _ front closing full up
-told_reaches a b p size h now front closing full other says (inl (fate, here, within, e)) =
-    one takes a b (Told p (drop size a.connection.unread) h now fate) refl ((within, closing, full), here, front, other, says) e
+pub on_ok : {X E A B : Type 0} (r : Result X E) → OnOk r A → (A → B) → OnOk r B
+on_ok (Ok x) a f = f a
+on_ok (Err e) a f = a
+
+pub on_err : {X E A B : Type 0} (r : Result X E) → OnErr r A → (A → B) → OnErr r B
+on_err (Ok x) a f = a
+on_err (Err e) a f = f a
+
+pub either_way : (a b : App) {P : Type 0} → (P → DoesOne takes_packet a b) → P ⊎ IsGivenUp a b → DoesOne takes a b
+either_way a b f (inl x) = packet_taken a b (f x)
+either_way a b f (inr up) = given_up a b up

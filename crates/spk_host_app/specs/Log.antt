@@ -62,9 +62,20 @@ IsRun allowed a (d ∷ ds) b = (m : App) × IsRun allowed a ds m × (allowed d �
 abbrev pub Reaches : (Deed → Bool) → App → App → Type 0
 Reaches allowed a b = (ds : List Deed) × IsRun allowed a ds b
 
+-- one of these deeds was done
+abbrev pub DoesOne : (Deed → Bool) → App → App → Type 0
+DoesOne allowed a b = (d : Deed) × (allowed d ≡ true) × May d a × (b ≡ after d a)
+
 -- ---- which deeds a call may do
 
--- taking the packets that were read
+-- taking the packet at the front
+abbrev pub takes_packet : Deed → Bool
+takes_packet (Told p rest h now fate) = true
+takes_packet (Denied p rest fault fate) = true
+takes_packet (Unsubscribed p rest) = true
+takes_packet _ = false
+
+-- the same, or giving the connection up
 abbrev pub takes : Deed → Bool
 takes (Told p rest h now fate) = true
 takes (Denied p rest fault fate) = true

@@ -12,7 +12,7 @@ ghost use Rattle.spk_host.specs.View.{out_view};
 ghost use Rattle.spk_connection.specs.Step.{is_open};
 ghost use Rattle.spk_host_app.specs.Data.{Read, Whole};
 ghost use Rattle.spk_host_app.specs.Data as plain;
-ghost use Rattle.spk_host_app.specs.Log.{IsAnswered, IsGivenUp, IsReason, IsTakenUp, IsTold, Reaches, takes};
+ghost use Rattle.spk_host_app.specs.Log.{DoesOne, IsAnswered, IsGivenUp, IsReason, IsTakenUp, IsTold, Reaches, takes, takes_packet};
 ghost use Rattle.spk_host_app.specs.Meant.{IsMeant};
 ghost use Rattle.spk_host_app.specs.Step.{after, answered, ends_heard, is_full, join, out_words, put_words, taken};
 ghost use Rattle.spk_host_app.specs.View.{word};
@@ -110,7 +110,9 @@ impl HostApp {
 
     /// What the packet at the front says comes to the host.
     fn tell(&mut self, size: usize, heard: Heard, now: u64) -> Result<(), HostAppFault>
-        ensures told { IsTold size (heard_view heard) now self.old self.new ⊎ IsGivenUp self.old self.new }
+        ensures told { OnOk result (IsTold size (heard_view heard) now self.old self.new) }
+        ensures failed { OnErr result (IsTold size (heard_view heard) now self.old self.new
+            ⊎ IsGivenUp self.old self.new) }
         ensures err { OnErr result (self.new.closing ≡ true) }
     {
         let Ok(first) = first_words(self.alloc, &heard) else {
@@ -135,8 +137,11 @@ impl HostApp {
         topic: String,
         id: Option<u16>,
     ) -> Result<(), HostAppFault>
-        ensures denied { IsAnswered (plain.Refused fault (string_bytes topic) ∷ []) (join (spelled (acks id)))
-            (taken (drop size self.old.connection.unread) self.old) self.new ⊎ IsGivenUp self.old self.new }
+        ensures denied { OnOk result (IsAnswered (plain.Refused fault (string_bytes topic) ∷ [])
+            (join (spelled (acks id))) (taken (drop size self.old.connection.unread) self.old) self.new) }
+        ensures failed { OnErr result (IsAnswered (plain.Refused fault (string_bytes topic) ∷ [])
+            (join (spelled (acks id))) (taken (drop size self.old.connection.unread) self.old) self.new
+            ⊎ IsGivenUp self.old self.new) }
         ensures err { OnErr result (self.new.closing ≡ true) }
     {
         let Ok(words) = one(self.alloc, Said::Refused { fault, topic }) else {
@@ -151,9 +156,10 @@ impl HostApp {
 
     /// The SUBACK at the front refuses the subscription: that is said, and the connection is to be closed.
     fn unsubscribed(&mut self, size: usize) -> Result<(), HostAppFault>
-        ensures unsubscribed { (self.new ≡ record (taken (drop size self.old.connection.unread) self.old)
-            { words = put_words (plain.SubscriptionRefused ∷ []) self.old.words; closing = true })
-            ⊎ IsGivenUp self.old self.new }
+        ensures unsubscribed { OnOk result
+            (self.new ≡ record (taken (drop size self.old.connection.unread) self.old)
+            { words = put_words (plain.SubscriptionRefused ∷ []) self.old.words; closing = true }) }
+        ensures failed { OnErr result (IsGivenUp self.old self.new) }
         ensures err { OnErr result (self.new.closing ≡ true) }
     {
         let Ok(words) = one(self.alloc, Said::SubscriptionRefused) else {
@@ -186,7 +192,10 @@ impl HostApp {
     fn take(&mut self, size: usize, meant: Meant, now: u64) -> Result<(), HostAppFault>
         ensures takes { (p : Message) → TakesPacket self.old.connection.unread p (drop size self.old.connection.unread)
             → IsMeant p meant → self.old.closing ≡ false → is_full self.old ≡ false
-            → Reaches takes self.old self.new }
+            → OnOk result (DoesOne takes_packet self.old self.new) }
+        ensures failed { (p : Message) → TakesPacket self.old.connection.unread p (drop size self.old.connection.unread)
+            → IsMeant p meant → self.old.closing ≡ false → is_full self.old ≡ false
+            → OnErr result (DoesOne takes self.old self.new) }
         ensures err { OnErr result (self.new.closing ≡ true) }
     {
         match meant {
@@ -196,10 +205,15 @@ impl HostApp {
         }
     }
 
-    /// Takes the packet at the front of what was read: whether one was taken.
-    fn take_next(&mut self, now: u64) -> Result<bool, HostAppFault>
-        ensures takes { Reaches takes self.old self.new }
-        ensures up { IfOk result (λ more. more ≡ false → IsTakenUp self.new) }
+    /// Takes the packet at the front of what was read, as `go_on` takes each, and answers whether one was taken. None is where the connection is to be
+    /// closed, where 1,024 words or more wait to be printed, and where no whole packet stands at the front; nothing has changed then.
+    ///
+    /// Fails as `go_on` does, and then the connection is to be closed.
+    pub fn hear(&mut self, now: u64) -> Result<bool, HostAppFault>
+        ensures one { IfOk result (λ more. more ≡ true → DoesOne takes_packet self.old self.new) }
+        ensures none { IfOk result (λ more. more ≡ false → (self.new ≡ self.old)
+            × IsTakenUp self.new) }
+        ensures failed { OnErr result (DoesOne takes self.old self.new) }
         ensures err { OnErr result (self.new.closing ≡ true) }
     {
         if self.closing || self.is_full() {
@@ -230,11 +244,40 @@ impl HostApp {
         ensures err { OnErr result (self.new.closing ≡ true) }
     {
         for _ in 0..u64::MAX {
-            if !self.take_next(now)? {
+            if !self.hear(now)? {
                 return Ok(());
             }
         }
         Err(self.give_up(HostAppFault::NoMemory))
+    }
+
+    /// These bytes were read, and stand behind what was read before: `hear` takes the packets that are whole. Where the connection is to be closed, they
+    /// are passed over.
+    ///
+    /// Refused with NotOpen (112) exactly where there is no connection; nothing has changed then. Where it fails otherwise the connection is to be
+    /// closed: with TooLarge (16) where more than 2,097,152 bytes would wait to be taken (own rule), with NoMemory (1).
+    pub fn feed(&mut self, piece: &[u8], now: u64) -> Result<(), HostAppFault>
+        ensures fed { is_open self.old.connection ≡ true → self.old.closing ≡ false
+            → OnOk result (self.new ≡ after (Read piece.now now) self.old) }
+        ensures failed { is_open self.old.connection ≡ true → self.old.closing ≡ false
+            → OnErr result (IsGivenUp self.old self.new) }
+        ensures over { self.old.closing ≡ true → self.new ≡ self.old }
+        ensures shut { is_open self.old.connection ≡ false → (self.new ≡ self.old)
+            × (result ≡ Err HostAppFault.NotOpen) }
+        ensures err { IfErr result (λ e. ((e ≡ HostAppFault.NotOpen)
+            × (is_open self.old.connection ≡ false)) ⊎ (self.new.closing ≡ true)) }
+    {
+        if !self.connection.is_open() {
+            return Err(HostAppFault::NotOpen);
+        }
+        if self.closing {
+            return Ok(());
+        }
+        match self.connection.read(piece, now) {
+            Ok(()) => Ok(()),
+            Err(ConnectionFault::TooLarge) => Err(self.give_up(HostAppFault::TooLarge)),
+            Err(_) => Err(self.give_up(HostAppFault::NoMemory)),
+        }
     }
 
     /// These bytes were read: the packets that they make whole are taken, as `go_on` says. Where the connection is to be closed, they are passed over.
@@ -252,16 +295,10 @@ impl HostApp {
         ensures err { IfErr result (λ e. ((e ≡ HostAppFault.NotOpen)
             × (is_open self.old.connection ≡ false)) ⊎ (self.new.closing ≡ true)) }
     {
-        if !self.connection.is_open() {
-            return Err(HostAppFault::NotOpen);
-        }
+        self.feed(piece, now)?;
         if self.closing {
             return Ok(());
         }
-        match self.connection.read(piece, now) {
-            Ok(()) => self.go_on(now),
-            Err(ConnectionFault::TooLarge) => Err(self.give_up(HostAppFault::TooLarge)),
-            Err(_) => Err(self.give_up(HostAppFault::NoMemory)),
-        }
+        self.go_on(now)
     }
 }
