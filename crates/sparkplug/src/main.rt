@@ -1,12 +1,12 @@
-//! The program `sparkplug`: Sparkplug B payloads, MQTT packets, a broker, worlds and plants of edge nodes and hosts, and an edge node over any
-//! broker, on the command line.
+//! The program `sparkplug`: Sparkplug B payloads, MQTT packets, a broker, worlds and plants of edge nodes and hosts, and an edge node and a host
+//! application over any broker, on the command line.
 #![tactic(auto)]
 
 mod records;
 
 use records::MachineDisks;
 use spk_commands::{Files, NOT_TEXT, Outcome, plant, run_with_notes, serve_clients};
-use spk_programs::run_edge;
+use spk_programs::{run_edge, run_host};
 use std::alloc::{AllocError, Global};
 use std::fs::File;
 use std::process::ExitCode;
@@ -81,6 +81,7 @@ fn main(rt: HostRuntime) -> io::Result<ExitCode> {
             let mut disks = MachineDisks { rt: &rt };
             run_edge(&rt, plan, rt.stdin(), &mut disks, writer, notes)
         }
+        Outcome::Host(plan) => run_host(&rt, plan, writer, notes),
     };
     Ok(ExitCode::from(status))
 }

@@ -123,7 +123,7 @@ fn once(rt: &(impl Abort + AllocGlobal), words: &[&str], room: usize) -> (Vec<u8
 pub(crate) fn status_of(outcome: Outcome) -> u8 {
     match outcome {
         Outcome::Over(status) => status,
-        Outcome::Serve { .. } | Outcome::Plant(_) | Outcome::Edge(_) => u8::MAX,
+        Outcome::Serve { .. } | Outcome::Plant(_) | Outcome::Edge(_) | Outcome::Host(_) => u8::MAX,
     }
 }
 
@@ -196,6 +196,10 @@ pub(crate) fn served(rt: &(impl Abort + AllocGlobal), words: &[&str]) -> Option<
             clients: Some(clients),
             ..
         } => Some((port, clients)),
-        Outcome::Serve { .. } | Outcome::Over(_) | Outcome::Plant(_) | Outcome::Edge(_) => None,
+        Outcome::Serve { .. }
+        | Outcome::Over(_)
+        | Outcome::Plant(_)
+        | Outcome::Edge(_)
+        | Outcome::Host(_) => None,
     }
 }

@@ -1,12 +1,17 @@
-//! The command `edge`: what it is to run, from words and files.
+//! The commands `edge` and `host`: what they are to run, from words and files.
 
 use crate::fault::{Fault, Stop};
 use crate::files::{Files, text_of};
 use clap::ArgMatches;
 use spk_files::{Misfit, edge_of};
-use spk_programs::{EdgePlan, Words};
+use spk_host_session::HostConfig;
+use spk_programs::{EdgePlan, HostPlan, Words};
+use spk_sequence::Width;
 use std::alloc::{AllocError, Global};
 use std::io::Write;
+
+/// What is said of a width that is none, like what clap says of other words that it refuses.
+const NO_WIDTH: &str = "error: --width takes 1 to 96\n\nFor more information, try '--help'.\n";
 
 /// A text of its own.
 fn owned(alloc: Global, given: &ArgMatches<'_>, name: &str) -> Result<String, AllocError> {
@@ -77,5 +82,30 @@ pub(crate) fn edge_plan<F: Files, N: Write>(
         brokers: brokers_of(alloc, given)?,
         login: login_of(alloc, given, files)?,
         record: owned(alloc, given, "record")?,
+    })
+}
+
+/// What `host` is to run.
+pub(crate) fn host_plan<F: Files>(
+    alloc: Global,
+    given: &ArgMatches<'_>,
+    files: &mut F,
+) -> Result<HostPlan, Stop> {
+    let places = given.get_one::<u8>("width").unwrap_or(1);
+    let Some(width) = Width::new(places) else {
+        return Err(Stop::Words(String::from_str(alloc, NO_WIDTH)?, 2));
+    };
+    let config = HostConfig {
+        name: owned(alloc, given, "name")?,
+        group: owned(alloc, given, "group")?,
+        wait: given.get_one::<u64>("wait").unwrap_or(2_000),
+        keep: given.get_one::<u16>("keep-alive").unwrap_or(30),
+        width,
+    };
+    Ok(HostPlan {
+        config,
+        brokers: brokers_of(alloc, given)?,
+        login: login_of(alloc, given, files)?,
+        count: given.get_one::<u64>("count"),
     })
 }

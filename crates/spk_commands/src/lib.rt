@@ -1,5 +1,5 @@
 //! The commands of the program `sparkplug`: Sparkplug B payloads, MQTT packets, a broker, worlds and plants of edge nodes and hosts, and an edge
-//! node over any broker.
+//! node and a host application over any broker.
 //! Words, files and writers are the caller's.
 #![tactic(auto)]
 

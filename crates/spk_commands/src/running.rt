@@ -1,6 +1,6 @@
 //! A run of the program: words in, lines and a status out.
 
-use crate::clients::edge_plan;
+use crate::clients::{edge_plan, host_plan};
 use crate::fault::{Fault, Stop};
 use crate::files::{Files, text_of};
 use crate::packets::packets;
@@ -11,7 +11,7 @@ use crate::world::world;
 use clap::ArgMatches;
 use clap::error::ErrorKind;
 use spk_plan::Plan;
-use spk_programs::EdgePlan;
+use spk_programs::{EdgePlan, HostPlan};
 use std::alloc::Global;
 use std::io::{self, BufWriter, Write};
 use std::net::IpAddr;
@@ -111,6 +111,8 @@ pub enum Outcome {
     Plant(Plan),
     /// This edge node is to be run.
     Edge(EdgePlan),
+    /// This host application is to be run.
+    Host(HostPlan),
 }
 
 /// `show`: the payload that digits say.
@@ -215,6 +217,11 @@ fn edge<F: Files, N: Write>(
     Ok(Outcome::Edge(plan))
 }
 
+/// `host`: the host application that is to be run.
+fn host<F: Files>(alloc: Global, given: &ArgMatches<'_>, files: &mut F) -> Result<Outcome, Stop> {
+    Ok(Outcome::Host(host_plan(alloc, given, files)?))
+}
+
 /// The command that was given. Each has a function of its own, since whoever holds all that was given is dear to prove.
 fn chosen<F: Files, W: Write, N: Write>(
     alloc: Global,
@@ -240,6 +247,9 @@ fn chosen<F: Files, W: Write, N: Write>(
     }
     if let Some(given) = matches.subcommand_matches("edge") {
         return edge(alloc, given, files, notes);
+    }
+    if let Some(given) = matches.subcommand_matches("host") {
+        return host(alloc, given, files);
     }
     Ok(Outcome::Over(0))
 }
@@ -292,8 +302,8 @@ fn buffered<F: Files, W: Write + Drop, N: Write>(
 /// Runs the program on its words, the first of which is its own name, and answers its status: 0 where the work was
 /// done or help was asked for, 1 at a fault, which is printed as `fault NAME (number)`, or where the writer failed,
 /// 2 where the words aren't a command. All texts go to the writer. Words that ask to serve clients are answered with
-/// the port and the number of clients: `serve_clients` does that. Words that ask to run a plant or an edge node are answered with
-/// its plan: `plant` and `spk_programs` do that.
+/// the port and the number of clients: `serve_clients` does that. Words that ask to run a plant, an edge node or a host application
+/// are answered with its plan: `plant` and `spk_programs` do that.
 pub fn run<R: AllocGlobal, F: Files, W: Write>(
     rt: &R,
     words: &[&str],

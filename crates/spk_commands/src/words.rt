@@ -4,7 +4,7 @@ use clap::{Arg, ArgAction, ArgGroup, Command, value_parser};
 use std::alloc::{AllocError, Global};
 
 const ABOUT: &str =
-    "Sparkplug B over MQTT 3.1.1: reads payloads and packets, and runs a broker, edge nodes, worlds and plants";
+    "Sparkplug B over MQTT 3.1.1: reads payloads and packets, and runs a broker, edge nodes, hosts, worlds and plants";
 
 const STATUSES: &str = "\
 Status: 0 is done; 1 is a fault, printed as `fault NAME (number)`, or output that could not be written;
@@ -72,6 +72,23 @@ node go on behind a crash without saying a bdSeq or a time twice: one file for o
 once standard input is over and all is said. docs/EDGE.md tells the rest.
 
 Status: 0 is done; 1 is a fault, printed as `fault NAME (number)`, or changes that could not be said;
+2 is a command line that isn't one. docs/FAULTS.md tells each fault by its number.";
+
+const HOST: &str = "\
+Example, with a broker on port 1883 (`sparkplug serve --port 1883`) and the edge node of `sparkplug edge --help`:
+  sparkplug host --broker 127.0.0.1:1883 --group G --name H
+prints a JSON line for each message that it consumes, its metrics called as the births call them
+  {\"group\":\"G\",\"node\":\"pump\",\"device\":null,\"message\":\"NDATA\",\"seq\":1,\"time\":1764115205000,
+    \"metrics\":[{\"metric\":\"level\",\"type\":3,\"value\":7}]}
+(one line), and one for each change of how a node or a device stands, and of what that comes
+  {\"group\":\"G\",\"node\":\"pump\",\"device\":null,\"state\":\"stale\",\"cause\":\"gap\",\"at\":1764115206000}
+`state` is `current`, `stale` or `offline`, `cause` is `birth`, `gap`, `death` or `session`, which is the host's own.
+
+What it consumes of a node is, birth by birth, a prefix of what the node published, each message once and in order;
+behind a gap nothing until a newer birth, for which it asks. A broker that drops 256 messages, or nearly as many,
+without a word is not found out: docs/BROKERS.md says which do. docs/HOST.md tells the rest.
+
+Status: 0 is done; 1 is a fault, printed as `fault NAME (number)`, or output that could not be written;
 2 is a command line that isn't one. docs/FAULTS.md tells each fault by its number.";
 
 const WORLD: &str = "\
@@ -259,6 +276,50 @@ fn edge<'a>(alloc: Global) -> Result<Command<'a>, AllocError> {
     )
 }
 
+fn host<'a>(alloc: Global) -> Result<Command<'a>, AllocError> {
+    let group = Arg::new(alloc, "group")
+        .long("group")
+        .value_name("G")
+        .help("The group whose nodes it follows")
+        .required(true)
+        .action(ArgAction::Set);
+    let name = Arg::new(alloc, "name")
+        .long("name")
+        .value_name("H")
+        .help("Its name: its STATE is published under it, and it is its client identifier")
+        .required(true)
+        .action(ArgAction::Set);
+    let wait = Arg::new(alloc, "wait")
+        .long("wait")
+        .value_name("MILLISECONDS")
+        .help("How long a message waits for one before it, and a rebirth request for the next")
+        .default_value("2000")
+        .value_parser(value_parser!(u64))
+        .action(ArgAction::Set);
+    let width = Arg::new(alloc, "width")
+        .long("width")
+        .value_name("N")
+        .help("How many sequence numbers, from the next one on, it takes, 1 to 96")
+        .default_value("1")
+        .value_parser(value_parser!(u8).range(1..=96))
+        .action(ArgAction::Set);
+    let count = Arg::new(alloc, "count")
+        .long("count")
+        .value_name("N")
+        .help("Ends once it has consumed so many messages")
+        .value_parser(value_parser!(u64).range(1..))
+        .action(ArgAction::Set);
+    let command = Command::new(alloc, "host").arg(group)?.arg(name)?;
+    let command = command.arg(wait)?.arg(width)?.arg(count)?;
+    Ok(
+        with_broker(alloc, command)?
+            .about(
+                "Runs a host application over any MQTT 3.1.1 broker, and prints what it consumes",
+            )
+            .after_help(HOST),
+    )
+}
+
 fn world<'a>(alloc: Global) -> Result<Command<'a>, AllocError> {
     let file = Arg::new(alloc, "file")
         .value_name("FILE")
@@ -301,5 +362,6 @@ pub(crate) fn command_line<'a>(alloc: Global) -> Result<Command<'a>, AllocError>
         .subcommand(world(alloc)?)?
         .subcommand(plant(alloc)?)?
         .subcommand(serve(alloc)?)?
-        .subcommand(edge(alloc)?)
+        .subcommand(edge(alloc)?)?
+        .subcommand(host(alloc)?)
 }

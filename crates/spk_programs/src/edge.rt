@@ -29,7 +29,7 @@ const REST: u64 = 1_000;
 /// How often a line of progress is told, in milliseconds (own rule).
 const MINUTE: u64 = 60_000;
 
-/// How many bytes may wait to be written before standard input isn't read (own rule).
+/// How many bytes may wait to be written before neither standard input nor the connection is read (own rule).
 const MANY: usize = 1_048_576;
 
 /// How many bytes may wait to be written while kept changes are sent, as the core has it.
@@ -98,6 +98,8 @@ pub struct EdgeProgram<D: Disk, O: Write + Drop, N: Write + Drop> {
     desk: Desk<D, O, N>,
     lines: Lines,
     input: Input,
+    /// No session began with the connection: it is to be closed.
+    shut: bool,
     /// No connection is tried before this moment.
     begin: u64,
     /// When progress is told next; 0 before the first moment.
@@ -292,6 +294,7 @@ impl<D: Disk, O: Write + Drop, N: Write + Drop> EdgeProgram<D, O, N> {
             },
             lines: Lines::new(alloc),
             input: Input::Open,
+            shut: false,
             begin,
             report: 0,
         }
@@ -392,17 +395,19 @@ impl<D: Disk, O: Write + Drop, N: Write + Drop> App for EdgeProgram<D, O, N> {
     fn opened(&mut self, now: u64) {
         self.desk.counts.connections = self.desk.counts.connections.saturating_add(1);
         if let Err(fault) = self.desk.app.opened(now) {
+            self.shut = true;
             let _ = write!(self.desk.notes, "sparkplug: no session: ");
             write_fault(&mut self.desk.notes, fault);
         }
     }
 
     fn over(&mut self, now: u64) {
+        self.shut = false;
         self.desk.app.over(now);
     }
 
     fn may_read(&self) -> bool {
-        true
+        !self.shut && self.desk.app.unwritten().len() < MANY
     }
 
     fn read(&mut self, piece: &[u8], now: u64) {
@@ -446,7 +451,7 @@ impl<D: Disk, O: Write + Drop, N: Write + Drop> App for EdgeProgram<D, O, N> {
     }
 
     fn is_closing(&self) -> bool {
-        self.desk.app.is_closing() && self.desk.app.wanted().is_none()
+        self.shut || (self.desk.app.is_closing() && self.desk.app.wanted().is_none())
     }
 
     fn is_done(&self) -> bool {

@@ -2,6 +2,7 @@
 
 use spk_device::Registry;
 use spk_edge::EdgeConfig;
+use spk_host::HostConfig;
 use std::fmt;
 
 /// The user name that CONNECT says, of at most 65,535 bytes and without U+0000, and the password, if there is one, of at most 65,535 bytes (MQTT 3.1.1,
@@ -27,5 +28,21 @@ pub struct EdgePlan {
 impl fmt::Debug for EdgePlan {
     fn fmt<W: fmt::Write>(&self, f: &mut fmt::Formatter<W>) -> fmt::Result {
         f.write_str("EdgePlan { .. }")
+    }
+}
+
+/// What `host` is to run: a host application, the brokers that it may be connected with, each HOST:PORT, and after how many consumed messages it ends, if
+/// it does.
+#[derive(Drop)]
+pub struct HostPlan {
+    pub config: HostConfig,
+    pub brokers: Vec<String>,
+    pub login: Option<Words>,
+    pub count: Option<u64>,
+}
+
+impl fmt::Debug for HostPlan {
+    fn fmt<W: fmt::Write>(&self, f: &mut fmt::Formatter<W>) -> fmt::Result {
+        f.write_str("HostPlan { .. }")
     }
 }

@@ -3,14 +3,19 @@
 use crate::disk::{Disk, Disks, Opened};
 use crate::edge::EdgeProgram;
 use crate::fault::{ProgramFault, told};
-use crate::plans::{EdgePlan, Words};
+use crate::host::HostProgram;
+use crate::plans::{EdgePlan, HostPlan, Words};
+use spk_connection::Connection;
 use spk_device::Registry;
 use spk_edge::{EdgeConfig, EdgeFault, EdgeNode, Record as Start};
 use spk_edge_app::{EdgeApp, Login};
+use spk_host::{Host, HostConfig};
+use spk_host_app as host;
+use spk_host_app::HostApp;
 use spk_network::run_app;
 use spk_record::{Record, RecordFault};
 use std::alloc::Global;
-use std::io::{Read, Write};
+use std::io::{self, BufWriter, Read, Write};
 use std::net::Net;
 use std::sync::Wait;
 use std::time::Clock;
@@ -141,4 +146,67 @@ where
         }
         Err(fault) => told(&mut out, fault),
     }
+}
+
+/// Standard input of a program that reads none.
+#[derive(Drop)]
+struct Nothing;
+
+impl Read for Nothing {
+    fn read(&mut self, _buf: &mut [u8]) -> io::Result<usize> {
+        Ok(0)
+    }
+}
+
+/// How much longer its pauses are, in 1,024ths, by its name, so that not all hosts come back at once (own rule).
+fn spread(name: &str) -> u8 {
+    let mut sum = 0_u8;
+    for byte in name.bytes() {
+        sum = sum.wrapping_mul(31).wrapping_add(byte);
+    }
+    sum
+}
+
+/// A host's core.
+pub(crate) fn host_app(
+    alloc: Global,
+    config: HostConfig,
+    login: Option<Words>,
+) -> Result<HostApp, ProgramFault> {
+    let connection = Connection::new(alloc, config.keep, spread(config.name.as_str()));
+    let Ok(host) = Host::new(alloc, config) else {
+        return Err(ProgramFault::BadConfig);
+    };
+    let login = login.map(|words| host::Login {
+        user: words.user,
+        password: words.password,
+    });
+    Ok(HostApp::new(alloc, host, connection, login))
+}
+
+/// Runs a host application until so many messages were consumed as its plan says, or for ever, and answers the status: 0, or 1 where a fault ended it, which
+/// is printed, or where a line couldn't be written. What goes over a socket no contract says.
+pub fn run_host<R, O, N>(rt: &R, plan: HostPlan, mut out: O, notes: N) -> u8
+where
+    R: AllocGlobal + Wait + Clock + Net,
+    O: Write + Drop,
+    N: Write + Drop,
+{
+    let alloc = rt.alloc();
+    let HostPlan {
+        config,
+        brokers,
+        login,
+        count,
+    } = plan;
+    let app = match host_app(alloc, config, login) {
+        Ok(app) => app,
+        Err(fault) => return told(&mut out, fault),
+    };
+    let Ok(buffered) = BufWriter::new(alloc, out) else {
+        return 1;
+    };
+    let mut program = HostProgram::new(alloc, app, count, buffered, notes);
+    let ended = run_app(rt, alloc, brokers.as_slice(), Nothing, false, &mut program);
+    program.finish(ended)
 }
