@@ -3,6 +3,7 @@
 use crate::fault::{Fault, Stop};
 use crate::files::{Files, text_of};
 use clap::ArgMatches;
+use spk_device::Registry;
 use spk_files::{Misfit, edge_of};
 use spk_host_session::HostConfig;
 use spk_programs::{EdgePlan, HostPlan, Words};
@@ -55,6 +56,22 @@ fn login_of<F: Files>(
     Ok(Some(Words { user, password }))
 }
 
+/// The name of the file in which values survive, and the node's registry once more, where there is one.
+fn kept_of(
+    alloc: Global,
+    given: &ArgMatches<'_>,
+    text: &str,
+    keep: u16,
+) -> Result<Option<(String, Registry)>, Stop> {
+    let Some(name) = given.get_str("kept") else {
+        return Ok(None);
+    };
+    let Ok((_config, base)) = edge_of(alloc, text, keep) else {
+        return Err(Stop::no_memory());
+    };
+    Ok(Some((String::from_str(alloc, name)?, base)))
+}
+
 /// What `edge` is to run. What is wrong with its file, and where, is noted.
 pub(crate) fn edge_plan<F: Files, N: Write>(
     alloc: Global,
@@ -82,7 +99,14 @@ pub(crate) fn edge_plan<F: Files, N: Write>(
         brokers: brokers_of(alloc, given)?,
         login: login_of(alloc, given, files)?,
         record: owned(alloc, given, "record")?,
+        kept: kept_of(alloc, given, text, keep)?,
     })
+}
+
+/// For how many milliseconds a node may be silent, where that is said.
+fn silence_of(given: &ArgMatches<'_>) -> Option<u64> {
+    let seconds = given.get_one::<u32>("silence")?;
+    Some(u64::from(seconds).saturating_mul(1_000))
 }
 
 /// What `host` is to run.
@@ -107,5 +131,6 @@ pub(crate) fn host_plan<F: Files>(
         brokers: brokers_of(alloc, given)?,
         login: login_of(alloc, given, files)?,
         count: given.get_one::<u64>("count"),
+        silence: silence_of(given),
     })
 }

@@ -68,8 +68,9 @@ A command that asks for a value to be written prints
   {\"write\":{\"device\":null,\"metric\":\"level\",\"value\":9}}
 
 While there is no session values are kept, and sent as history once there is one. The record is what makes the
-node go on behind a crash without saying a bdSeq or a time twice: one file for one node, and one process. It ends
-once standard input is over and all is said. docs/EDGE.md tells the rest.
+node go on behind a crash without saying a bdSeq or a time twice: one file for one node, and one process. With
+--kept NAME its values and what isn't sent yet survive one, too. It ends once standard input is over and all is said.
+docs/EDGE.md tells the rest.
 
 Status: 0 is done; 1 is a fault, printed as `fault NAME (number)`, or changes that could not be said;
 2 is a command line that isn't one. docs/FAULTS.md tells each fault by its number.";
@@ -82,7 +83,8 @@ prints a JSON line for each message that it consumes, its metrics called as the 
     \"metrics\":[{\"metric\":\"level\",\"type\":3,\"value\":7}]}
 (one line), and one for each change of how a node or a device stands, and of what that comes
   {\"group\":\"G\",\"node\":\"pump\",\"device\":null,\"state\":\"stale\",\"cause\":\"gap\",\"at\":1764115206000}
-`state` is `current`, `stale` or `offline`, `cause` is `birth`, `gap`, `death` or `session`, which is the host's own.
+`state` is `current`, `stale` or `offline`, `cause` is `birth`, `gap`, `death` or `session`, which is the host's own, or,
+with --silence, `silence` and `message`, which ends one.
 
 What it consumes of a node is, birth by birth, a prefix of what the node published, each message once and in order;
 behind a gap nothing until a newer birth, for which it asks. A broker that drops 256 messages, or nearly as many,
@@ -268,7 +270,15 @@ fn edge<'a>(alloc: Global) -> Result<Command<'a>, AllocError> {
         .help("The file of its record: made where there is none")
         .required(true)
         .action(ArgAction::Set);
+    let kept = Arg::new(alloc, "kept")
+        .long("kept")
+        .value_name("NAME")
+        .help(
+            "The file in which values, devices and kept changes survive: made where there is none",
+        )
+        .action(ArgAction::Set);
     let command = Command::new(alloc, "edge").arg(file)?.arg(record)?;
+    let command = command.arg(kept)?;
     Ok(
         with_broker(alloc, command)?
             .about("Runs an edge node over any MQTT 3.1.1 broker, with values from standard input")
@@ -309,8 +319,14 @@ fn host<'a>(alloc: Global) -> Result<Command<'a>, AllocError> {
         .help("Ends once it has consumed so many messages")
         .value_parser(value_parser!(u64).range(1..))
         .action(ArgAction::Set);
+    let silence = Arg::new(alloc, "silence")
+        .long("silence")
+        .value_name("SECONDS")
+        .help("Tells a node's values to be stale once nothing of it came for so long")
+        .value_parser(value_parser!(u32).range(1..))
+        .action(ArgAction::Set);
     let command = Command::new(alloc, "host").arg(group)?.arg(name)?;
-    let command = command.arg(wait)?.arg(width)?.arg(count)?;
+    let command = command.arg(wait)?.arg(width)?.arg(count)?.arg(silence)?;
     Ok(
         with_broker(alloc, command)?
             .about(

@@ -2,8 +2,10 @@
 
 use crate::disk::Disk;
 use crate::fault::{ProgramFault, told};
+use crate::journal::{Journal, kept_in, tell};
 use crate::lines::{Lines, Listener};
 use crate::notes::write_note;
+use crate::running::Begun;
 use crate::texts::{json_text, owner_text, value_text};
 use spk_device::Registry;
 use spk_edge::Phase;
@@ -83,6 +85,8 @@ struct Desk<D: Disk, O: Write + Drop, N: Write + Drop> {
     app: EdgeApp,
     names: Registry,
     disk: D,
+    /// Where values and kept changes survive.
+    journal: Option<Journal<D>>,
     out: O,
     notes: N,
     counts: Counts,
@@ -116,12 +120,22 @@ impl<D: Disk, O: Write + Drop, N: Write + Drop> Desk<D, O, N> {
 
     /// Does what a line says.
     fn say(&mut self, number: u64, said: &Said, now: u64) {
-        let done = match said {
-            Said::Value { alias, value } => self.app.change(now, *alias, value),
-            Said::Device { name, up } => self.app.device(now, name.as_str(), *up),
-        };
-        if let Err(fault) = done {
+        if let Err(fault) = tell(&mut self.app, said, now) {
             self.refuse(number, fault);
+        }
+    }
+
+    /// A line was done: it is noted where values survive.
+    fn note_line(&mut self, number: u64, text: &str, all: Vec<Said>, before: u64, now: u64) {
+        let kept = kept_in(&self.app).saturating_sub(before);
+        let Some(journal) = &mut self.journal else {
+            return;
+        };
+        if !journal.note(now, text, all, kept) {
+            let _ = writeln!(
+                self.notes,
+                "sparkplug: line {number} isn't kept: NoMemory (1)"
+            );
         }
     }
 
@@ -140,9 +154,11 @@ impl<D: Disk, O: Write + Drop, N: Write + Drop> Desk<D, O, N> {
     fn text(&mut self, number: u64, text: &str, now: u64) {
         match line_of(self.alloc, &self.names, text) {
             Ok(all) => {
+                let before = kept_in(&self.app);
                 for said in &all {
                     self.say(number, said, now);
                 }
+                self.note_line(number, text, all, before, now);
             }
             Err(misfit) => self.misfit(number, &misfit),
         }
@@ -169,6 +185,39 @@ impl<D: Disk, O: Write + Drop, N: Write + Drop> Desk<D, O, N> {
                 "sparkplug: the record can't be kept: nothing is sent"
             );
         }
+    }
+
+    /// What was told and is said no longer waits.
+    fn mark(&mut self) {
+        let is_said = self.is_born()
+            && self.app.node().kept() == 0
+            && self.app.unwritten().is_empty();
+        if let Some(journal) = &mut self.journal {
+            if is_said {
+                journal.say();
+            }
+        }
+    }
+
+    /// Writes what is to survive.
+    fn keep_lines(&mut self, now: u64) {
+        let Some(journal) = &mut self.journal else {
+            return;
+        };
+        if !journal.keep(now) {
+            let _ = writeln!(self.notes, "sparkplug: values and changes can't be kept");
+        }
+    }
+
+    /// Writes for the last time what is to survive: where nothing is kept any more, values alone.
+    fn close_journal(&mut self) {
+        let is_said = self.app.node().kept() == 0;
+        if let Some(journal) = &mut self.journal {
+            if is_said {
+                journal.say();
+            }
+        }
+        self.keep_lines(u64::MAX);
     }
 
     /// Keeps the record of what the node did, and no more: a next run needn't wait.
@@ -265,23 +314,36 @@ impl<D: Disk, O: Write + Drop, N: Write + Drop> Listener for Desk<D, O, N> {
 }
 
 impl<D: Disk, O: Write + Drop, N: Write + Drop> EdgeProgram<D, O, N> {
-    /// A program of which no connection is tried before this moment, where that is close, as a record of the start may reserve. `names` is the registry
-    /// that the node was made with.
-    pub fn new(
-        alloc: Global,
-        app: EdgeApp,
-        names: Registry,
-        begin: u64,
-        disk: D,
-        out: O,
-        notes: N,
-    ) -> EdgeProgram<D, O, N> {
+    /// A program that goes on from what a run begins with.
+    pub fn new(alloc: Global, begun: Begun<D>, out: O, mut notes: N) -> EdgeProgram<D, O, N> {
+        let Begun {
+            app,
+            names,
+            begin,
+            disk,
+            journal,
+            passed,
+            is_torn,
+        } = begun;
+        if passed > 0 {
+            let _ = writeln!(
+                notes,
+                "sparkplug: {passed} lines of what was kept say nothing"
+            );
+        }
+        if is_torn {
+            let _ = writeln!(
+                notes,
+                "sparkplug: the last line of what was kept is torn, and passed over"
+            );
+        }
         EdgeProgram {
             desk: Desk {
                 alloc,
                 app,
                 names,
                 disk,
+                journal,
                 out,
                 notes,
                 counts: Counts {
@@ -306,16 +368,24 @@ impl<D: Disk, O: Write + Drop, N: Write + Drop> EdgeProgram<D, O, N> {
         self.desk.app.node().kept()
     }
 
-    /// What was told.
-    #[cfg(test)]
-    pub(crate) fn notes(&self) -> &N {
+    /// What it prints on.
+    pub fn out(&self) -> &O {
+        &self.desk.out
+    }
+
+    /// What it tells its notes to.
+    pub fn notes(&self) -> &N {
         &self.desk.notes
     }
 
-    /// Its disk.
-    #[cfg(test)]
-    pub(crate) fn disk(&self) -> &D {
+    /// Where its record is kept.
+    pub fn disk(&self) -> &D {
         &self.desk.disk
+    }
+
+    /// Where values and kept changes survive, if they do.
+    pub fn kept_disk(&self) -> Option<&D> {
+        self.desk.journal.as_ref().map(|journal| journal.disk())
     }
 
     /// Whether the record of the start is ahead of the clock, as far as it reserved.
@@ -332,9 +402,13 @@ impl<D: Disk, O: Write + Drop, N: Write + Drop> EdgeProgram<D, O, N> {
             }
         } else if now >= until && !self.desk.is_born() {
             let kept = self.desk.app.node().kept();
+            let what = match self.desk.journal {
+                Some(_) => "stay kept",
+                None => "are lost",
+            };
             let _ = writeln!(
                 self.desk.notes,
-                "sparkplug: the input is over, and no session came within 30 seconds: {kept} changes are lost"
+                "sparkplug: the input is over, and no session came within 30 seconds: {kept} changes {what}"
             );
             let _ = self.desk.app.stop(now);
             self.input = Input::Done;
@@ -356,6 +430,7 @@ impl<D: Disk, O: Write + Drop, N: Write + Drop> EdgeProgram<D, O, N> {
     pub fn finish(&mut self, ended: Result<(), NetworkFault>) -> u8 {
         self.desk.print();
         self.desk.settle();
+        self.desk.close_journal();
         self.desk.report();
         match ended {
             Err(fault) => told(&mut self.desk.out, ProgramFault::from(fault)),
@@ -384,6 +459,8 @@ impl<D: Disk, O: Write + Drop, N: Write + Drop> App for EdgeProgram<D, O, N> {
         if self.desk.app.wanted().is_some() {
             until = until.min(self.desk.rested);
         }
+        let tried = self.desk.journal.as_ref().and_then(|journal| journal.due());
+        until = until.min(tried.unwrap_or(u64::MAX));
         if let Input::Over(last) = self.input {
             if !self.desk.is_born() {
                 until = until.min(last);
@@ -438,6 +515,7 @@ impl<D: Disk, O: Write + Drop, N: Write + Drop> App for EdgeProgram<D, O, N> {
             self.end(until, now);
         }
         self.desk.keep(now);
+        self.desk.keep_lines(now);
         self.desk.print();
         self.tell(now);
     }
@@ -448,6 +526,7 @@ impl<D: Disk, O: Write + Drop, N: Write + Drop> App for EdgeProgram<D, O, N> {
 
     fn wrote(&mut self, count: usize, now: u64) {
         self.desk.app.wrote(count, now);
+        self.desk.mark();
     }
 
     fn is_closing(&self) -> bool {

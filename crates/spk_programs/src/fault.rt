@@ -22,10 +22,10 @@ pub enum ProgramFault {
     /// The file of the record isn't a record.
     #[error("BadRecord")]
     BadRecord = 110,
-    /// Another process has the record.
+    /// Another process has the record, or the file of what is kept.
     #[error("BusyRecord")]
     BusyRecord = 130,
-    /// The record can't be read, or its folder can't be written.
+    /// The record, or the file of what is kept, can't be read, or its folder can't be written.
     #[error("NoRecord")]
     NoRecord = 131,
 }

@@ -46,6 +46,10 @@ pub struct HostProgram<O: Write + Drop, N: Write + Drop> {
     counts: Counts,
     /// How many messages are still to be consumed before it ends; None where it doesn't.
     left: Option<u64>,
+    /// For how long nothing of a node may be consumed before its values are told to be stale, in milliseconds; None where for ever.
+    silence: Option<u64>,
+    /// When it is looked next who is silent.
+    look: u64,
     /// There is a connection.
     open: bool,
     /// No session began with it: it is to be closed.
@@ -70,11 +74,13 @@ fn cause_of(subject: &Subject) -> Option<Cause> {
 }
 
 impl<O: Write + Drop, N: Write + Drop> HostProgram<O, N> {
-    /// A program that ends once so many messages were consumed, or never.
+    /// A program that ends once so many messages were consumed, or never, and tells a node's values to be stale once nothing of it was consumed for so many
+    /// milliseconds, or not.
     pub fn new(
         alloc: Global,
         app: HostApp,
         count: Option<u64>,
+        silence: Option<u64>,
         out: O,
         notes: N,
     ) -> HostProgram<O, N> {
@@ -92,6 +98,8 @@ impl<O: Write + Drop, N: Write + Drop> HostProgram<O, N> {
                 connections: 0,
             },
             left: count,
+            silence,
+            look: 0,
             open: false,
             shut: false,
             last: 0,
@@ -99,6 +107,16 @@ impl<O: Write + Drop, N: Write + Drop> HostProgram<O, N> {
             done: false,
             failed: false,
         }
+    }
+
+    /// What it prints on.
+    pub fn out(&self) -> &O {
+        &self.out
+    }
+
+    /// What it tells its notes to.
+    pub fn notes(&self) -> &N {
+        &self.notes
     }
 
     /// It ends, with a farewell where there is a session.
@@ -133,7 +151,7 @@ impl<O: Write + Drop, N: Write + Drop> HostProgram<O, N> {
             return Ok(());
         };
         let (group, node) = (entry.group(), entry.node());
-        let stand = stand_of(view.is_online(), view.is_stale());
+        let stand = known.told(stand_of(view.is_online(), view.is_stale()));
         if stand != known.stand {
             known.stand = stand;
             write_stand(
@@ -148,7 +166,7 @@ impl<O: Write + Drop, N: Write + Drop> HostProgram<O, N> {
             )?;
         }
         for (index, device) in view.devices().iter().enumerate() {
-            let stand = stand_of(device.is_online(), device.is_stale());
+            let stand = known.told(stand_of(device.is_online(), device.is_stale()));
             if known.devices.len() <= index {
                 known.devices.push(Stand::Unborn)?;
             }
@@ -195,9 +213,15 @@ impl<O: Write + Drop, N: Write + Drop> HostProgram<O, N> {
         };
         write_message(self.alloc, &mut self.out, message, births)?;
         self.counts.consumed = self.counts.consumed.saturating_add(1);
+        let was_silent = self
+            .nodes
+            .at_mut(place)
+            .is_some_and(|known| known.hear(now));
         if let Some(cause) = cause_of(&message.subject) {
             self.nodes.learn(place, message)?;
             self.tell_changes(place, cause, now)?;
+        } else if was_silent {
+            self.tell_changes(place, Cause::Message, now)?;
         }
         if let Some(left) = &mut self.left {
             *left = left.saturating_sub(1);
@@ -325,6 +349,33 @@ impl<O: Write + Drop, N: Write + Drop> HostProgram<O, N> {
         self.last = now;
     }
 
+    /// Tells which nodes are silent from now on.
+    fn tell_silence(&mut self, patience: u64, now: u64) -> io::Result<()> {
+        for place in 0..self.nodes.count() {
+            let falls = self
+                .nodes
+                .at_mut(place)
+                .is_some_and(|known| known.falls_silent(patience, now));
+            if falls {
+                self.tell_changes(place, Cause::Silence, now)?;
+            }
+        }
+        Ok(())
+    }
+
+    /// Looks who is silent, now and then.
+    fn look(&mut self, now: u64) {
+        let Some(patience) = self.silence else {
+            return;
+        };
+        if now < self.look || self.failed {
+            return;
+        }
+        self.look = now.saturating_add(TICK);
+        let written = self.tell_silence(patience, now);
+        self.check(written, now);
+    }
+
     /// Tells how far it is.
     fn report(&mut self) {
         let Counts {
@@ -424,6 +475,7 @@ impl<O: Write + Drop, N: Write + Drop> App for HostProgram<O, N> {
             self.fault(fault);
         }
         self.print_all(now);
+        self.look(now);
         self.tell_progress(now);
         self.flush(now);
     }

@@ -5,6 +5,7 @@ use spk_reading::{Numbered, Subject};
 use spk_view::{NodeView, Ready, Watch};
 use std::alloc::{AllocError, Global};
 use std::collections::BTreeMap;
+use std::mem;
 
 /// How a node or a device stands.
 #[derive(Clone, Copy, Debug, PartialEq, Eq)]
@@ -13,7 +14,7 @@ pub(crate) enum Stand {
     Unborn,
     /// Its values are current.
     Current,
-    /// A message was lost: its values aren't current until the next birth.
+    /// A message was lost: its values aren't current until the next birth. Or nothing came for too long: until the next message.
     Stale,
     /// It is over, or the host's session is: its values aren't current.
     Offline,
@@ -37,6 +38,10 @@ pub(crate) struct Known {
     pub(crate) stand: Stand,
     /// How its devices were told to, in the order in which the host shows them.
     pub(crate) devices: Vec<Stand>,
+    /// When the last message of it was consumed.
+    heard: u64,
+    /// Nothing of it was consumed for too long since.
+    silent: bool,
 }
 
 /// The nodes, in the order in which the host first heard them.
@@ -79,6 +84,30 @@ impl Known {
             names: Watch::new(alloc),
             stand: Stand::Unborn,
             devices: Vec::new(alloc),
+            heard: 0,
+            silent: false,
+        }
+    }
+
+    /// A message of it was consumed. Whether it had been silent.
+    pub(crate) fn hear(&mut self, now: u64) -> bool {
+        self.heard = now;
+        mem::replace(&mut self.silent, false)
+    }
+
+    /// Whether it is silent from now on: its values were current, and nothing of it was consumed for so many milliseconds.
+    pub(crate) fn falls_silent(&mut self, patience: u64, now: u64) -> bool {
+        let falls = self.stand == Stand::Current && now >= self.heard.saturating_add(patience);
+        self.silent = self.silent || falls;
+        falls
+    }
+
+    /// How it, or a device of it, that stands so is told to stand: where it is silent, no value is current.
+    pub(crate) fn told(&self, stand: Stand) -> Stand {
+        if self.silent && stand == Stand::Current {
+            Stand::Stale
+        } else {
+            stand
         }
     }
 
@@ -127,6 +156,11 @@ impl Nodes {
     ) -> Result<Option<usize>, AllocError> {
         self.write_key(group, node)?;
         Ok(self.places.get(self.key.as_str()).copied())
+    }
+
+    /// How many there are.
+    pub(crate) fn count(&self) -> usize {
+        self.nodes.len()
     }
 
     /// The node at a place.

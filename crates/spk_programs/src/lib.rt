@@ -6,6 +6,7 @@ mod disk;
 mod edge;
 mod fault;
 mod host;
+mod journal;
 mod known;
 mod lines;
 mod notes;
@@ -17,6 +18,8 @@ mod tests;
 mod texts;
 
 pub use disk::{Disk, Disks, Opened};
+pub use edge::EdgeProgram;
 pub use fault::ProgramFault;
+pub use host::HostProgram;
 pub use plans::{EdgePlan, HostPlan, Words};
-pub use running::{run_edge, run_host};
+pub use running::{Begun, begin_edge, host_app, run_edge, run_host};

@@ -23,6 +23,8 @@ pub struct EdgePlan {
     pub brokers: Vec<String>,
     pub login: Option<Words>,
     pub record: String,
+    /// The name of the file in which values and kept changes survive, and the same registry once more, where there is such a file.
+    pub kept: Option<(String, Registry)>,
 }
 
 impl fmt::Debug for EdgePlan {
@@ -31,14 +33,15 @@ impl fmt::Debug for EdgePlan {
     }
 }
 
-/// What `host` is to run: a host application, the brokers that it may be connected with, each HOST:PORT, and after how many consumed messages it ends, if
-/// it does.
+/// What `host` is to run: a host application, the brokers that it may be connected with, each HOST:PORT, after how many consumed messages it ends, if
+/// it does, and for how many milliseconds nothing of a node may be consumed before its values are told to be stale, if that is to be told.
 #[derive(Drop)]
 pub struct HostPlan {
     pub config: HostConfig,
     pub brokers: Vec<String>,
     pub login: Option<Words>,
     pub count: Option<u64>,
+    pub silence: Option<u64>,
 }
 
 impl fmt::Debug for HostPlan {

@@ -20,6 +20,10 @@ pub(crate) enum Cause {
     Death,
     /// The host's own session is over.
     Session,
+    /// Nothing came for too long (own rule).
+    Silence,
+    /// Something came behind a silence.
+    Message,
 }
 
 impl fmt::Display for Cause {
@@ -29,6 +33,8 @@ impl fmt::Display for Cause {
             Cause::Gap => "gap",
             Cause::Death => "death",
             Cause::Session => "session",
+            Cause::Silence => "silence",
+            Cause::Message => "message",
         })
     }
 }

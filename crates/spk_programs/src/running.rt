@@ -1,9 +1,10 @@
 //! The programs' runs.
 
-use crate::disk::{Disk, Disks, Opened};
+use crate::disk::{self, Disk, Disks};
 use crate::edge::EdgeProgram;
 use crate::fault::{ProgramFault, told};
 use crate::host::HostProgram;
+use crate::journal::{Journal, Replay};
 use crate::plans::{EdgePlan, HostPlan, Words};
 use spk_connection::Connection;
 use spk_device::Registry;
@@ -16,6 +17,7 @@ use spk_network::run_app;
 use spk_record::{Record, RecordFault};
 use std::alloc::Global;
 use std::io::{self, BufWriter, Read, Write};
+use std::mem;
 use std::net::Net;
 use std::sync::Wait;
 use std::time::Clock;
@@ -39,9 +41,9 @@ fn start_of<D: Disk>(alloc: Global, disk: &mut D) -> Result<Option<Record>, Prog
 /// The disk of a record.
 fn disk_of<K: Disks>(disks: &mut K, name: &str) -> Result<K::Disk, ProgramFault> {
     match disks.open(name) {
-        Opened::Open(disk) => Ok(disk),
-        Opened::Busy => Err(ProgramFault::BusyRecord),
-        Opened::Failed => Err(ProgramFault::NoRecord),
+        disk::Opened::Open(disk) => Ok(disk),
+        disk::Opened::Busy => Err(ProgramFault::BusyRecord),
+        disk::Opened::Failed => Err(ProgramFault::NoRecord),
     }
 }
 
@@ -74,49 +76,127 @@ pub(crate) fn edge_app(
     }
 }
 
-/// What a run begins with.
+/// What a run of `edge` begins with.
 #[derive(Drop)]
-struct Begun<D: Disk> {
-    app: EdgeApp,
-    names: Registry,
+pub struct Begun<D: Disk> {
+    pub(crate) app: EdgeApp,
+    pub(crate) names: Registry,
     /// No connection is tried before this moment, where it is close.
-    begin: u64,
-    disk: D,
-    brokers: Vec<String>,
+    pub(crate) begin: u64,
+    pub(crate) disk: D,
+    pub(crate) journal: Option<Journal<D>>,
+    /// How many lines of what was kept say nothing, and whether its last one was torn.
+    pub(crate) passed: u64,
+    pub(crate) is_torn: bool,
 }
 
-/// What a plan's run begins with.
-fn prepared<K: Disks>(
+/// What was kept in a file, if there is one: its values are set.
+fn journal_of<K: Disks>(
+    alloc: Global,
+    disks: &mut K,
+    kept: Option<(String, Registry)>,
+    names: &Registry,
+    registry: &mut Registry,
+    capacity: usize,
+) -> Result<Option<(Journal<K::Disk>, Replay)>, ProgramFault> {
+    let Some((name, base)) = kept else {
+        return Ok(None);
+    };
+    let disk = disk_of(disks, name.as_str())?;
+    Ok(Some(Journal::open(alloc, disk, names, registry, base, capacity)?))
+}
+
+/// The files of a run, and what they say.
+#[derive(Drop)]
+struct RunFiles<D: Disk> {
+    disk: D,
+    start: Option<Record>,
+    kept: Option<(Journal<D>, Replay)>,
+}
+
+/// The files of a run: the record is read, and the values that were kept are set.
+fn read_files<K: Disks>(
+    alloc: Global,
+    disks: &mut K,
+    record: &str,
+    kept: Option<(String, Registry)>,
+    names: &Registry,
+    registry: &mut Registry,
+    capacity: usize,
+) -> Result<RunFiles<K::Disk>, ProgramFault> {
+    let kept = journal_of(alloc, disks, kept, names, registry, capacity)?;
+    let mut disk = disk_of(disks, record)?;
+    let start = start_of(alloc, &mut disk)?;
+    Ok(RunFiles { disk, start, kept })
+}
+
+/// The changes that were kept are told once more.
+fn told_again<D: Disk>(
+    files: RunFiles<D>,
+    mut app: EdgeApp,
+    names: Registry,
+) -> Result<Begun<D>, ProgramFault> {
+    let RunFiles { disk, start, kept } = files;
+    let begin = start.map_or(0, |record| record.stamp);
+    let mut passed = 0;
+    let mut is_torn = false;
+    let mut journal = None;
+    if let Some((mut file, replay)) = kept {
+        passed = replay.passed;
+        is_torn = replay.is_torn;
+        file.tell_again(&mut app, replay)?;
+        journal = Some(file);
+    }
+    Ok(Begun {
+        app,
+        names,
+        begin,
+        disk,
+        journal,
+        passed,
+        is_torn,
+    })
+}
+
+/// What a plan's run begins with, but for its brokers: the record is read, and what was kept is told once more. Refused with NoMemory (1), and with BadConfig
+/// (63), BadRecord (110), BusyRecord (130) and NoRecord (131), where a file can't be had or isn't one.
+pub fn begin_edge<K: Disks>(
     alloc: Global,
     plan: EdgePlan,
     disks: &mut K,
 ) -> Result<Begun<K::Disk>, ProgramFault> {
     let EdgePlan {
         config,
-        registry,
+        mut registry,
         names,
-        brokers,
+        brokers: _,
         login,
         record,
+        kept,
     } = plan;
-    let mut disk = disk_of(disks, record.as_str())?;
-    let start = start_of(alloc, &mut disk)?;
-    let app = edge_app(alloc, config, registry, login, start)?;
-    let begin = start.map(|record| record.stamp).unwrap_or(0);
-    Ok(Begun {
-        app,
-        names,
-        begin,
-        disk,
-        brokers,
-    })
+    let capacity = config.capacity;
+    match read_files(
+        alloc,
+        disks,
+        record.as_str(),
+        kept,
+        &names,
+        &mut registry,
+        capacity,
+    ) {
+        Ok(files) => match edge_app(alloc, config, registry, login, files.start) {
+            Ok(app) => told_again(files, app, names),
+            Err(fault) => Err(fault),
+        },
+        Err(fault) => Err(fault),
+    }
 }
 
 /// Runs an edge node until standard input is over and all is said, and answers the status: 0, or 1 where a fault ended it, which is printed, where changes
 /// couldn't be said or a line couldn't be written. What goes over a socket, and what a disk keeps, no contract says.
 pub fn run_edge<R, I, K, O, N>(
     rt: &R,
-    plan: EdgePlan,
+    mut plan: EdgePlan,
     input: I,
     disks: &mut K,
     mut out: O,
@@ -130,17 +210,10 @@ where
     N: Write + Drop,
 {
     let alloc = rt.alloc();
-    match prepared(alloc, plan, disks) {
-        Ok(
-            Begun {
-                app,
-                names,
-                begin,
-                disk,
-                brokers,
-            },
-        ) => {
-            let mut program = EdgeProgram::new(alloc, app, names, begin, disk, out, notes);
+    let brokers = mem::replace(&mut plan.brokers, Vec::new(alloc));
+    match begin_edge(alloc, plan, disks) {
+        Ok(begun) => {
+            let mut program = EdgeProgram::new(alloc, begun, out, notes);
             let ended = run_app(rt, alloc, brokers.as_slice(), input, true, &mut program);
             program.finish(ended)
         }
@@ -167,8 +240,8 @@ fn spread(name: &str) -> u8 {
     sum
 }
 
-/// A host's core.
-pub(crate) fn host_app(
+/// A host's core. Refused with BadConfig where the host's names are none.
+pub fn host_app(
     alloc: Global,
     config: HostConfig,
     login: Option<Words>,
@@ -198,6 +271,7 @@ where
         brokers,
         login,
         count,
+        silence,
     } = plan;
     let app = match host_app(alloc, config, login) {
         Ok(app) => app,
@@ -206,7 +280,7 @@ where
     let Ok(buffered) = BufWriter::new(alloc, out) else {
         return 1;
     };
-    let mut program = HostProgram::new(alloc, app, count, buffered, notes);
+    let mut program = HostProgram::new(alloc, app, count, silence, buffered, notes);
     let ended = run_app(rt, alloc, brokers.as_slice(), Nothing, false, &mut program);
     program.finish(ended)
 }

@@ -1,7 +1,7 @@
 use crate::disk::Disk;
 use crate::edge::EdgeProgram;
 use crate::lines::{Lines, Listener};
-use crate::running::edge_app;
+use crate::running::{Begun, edge_app};
 use spk_files::edge_of;
 use spk_link::Due;
 use spk_network::App;
@@ -32,6 +32,10 @@ impl Disk for Slow {
         self.kept = self.kept.saturating_add(1);
         true
     }
+
+    fn append(&mut self, _bytes: &[u8]) -> bool {
+        false
+    }
 }
 
 /// A writer that counts lines.
@@ -60,15 +64,22 @@ const NODE: &str =
 fn program(alloc: Global, fails: u32) -> Option<EdgeProgram<Slow, Counted, Counted>> {
     let (config, registry) = edge_of(alloc, NODE, 30).ok()?;
     let (_again, names) = edge_of(alloc, NODE, 30).ok()?;
-    let app = edge_app(alloc, config, registry, None, None).ok()?;
-    let disk = Slow {
-        fails,
-        tries: 0,
-        kept: 0,
+    let begun = Begun {
+        app: edge_app(alloc, config, registry, None, None).ok()?,
+        names,
+        begin: 0,
+        disk: Slow {
+            fails,
+            tries: 0,
+            kept: 0,
+        },
+        journal: None,
+        passed: 0,
+        is_torn: false,
     };
     let out = Counted { lines: 0 };
     let notes = Counted { lines: 0 };
-    Some(EdgeProgram::new(alloc, app, names, 0, disk, out, notes))
+    Some(EdgeProgram::new(alloc, begun, out, notes))
 }
 
 #[test]
