@@ -1,17 +1,17 @@
 //! The file in which an edge node's values, its devices and its kept changes survive a crash (own rules).
 //!
 //! A line is `MOMENT TEXT`: a line of standard input as it came, and when. The line `said` says that nothing of what stands above it is kept any more: it
-//! only sets values. A last line without an end is torn, and says nothing.
+//! only sets values. A last line without an end is torn, and says nothing. Which lines wait, and what is to be written of them, is `spk_journal`'s.
 
 use crate::disk::Disk;
 use crate::fault::ProgramFault;
+use crate::replay::{Again, Replay, replay_of, set};
 use crate::texts::{json_text, owner_text, value_text};
 use spk_device::{Owner, Registry};
 use spk_edge_app::{EdgeApp, EdgeAppFault};
-use spk_files::{Misfit, Said, line_of};
+use spk_files::Said;
 use std::alloc::{AllocError, Global};
 use std::collections::VecDeque;
-use std::str;
 
 /// How many bytes more than twice what it had when it was made anew it has before it is made anew (own rule).
 const LARGE: usize = 4_194_304;
@@ -22,27 +22,12 @@ const MOST_LINES: usize = 65_536;
 /// How long it isn't tried to be written after that failed, in milliseconds (own rule).
 const REST: u64 = 1_000;
 
-/// The line behind which nothing above is kept.
-const SAID: &[u8; 5] = b"said\n";
-
-/// The first moment that is none.
-const END: u64 = 9_223_372_036_854_775_808;
-
-/// A line of which some may still be kept.
+/// What a line says of which some may still be kept.
 #[derive(Drop)]
 struct Entry {
-    text: String,
     said: Vec<Said>,
     /// How many changes of it were kept.
     kept: u64,
-}
-
-/// A line that the file had, to be told once more.
-#[derive(Drop)]
-struct Again {
-    moment: u64,
-    text: String,
-    said: Vec<Said>,
 }
 
 /// The file, and what stands in it.
@@ -52,30 +37,19 @@ pub(crate) struct Journal<D: Disk> {
     disk: D,
     /// The values and the devices before the lines that wait.
     base: Registry,
+    /// The lines that wait, and what is to be written.
+    lines: spk_journal::Journal,
+    /// What these lines say, one for each.
     entries: VecDeque<Entry>,
     /// How many changes of these were kept.
     kept: u64,
     /// How many changes the node keeps at the most.
     capacity: u64,
-    /// What isn't on the disk yet.
-    unwritten: Vec<u8>,
     /// How many bytes the file has, and had when it was made anew.
     size: usize,
     least: usize,
-    /// It is to be made anew.
-    is_broken: bool,
     /// It isn't tried to be written before this moment.
     rested: u64,
-}
-
-/// What a file said at the start.
-#[derive(Drop)]
-pub(crate) struct Replay {
-    lines: Vec<Again>,
-    /// How many lines say nothing, and were passed over.
-    pub(crate) passed: u64,
-    /// Its last line was torn.
-    pub(crate) is_torn: bool,
 }
 
 /// Tells a node what a line says.
@@ -89,112 +63,6 @@ pub(crate) fn tell(app: &mut EdgeApp, said: &Said, now: u64) -> Result<(), EdgeA
 /// How many changes a node kept so far, but for those that it sent.
 pub(crate) fn kept_in(app: &EdgeApp) -> u64 {
     (app.node().kept() as u64).saturating_add(app.node().lost())
-}
-
-/// Sets what a line says.
-fn set(registry: &mut Registry, said: Said) {
-    let _ = match said {
-        Said::Value { alias, value } => registry.set(alias, value),
-        Said::Device { name, up } => {
-            if up {
-                registry.device_up(name.as_str())
-            } else {
-                registry.device_down(name.as_str())
-            }
-        }
-    };
-}
-
-/// What a line of the file says, and of when. None where it says nothing.
-fn line_in(alloc: Global, names: &Registry, line: &[u8]) -> Result<Option<Again>, ProgramFault> {
-    let Some((moment, text)) = str::from_utf8(line)
-        .ok()
-        .and_then(|text| text.split_once(' '))
-    else {
-        return Ok(None);
-    };
-    let moment = moment.parse::<u64>().unwrap_or(END);
-    if moment >= END {
-        return Ok(None);
-    }
-    match line_of(alloc, names, text) {
-        Ok(said) => Ok(Some(Again {
-            moment,
-            text: String::from_str(alloc, text)?,
-            said,
-        })),
-        Err(Misfit::NoMemory) => Err(ProgramFault::NoMemory),
-        Err(_) => Ok(None),
-    }
-}
-
-/// The lines of a file that end.
-fn lines_in(alloc: Global, bytes: &[u8]) -> Result<(Vec<&[u8]>, bool), AllocError> {
-    let mut lines = Vec::new(alloc);
-    let mut is_torn = false;
-    for part in bytes.split_inclusive(|byte| *byte == b'\n') {
-        match part.strip_suffix(b"\n") {
-            Some(line) => lines.push(line)?,
-            None => is_torn = true,
-        }
-    }
-    Ok((lines, is_torn))
-}
-
-/// Whether a line says that nothing above is kept.
-fn is_mark(line: &[u8]) -> bool {
-    line == b"said".as_slice()
-}
-
-/// Reads what a file says: what only sets values is set in both registries.
-fn replay_of(
-    alloc: Global,
-    bytes: &[u8],
-    names: &Registry,
-    registry: &mut Registry,
-    base: &mut Registry,
-) -> Result<Replay, ProgramFault> {
-    let (lines, is_torn) = lines_in(alloc, bytes)?;
-    let marks = lines.iter().filter(|line| is_mark(line)).count();
-    let mut replay = Replay {
-        lines: Vec::new(alloc),
-        passed: 0,
-        is_torn,
-    };
-    let mut passed_marks = 0usize;
-    for line in &lines {
-        if is_mark(line) {
-            passed_marks = passed_marks.saturating_add(1);
-            continue;
-        }
-        let Some(again) = line_in(alloc, names, line)? else {
-            replay.passed = replay.passed.saturating_add(1);
-            continue;
-        };
-        if passed_marks == marks {
-            replay.lines.push(again)?;
-            continue;
-        }
-        for said in line_of_again(alloc, names, &again)? {
-            set(registry, said);
-        }
-        for said in again.said {
-            set(base, said);
-        }
-    }
-    Ok(replay)
-}
-
-/// The same once more.
-fn line_of_again(
-    alloc: Global,
-    names: &Registry,
-    again: &Again,
-) -> Result<Vec<Said>, ProgramFault> {
-    match line_of(alloc, names, again.text.as_str()) {
-        Ok(said) => Ok(said),
-        Err(_) => Err(ProgramFault::NoMemory),
-    }
 }
 
 impl<D: Disk> Journal<D> {
@@ -216,13 +84,12 @@ impl<D: Disk> Journal<D> {
             alloc,
             disk,
             base,
+            lines: spk_journal::Journal::new(alloc),
             entries: VecDeque::new(alloc),
             kept: 0,
             capacity: capacity as u64,
-            unwritten: Vec::new(alloc),
             size: 0,
             least: 0,
-            is_broken: true,
             rested: 0,
         };
         Ok((journal, replay))
@@ -246,13 +113,14 @@ impl<D: Disk> Journal<D> {
                 let _ = tell(app, one, moment);
             }
             let kept = kept_in(app).saturating_sub(before);
-            let text = format!(in self.alloc; "{moment} {text}\n")?;
-            self.enter(text, said, kept)?;
+            if !self.note(moment, text.as_str(), said, kept) {
+                return Err(AllocError);
+            }
         }
         Ok(())
     }
 
-    /// The first line that waits only sets values from now on.
+    /// What the first line that waits says is set.
     fn settle_first(&mut self) {
         let Some(entry) = self.entries.pop_front() else {
             return;
@@ -272,43 +140,34 @@ impl<D: Disk> Journal<D> {
                 break;
             }
             self.settle_first();
+            let _ = self.lines.pass();
         }
-    }
-
-    /// One more line waits.
-    fn enter(&mut self, text: String, said: Vec<Said>, kept: u64) -> Result<(), AllocError> {
-        self.entries.push_back(Entry { text, said, kept })?;
-        self.kept = self.kept.saturating_add(kept);
-        self.trim();
-        Ok(())
     }
 
     /// A line was taken, so many of whose changes were kept. Whether it is noted: there may be no memory for it.
     pub(crate) fn note(&mut self, now: u64, text: &str, said: Vec<Said>, kept: u64) -> bool {
-        let Ok(line) = format!(in self.alloc; "{now} {text}\n") else {
+        let Ok(line) = format!(in self.alloc; "{now} {text}") else {
             return false;
         };
-        if !self.is_broken && self.unwritten.extend_from_slice(line.as_bytes()).is_err() {
-            self.is_broken = true;
+        if self.entries.reserve(1).is_err() || self.lines.note(line).is_err() {
+            return false;
         }
-        self.enter(line, said, kept).is_ok()
+        let _ = self.entries.push_back(Entry { said, kept });
+        self.kept = self.kept.saturating_add(kept);
+        self.trim();
+        true
     }
 
     /// All that was told is said, and was handed on.
     pub(crate) fn say(&mut self) {
-        if self.entries.is_empty() {
-            return;
-        }
         for _ in 0..self.entries.len() {
             self.settle_first();
         }
-        if !self.is_broken && self.unwritten.extend_from_slice(SAID).is_err() {
-            self.is_broken = true;
-        }
+        self.lines.say();
     }
 
-    /// The lines that say the values and devices before those that wait, and these.
-    fn whole(&self) -> Result<Vec<u8>, AllocError> {
+    /// The lines that say the values and devices before those that wait.
+    fn values(&self) -> Result<Vec<u8>, AllocError> {
         let alloc = self.alloc;
         let mut bytes = Vec::new(alloc);
         write_values(alloc, &self.base, Owner::Node, &mut bytes)?;
@@ -320,11 +179,13 @@ impl<D: Disk> Journal<D> {
                 bytes.extend_from_slice(line.as_bytes())?;
             }
         }
-        bytes.extend_from_slice(SAID)?;
-        for entry in &self.entries {
-            bytes.extend_from_slice(entry.text.as_bytes())?;
-        }
         Ok(bytes)
+    }
+
+    /// What the file says where it is made anew.
+    fn whole(&self) -> Result<Vec<u8>, AllocError> {
+        let values = self.values()?;
+        self.lines.made_anew(values.as_slice())
     }
 
     /// Makes the file anew.
@@ -335,18 +196,20 @@ impl<D: Disk> Journal<D> {
         if !self.disk.keep(bytes.as_slice()) {
             return false;
         }
+        self.lines.renewed();
         self.size = bytes.len();
         self.least = bytes.len();
-        self.is_broken = false;
         true
     }
 
     /// Writes behind what is there.
     fn append(&mut self) -> bool {
-        let count = self.unwritten.len();
-        if !self.disk.append(self.unwritten.as_slice()) {
+        let bytes = self.lines.unwritten();
+        let count = bytes.len();
+        if !self.disk.append(bytes) {
             return false;
         }
+        self.lines.appended();
         self.size = self.size.saturating_add(count);
         true
     }
@@ -358,21 +221,17 @@ impl<D: Disk> Journal<D> {
 
     /// Writes what isn't on the disk yet, unless that failed of late. Whether nothing fails.
     pub(crate) fn keep(&mut self, now: u64) -> bool {
-        if self.unwritten.is_empty() && !self.is_broken {
+        let is_broken = self.lines.is_broken();
+        if self.lines.unwritten().is_empty() && !is_broken || now < self.rested {
             return true;
         }
-        if now < self.rested {
-            self.unwritten.clear();
-            return true;
-        }
-        let is_kept = if self.is_broken || self.is_large() {
+        let is_kept = if is_broken || self.is_large() {
             self.renew()
         } else {
             self.append()
         };
-        self.unwritten.clear();
         if !is_kept {
-            self.is_broken = true;
+            self.lines.failed();
             self.rested = now.saturating_add(REST);
         }
         is_kept
@@ -380,7 +239,7 @@ impl<D: Disk> Journal<D> {
 
     /// When it is tried again, where it failed.
     pub(crate) fn due(&self) -> Option<u64> {
-        if self.is_broken {
+        if self.lines.is_broken() {
             Some(self.rested)
         } else {
             None

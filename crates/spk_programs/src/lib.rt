@@ -12,6 +12,7 @@ mod lines;
 mod notes;
 mod plans;
 mod printing;
+mod replay;
 mod running;
 #[cfg(test)]
 mod tests;

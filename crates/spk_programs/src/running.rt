@@ -4,7 +4,7 @@ use crate::disk::{self, Disk, Disks};
 use crate::edge::EdgeProgram;
 use crate::fault::{ProgramFault, told};
 use crate::host::HostProgram;
-use crate::journal::{Journal, Replay};
+use crate::journal::Journal;
 use crate::plans::{EdgePlan, HostPlan, Words};
 use spk_connection::Connection;
 use spk_device::Registry;

@@ -1,0 +1,18 @@
+use Rattle.std.proofs.Common.{sym, ap, ◌∙◌}
+use Rattle.std.specs.Float.{binary32}
+use lib.Ieee.{to_bits}
+use Rattle.spk_floats.specs.Text.{word_bits}
+use Rattle.spk_floats.proofs.Words.{nan_is, plus_is, minus_is}
+use Rattle.spk_floats.proofs.float.word_in.Goals as goal
+
+pub returns-in-NaN : goal.returns-in-NaN
+unfolding to_bits
+returns-in-NaN c = sym (ap (word_bits binary32) c.in-NaN.is ∙ nan_is binary32)
+
+pub returns-in-Infinity : goal.returns-in-Infinity
+unfolding to_bits
+returns-in-Infinity c = sym (ap (word_bits binary32) c.in-Infinity.is ∙ plus_is binary32)
+
+pub returns-in-text : goal.returns-in-text
+unfolding to_bits
+returns-in-text c = sym (ap (word_bits binary32) c.in-text.is ∙ minus_is binary32)

@@ -1,0 +1,3 @@
+mod Noting
+mod Bytes
+mod Torn
