@@ -6,6 +6,7 @@ use crate::fault::{ProgramFault, told};
 use crate::host::HostProgram;
 use crate::journal::Journal;
 use crate::plans::{EdgePlan, HostPlan, Words};
+use crate::replay::Replay;
 use spk_connection::Connection;
 use spk_device::Registry;
 use spk_edge::{EdgeConfig, EdgeFault, EdgeNode, Record as Start};
