@@ -1,0 +1,7 @@
+mod Seats
+mod Each
+mod Topics
+mod Totals
+mod Clients
+mod Joining
+mod Plans

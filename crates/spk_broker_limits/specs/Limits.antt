@@ -1,0 +1,34 @@
+-- What a session holds at most (own rules; MQTT 3.1.1, 2.3.1 and 4.4).
+use Rattle.std.specs.Prelude.{◌≡◌, ◌≢◌, ℕ, ◌≤◌, true, false, List, [], ◌∷◌, map, length}
+use Rattle.std.specs.List.{AllByRecursion, filter}
+use Rattle.spk_packets.specs.Spelling.{is_empty}
+use Rattle.spk_broker_rules.specs.Data.{Copy, Seat, Stored}
+use Rattle.spk_broker_rules.specs.Table.{Table, has}
+
+-- at most 1,024 packet identifiers are in use
+abbrev pub IsWithin : Seat → Type 0
+IsWithin s = length s.used ≤ 1024
+
+-- The identifiers in use are those of the messages that a kept session hasn't acknowledged, in their order; one that isn't kept keeps no message.
+pub record KeepsItsCopies (s : Seat) : Type 0 where
+  pub kept : s.kept ≡ true → map (λ (c : Copy). c.id) s.copies ≡ s.used
+  pub clean : s.kept ≡ false → s.copies ≡ []
+
+-- no topic stands twice
+abbrev pub AreApart : Table Stored → Type 0
+AreApart [] = Unit {0}
+AreApart (e ∷ es) = (has e.0 es ≡ false) × AreApart es
+
+-- at most 10,000 topics have a retained message, each one
+pub record IsBounded (retained : Table Stored) : Type 0 where
+  pub few : length retained ≤ 10000
+  pub apart : AreApart retained
+
+-- no two sessions have one client id, but for the empty one
+abbrev pub Singles : List Seat → Type 0
+Singles [] = Unit {0}
+Singles (s ∷ ss) = (is_empty s.client ≡ false → AllByRecursion (λ (t : Seat). s.client ≢ t.client) ss) × Singles ss
+
+-- how many sessions are kept
+abbrev pub kept_count : List Seat → ℕ
+kept_count seats = length (filter (λ (s : Seat). s.kept) seats)
