@@ -5,3 +5,5 @@ mod Totals
 mod Clients
 mod Joining
 mod Plans
+mod Sends
+mod Whom

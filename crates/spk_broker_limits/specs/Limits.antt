@@ -2,7 +2,9 @@
 use Rattle.std.specs.Prelude.{◌≡◌, ◌≢◌, ℕ, ◌≤◌, true, false, List, [], ◌∷◌, map, length}
 use Rattle.std.specs.List.{AllByRecursion, filter}
 use Rattle.spk_packets.specs.Spelling.{is_empty}
-use Rattle.spk_broker_rules.specs.Data.{Copy, Seat, Stored}
+use Rattle.spk_broker_rules.specs.Data.{Broker, Copy, Seat, Stored}
+use Rattle.spk_broker_rules.specs.Plan.{Event, Open, Packet, Fault, Closed, Tick, Refused}
+use Rattle.spk_broker_rules.specs.Step.{knows}
 use Rattle.spk_broker_rules.specs.Table.{Table, has}
 
 -- at most 1,024 packet identifiers are in use
@@ -32,3 +34,12 @@ Singles (s ∷ ss) = (is_empty s.client ≡ false → AllByRecursion (λ (t : Se
 -- how many sessions are kept
 abbrev pub kept_count : List Seat → ℕ
 kept_count seats = length (filter (λ (s : Seat). s.kept) seats)
+
+-- an event of a connection that the broker knows, or of none
+abbrev pub IsOfKnown : Broker → Event → Type 0
+IsOfKnown b (Open moment) = Unit {0}
+IsOfKnown b (Packet conn packet moment) = knows b conn ≡ true
+IsOfKnown b (Fault conn fault moment) = knows b conn ≡ true
+IsOfKnown b (Closed conn moment) = knows b conn ≡ true
+IsOfKnown b (Tick moment) = Unit {0}
+IsOfKnown b (Refused conn sort moment) = knows b conn ≡ true

@@ -1,9 +1,10 @@
 //! Laws of the definitions alone: functions that do nothing, whose contracts speak of definitions.
-ghost use Rattle.std.specs.Prelude.{◌≤◌, ℕ, List};
+ghost use Rattle.std.specs.Prelude.{◌≡◌, ◌≤◌, ℕ, List, true};
 ghost use Rattle.std.specs.List.{AllByRecursion};
+ghost use Rattle.spk_broker_rules.specs.Data.{Broker, Send};
 ghost use Rattle.spk_broker_rules.specs.Plan.{Event};
-ghost use Rattle.spk_broker_rules.specs.Step.{after, all_grants};
-ghost use Rattle.spk_broker_limits.specs.Limits.{IsBounded, IsWithin, KeepsItsCopies, Singles, kept_count};
+ghost use Rattle.spk_broker_rules.specs.Step.{after, all_grants, knows, step};
+ghost use Rattle.spk_broker_limits.specs.Limits.{IsBounded, IsOfKnown, IsWithin, KeepsItsCopies, Singles, kept_count};
 
 use spk_broker_rules::laws;
 
@@ -34,3 +35,9 @@ pub fn clients()
 {
     laws::any_list();
 }
+
+/// Whatever an event sends and closes is of connections that the broker knew before it, where the event is of one that it knew, or of none.
+pub fn known()
+    ensures sends { (b : Broker) (e : Event) → IsOfKnown b e → AllByRecursion (λ (s : Send). knows b s.conn ≡ true) (step b e).sends }
+    ensures closes { (b : Broker) (e : Event) → IsOfKnown b e → AllByRecursion (λ conn. knows b conn ≡ true) (step b e).closes }
+{}
