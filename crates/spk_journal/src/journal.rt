@@ -1,6 +1,6 @@
 //! The journal.
 ghost use Rattle.std.specs.Prelude.{◌≡◌, ◌⊎◌, ◌++◌, ℕ, List, [], ◌∷◌, ◌==◌, true, false, length, IfOk, IfErr, IfSome, IfNone, OnOk, OnErr, string_bytes};
-ghost use Rattle.spk_journal.specs.File.{Says};
+ghost use Rattle.spk_journal.specs.File.{Says, mark};
 ghost use Rattle.spk_journal.specs.Journal.{AreGood, Stands, is_bad, made_anew};
 
 use crate::fault::JournalFault;
@@ -99,6 +99,8 @@ impl Journal {
     pub fn note(&mut self, line: String) -> Result<(), JournalFault>
         ensures noted { OnOk result (self.new.lines ≡ self.old.lines ++ string_bytes line ∷ []) }
         ensures stands { OnOk result ((file : List ℕ) → Stands file self.old → Stands file self.new) }
+        ensures written { OnOk result (self.new.is_broken ≡ false
+            → self.new.unwritten ≡ self.old.unwritten ++ (string_bytes line ++ 10 ∷ [])) }
         ensures bad { OnOk result (is_bad (string_bytes line) ≡ false) }
         ensures refused { IfErr result (λ e. (e ≡ JournalFault.NoMemory)
             ⊎ ((e ≡ JournalFault.BadLine) × (is_bad (string_bytes line) ≡ true))) }
@@ -119,6 +121,9 @@ impl Journal {
     pub fn say(&mut self)
         ensures none { self.new.lines ≡ [] }
         ensures stands { (file : List ℕ) → Stands file self.old → Stands file self.new }
+        // where one waited the mark is to be written, or the file to be made anew
+        ensures said { (length self.old.lines == 0) ≡ false → self.new.is_broken ≡ false
+            → self.new.unwritten ≡ self.old.unwritten ++ (mark ++ 10 ∷ []) }
     {
         if self.lines.is_empty() {
             return;
