@@ -1,0 +1,3 @@
+pub mod Split
+pub mod Marks
+pub mod Seen
