@@ -199,6 +199,7 @@ pub(crate) enum Act {
     Hand(u64, u64),
     Death(u64, u64),
     Tick(u64),
+    Drain(u64),
     /// What is no node's, and no host's.
     OpenOfNone(u64),
     TickOfNone(u64),
@@ -238,6 +239,7 @@ pub(crate) fn event(alloc: Global, act: Act) -> Option<Event> {
             now,
         },
         Act::Tick(now) => Event::Tick { host, now },
+        Act::Drain(now) => Event::Drain { node, now },
         Act::OpenOfNone(now) => Event::Open { node: 1, now },
         Act::TickOfNone(now) => Event::Tick { host: 1, now },
         Act::Session(now) => Event::Session { host, now },

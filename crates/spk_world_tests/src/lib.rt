@@ -12,4 +12,6 @@ mod refused;
 #[cfg(test)]
 mod twin;
 #[cfg(test)]
+mod views;
+#[cfg(test)]
 mod worlds;
