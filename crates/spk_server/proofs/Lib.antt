@@ -3,7 +3,9 @@ pub mod Ends
 pub mod Histories
 pub mod Lives
 pub mod Logs
+pub mod Looking
 pub mod Rooms
 pub mod Runs
 pub mod Taking
 pub mod Times
+pub mod Waiting

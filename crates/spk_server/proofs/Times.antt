@@ -1,5 +1,5 @@
 -- What time brings, and what calls of it leave, as deeds.
-use Rattle.std.proofs.Common.{◌≡◌, ℕ, ◌<◌, nat_le, ◌&&◌, Bool, true, false, List, [], ◌∷◌, ◌++◌, map, Option, Some, None, refl, sym, ◌∙◌, ap}
+use Rattle.std.proofs.Common.{◌≡◌, ℕ, ◌<◌, nat_le, ◌&&◌, Bool, true, false, List, [], ◌∷◌, ◌++◌, map, take, Option, Some, None, refl, sym, ◌∙◌, ap, subst}
 use Rattle.std.specs.Option.{option_map_or}
 use Rattle.spk_broker.specs.Sent.{outgoing}
 use Rattle.spk_broker.specs.declared.out.Out.{Out}
@@ -16,12 +16,13 @@ use Rattle.spk_server.specs.declared.server.Server.{Server}
 use Rattle.spk_server.specs.Answers.{Answers}
 use Rattle.spk_server.specs.Data.{Deed, Room, Slow, Silent}
 use Rattle.spk_server.specs.Data as deed
-use Rattle.spk_server.specs.Step.{behind, called, changed, freed_from, is_quiet, left, offer_of, slow_of, still_waits}
-use Rattle.spk_server.specs.Log.{HasClient, Reaches, calls, follows, goes_on, takes}
+use Rattle.spk_server.specs.Step.{after, behind, called, changed, freed_from, is_quiet, left, offer_of, slow_of, still_waits}
+use Rattle.spk_server.specs.Log.{HasClient, IsRun, LooksAt, Reaches, calls, follows, goes_on, takes}
 use Rattle.spk_server.specs.Rooms.{amid, closes_in, offers_in, offers_of, room_of}
 use Rattle.spk_server.proofs.Allowed.{follows_calls, takes_goes_on}
 use Rattle.spk_server.proofs.Rooms.{change_is, rested}
-use Rattle.spk_server.proofs.Runs.{at_end, at_start, begins, stays, wider}
+use Rattle.spk_server.proofs.Looking.{looked_none}
+use Rattle.spk_server.proofs.Runs.{at_end, at_start, begins, stays, widened, wider}
 
 pub ticked_is : (old : Server) (b : Broker) (out : Out) (before : Option Slow) → Answers old.broker b (event.Tick old.now) out
     → record (called None (event.Tick old.now) (amid old [] [] before)) { ticked = old.now } ≡ amid (record old { broker = b; ticked = old.now }) (offers_in None (Some out)) (closes_in (Some out)) before
@@ -78,17 +79,22 @@ due_is old conn is = due_at old conn _ refl is
 -- ---- those who wait
 
 pub waited_is : (old new : Server) (conn : ℕ) (rest : List ℕ) → IsSettled old.clients → old.held.items ≡ conn ∷ rest → still_waits old.now (client_at old.clients) conn ≡ true
-    → room_of new ≡ record (room_of old) { held = rest ++ conn ∷ [] } → Reaches goes_on (room_of old) (room_of new)
+    → room_of new ≡ record (room_of old) { held = rest ++ conn ∷ [] } → LooksAt (take 1 old.held.items) (room_of old) (room_of new)
 waited_is old new conn rest settled is waits same =
-    begins goes_on (deed.Waited conn) (room_of old) (room_of new) refl (rested old None settled, (rest, is), waits)
-    (at_end goes_on _ _ _ (stays goes_on _) (ap {A = List ℕ} {B = Room} (λ h. record (room_of old) { held = behind h ++ conn ∷ [] }) is ∙ sym same))
+    let one : LooksAt (conn ∷ []) (room_of old) (room_of new) =
+    (deed.Waited conn ∷ [], (refl, (rested old None settled, (rest, is), waits), ap {A = List ℕ} {B = Room} (λ h. record (room_of old) { held = behind h ++ conn ∷ [] }) is ∙ sym same), refl) in
+    subst (λ cs. LooksAt cs (room_of old) (room_of new)) (sym (ap {A = List ℕ} (λ h. take 1 h) is)) one
 
 pub freed_is : (old s : Server) (conn : ℕ) (rest : List ℕ) (new : Room) → IsSettled old.clients → old.held.items ≡ conn ∷ rest → still_waits old.now (client_at old.clients) conn ≡ false
     → room_of s ≡ record (room_of old) { held = rest }
-    → Reaches (takes conn) (changed (waiting_for None) conn (freed_from (slow_of (client_at s.clients) conn) conn (room_of s))) new → Reaches goes_on (room_of old) new
+    → Reaches (takes conn) (changed (waiting_for None) conn (freed_from (slow_of (client_at s.clients) conn) conn (room_of s))) new → LooksAt (take 1 old.held.items) (room_of old) new
 freed_is old s conn rest new settled is waits same t =
-    begins goes_on (deed.Freed conn) (room_of old) new refl (rested old None settled, (rest, is), waits)
-    (at_start goes_on _ _ _
-    (ap {A = List ℕ} {B = Room} (λ h. changed (waiting_for None) conn (freed_from (slow_of (client_at old.clients) conn) conn (record (room_of old) { held = behind h }))) is
-    ∙ ap {A = Room} {B = Room} (λ r. changed (waiting_for None) conn (freed_from (slow_of r.clients conn) conn r)) (sym same))
-    (wider (takes conn) goes_on (takes_goes_on conn) _ _ t))
+    let start : after (deed.Freed conn) (room_of old) ≡ changed (waiting_for None) conn (freed_from (slow_of (client_at s.clients) conn) conn (room_of s)) =
+    ap {A = List ℕ} {B = Room} (λ h. changed (waiting_for None) conn (freed_from (slow_of (client_at old.clients) conn) conn (record (room_of old) { held = behind h }))) is
+    ∙ ap {A = Room} {B = Room} (λ r. changed (waiting_for None) conn (freed_from (slow_of r.clients conn) conn r)) (sym same) in
+    let one : LooksAt (conn ∷ []) (room_of old) new = (
+      deed.Freed conn ∷ t.0,
+      (refl, (rested old None settled, (rest, is), waits), subst (λ r. IsRun goes_on r t.0 new) (sym start) (widened (takes conn) goes_on (takes_goes_on conn) t.0 _ _ t.1)),
+      ap (λ x. conn ∷ x) (looked_none conn t.0 _ _ t.1),
+    ) in
+    subst (λ cs. LooksAt cs (room_of old) new) (sym (ap {A = List ℕ} (λ h. take 1 h) is)) one

@@ -12,7 +12,7 @@ use Rattle.spk_clients.specs.Client.{is_over}
 use Rattle.spk_server.specs.Data.{Deed, Room, Want}
 use Rattle.spk_server.specs.Data as deed
 use Rattle.spk_server.specs.Step.{after}
-use Rattle.spk_server.specs.Log.{HasClient, IsRested, Reaches, calls, follows, goes_on, is_open, takes}
+use Rattle.spk_server.specs.Log.{HasClient, IsRested, LooksAt, Reaches, calls, follows, goes_on, is_open, takes}
 
 -- a call, with what the loop told the server or was told by it
 pub data Call : Type 0 where
@@ -69,7 +69,7 @@ IsDone (TurnedAway now) r s = s ≡ timed now r
 IsDone (Read conn piece now) r s =
     TookUp conn piece (timed now r) s ⊎ (PassedOver conn (timed now r) s ⊎ RanOut conn (timed now r) s)
 IsDone (Gone conn now) r s = WasEnded conn (timed now r) s ⊎ PassedOver conn (timed now r) s
-IsDone (GoOn now) r s = Reaches goes_on (timed now r) s
+IsDone (GoOn now) r s = LooksAt r.held (timed now r) s
 IsDone (Moment now) r s = Reaches calls (timed now r) s
 IsDone (Wrote conn count) r s = s ≡ after (deed.Wrote conn count) r
 IsDone (Cut conn) r s = s ≡ after (deed.Blocked conn) r

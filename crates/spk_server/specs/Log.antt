@@ -1,5 +1,6 @@
 -- Runs of deeds (own rules): what each deed must find, and the lists that are read off a run. A run stands oldest first.
 use Rattle.std.specs.Prelude.{◌≡◌, ◌≢◌, ℕ, ◌+◌, ◌<◌, ◌≤◌, ◌==◌, Bool, true, false, ◌&&◌, List, [], ◌∷◌, length, Option, Some, None, if◌then◌else◌}
+use Rattle.std.specs.List.{flat_map}
 use Rattle.std.specs.Option.{option_map_or, IfSome}
 use Rattle.spk_packets.specs.Fault.{first_of, IsNamed}
 use Rattle.spk_packets.specs.Refusals.{refusals}
@@ -132,6 +133,20 @@ goes_on Tried = true
 goes_on (Waited d) = true
 goes_on (Freed d) = true
 goes_on d = follows d
+
+-- whom a deed looks at, of those who wait
+abbrev pub looks_at : Deed → List ℕ
+looks_at (Waited conn) = conn ∷ []
+looks_at (Freed conn) = conn ∷ []
+looks_at _ = []
+
+-- whom these deeds look at, in order
+abbrev pub looked_at : List Deed → List ℕ
+looked_at log = flat_map looks_at log
+
+-- going on leads from the one to the other, and these are looked at, in order, and no other
+abbrev pub LooksAt : List ℕ → Room → Room → Type 0
+LooksAt conns r s = (ds : List Deed) × IsRun goes_on r ds s × (looked_at ds ≡ conns)
 
 abbrev pub any_deed : Deed → Bool
 any_deed d = true

@@ -1,5 +1,6 @@
 -- What a server holds after a deed, from what it held before (own rules). What the broker does is said by its rules.
 use Rattle.std.specs.Prelude.{ℕ, ◌+◌, min, max, ◌==◌, nat_lt, Bool, true, false, List, [], ◌∷◌, ◌++◌, map, Option, Some, None, is_some, if◌then◌else◌}
+use Rattle.std.specs.List.{list_any}
 use Rattle.std.specs.Option.{option_map, option_map_or}
 use Rattle.spk_packets.specs.Message.{Message, Connect, ConnAck, Publish, PubAck, Subscribe, SubAck, Unsubscribe, UnsubAck, PingReq, PingResp, Disconnect}
 use Rattle.spk_broker.specs.Sent.{Sent, outgoing}
@@ -153,6 +154,13 @@ wait_for conn clients (Some slow) = option_map_or (wait_until (slow == conn)) (c
 
 abbrev pub slow_of : Clients → ℕ → Option ℕ
 slow_of clients conn = option_map_or (λ (c : Client). c.waits_for) (clients conn) None
+
+-- a client waits for another
+abbrev pub awaits : Clients → ℕ → Bool
+awaits clients conn = is_some (slow_of clients conn)
+
+abbrev pub is_among : ℕ → List ℕ → Bool
+is_among k xs = list_any (λ q. q == k) xs
 
 -- until when a client waits at the latest; none where it may go on
 abbrev pub waits_until : Clients → ℕ → Option ℕ

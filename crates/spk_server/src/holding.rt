@@ -1,12 +1,12 @@
 //! Who waits for whom: a client whose own PUBLISH goes to one for whom many packets wait isn't read for a while.
-ghost use Rattle.std.specs.Prelude.{◌≡◌, ◌==◌, [], length, IfOk, OnOk, IfSome, Ok, None, is_some, not, false, true};
+ghost use Rattle.std.specs.Prelude.{◌≡◌, ◌==◌, [], length, take, IfOk, OnOk, IfSome, Ok, None, is_some, not, false, true};
 ghost use Rattle.std.specs.Option.{option_map_or};
 ghost use Rattle.spk_clients.specs.Client.{waiting_for};
 ghost use Rattle.spk_clients.specs.Data.{AreNoted, IsSettled, client_at};
 ghost use Rattle.spk_server.specs.Calls.{IsDone, IsTakenUp};
 ghost use Rattle.spk_server.specs.Calls as call;
 ghost use Rattle.spk_server.specs.Step.{changed, counted, freed_from, slow_of, still_waits, wait_until, waits_until};
-ghost use Rattle.spk_server.specs.Log.{Reaches, goes_on, takes};
+ghost use Rattle.spk_server.specs.Log.{LooksAt, Reaches, takes};
 ghost use Rattle.spk_server.specs.Rooms.{amid, room_of, slow_for};
 
 use crate::fault::ServerFault;
@@ -112,7 +112,7 @@ impl Server {
     /// Takes the packets of the next client, where it need not wait any more.
     fn go_on_with_next(&mut self) -> Result<(), ServerFault>
         ensures goes { OnOk result (IsSettled self.old.clients
-            → Reaches goes_on (room_of self.old) (room_of self.new)) }
+            → LooksAt (take 1 self.old.held.items) (room_of self.old) (room_of self.new)) }
         ensures settled { OnOk result (IsSettled self.old.clients → IsSettled self.new.clients) }
     {
         let Some(conn) = self.held.pop_front() else {
@@ -126,17 +126,25 @@ impl Server {
         Ok(())
     }
 
-    /// Takes the packets of those who need not wait any more.
+    /// Looks at each who waits for another, once, in the order in which they began, and takes the packets of those who need not wait
+    /// any more.
     pub fn go_on(&mut self, now: u64) -> Result<(), ServerFault>
         ensures done { OnOk result (IsSettled self.old.clients
             → IsDone (call.GoOn now) (room_of self.old) (room_of self.new)) }
         ensures settled { OnOk result (IsSettled self.old.clients → IsSettled self.new.clients) }
     {
         self.at(now);
-        for _ in 0..self.held.len() {
+        for _ in 0..self.held_count() {
             self.go_on_with_next()?;
         }
         Ok(())
+    }
+
+    /// How many wait for another.
+    fn held_count(&self) -> usize
+        ensures { result ≡ length self.entry.now.held.items }
+    {
+        self.held.len()
     }
 
     /// Whether somebody waits for another.

@@ -14,6 +14,7 @@ ghost use Rattle.spk_server.specs.Calls.{AreDone, Call, LogOf, fresh_room};
 ghost use Rattle.spk_server.specs.Log.{IsRested, IsRun, any_deed, is_open};
 ghost use Rattle.spk_server.specs.Past.{handed_of, hears, joins, outbox_of, sends_from, stream_of};
 ghost use Rattle.spk_server.specs.Rooms.{room_of};
+ghost use Rattle.spk_server.specs.Step.{awaits, is_among};
 
 /// Whatever calls were done, one after the other, from a new server on: there is one run of deeds that is all that they did, call by
 /// call, and it leads to what the server holds.
@@ -56,6 +57,12 @@ pub fn written_and_waiting_are_owed()
 {
     spk_outbox::laws::written_and_waiting_are_owed();
 }
+
+/// Whoever waits for another, and so isn't read, is among those whom `go_on` looks at.
+pub fn who_waits_is_looked_at()
+    ensures { (log : List Deed) (r : Room) (k : ℕ) → IsRun any_deed fresh_room log r
+        → awaits r.clients k ≡ true → is_among k r.held ≡ true }
+{}
 
 /// Behind a client's end, or where it isn't here, nothing that it sends is taken in or comes of it, as long as it doesn't come anew.
 pub fn nothing_comes_behind_an_end()
