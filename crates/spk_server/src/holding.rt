@@ -126,7 +126,7 @@ impl Server {
         Ok(())
     }
 
-    /// Looks at each who waits for another, once, in the order in which they began, and takes the packets of those who need not wait
+    /// Looks at each who waits for another, once, in the order in which they stand, and takes the packets of those who need not wait
     /// any more.
     pub fn go_on(&mut self, now: u64) -> Result<(), ServerFault>
         ensures done { OnOk result (IsSettled self.old.clients

@@ -58,7 +58,7 @@ pub fn written_and_waiting_are_owed()
     spk_outbox::laws::written_and_waiting_are_owed();
 }
 
-/// Whoever waits for another, and so isn't read, is among those whom `go_on` looks at.
+/// Whoever waits for another, so that nothing of it is read, is among those whom `go_on` looks at.
 pub fn who_waits_is_looked_at()
     ensures { (log : List Deed) (r : Room) (k : ℕ) → IsRun any_deed fresh_room log r
         → awaits r.clients k ≡ true → is_among k r.held ≡ true }
