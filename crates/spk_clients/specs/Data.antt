@@ -1,5 +1,5 @@
 -- The clients of a server, by the numbers of their connections (own rules).
-use Rattle.std.specs.Prelude.{◌≡◌, ◌≢◌, ◌<◌, ℕ, nat_eq, true, List, [], Option, Some, None, Result, Contains}
+use Rattle.std.specs.Prelude.{◌≡◌, ◌≢◌, ◌<◌, ◌≤◌, ◌⊎◌, ℕ, nat_eq, true, false, List, [], Option, Some, None, Result, Contains}
 use Rattle.std.specs.Option.{option_map, option_map_or, IfSome}
 use Rattle.std.specs.HashMap.{get, hash_map_len, spare}
 use Rattle.spk_session.specs.declared.answer.Sort.{Sort}
@@ -11,7 +11,7 @@ use Rattle.spk_clients.specs.declared.clients.Clients.{Clients}
 use Rattle.spk_outbox.specs.Data.{waiting}
 use Rattle.spk_packets.specs.declared.packet.Packet.{Packet}
 use Rattle.spk_packets.specs.declared.fault.PacketFault.{PacketFault}
-use Rattle.spk_clients.specs.Client.{GivesFront, IsOffered, is_untold}
+use Rattle.spk_clients.specs.Client.{GivesFront, IsOffered, has_moment, is_due, is_untold, most_number}
 
 abbrev pub client_at : Clients → ℕ → Option Client
 client_at cs k = get nat_eq cs.table k
@@ -27,8 +27,28 @@ OfferedTo sort bytes None r (Some d) = ⊥
 OfferedTo sort bytes (Some c) r None = ⊥
 
 -- whoever was refused a packet of which the broker isn't told is among those that are to be told
+abbrev pub AreListed : Clients → Type 0
+AreListed cs = (k : ℕ) → IfSome (client_at cs k) (λ c. is_untold c ≡ true → Contains cs.untold.items k)
+
+-- no client's moment comes before
+abbrev pub IsEarly : ℕ → (ℕ → Option Client) → Type 0
+IsEarly moment clients = (k : ℕ) → IfSome (clients k) (λ c. has_moment c.phase ≡ true → moment ≤ c.until)
+
+-- what is noted of all clients is so
 abbrev pub AreNoted : Clients → Type 0
-AreNoted cs = (k : ℕ) → IfSome (client_at cs k) (λ c. is_untold c ≡ true → Contains cs.untold.items k)
+AreNoted cs = AreListed cs × IsEarly cs.soonest (client_at cs)
+
+-- it is the moment of a client, or the greatest number
+abbrev pub IsMoment : ℕ → (ℕ → Option Client) → Type 0
+IsMoment moment clients = (moment ≡ most_number) ⊎ ((k : ℕ) × (c : Client) × (clients k ≡ Some c) × (has_moment c.phase ≡ true) × (moment ≡ c.until))
+
+-- the first moment of a client; the greatest number where none has one
+abbrev pub IsSoonest : (ℕ → Option Client) → ℕ → Type 0
+IsSoonest clients moment = IsEarly moment clients × IsMoment moment clients
+
+-- no client's moment has come
+abbrev pub NobodyIsDue : ℕ → (ℕ → Option Client) → Type 0
+NobodyIsDue now clients = (k : ℕ) → option_map_or (is_due now) (clients k) false ≡ false
 
 -- the table has room for one more client
 abbrev pub HasRoom : Clients → Type 0

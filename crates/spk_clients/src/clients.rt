@@ -21,6 +21,8 @@ pub struct Clients {
     pub(crate) untold: VecDeque<u64>,
     /// Whose socket is to be shut, each once.
     pub(crate) done: VecDeque<u64>,
+    /// No client's moment comes before.
+    pub(crate) soonest: u64,
 }
 
 impl fmt::Debug for Clients {
@@ -41,6 +43,7 @@ impl Clients {
             touched: VecDeque::new(alloc),
             untold: VecDeque::new(alloc),
             done: VecDeque::new(alloc),
+            soonest: u64::MAX,
         }
     }
 
@@ -90,7 +93,9 @@ impl Clients {
         ensures noted { AreNoted self.old → is_untold client ≡ false → AreNoted self.new }
         ensures untold { self.new.untold.items ≡ self.old.untold.items }
     {
+        let until = client.until;
         self.table.insert(conn, client)?;
+        self.soonest = self.soonest.min(until);
         Ok(())
     }
 }

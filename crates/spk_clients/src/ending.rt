@@ -4,7 +4,7 @@ ghost use Rattle.std.specs.Option.{option_map, option_map_or};
 ghost use Rattle.std.specs.HashMap.{get};
 ghost use Rattle.spk_clients.specs.declared.client.Phase.TheVariants as Phase;
 ghost use Rattle.spk_clients.specs.Client.{given_up, is_due, leaves};
-ghost use Rattle.spk_clients.specs.Data.{AllStay, AreNoted, Becomes, OthersStay, client_at, phase_at};
+ghost use Rattle.spk_clients.specs.Data.{AllStay, AreNoted, Becomes, IsSoonest, NobodyIsDue, OthersStay, client_at, phase_at};
 
 use crate::client::{Client, Phase};
 use crate::clients::Clients;
@@ -46,6 +46,34 @@ fn phase_at(table: &HashMap<u64, Client>, conn: u64) -> Option<Phase>
     }
 }
 
+/// A client whose moment has come.
+fn due_in(table: &HashMap<u64, Client>, now: u64) -> Option<u64>
+    ensures some { IfSome result (λ k. option_map_or (is_due now) (get nat_eq table.now k) false ≡ true) }
+    ensures none { IfNone result (NobodyIsDue now (get nat_eq table.now)) }
+{
+    for entry in table.iter() {
+        let (conn, client) = entry;
+        if client.is_due(now) {
+            return Some(*conn);
+        }
+    }
+    None
+}
+
+/// The first moment of a client; the greatest number where none has one.
+fn soonest_of(table: &HashMap<u64, Client>) -> u64
+    ensures { IsSoonest (get nat_eq table.now) result }
+{
+    let mut soonest = u64::MAX;
+    for entry in table.iter() {
+        let (_, client) = entry;
+        if client.has_moment() {
+            soonest = soonest.min(client.until);
+        }
+    }
+    soonest
+}
+
 impl Clients {
     /// How far a client is; none that isn't there.
     pub fn phase(&self, conn: u64) -> Option<Phase>
@@ -61,6 +89,7 @@ impl Clients {
         ensures noted { AreNoted self.old → AreNoted self.new }
         ensures untold { self.new.untold.items ≡ self.old.untold.items }
     {
+        self.soonest = self.soonest.min(until);
         if end_at(&mut self.table, conn, until) {
             self.done.push_back(conn)?;
         }
@@ -106,36 +135,28 @@ impl Clients {
         if self.forget(conn) { Some(conn) } else { None }
     }
 
-    /// A client whose moment has come: it sent nothing, or its end came and something is left.
+    /// A client whose moment has come: it sent nothing, or its end came and something is left. None exactly where no client's has.
     pub fn next_due(&self, now: u64) -> Option<u64>
-        ensures { IfSome result (λ k. option_map_or (is_due now) (client_at self.now k) false ≡ true) }
+        ensures some { IfSome result (λ k. option_map_or (is_due now) (client_at self.now k) false ≡ true) }
+        ensures none { IfNone result (NobodyIsDue now (client_at self.now)) }
     {
-        for (conn, client) in self.table.iter() {
-            if client.is_due(now) && self.is_due(*conn, now) {
-                return Some(*conn);
-            }
-        }
-        None
+        due_in(&self.table, now)
     }
 
-    /// Whether this client's moment has come.
-    fn is_due(&self, conn: u64, now: u64) -> bool
-        ensures { result ≡ option_map_or (is_due now) (client_at self.now conn) false }
+    /// No client's moment comes before this one, in milliseconds.
+    pub fn soonest(&self) -> u64
+        ensures { result ≡ self.now.soonest }
     {
-        match self.table.get(&conn) {
-            Some(client) => client.is_due(now),
-            None => false,
-        }
+        self.soonest
     }
 
-    /// The first moment of a client; the greatest number where none has one. No contract speaks of it.
-    pub fn soonest(&self) -> u64 {
-        let mut soonest = u64::MAX;
-        for (_, client) in self.table.iter() {
-            if client.has_moment() {
-                soonest = soonest.min(client.until);
-            }
-        }
-        soonest
+    /// Looks at each client for the first moment, so that `soonest` is exactly that; the greatest number where no client has one.
+    pub fn note_soonest(&mut self)
+        ensures exact { IsSoonest (client_at self.new) self.new.soonest }
+        ensures stay { AllStay self.old self.new }
+        ensures noted { AreNoted self.old → AreNoted self.new }
+        ensures untold { self.new.untold.items ≡ self.old.untold.items }
+    {
+        self.soonest = soonest_of(&self.table);
     }
 }

@@ -1,4 +1,5 @@
 pub mod Allowed
+pub mod Due
 pub mod Ends
 pub mod Histories
 pub mod Lives
@@ -8,4 +9,5 @@ pub mod Rooms
 pub mod Runs
 pub mod Taking
 pub mod Times
+pub mod Told
 pub mod Waiting

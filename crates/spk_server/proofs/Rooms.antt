@@ -21,7 +21,7 @@ use Rattle.spk_clients.specs.Client.{fresh_client, has_many, is_untold, leaves, 
 use Rattle.spk_clients.specs.Data.{Becomes, IsSettled, OfferedTo, OthersStay, client_at}
 use Rattle.spk_server.specs.declared.server.Server.{Server}
 use Rattle.spk_server.specs.Answers.{AnswersOn}
-use Rattle.spk_server.specs.Data.{Deed, InHand, Offer, Room, Slow}
+use Rattle.spk_server.specs.Data.{Offer, Room, Slow}
 use Rattle.spk_server.specs.Data as deed
 use Rattle.spk_server.specs.Step.{joined, called, called_on, change, changed, grace, later, left, offer_of, offered, slowed}
 use Rattle.spk_server.specs.Log.{IsRested, MayFall, Reaches, follows}
@@ -187,7 +187,7 @@ told_at (Some c) items k e h = untold_not (is_untold c) (λ t. contains_nothing 
 
 -- where the broker is told of all, it may be told what comes next
 pub rested : (s : Server) (before : Option Slow) → IsSettled s.clients → IsRested (amid s [] [] before)
-rested s before h = ((refl, (refl, refl)), λ k. told_at (client_at s.clients k) s.clients.untold.items k h.1 (h.0 k))
+rested s before h = ((refl, (refl, refl)), λ k. told_at (client_at s.clients k) s.clients.untold.items k h.1 (h.0.0 k))
 
 -- what nobody published makes nobody wait
 pub hands_none : (s new : Server) (o : Option Out) (r : Option ℕ) (before : Option Slow)

@@ -20,13 +20,13 @@ use Rattle.spk_clients.specs.Client.{after_hearing, awaited, is_awaited, is_over
 use Rattle.spk_clients.specs.Data.{Becomes, GivesFrontOf, IsSettled, OthersStay, client_at}
 use Rattle.spk_server.specs.declared.server.Server.{Server}
 use Rattle.spk_server.specs.Answers.{AnswersOn}
-use Rattle.spk_server.specs.Data.{Deed, Room, Slow, Want}
+use Rattle.spk_server.specs.Data.{Room, Slow, Want}
 use Rattle.spk_server.specs.Data as deed
 use Rattle.spk_server.specs.Step.{broke, called_on, change, changed, ended_behind, ends_behind, grace, is_publish, later, left, publisher, tried_at}
 use Rattle.spk_server.specs.Log.{HasClient, Reaches, follows, takes}
 use Rattle.spk_server.specs.Rooms.{amid, closes_in, offers_in, pressed, room_of, slow_for, with_packet}
 use Rattle.spk_server.proofs.Allowed.{follows_takes}
-use Rattle.spk_server.proofs.Rooms.{answered_is, change_is, pressed_none, rested, shut_is}
+use Rattle.spk_server.proofs.Rooms.{answered_is, change_is, pressed_none, rested, same_after, shut_is}
 use Rattle.spk_server.proofs.Runs.{and_then, at_end, at_start, begins, stays, wider}
 
 own_want : (conn : ℕ) → ((conn == conn) && true) ≡ true
@@ -172,3 +172,16 @@ tried_is old new n m conn slow waits settled h is e w same =
     ∙ ap {A = ℕ → Option Client} {B = Room} (λ cs. record (room_of old) { clients = change (waiting_for (Some slow)) conn cs; held = old.held.items ++ conn ∷ [] }) (sym (change_is (awaited (slow == conn) old.now) slow old.clients n h))
     ∙ ap {A = ℕ → Option Client} {B = Room} (λ cs. record (room_of old) { clients = cs; held = old.held.items ++ conn ∷ [] }) (sym (change_is (waiting_for (Some slow)) conn n m w))
     ∙ sym same))
+
+same_front : (c d : Option Client) → GivesFrontOf c None d → d ≡ c
+same_front None None h = refl
+same_front None (Some d) h = absurd h
+same_front (Some c) None h = absurd h
+same_front (Some c) (Some d) h = ap Some h.1
+
+-- nothing stands at the front of what it sent
+pub none_is : (conn : ℕ) (old : Server) (n : Clients) → GivesFrontOf (client_at old.clients conn) None (client_at n conn) → OthersStay conn old.clients n
+    → Reaches (takes conn) (room_of old) (room_of (record old { clients = n }))
+none_is conn old n front others =
+    at_end (takes conn) _ _ _ (stays (takes conn) _)
+    (ap {B = Room} (λ cs. record (room_of old) { clients = cs }) (sym (same_after conn old.clients n (same_front _ _ front) others)))

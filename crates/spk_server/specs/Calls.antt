@@ -1,5 +1,5 @@
 -- The calls of a server (own rules): what each did, as a run of deeds, and lists of calls.
-use Rattle.std.specs.Prelude.{◌≡◌, ◌⊎◌, ℕ, ◌+◌, true, false, List, [], ◌∷◌, ◌++◌, Option, Some, None}
+use Rattle.std.specs.Prelude.{◌≡◌, ◌⊎◌, ℕ, ◌+◌, ◌<◌, true, false, List, [], ◌∷◌, ◌++◌, Option, Some, None}
 use Rattle.std.specs.List.{list_all}
 use Rattle.spk_packets.specs.Fault.{first_of}
 use Rattle.spk_packets.specs.Refusals.{refusals}
@@ -9,9 +9,10 @@ use Rattle.spk_broker_rules.specs.Step.{is_full}
 use Rattle.spk_clients.specs.declared.client.Client.{Client}
 use Rattle.spk_clients.specs.declared.client.Phase.TheVariants.{Done}
 use Rattle.spk_clients.specs.Client.{is_over}
+use Rattle.spk_clients.specs.Data.{NobodyIsDue}
 use Rattle.spk_server.specs.Data.{Deed, Room, Want}
 use Rattle.spk_server.specs.Data as deed
-use Rattle.spk_server.specs.Step.{after}
+use Rattle.spk_server.specs.Step.{after, second}
 use Rattle.spk_server.specs.Log.{HasClient, IsRested, LooksAt, Reaches, calls, follows, goes_on, is_open, takes}
 
 -- a call, with what the loop told the server or was told by it
@@ -62,6 +63,10 @@ pub record WasEnded (conn : ℕ) (r s : Room) : Type 0 where
   pub here : is_open r conn ≡ true
   pub ended : Reaches follows (after (deed.Left conn deed.Gone) r) s
 
+-- the broker was told of the time within the last second
+abbrev pub IsTold : Room → Type 0
+IsTold r = r.now < r.ticked + second
+
 abbrev pub IsDone : Call → Room → Room → Type 0
 IsDone (Accepted conn now) r s =
     (is_full r.broker ≡ false) × (conn ≡ r.broker.given + 1) × (s ≡ after (deed.Joined conn) (timed now r))
@@ -70,7 +75,7 @@ IsDone (Read conn piece now) r s =
     TookUp conn piece (timed now r) s ⊎ (PassedOver conn (timed now r) s ⊎ RanOut conn (timed now r) s)
 IsDone (Gone conn now) r s = WasEnded conn (timed now r) s ⊎ PassedOver conn (timed now r) s
 IsDone (GoOn now) r s = LooksAt r.held (timed now r) s
-IsDone (Moment now) r s = Reaches calls (timed now r) s
+IsDone (Moment now) r s = Reaches calls (timed now r) s × NobodyIsDue s.now s.clients
 IsDone (Wrote conn count) r s = s ≡ after (deed.Wrote conn count) r
 IsDone (Cut conn) r s = s ≡ after (deed.Blocked conn) r
 IsDone (NextToWrite None) r s = s ≡ r

@@ -1,15 +1,16 @@
 -- What a server's fields hold, as a room.
-use Rattle.std.specs.Prelude.{ℕ, List, [], map, Option, Some, None}
+use Rattle.std.specs.Prelude.{◌≡◌, ℕ, ◌+◌, ◌<◌, ◌==◌, min, true, if◌then◌else◌, List, [], map, Option, Some, None}
+use Rattle.std.specs.List.{list_all}
 use Rattle.std.specs.Option.{option_map, option_map_or}
 use Rattle.spk_packets.specs.Message.{Message}
 use Rattle.spk_broker.specs.Sent.{sent_view}
 use Rattle.spk_broker.specs.declared.out.Out.{Out}
 use Rattle.spk_broker.specs.declared.out.Outgoing.{Outgoing}
 use Rattle.spk_clients.specs.Client.{after_hearing}
-use Rattle.spk_clients.specs.Data.{client_at}
+use Rattle.spk_clients.specs.Data.{NobodyIsDue, client_at, client_count}
 use Rattle.spk_server.specs.declared.server.Server.{Server}
 use Rattle.spk_server.specs.Data.{Offer, Room, Slow}
-use Rattle.spk_server.specs.Step.{changed, offer_of}
+use Rattle.spk_server.specs.Step.{changed, first_wait, later, offer_of, second, still_waits}
 
 -- between two calls
 abbrev pub room_of : Server → Room
@@ -53,3 +54,14 @@ slow_for conn slow = option_map (λ client. record { publisher = conn; client = 
 -- a packet of a client was heard, and comes to the broker next
 abbrev pub with_packet : ℕ → Message → Room → Room
 with_packet conn p r = record (changed (after_hearing p) conn r) { in_hand = Some (record { conn = conn; packet = p }) }
+
+-- when it is to be called next: a second behind the last tick, or at the first moment that is noted of a client, or where the first wait
+-- ends; none where no client is here
+abbrev pub due_of : Server → Option ℕ
+due_of s = if client_count s.clients == 0 then None
+    else Some (min (min (later second s.ticked) s.clients.soonest) (first_wait (client_at s.clients) s.held.items))
+
+-- at this moment nobody's has come, whoever waits for another waits still, and the broker was told of the time less than a second ago
+abbrev pub IsCalm : ℕ → Server → Type 0
+IsCalm now s = NobodyIsDue now (client_at s.clients) × (list_all (still_waits now (client_at s.clients)) s.held.items ≡ true)
+    × (now < s.ticked + second)

@@ -20,6 +20,10 @@ use Rattle.spk_server.specs.Data.{Deed, InHand, Offer, Room, Slow, Timed, Joined
 abbrev pub quiet : ℕ
 quiet = 10000
 
+-- how often the broker is told of the time
+abbrev pub second : ℕ
+second = 1000
+
 -- how long a client whose end came may read what is left
 abbrev pub grace : ℕ
 grace = 5000
@@ -165,6 +169,15 @@ is_among k xs = list_any (λ q. q == k) xs
 -- until when a client waits at the latest; none where it may go on
 abbrev pub waits_until : Clients → ℕ → Option ℕ
 waits_until clients conn = wait_for conn clients (slow_of clients conn)
+
+-- the same, as a number: at once where it may go on
+abbrev pub wait_of : Clients → ℕ → ℕ
+wait_of clients conn = option_map_or (λ until. until) (waits_until clients conn) 0
+
+-- when the first wait of these ends; the greatest number where nobody waits
+abbrev pub first_wait : Clients → List ℕ → ℕ
+first_wait clients [] = most_number
+first_wait clients (conn ∷ conns) = min (wait_of clients conn) (first_wait clients conns)
 
 abbrev pub still_waits : ℕ → Clients → ℕ → Bool
 still_waits now clients conn = option_map_or (λ last. nat_lt now last) (waits_until clients conn) false

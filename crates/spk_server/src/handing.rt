@@ -44,7 +44,6 @@ impl Server {
     {
         let until = self.now.saturating_add(GRACE);
         self.clients.end(conn, until)?;
-        self.soonest = self.soonest.min(until);
         Ok(())
     }
 

@@ -5,7 +5,7 @@ ghost use Rattle.spk_clients.specs.Client.{waiting_for};
 ghost use Rattle.spk_clients.specs.Data.{AreNoted, IsSettled, client_at};
 ghost use Rattle.spk_server.specs.Calls.{IsDone, IsTakenUp};
 ghost use Rattle.spk_server.specs.Calls as call;
-ghost use Rattle.spk_server.specs.Step.{changed, counted, freed_from, slow_of, still_waits, wait_until, waits_until};
+ghost use Rattle.spk_server.specs.Step.{changed, counted, freed_from, first_wait, slow_of, still_waits, wait_of, wait_until, waits_until};
 ghost use Rattle.spk_server.specs.Log.{LooksAt, Reaches, takes};
 ghost use Rattle.spk_server.specs.Rooms.{amid, room_of, slow_for};
 
@@ -161,15 +161,24 @@ impl Server {
         self.slow_of(conn).is_some()
     }
 
-    /// When `go_on` is to be called at the latest.
-    pub(crate) fn held_until(&self) -> u64 {
+    /// When the first wait ends; at once where somebody need not wait.
+    pub(crate) fn held_until(&self) -> u64
+        ensures { result ≡ first_wait (client_at self.entry.now.clients) self.entry.now.held.items }
+    {
         let mut first = u64::MAX;
-        for i in 0..self.held.len() {
-            match self.waits_until(self.held[i]) {
-                Some(until) => first = first.min(until),
-                None => return 0,
-            }
+        for conn in self.held.iter() {
+            first = first.min(self.wait_of(*conn));
         }
         first
+    }
+
+    /// Until when a client waits at most; 0 where it need not.
+    fn wait_of(&self, conn: Conn) -> u64
+        ensures { result ≡ wait_of (client_at self.entry.now.clients) conn }
+    {
+        match self.waits_until(conn) {
+            Some(until) => until,
+            None => 0,
+        }
     }
 }

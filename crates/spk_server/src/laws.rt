@@ -1,6 +1,6 @@
 //! What holds of each list of calls, and of each run of deeds.
 
-ghost use Rattle.std.specs.Prelude.{◌≡◌, ◌++◌, [], List, Some, ℕ, not, true, false};
+ghost use Rattle.std.specs.Prelude.{◌≡◌, ◌<◌, ◌++◌, [], List, Some, ℕ, not, true, false};
 ghost use Rattle.std.specs.List.{list_all};
 ghost use Rattle.spk_packets.specs.Message.{Message};
 ghost use Rattle.spk_packets.specs.Stream as stream;
@@ -13,7 +13,7 @@ ghost use Rattle.spk_server.specs.Data.{Deed, Room};
 ghost use Rattle.spk_server.specs.Calls.{AreDone, Call, LogOf, fresh_room};
 ghost use Rattle.spk_server.specs.Log.{IsRested, IsRun, any_deed, is_open};
 ghost use Rattle.spk_server.specs.Past.{handed_of, hears, joins, outbox_of, sends_from, stream_of};
-ghost use Rattle.spk_server.specs.Rooms.{room_of};
+ghost use Rattle.spk_server.specs.Rooms.{IsCalm, due_of, room_of};
 ghost use Rattle.spk_server.specs.Step.{awaits, is_among};
 
 /// Whatever calls were done, one after the other, from a new server on: there is one run of deeds that is all that they did, call by
@@ -68,4 +68,10 @@ pub fn who_waits_is_looked_at()
 pub fn nothing_comes_behind_an_end()
     ensures { (log : List Deed) (r s : Room) (k : ℕ) → IsRun any_deed r log s → is_open r k ≡ false
         → list_all (λ d. not (joins k d)) log ≡ true → list_all (λ d. not (hears k d)) log ≡ true }
+{}
+
+/// Before the moment that `due` says nothing is to be done: nobody's moment has come, whoever waits for another waits still, and the
+/// broker was told of the time less than a second ago.
+pub fn nothing_is_due_before()
+    ensures { (s : Server) (m now : ℕ) → IsSettled s.clients → due_of s ≡ Some m → now < m → IsCalm now s }
 {}

@@ -1,14 +1,14 @@
 //! What time brings.
 ghost use Rattle.std.specs.Prelude.{◌≡◌, [], Option, OnOk, Ok, false, true};
 ghost use Rattle.spk_clients.specs.Client.{is_due};
-ghost use Rattle.spk_clients.specs.Data.{AreNoted, IsSettled, client_at};
+ghost use Rattle.spk_clients.specs.Data.{IsSettled, NobodyIsDue, client_at};
 ghost use Rattle.std.specs.Option.{option_map_or};
 ghost use Rattle.spk_server.specs.Step.{is_quiet};
 ghost use Rattle.spk_server.specs.Data.{Slow};
-ghost use Rattle.spk_server.specs.Calls.{IsDone};
+ghost use Rattle.spk_server.specs.Calls.{IsDone, IsTold};
 ghost use Rattle.spk_server.specs.Calls as call;
 ghost use Rattle.spk_server.specs.Log.{HasClient, Reaches, calls, follows};
-ghost use Rattle.spk_server.specs.Rooms.{amid, room_of};
+ghost use Rattle.spk_server.specs.Rooms.{amid, due_of, room_of};
 
 use crate::fault::ServerFault;
 use crate::server::Server;
@@ -19,22 +19,23 @@ use spk_clients::Phase;
 const TICK: u64 = 1_000;
 
 impl Server {
-    /// Tells the broker of the time, where it has gone on. Where memory is refused it is told later.
-    pub(crate) fn tick(&mut self) -> Result<(), ServerFault>
+    /// Tells the broker of the time, where it has gone on. Whether the broker knows it now: where memory is refused it is told later.
+    pub(crate) fn tick(&mut self) -> Result<bool, ServerFault>
         ensures ticks { OnOk result (IsSettled self.old.clients → (before : Option Slow)
             → Reaches follows (amid self.old [] [] before) (amid self.new [] [] before)) }
+        ensures told { result ≡ Ok true → IsSettled self.old.clients → IsTold (room_of self.new) }
         ensures settled { OnOk result (IsSettled self.old.clients → IsSettled self.new.clients) }
     {
         if self.now <= self.ticked {
-            return Ok(());
+            return Ok(true);
         }
         let Ok(out) = self.broker.tick(self.now) else {
-            return Ok(());
+            return Ok(false);
         };
         self.ticked = self.now;
         self.hand_on(Some(out))?;
         self.tell_all()?;
-        Ok(())
+        Ok(true)
     }
 
     /// Whether a client sent no packet yet.
@@ -62,26 +63,36 @@ impl Server {
         Ok(())
     }
 
-    /// Calls those whose moment has come.
+    /// Calls those whose moment has come, until nobody's has.
     fn call_all(&mut self) -> Result<(), ServerFault>
         ensures calls { OnOk result (IsSettled self.old.clients
             → Reaches calls (room_of self.old) (room_of self.new)) }
+        ensures nobody { OnOk result (NobodyIsDue self.new.now (client_at self.new.clients)) }
         ensures settled { OnOk result (IsSettled self.old.clients → IsSettled self.new.clients) }
     {
-        for _ in 0..self.clients.len() {
+        for _ in 0..u64::MAX {
             if !self.call_next()? {
-                break;
+                self.note_soonest();
+                return Ok(());
             }
         }
-        self.soonest = self.clients.soonest();
-        Ok(())
+        Err(ServerFault::NoMemory)
+    }
+
+    /// Looks for the first moment of a client.
+    fn note_soonest(&mut self)
+        ensures same { room_of self.new ≡ room_of self.old }
+        ensures settled { IsSettled self.old.clients → IsSettled self.new.clients }
+    {
+        self.clients.note_soonest();
     }
 
     /// Calls the next one whose moment has come. Whether there was one: where there is none, nothing changes.
     fn call_next(&mut self) -> Result<bool, ServerFault>
         ensures calls { OnOk result (IsSettled self.old.clients
             → Reaches calls (room_of self.old) (room_of self.new)) }
-        ensures none { result ≡ Ok false → self.new ≡ self.old }
+        ensures none { result ≡ Ok false
+            → (self.new ≡ self.old) × NobodyIsDue self.old.now (client_at self.old.clients) }
         ensures settled { OnOk result (IsSettled self.old.clients → IsSettled self.new.clients) }
     {
         let Some(conn) = self.clients.next_due(self.now) else {
@@ -95,46 +106,54 @@ impl Server {
     fn call_due(&mut self) -> Result<(), ServerFault>
         ensures calls { OnOk result (IsSettled self.old.clients
             → Reaches calls (room_of self.old) (room_of self.new)) }
+        ensures nobody { OnOk result (IsSettled self.old.clients
+            → NobodyIsDue self.new.now (client_at self.new.clients)) }
         ensures settled { OnOk result (IsSettled self.old.clients → IsSettled self.new.clients) }
     {
-        if self.now < self.soonest {
+        if self.now < self.clients.soonest() {
             return Ok(());
         }
         self.call_all()?;
         Ok(())
     }
 
-    /// Tells the broker of the time, once a second.
-    fn tick_due(&mut self) -> Result<(), ServerFault>
+    /// Tells the broker of the time, once a second. Whether it knows it.
+    fn tick_due(&mut self) -> Result<bool, ServerFault>
         ensures calls { OnOk result (IsSettled self.old.clients
             → Reaches calls (room_of self.old) (room_of self.new)) }
+        ensures told { result ≡ Ok true → IsSettled self.old.clients → IsTold (room_of self.new) }
         ensures settled { OnOk result (IsSettled self.old.clients → IsSettled self.new.clients) }
     {
         if self.now < self.ticked.saturating_add(TICK) {
-            return Ok(());
+            return Ok(true);
         }
-        self.tick()?;
-        Ok(())
+        let told = self.tick()?;
+        Ok(told)
     }
 
-    /// Time has passed: it is to be called when `due` says, and may be called at any time.
-    pub fn moment(&mut self, now: u64) -> Result<(), ServerFault>
+    /// Time has passed: it is to be called when `due` says, and may be called at any time. Behind it nobody's moment has come. Whether
+    /// the broker was told of the time within the last second: where memory was refused it is told at the next call.
+    pub fn moment(&mut self, now: u64) -> Result<bool, ServerFault>
         ensures done { OnOk result (IsSettled self.old.clients
             → IsDone (call.Moment now) (room_of self.old) (room_of self.new)) }
+        ensures told { result ≡ Ok true → IsSettled self.old.clients → IsTold (room_of self.new) }
         ensures settled { OnOk result (IsSettled self.old.clients → IsSettled self.new.clients) }
     {
         self.at(now);
+        let told = self.tick_due()?;
         self.call_due()?;
-        self.tick_due()?;
-        Ok(())
+        Ok(told)
     }
 
-    /// When `moment` and `go_on` are to be called next, if no socket does anything. None where no client is here.
-    pub fn due(&self) -> Option<u64> {
+    /// When `moment` and `go_on` are to be called next, if no socket does anything: a second behind the last tick, or at the first
+    /// moment of a client, or where the first wait ends. None exactly where no client is here.
+    pub fn due(&self) -> Option<u64>
+        ensures { result ≡ due_of self.entry.now }
+    {
         if self.clients.len() == 0 {
             return None;
         }
         let tick = self.ticked.saturating_add(TICK);
-        Some(tick.min(self.soonest).min(self.held_until()))
+        Some(tick.min(self.clients.soonest()).min(self.held_until()))
     }
 }

@@ -31,8 +31,6 @@ pub struct Server {
     pub(crate) clients: Clients,
     /// Who isn't read, since it waits for another, each once.
     pub(crate) held: VecDeque<Conn>,
-    /// No client's moment comes before.
-    pub(crate) soonest: u64,
     /// The latest moment.
     pub(crate) now: u64,
     /// The moment of the last tick.
@@ -55,7 +53,6 @@ impl Server {
             broker: Broker::new(alloc, LIMIT),
             clients: Clients::new(alloc),
             held: VecDeque::new(alloc),
-            soonest: u64::MAX,
             now: 0,
             ticked: 0,
         }
@@ -120,7 +117,6 @@ impl Server {
         }
         let until = self.now.saturating_add(QUIET);
         let conn = self.open(until)?;
-        self.soonest = self.soonest.min(until);
         Ok(conn)
     }
 }

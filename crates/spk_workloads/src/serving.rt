@@ -47,7 +47,8 @@ impl Serves for Server {
     }
 
     fn wait(&mut self, now: u64) -> Option<()> {
-        self.moment(now).ok()
+        self.moment(now).ok()?;
+        Some(())
     }
 
     fn write(&mut self, batch: &mut Vec<u8>) -> Option<Option<Conn>> {

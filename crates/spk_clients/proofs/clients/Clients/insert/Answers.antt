@@ -4,4 +4,4 @@ use Rattle.spk_clients.proofs.clients.Clients.insert.Goals as goal
 
 pub returns-clause-noted : goal.returns-clause-noted
 returns-clause-noted c noted none =
-    noted_put c.args.self.now (record c.args.self.now { table = c.insert.new.self }) c.args.conn c.args.client none c.in_ok-insert.ensures.updates.0 refl noted
+    noted_put c.args.self.now (record c.args.self.now { table = c.insert.new.self; soonest = c.min-self.result }) c.args.conn c.args.client none c.in_ok-insert.ensures.updates.0 refl c.min-self.ensures noted
