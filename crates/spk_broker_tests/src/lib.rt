@@ -16,6 +16,8 @@ mod pressure;
 #[cfg(test)]
 mod serve;
 #[cfg(test)]
+mod sockets;
+#[cfg(test)]
 mod twin;
 #[cfg(test)]
 mod unfriendly;

@@ -6,7 +6,7 @@ use std::alloc::Global;
 use std::process::Abort;
 
 /// CONNECT without a client id, clean session 1, no keep alive.
-const PATIENT: &[u8] = b"\x10\x0c\x00\x04MQTT\x04\x02\x00\x00\x00\x00";
+pub(crate) const PATIENT: &[u8] = b"\x10\x0c\x00\x04MQTT\x04\x02\x00\x00\x00\x00";
 
 /// The same with the will `g` on `w`, QoS 0, and a keep alive of one second.
 const MORTAL: &[u8] = b"\x10\x12\x00\x04MQTT\x04\x06\x00\x01\x00\x00\x00\x01w\x00\x01g";
@@ -62,7 +62,8 @@ impl Serves for Server {
     }
 
     fn pass(&mut self, now: u64) -> Option<()> {
-        self.moment(now).ok()
+        self.moment(now).ok()?;
+        Some(())
     }
 
     fn waiting(&self, conn: Conn, batch: &mut Vec<u8>) -> usize {

@@ -182,24 +182,19 @@ pub(crate) fn expect(rt: &(impl Abort + AllocGlobal), words: &[&str], text: &str
     assert_eq!(rt; answer, status, "of {words:?}");
 }
 
-/// The port and the number of clients that a run asks to serve, if it does. Where memory was refused the run is made
-/// again.
-pub(crate) fn served(rt: &(impl Abort + AllocGlobal), words: &[&str]) -> Option<(u16, u16)> {
+/// The port that a run asks to serve, and the number of clients, none where it is to stay, if it does. Where memory was refused the run
+/// is made again.
+pub(crate) fn served(
+    rt: &(impl Abort + AllocGlobal),
+    words: &[&str],
+) -> Option<(u16, Option<u16>)> {
     let mut held = empty(rt);
     let mut outcome = run(rt, words, &mut Texts, &mut held);
     if held.ends_with(REFUSED) {
         outcome = run(rt, words, &mut Texts, &mut held);
     }
     match outcome {
-        Outcome::Serve {
-            port,
-            clients: Some(clients),
-            ..
-        } => Some((port, clients)),
-        Outcome::Serve { .. }
-        | Outcome::Over(_)
-        | Outcome::Plant(_)
-        | Outcome::Edge(_)
-        | Outcome::Host(_) => None,
+        Outcome::Serve { port, clients, .. } => Some((port, clients)),
+        Outcome::Over(_) | Outcome::Plant(_) | Outcome::Edge(_) | Outcome::Host(_) => None,
     }
 }

@@ -364,9 +364,9 @@ fn a_fault_is_noted_with_its_place(rt: HostRuntime) {
 }
 
 /// A port, a number of clients, and what is served.
-const SERVED: [(&str, &str, Option<(u16, u16)>); 7] = [
-    ("1883", "2", Some((1883u16, 2u16))),
-    ("65535", "1000", Some((65535, 1000))),
+const SERVED: [(&str, &str, Option<(u16, Option<u16>)>); 7] = [
+    ("1883", "2", Some((1883u16, Some(2u16)))),
+    ("65535", "1000", Some((65535, Some(1000)))),
     ("0", "1", None),
     ("65536", "1", None),
     ("9", "0", None),
@@ -384,7 +384,19 @@ fn a_port_is_served(rt: HostRuntime) {
         }
     }
     let most = served(&rt, &["sparkplug", "serve", "--port", "9"]);
-    assert_eq!(rt; most, Some((9, 1000)));
+    assert_eq!(rt; most, Some((9, Some(1000))));
+    let stays = served(&rt, &["sparkplug", "serve", "--port", "9", "--stay"]);
+    assert_eq!(rt; stays, Some((9, None)));
+    let both = [
+        "sparkplug",
+        "serve",
+        "--port",
+        "9",
+        "--stay",
+        "--clients",
+        "2",
+    ];
+    assert_eq!(rt; printed(&rt, &both).1, 2);
     assert_eq!(rt; printed(&rt, &["sparkplug", "serve"]).1, 2);
 }
 

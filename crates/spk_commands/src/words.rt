@@ -206,9 +206,10 @@ fn serve<'a>(alloc: Global) -> Result<Command<'a>, AllocError> {
     let clients = Arg::new(alloc, "clients")
         .long("clients")
         .value_name("K")
-        .help("How many clients it serves before it ends, 1 to 1000")
+        .help("How many clients it serves before it ends, 1 to 1000; not beside --stay")
         .default_value("1000")
         .value_parser(value_parser!(u16).range(1..=1000))
+        .conflicts_with("stay")?
         .action(ArgAction::Set);
     let stay = Arg::new(alloc, "stay")
         .long("stay")
