@@ -6,8 +6,6 @@
 mod connection;
 mod fault;
 pub mod laws;
-#[cfg(test)]
-mod tests;
 mod waiting;
 
 pub use connection::Connection;

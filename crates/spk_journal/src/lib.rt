@@ -7,8 +7,6 @@ mod journal;
 pub mod laws;
 mod reading;
 mod tail;
-#[cfg(test)]
-mod tests;
 
 pub use fault::JournalFault;
 pub use journal::Journal;

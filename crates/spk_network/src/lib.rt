@@ -9,11 +9,10 @@ mod door;
 mod fault;
 mod looping;
 mod port;
-#[cfg(test)]
-mod tests;
 mod wire;
 
 pub use app::{App, Note};
 pub use fault::NetworkFault;
 pub use looping::run_app;
 pub use port::Port;
+pub use wire::Wire;

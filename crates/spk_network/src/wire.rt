@@ -37,7 +37,7 @@ struct Socket<P: Port> {
 
 /// The socket of a connection, or of a try, or none.
 #[derive(Drop)]
-pub(crate) struct Wire<P: Port> {
+pub struct Wire<P: Port> {
     socket: Option<Socket<P>>,
 }
 
@@ -87,22 +87,22 @@ impl<P: Port> Socket<P> {
 
 impl<P: Port> Wire<P> {
     /// No socket.
-    pub(crate) fn new() -> Wire<P> {
+    pub fn new() -> Wire<P> {
         Wire { socket: None }
     }
 
     /// Whether there is no socket.
-    pub(crate) fn is_off(&self) -> bool {
+    pub fn is_off(&self) -> bool {
         self.socket.is_none()
     }
 
     /// Whether a connection is tried.
-    pub(crate) fn is_trying(&self) -> bool {
+    pub fn is_trying(&self) -> bool {
         matches!(&self.socket, Some(socket) if matches!(socket.stage, Stage::Trying(_)))
     }
 
     /// A try begins.
-    pub(crate) fn begin(&mut self, port: P, address: SocketAddr, now: u64) {
+    pub fn begin(&mut self, port: P, address: SocketAddr, now: u64) {
         self.socket = Some(Socket {
             port,
             address,
@@ -113,7 +113,7 @@ impl<P: Port> Wire<P> {
     }
 
     /// It may be ready for this.
-    pub(crate) fn note(&mut self, readable: bool, writable: bool) {
+    pub fn note(&mut self, readable: bool, writable: bool) {
         if let Some(socket) = &mut self.socket {
             socket.readable = socket.readable || readable;
             socket.writable = socket.writable || writable;
@@ -130,7 +130,7 @@ impl<P: Port> Wire<P> {
     }
 
     /// Whether a try failed: it came to nothing, or takes too long. A try of which a connection came is one.
-    pub(crate) fn settle<A: App>(&mut self, app: &mut A, now: u64) -> bool {
+    pub fn settle<A: App>(&mut self, app: &mut A, now: u64) -> bool {
         let Some(socket) = &mut self.socket else {
             return false;
         };
@@ -148,7 +148,7 @@ impl<P: Port> Wire<P> {
     }
 
     /// A try failed.
-    pub(crate) fn fail(&mut self) -> Option<SocketAddr> {
+    pub fn fail(&mut self) -> Option<SocketAddr> {
         let mut socket = self.socket.take()?;
         socket.port.shut();
         Some(socket.address)
@@ -178,7 +178,7 @@ impl<P: Port> Wire<P> {
     }
 
     /// Reads what came, as far as a round goes.
-    pub(crate) fn read<A: App>(&mut self, app: &mut A, piece: &mut [u8], now: u64) {
+    pub fn read<A: App>(&mut self, app: &mut A, piece: &mut [u8], now: u64) {
         for _ in 0..ROUND {
             if !self.read_once(app, piece, now) {
                 break;
@@ -214,7 +214,7 @@ impl<P: Port> Wire<P> {
     }
 
     /// Writes what is to be written, as far as a round goes.
-    pub(crate) fn write<A: App>(&mut self, app: &mut A, now: u64) {
+    pub fn write<A: App>(&mut self, app: &mut A, now: u64) {
         for _ in 0..ROUND {
             if !self.write_once(app, now) {
                 break;
@@ -223,7 +223,7 @@ impl<P: Port> Wire<P> {
     }
 
     /// Closes the connection where nothing is heard, or where its end was asked for and all is written, or is past its time.
-    pub(crate) fn close<A: App>(&mut self, app: &mut A, silent: bool, now: u64) {
+    pub fn close<A: App>(&mut self, app: &mut A, silent: bool, now: u64) {
         let Some(socket) = &mut self.socket else {
             return;
         };
@@ -243,7 +243,7 @@ impl<P: Port> Wire<P> {
     }
 
     /// Whether a round is to follow at once.
-    pub(crate) fn goes_on<A: App>(&self, app: &A) -> bool {
+    pub fn goes_on<A: App>(&self, app: &A) -> bool {
         let Some(socket) = &self.socket else {
             return false;
         };
@@ -256,7 +256,7 @@ impl<P: Port> Wire<P> {
     }
 
     /// When a round is to begin at the latest on its account.
-    pub(crate) fn until(&self) -> Option<u64> {
+    pub fn until(&self) -> Option<u64> {
         match self.socket.as_ref()?.stage {
             Stage::Trying(until) | Stage::Closing(until) => Some(until),
             Stage::On => None,

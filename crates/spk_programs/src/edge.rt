@@ -363,8 +363,7 @@ impl<D: Disk, O: Write + Drop, N: Write + Drop> EdgeProgram<D, O, N> {
     }
 
     /// How many changes are kept.
-    #[cfg(test)]
-    pub(crate) fn kept(&self) -> usize {
+    pub fn kept(&self) -> usize {
         self.desk.app.node().kept()
     }
 

@@ -14,13 +14,12 @@ mod plans;
 mod printing;
 mod replay;
 mod running;
-#[cfg(test)]
-mod tests;
 mod texts;
 
 pub use disk::{Disk, Disks, Opened};
 pub use edge::EdgeProgram;
 pub use fault::ProgramFault;
 pub use host::HostProgram;
+pub use lines::{Lines, Listener};
 pub use plans::{EdgePlan, HostPlan, Words};
 pub use running::{Begun, begin_edge, host_app, run_edge, run_host};

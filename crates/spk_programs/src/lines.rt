@@ -7,7 +7,7 @@ use std::mem;
 const LONGEST: usize = 1_048_576;
 
 /// What becomes of lines.
-pub(crate) trait Listener {
+pub trait Listener {
     /// A whole line came, without its end: its number, from 1.
     fn line(&mut self, number: u64, bytes: &[u8], now: u64);
 
@@ -17,7 +17,7 @@ pub(crate) trait Listener {
 
 /// The front of a line that isn't whole yet.
 #[derive(Drop)]
-pub(crate) struct Lines {
+pub struct Lines {
     alloc: Global,
     front: Vec<u8>,
     /// The rest of the line is passed over.
@@ -27,7 +27,7 @@ pub(crate) struct Lines {
 }
 
 impl Lines {
-    pub(crate) fn new(alloc: Global) -> Lines {
+    pub fn new(alloc: Global) -> Lines {
         Lines {
             alloc,
             front: Vec::new(alloc),
@@ -65,7 +65,7 @@ impl Lines {
     }
 
     /// Takes some bytes, and tells of each line that they end.
-    pub(crate) fn take<L: Listener>(&mut self, piece: &[u8], listener: &mut L, now: u64) {
+    pub fn take<L: Listener>(&mut self, piece: &[u8], listener: &mut L, now: u64) {
         for part in piece.split_inclusive(|byte| *byte == b'\n') {
             match part.strip_suffix(b"\n") {
                 Some(end) => self.end(end, listener, now),
@@ -75,7 +75,7 @@ impl Lines {
     }
 
     /// No more bytes come: what is left is a line, too.
-    pub(crate) fn finish<L: Listener>(&mut self, listener: &mut L, now: u64) {
+    pub fn finish<L: Listener>(&mut self, listener: &mut L, now: u64) {
         if !self.front.is_empty() || self.passing {
             self.end(&[], listener, now);
         }

@@ -5,8 +5,6 @@
 mod fault;
 pub mod laws;
 mod record;
-#[cfg(test)]
-mod tests;
 
 pub use fault::RecordFault;
 pub use record::Record;

@@ -1,5 +1,5 @@
 //! Texts as other programs write them, and records by hand.
-use crate::{Record, RecordFault};
+use spk_record::{Record, RecordFault};
 use std::alloc::Global;
 use std::test::Fail;
 

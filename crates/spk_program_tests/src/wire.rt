@@ -1,7 +1,6 @@
-use crate::app::{App, Note};
-use crate::port::Port;
-use crate::wire::Wire;
+//! A socket by a script, and a program that counts: what is read, what is written, and when a connection is over.
 use spk_link::Due;
+use spk_network::{App, Note, Port, Wire};
 use std::io::{self, ErrorKind};
 use std::net::{IpAddr, Ipv4Addr, SocketAddr};
 use std::process::Abort;

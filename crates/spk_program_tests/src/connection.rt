@@ -1,4 +1,4 @@
-use crate::{Connection, ConnectionFault, Due};
+use spk_connection::{Connection, ConnectionFault, Due};
 use spk_packets::{Packet, PacketFault};
 use std::process::Abort;
 use std::test::Fail;

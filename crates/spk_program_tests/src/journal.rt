@@ -1,5 +1,5 @@
 //! Files by hand, and a journal beside a file in memory that is torn at each byte.
-use crate::{Journal, JournalFault, is_mark, read};
+use spk_journal::{Journal, JournalFault, is_mark, read};
 use std::alloc::{AllocError, Global};
 use std::test::Fail;
 

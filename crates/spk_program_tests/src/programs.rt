@@ -1,10 +1,8 @@
-use crate::disk::Disk;
-use crate::edge::EdgeProgram;
-use crate::lines::{Lines, Listener};
-use crate::running::{Begun, edge_app};
+//! The program `edge` by its calls, beside a disk that fails, and lines in whatever pieces they come.
 use spk_files::edge_of;
 use spk_link::Due;
 use spk_network::App;
+use spk_programs::{Disk, Disks, EdgePlan, EdgeProgram, Lines, Listener, Opened, begin_edge};
 use std::alloc::Global;
 use std::io::{self, Write};
 use std::process::Abort;
@@ -38,6 +36,24 @@ impl Disk for Slow {
     }
 }
 
+/// The disk of each name is such a one.
+#[derive(Drop)]
+struct Slowly {
+    fails: u32,
+}
+
+impl Disks for Slowly {
+    type Disk = Slow;
+
+    fn open(&mut self, _name: &str) -> Opened<Slow> {
+        Opened::Open(Slow {
+            fails: self.fails,
+            tries: 0,
+            kept: 0,
+        })
+    }
+}
+
 /// A writer that counts lines.
 #[derive(Drop)]
 struct Counted {
@@ -64,19 +80,16 @@ const NODE: &str =
 fn program(alloc: Global, fails: u32) -> Option<EdgeProgram<Slow, Counted, Counted>> {
     let (config, registry) = edge_of(alloc, NODE, 30).ok()?;
     let (_again, names) = edge_of(alloc, NODE, 30).ok()?;
-    let begun = Begun {
-        app: edge_app(alloc, config, registry, None, None).ok()?,
+    let plan = EdgePlan {
+        config,
+        registry,
         names,
-        begin: 0,
-        disk: Slow {
-            fails,
-            tries: 0,
-            kept: 0,
-        },
-        journal: None,
-        passed: 0,
-        is_torn: false,
+        brokers: Vec::new(alloc),
+        login: None,
+        record: String::new(alloc),
+        kept: None,
     };
+    let begun = begin_edge(alloc, plan, &mut Slowly { fails }).ok()?;
     let out = Counted { lines: 0 };
     let notes = Counted { lines: 0 };
     Some(EdgeProgram::new(alloc, begun, out, notes))
