@@ -315,6 +315,116 @@ static KEPT: [Row; 22] = [
     (7, Event::Says(X_STAYS), 0, &[(7, WELCOME)], &[]),
 ];
 
+/// Identifiers go on behind an acknowledgement, and when a session is taken up; what was retained is sent again as such.
+static GO_ON: [Row; 17] = [
+    (1, Event::Opens, 0, &[], &[]),
+    (1, Event::Says(X_STAYS), 0, &[(1, WELCOME)], &[]),
+    (
+        1,
+        Event::Says(b"\x82\x06\x00\x01\x00\x01a\x01"),
+        0,
+        &[(1, b"\x90\x03\x00\x01\x01")],
+        &[],
+    ),
+    (
+        1,
+        Event::Says(b"\x30\x04\x00\x01ax"),
+        0,
+        &[(1, b"\x30\x04\x00\x01ax")],
+        &[],
+    ),
+    (
+        1,
+        Event::Says(b"\x32\x06\x00\x01a\x00\x07x"),
+        0,
+        &[(1, b"\x40\x02\x00\x07"), (1, b"\x32\x06\x00\x01a\x00\x01x")],
+        &[],
+    ),
+    (1, Event::Says(b"\x40\x02\x00\x01"), 0, &[], &[]),
+    (
+        1,
+        Event::Says(b"\x32\x06\x00\x01a\x00\x07y"),
+        0,
+        &[(1, b"\x40\x02\x00\x07"), (1, b"\x32\x06\x00\x01a\x00\x02y")],
+        &[],
+    ),
+    (1, Event::Says(b"\x40\x02\x00\x02"), 0, &[], &[]),
+    (1, Event::Says(DISCONNECT), 0, &[], &[]),
+    (2, Event::Opens, 0, &[], &[]),
+    (2, Event::Says(X_STAYS), 0, &[(2, WELCOME_BACK)], &[]),
+    (
+        2,
+        Event::Says(b"\x33\x06\x00\x01a\x00\x07z"),
+        0,
+        &[(2, b"\x40\x02\x00\x07"), (2, b"\x32\x06\x00\x01a\x00\x03z")],
+        &[],
+    ),
+    (2, Event::Says(b"\x40\x02\x00\x03"), 0, &[], &[]),
+    (
+        2,
+        Event::Says(b"\x82\x06\x00\x02\x00\x01a\x01"),
+        0,
+        &[
+            (2, b"\x90\x03\x00\x02\x01"),
+            (2, b"\x33\x06\x00\x01a\x00\x04z"),
+        ],
+        &[],
+    ),
+    (2, Event::Ends, 0, &[], &[]),
+    (3, Event::Opens, 0, &[], &[]),
+    (
+        3,
+        Event::Says(X_STAYS),
+        0,
+        &[(3, WELCOME_BACK), (3, b"\x3b\x06\x00\x01a\x00\x04z")],
+        &[],
+    ),
+];
+
+/// Every packet restarts the keep alive of a minute, of which one and a half times may be silent.
+static RESTARTS: [Row; 16] = [
+    (1, Event::Opens, 0, &[], &[]),
+    (1, Event::Says(HELLO), 0, &[(1, WELCOME)], &[]),
+    (1, Event::Says(b"\x40\x02\x00\x09"), 80_000, &[], &[]),
+    (0, Event::Ticks, 170_000, &[], &[]),
+    (1, Event::Says(b"\x30\x03\x00\x01a"), 170_000, &[], &[]),
+    (0, Event::Ticks, 260_000, &[], &[]),
+    (
+        1,
+        Event::Says(b"\x82\x06\x00\x01\x00\x01b\x00"),
+        260_000,
+        &[(1, b"\x90\x03\x00\x01\x00")],
+        &[],
+    ),
+    (0, Event::Ticks, 350_000, &[], &[]),
+    (
+        1,
+        Event::Says(b"\xa2\x05\x00\x03\x00\x01b"),
+        350_000,
+        &[(1, b"\xb0\x02\x00\x03")],
+        &[],
+    ),
+    (0, Event::Ticks, 440_000, &[], &[]),
+    (
+        1,
+        Event::Says(b"\xc0\x00"),
+        440_000,
+        &[(1, b"\xd0\x00")],
+        &[],
+    ),
+    (0, Event::Ticks, 530_000, &[], &[]),
+    (
+        1,
+        Event::Says(b"\x32\x06\x00\x01a\x00\x07x"),
+        530_000,
+        &[(1, b"\x40\x02\x00\x07")],
+        &[],
+    ),
+    (0, Event::Ticks, 620_000, &[], &[]),
+    (0, Event::Ticks, 620_001, &[], &[1]),
+    (0, Event::Ticks, 620_002, &[], &[]),
+];
+
 /// A send that may not be lost was refused: closed at once, and the will routed.
 static REFUSED: [Row; 6] = [
     (1, Event::Opens, 0, &[], &[]),
@@ -344,7 +454,9 @@ fn rows_right(alloc: Global, rows: &[Row]) -> Result<usize, BrokerFault> {
 
 #[test]
 fn rows_are_right(rt: HostRuntime) -> Result<(), Fail> {
-    let tables: [&[Row]; 5] = [&FIRST, &TAKE_OVER, &RETAINED, &KEPT, &REFUSED];
+    let tables: [&[Row]; 7] = [
+        &FIRST, &TAKE_OVER, &RETAINED, &KEPT, &GO_ON, &RESTARTS, &REFUSED,
+    ];
     for rows in tables {
         assert_eq!(rt; rows_right(rt.alloc(), rows)?, rows.len());
     }

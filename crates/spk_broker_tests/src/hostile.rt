@@ -75,7 +75,7 @@ fn a_client_that_keeps_no_rule_is_closed_and_its_will_is_routed_once(
 }
 
 /// What closes a connection as its first packet, with nothing sent to it.
-static FIRST: [&[u8]; 10] = [
+static FIRST: [&[u8]; 11] = [
     b"\xc0\x00",
     b"\xe0\x00",
     b"\x30\x04\x00\x01a7",
@@ -86,6 +86,7 @@ static FIRST: [&[u8]; 10] = [
     b"\x34",
     b"\x10\x0e\x00\x06MQIsdp\x03\x02\x00\x3c\x00\x00",
     b"\x10\x13\x00\x04MQTT\x04\x06\x00\x3c\x00\x01x\x00\x01+\x00\x016",
+    b"\x10\x0d\x00\x04MQTT\x04\x02\x00\x3c\x00\x00\x00",
 ];
 
 /// Whether these bytes close a connection without CONNECT, and send these.

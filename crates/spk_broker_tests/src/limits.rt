@@ -126,6 +126,17 @@ fn code(alloc: Global, broker: &mut impl Talks, conn: u64, says: Says) -> Result
     Ok(code_of(gives(alloc, broker, conn, says)?))
 }
 
+/// The last byte of the last send.
+fn last_byte(answer: Option<Out>) -> u8 {
+    match answer {
+        Some(out) => match out.sends.last() {
+            Some(sent) => *sent.bytes.as_slice().last().unwrap_or(&255),
+            None => 255,
+        },
+        None => 255,
+    }
+}
+
 /// How many sends an answer has.
 pub(crate) fn count_of(answer: Option<Out>) -> usize {
     match answer {
@@ -181,42 +192,65 @@ fn grants(alloc: Global, broker: &mut impl Talks) -> Result<(u8, u8, u8), AllocE
     Ok((last, more, standing))
 }
 
+/// The same of a hundred clients whose sessions are kept while they are away: the codes of the last grant, and of another client's one more.
+fn away_grants(alloc: Global, broker: &mut impl Talks) -> Result<(u8, u8), AllocError> {
+    let mut last = 0;
+    for number in 0..100 {
+        let (conn, _) = stays(alloc, broker, number)?;
+        last = code(alloc, broker, conn, Says::Asks("f", 0, 100))?;
+        passes(alloc, broker, conn, Says::Leaves)?;
+    }
+    let conn = comes(alloc, broker);
+    let more = code(alloc, broker, conn, Says::Asks("f", 0, 1))?;
+    Ok((last, more))
+}
+
 #[test]
 fn filter_10001_is_refused(rt: HostRuntime) -> Result<(), Fail> {
     let codes = grants(rt.alloc(), &mut Broker::new(rt.alloc(), 128))?;
     assert_eq!(rt; codes, (1, 128, 1));
+    let codes = away_grants(rt.alloc(), &mut Broker::new(rt.alloc(), 128))?;
+    assert_eq!(rt; codes, (1, 128));
     Ok(())
 }
 
 /// With 10,000 topics retained, one more: what a SUBSCRIBE to the last, to the one more, and to the one more once another
-/// was removed sends, SUBACK with it.
-fn topics(alloc: Global, broker: &mut impl Talks) -> Result<(usize, usize, usize), AllocError> {
+/// was removed sends, SUBACK with it; and the last byte of what the last topic, once it was retained again, sends.
+fn topics(alloc: Global, broker: &mut impl Talks) -> Result<(usize, usize, usize, u8), AllocError> {
     let conn = comes(alloc, broker);
     for number in 0..10_001 {
         passes(alloc, broker, conn, Says::Retains(number, b"7"))?;
     }
     let last = count(alloc, broker, conn, Says::Asks("t", 9_999, 10_000))?;
     let more = count(alloc, broker, conn, Says::Asks("t", 10_000, 10_001))?;
+    passes(alloc, broker, conn, Says::Retains(9_999, b"8"))?;
+    let replaced = last_byte(gives(alloc, broker, conn, Says::Asks("t", 9_999, 10_000))?);
     passes(alloc, broker, conn, Says::Retains(5, b""))?;
     passes(alloc, broker, conn, Says::Retains(10_000, b"7"))?;
     let then = count(alloc, broker, conn, Says::Asks("t", 10_000, 10_001))?;
-    Ok((last, more, then))
+    Ok((last, more, then, replaced))
 }
 
 #[test]
 fn topic_10001_is_not_retained(rt: HostRuntime) -> Result<(), Fail> {
     let sends = topics(rt.alloc(), &mut Broker::new(rt.alloc(), 128))?;
-    assert_eq!(rt; sends, (2, 1, 2));
+    assert_eq!(rt; sends, (2, 1, 2, b'8'));
     Ok(())
 }
 
-/// The codes of CONNACK for the thousandth kept session, for one more, and for one that stands.
-fn kept(alloc: Global, broker: &mut impl Talks) -> Result<(u8, u8, u8), AllocError> {
+/// The codes of CONNACK for the thousandth kept session, for one more, and for one that stands. So many of the thousand stay connected.
+fn kept(
+    alloc: Global,
+    broker: &mut impl Talks,
+    connected: u16,
+) -> Result<(u8, u8, u8), AllocError> {
     let mut last = 255;
     for number in 0..1_000 {
         let (conn, code) = stays(alloc, broker, number)?;
         last = code;
-        passes(alloc, broker, conn, Says::Leaves)?;
+        if number >= connected {
+            passes(alloc, broker, conn, Says::Leaves)?;
+        }
     }
     let more = stays(alloc, broker, 1_000)?.1;
     let standing = stays(alloc, broker, 7)?.1;
@@ -225,8 +259,10 @@ fn kept(alloc: Global, broker: &mut impl Talks) -> Result<(u8, u8, u8), AllocErr
 
 #[test]
 fn kept_session_1001_is_turned_away(rt: HostRuntime) -> Result<(), Fail> {
-    let codes = kept(rt.alloc(), &mut Broker::new(rt.alloc(), 128))?;
-    assert_eq!(rt; codes, (0, 3, 0));
+    for connected in [0, 500] {
+        let codes = kept(rt.alloc(), &mut Broker::new(rt.alloc(), 128), connected)?;
+        assert_eq!(rt; codes, (0, 3, 0));
+    }
     Ok(())
 }
 
