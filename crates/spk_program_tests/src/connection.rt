@@ -1,97 +1,197 @@
+//! A client's connection by tables: what is done, and what it answers.
 use spk_connection::{Connection, ConnectionFault, Due};
 use spk_packets::{Packet, PacketFault};
-use std::process::Abort;
 use std::test::Fail;
 
-/// A call again where memory was refused.
-fn read(connection: &mut Connection, piece: &[u8], now: u64) -> Result<(), ConnectionFault> {
-    match connection.read(piece, now) {
-        Err(ConnectionFault::NoMemory) => connection.read(piece, now),
-        answer => answer,
+/// What is done, or asked.
+#[derive(Clone, Copy)]
+enum Act {
+    Opens,
+    Ends,
+    /// Bytes came: whether a connection is there to take them.
+    Hears(&'static [u8], bool),
+    /// The next packet: 1 for a CONNACK that takes the client, 2 for a PINGRESP, 3 for any other, 0 for none.
+    Takes(u8),
+    /// A packet is to be written: whether a connection is there.
+    Says(&'static [u8], bool),
+    /// So many bytes were written.
+    Wrote(usize),
+    /// PINGREQ is to be written.
+    Asks,
+    /// These bytes wait.
+    Waits(&'static [u8]),
+    Is(Due),
+    Next(Option<u64>),
+}
+
+/// What the tests ask of a connection. They are written over any type that answers it, since a function over a type parameter is proved
+/// without the parts of a connection. Where memory was refused a call is made again.
+trait Speaks {
+    fn open(&mut self, now: u64);
+
+    fn end(&mut self, now: u64);
+
+    fn hear(&mut self, piece: &[u8], now: u64) -> bool;
+
+    fn next(&mut self) -> Option<u8>;
+
+    fn say(&mut self, packet: &[u8]) -> bool;
+
+    fn note(&mut self, count: usize, now: u64);
+
+    fn ping(&mut self, now: u64) -> bool;
+
+    fn waiting(&self) -> &[u8];
+
+    fn due_at(&self, now: u64) -> Due;
+
+    fn next_moment(&self) -> Option<u64>;
+}
+
+impl Speaks for Connection {
+    fn open(&mut self, now: u64) {
+        self.opened(now);
+    }
+
+    fn end(&mut self, now: u64) {
+        self.over(now);
+    }
+
+    fn hear(&mut self, piece: &[u8], now: u64) -> bool {
+        match self.read(piece, now) {
+            Err(ConnectionFault::NoMemory) => self.read(piece, now).is_ok(),
+            answer => answer.is_ok(),
+        }
+    }
+
+    fn next(&mut self) -> Option<u8> {
+        let answer = match self.take() {
+            Err(PacketFault::NoMemory) => self.take().ok()?,
+            answer => answer.ok()?,
+        };
+        Some(match answer {
+            None => 0,
+            Some(Packet::ConnAck { code: 0, .. }) => 1,
+            Some(Packet::PingResp) => 2,
+            Some(_) => 3,
+        })
+    }
+
+    fn say(&mut self, packet: &[u8]) -> bool {
+        match self.send(packet) {
+            Err(ConnectionFault::NoMemory) => self.send(packet).is_ok(),
+            answer => answer.is_ok(),
+        }
+    }
+
+    fn note(&mut self, count: usize, now: u64) {
+        self.wrote(count, now);
+    }
+
+    fn ping(&mut self, now: u64) -> bool {
+        self.ask(now).is_ok() || self.ask(now).is_ok()
+    }
+
+    fn waiting(&self) -> &[u8] {
+        self.unwritten()
+    }
+
+    fn due_at(&self, now: u64) -> Due {
+        self.due(now)
+    }
+
+    fn next_moment(&self) -> Option<u64> {
+        self.next_due()
     }
 }
 
-fn send(connection: &mut Connection, packet: &[u8]) -> Result<(), ConnectionFault> {
-    match connection.send(packet) {
-        Err(ConnectionFault::NoMemory) => connection.send(packet),
-        answer => answer,
+/// Whether it answers so.
+fn is_right(connection: &mut impl Speaks, now: u64, act: Act) -> bool {
+    match act {
+        Act::Opens => connection.open(now),
+        Act::Ends => connection.end(now),
+        Act::Wrote(count) => connection.note(count, now),
+        Act::Hears(piece, is_open) => return connection.hear(piece, now) == is_open,
+        Act::Takes(kind) => return connection.next() == Some(kind),
+        Act::Says(packet, is_open) => return connection.say(packet) == is_open,
+        Act::Asks => return connection.ping(now),
+        Act::Waits(bytes) => return connection.waiting() == bytes,
+        Act::Is(due) => return connection.due_at(now) == due,
+        Act::Next(moment) => return connection.next_moment() == moment,
     }
+    true
 }
 
-/// The next packet: 1 for a CONNACK that takes the client, 2 for a PINGRESP, 3 for any other, 0 for none.
-fn kind(connection: &mut Connection) -> Result<u8, PacketFault> {
-    let answer = match connection.take() {
-        Err(PacketFault::NoMemory) => connection.take()?,
-        answer => answer?,
-    };
-    Ok(match answer {
-        None => 0,
-        Some(Packet::ConnAck { code: 0, .. }) => 1,
-        Some(Packet::PingResp) => 2,
-        Some(_) => 3,
-    })
+/// How many are right before the first that isn't.
+fn plays(connection: &mut impl Speaks, acts: &[(u64, Act)]) -> usize {
+    for (place, (now, act)) in acts.iter().enumerate() {
+        if !is_right(connection, *now, *act) {
+            return place;
+        }
+    }
+    acts.len()
 }
+
+/// A packet that is cut by a connection's end is not taken in the next one.
+static CUT: [(u64, Act); 19] = [
+    (0, Act::Is(Due::Connect)),
+    (0, Act::Next(Some(0))),
+    (0, Act::Hears(b"\x20", false)),
+    (0, Act::Opens),
+    (
+        1,
+        Act::Hears(b"\x20\x02\x00\x00\x30\x07\x00\x01a\x20", true),
+    ),
+    (1, Act::Takes(1)),
+    (1, Act::Takes(0)),
+    (1, Act::Says(b"\xc0\x00", true)),
+    (2, Act::Ends),
+    (2, Act::Hears(b"\x20", false)),
+    (2, Act::Waits(b"")),
+    (2, Act::Next(Some(502))),
+    (600, Act::Opens),
+    (601, Act::Hears(b"\x20\x02\x00", true)),
+    (601, Act::Takes(0)),
+    (602, Act::Hears(b"\x00\xd0\x00", true)),
+    (602, Act::Takes(1)),
+    (602, Act::Takes(2)),
+    (602, Act::Takes(0)),
+];
+
+/// What is sent is written in pieces.
+static PIECES: [(u64, Act); 10] = [
+    (0, Act::Says(b"x", false)),
+    (0, Act::Opens),
+    (0, Act::Says(b"abc", true)),
+    (1, Act::Wrote(2)),
+    (1, Act::Says(b"de", true)),
+    (1, Act::Waits(b"cde")),
+    (2, Act::Wrote(2)),
+    (2, Act::Waits(b"e")),
+    (3, Act::Wrote(9)),
+    (3, Act::Waits(b"")),
+];
+
+/// A ping is due behind half the keep alive, and the end behind one and a half times of it.
+static PINGS: [(u64, Act); 9] = [
+    (0, Act::Opens),
+    (14_999, Act::Is(Due::Nothing)),
+    (15_000, Act::Is(Due::Ping)),
+    (15_000, Act::Asks),
+    (15_000, Act::Waits(b"\xc0\x00")),
+    (15_000, Act::Is(Due::Nothing)),
+    (16_000, Act::Hears(b"\xd0\x00", true)),
+    (60_999, Act::Is(Due::Ping)),
+    (61_000, Act::Is(Due::End)),
+];
 
 #[test]
-fn a_packet_cut_by_the_end_is_not_taken_in_the_next_connection(
-    rt: HostRuntime,
-) -> Result<(), Fail> {
-    let mut connection = Connection::new(rt.alloc(), 30, 0);
-    assert_eq!(rt; connection.due(0), Due::Connect);
-    assert_eq!(rt; connection.next_due(), Some(0));
-    assert_eq!(rt;
-        read(&mut connection, b"\x20", 0),
-        Err(ConnectionFault::NotOpen)
-    );
-    connection.opened(0);
-    read(&mut connection, b"\x20\x02\x00\x00\x30\x07\x00\x01a\x20", 1)?;
-    assert_eq!(rt; kind(&mut connection)?, 1);
-    assert_eq!(rt; kind(&mut connection)?, 0);
-    send(&mut connection, b"\xc0\x00")?;
-    connection.over(2);
-    assert!(rt; !connection.is_open());
-    assert_eq!(rt; connection.unwritten(), b"".as_slice());
-    assert_eq!(rt; connection.next_due(), Some(502));
-    connection.opened(600);
-    read(&mut connection, b"\x20\x02\x00", 601)?;
-    assert_eq!(rt; kind(&mut connection)?, 0);
-    read(&mut connection, b"\x00\xd0\x00", 602)?;
-    assert_eq!(rt; kind(&mut connection)?, 1);
-    assert_eq!(rt; kind(&mut connection)?, 2);
-    assert_eq!(rt; kind(&mut connection)?, 0);
-    Ok(())
-}
-
-#[test]
-fn what_is_sent_is_written_in_pieces(rt: HostRuntime) -> Result<(), Fail> {
-    let mut connection = Connection::new(rt.alloc(), 30, 0);
-    assert_eq!(rt; send(&mut connection, b"x"), Err(ConnectionFault::NotOpen));
+fn a_connection_does_and_answers_so(rt: HostRuntime) -> Result<(), Fail> {
+    let tables: [&[(u64, Act)]; 3] = [&CUT, &PIECES, &PINGS];
+    for acts in tables {
+        let mut connection = Connection::new(rt.alloc(), 30, 0);
+        assert_eq!(rt; plays(&mut connection, acts), acts.len());
+    }
     assert_eq!(rt; ConnectionFault::NotOpen.number(), 112);
-    connection.opened(0);
-    send(&mut connection, b"abc")?;
-    connection.wrote(2, 1);
-    send(&mut connection, b"de")?;
-    assert_eq!(rt; connection.unwritten(), b"cde".as_slice());
-    connection.wrote(2, 2);
-    assert_eq!(rt; connection.unwritten(), b"e".as_slice());
-    connection.wrote(9, 3);
-    assert_eq!(rt; connection.unwritten(), b"".as_slice());
-    Ok(())
-}
-
-#[test]
-fn a_ping_is_due_behind_half_the_keep_alive(rt: HostRuntime) -> Result<(), Fail> {
-    let mut connection = Connection::new(rt.alloc(), 30, 0);
-    connection.opened(0);
-    assert_eq!(rt; connection.due(14_999), Due::Nothing);
-    assert_eq!(rt; connection.due(15_000), Due::Ping);
-    if connection.ask(15_000).is_err() {
-        connection.ask(15_000)?;
-    }
-    assert_eq!(rt; connection.unwritten(), b"\xc0\x00".as_slice());
-    assert_eq!(rt; connection.due(15_000), Due::Nothing);
-    read(&mut connection, b"\xd0\x00", 16_000)?;
-    assert_eq!(rt; connection.due(60_999), Due::Ping);
-    assert_eq!(rt; connection.due(61_000), Due::End);
     Ok(())
 }

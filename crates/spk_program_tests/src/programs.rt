@@ -95,77 +95,112 @@ fn program(alloc: Global, fails: u32) -> Option<EdgeProgram<Slow, Counted, Count
     Some(EdgeProgram::new(alloc, begun, out, notes))
 }
 
-#[test]
-fn nothing_is_to_be_written_before_its_record_is_kept(rt: HostRuntime) -> Result<(), Fail> {
-    let Some(mut program) = program(rt.alloc(), 2) else {
-        assert!(rt; false);
-        return Ok(());
-    };
-    assert_eq!(rt; program.due(1_000), Due::Connect);
-    program.opened(1_000);
-    // at which moment, how many tries were made then, and whether something may be written
-    let rows = [
-        (1_000u64, 1u32, false),
-        (1_999, 1, false),
-        (2_000, 2, false),
-        (2_999, 2, false),
-        (3_000, 3, true),
-        (3_001, 3, true),
-    ];
-    for (now, tries, may) in rows {
-        program.turn(now);
-        assert_eq!(rt; program.disk().tries, tries);
-        assert_eq!(rt; program.unwritten().is_empty(), !may);
+/// What the tests ask of a program, which is proved without the parts of one.
+trait Runs {
+    /// Whether a connection is due, which then is there.
+    fn begins(&mut self, now: u64) -> bool;
+
+    /// How many tries to keep the record were made once it had its turn, and the first byte that is to be written.
+    fn turns(&mut self, now: u64) -> (u32, Option<u8>);
+
+    /// How many changes are kept, and how many lines were told to be none, once these bytes came.
+    fn lines(&mut self, bytes: &[u8], now: u64) -> (usize, usize);
+}
+
+impl Runs for EdgeProgram<Slow, Counted, Counted> {
+    fn begins(&mut self, now: u64) -> bool {
+        let is_due = self.due(now) == Due::Connect;
+        self.opened(now);
+        is_due
     }
-    assert_eq!(rt; program.unwritten().first().copied(), Some(0x10));
-    Ok(())
+
+    fn turns(&mut self, now: u64) -> (u32, Option<u8>) {
+        self.turn(now);
+        (self.disk().tries, self.unwritten().first().copied())
+    }
+
+    fn lines(&mut self, bytes: &[u8], now: u64) -> (usize, usize) {
+        self.input(bytes, now);
+        (self.kept(), self.notes().lines)
+    }
+}
+
+/// At which moment, how many tries were made then, and whether something may be written.
+static TURNS: [(u64, u32, bool); 6] = [
+    (1_000, 1, false),
+    (1_999, 1, false),
+    (2_000, 2, false),
+    (2_999, 2, false),
+    (3_000, 3, true),
+    (3_001, 3, true),
+];
+
+/// How many turns are right before the first that isn't. A CONNECT is what is to be written first.
+fn turns_right(program: &mut impl Runs) -> usize {
+    if !program.begins(1_000) {
+        return 0;
+    }
+    for (place, (now, tries, may)) in TURNS.iter().enumerate() {
+        let first = if *may { Some(0x10) } else { None };
+        if program.turns(*now) != (*tries, first) {
+            return place;
+        }
+    }
+    TURNS.len()
 }
 
 #[test]
-fn a_line_that_says_nothing_is_told_and_passed_over(rt: HostRuntime) -> Result<(), Fail> {
-    let rows: [(&[u8], usize, usize); 15] = [
-        (b"{\"metric\":\"x\",\"value\":1}\n", 1, 0),
-        (b"{\"metric\":\"x\",\"value\":0}\n", 0, 0),
-        (b"{\"device\":null,\"metric\":\"x\",\"value\":2}\n", 1, 0),
-        (
-            b"[{\"metric\":\"x\",\"value\":1},{\"metric\":\"x\",\"value\":3}]\n",
-            2,
-            0,
-        ),
-        (b"[]\n", 0, 0),
-        (b"\n  \n", 0, 0),
-        (b"{\"metric\":\"x\",\"value\":\"a\"}\n", 0, 1),
-        (b"{\"metric\":\"z\",\"value\":1}\n", 0, 1),
-        (
-            b"{\"device\":\"E\",\"metric\":\"y\",\"value\":\"a\"}\n",
-            0,
-            1,
-        ),
-        (
-            b"{\"device\":\"D\",\"metric\":\"y\",\"value\":\"a\"}\n",
-            0,
-            0,
-        ),
-        (
-            b"[{\"device\":\"D\",\"up\":true},{\"device\":\"D\",\"metric\":\"y\",\"value\":\"a\"}]\n",
-            1,
-            0,
-        ),
-        (b"{\"metric\":\"x\",\"value\":1,\"more\":1}\n", 0, 1),
-        (b"{\"device\":\"E\",\"up\":true}\n", 0, 1),
-        (b"{\"metric\":\"x\"", 0, 0),
-        (b"\xff\n", 0, 1),
-    ];
-    for (bytes, kept, told) in rows {
-        let Some(mut program) = program(rt.alloc(), 0) else {
-            assert!(rt; false);
-            return Ok(());
-        };
-        program.input(bytes, 1_000);
-        assert_eq!(rt; program.kept(), kept);
-        assert_eq!(rt; program.notes().lines, told);
+fn nothing_is_to_be_written_before_its_record_is_kept(rt: HostRuntime) {
+    let mut program = program(rt.alloc(), 2).expect(&rt, "a program");
+    assert_eq!(rt; turns_right(&mut program), TURNS.len());
+}
+
+/// Bytes of standard input, how many changes they say, and how many lines that say nothing.
+static SAID: [(&[u8], usize, usize); 15] = [
+    (b"{\"metric\":\"x\",\"value\":1}\n", 1, 0),
+    (b"{\"metric\":\"x\",\"value\":0}\n", 0, 0),
+    (b"{\"device\":null,\"metric\":\"x\",\"value\":2}\n", 1, 0),
+    (
+        b"[{\"metric\":\"x\",\"value\":1},{\"metric\":\"x\",\"value\":3}]\n",
+        2,
+        0,
+    ),
+    (b"[]\n", 0, 0),
+    (b"\n  \n", 0, 0),
+    (b"{\"metric\":\"x\",\"value\":\"a\"}\n", 0, 1),
+    (b"{\"metric\":\"z\",\"value\":1}\n", 0, 1),
+    (
+        b"{\"device\":\"E\",\"metric\":\"y\",\"value\":\"a\"}\n",
+        0,
+        1,
+    ),
+    (
+        b"{\"device\":\"D\",\"metric\":\"y\",\"value\":\"a\"}\n",
+        0,
+        0,
+    ),
+    (
+        b"[{\"device\":\"D\",\"up\":true},{\"device\":\"D\",\"metric\":\"y\",\"value\":\"a\"}]\n",
+        1,
+        0,
+    ),
+    (b"{\"metric\":\"x\",\"value\":1,\"more\":1}\n", 0, 1),
+    (b"{\"device\":\"E\",\"up\":true}\n", 0, 1),
+    (b"{\"metric\":\"x\"", 0, 0),
+    (b"\xff\n", 0, 1),
+];
+
+/// What lines come to.
+fn said(program: &mut impl Runs, bytes: &[u8]) -> (usize, usize) {
+    program.lines(bytes, 1_000)
+}
+
+#[test]
+fn a_line_that_says_nothing_is_told_and_passed_over(rt: HostRuntime) {
+    for (bytes, kept, told) in SAID {
+        let mut program = program(rt.alloc(), 0).expect(&rt, "a program");
+        assert_eq!(rt; said(&mut program, bytes), (kept, told), "of {bytes:?}");
     }
-    Ok(())
 }
 
 /// Adds up lines, each by its number.
