@@ -8,12 +8,12 @@ use std::test::Fail;
 enum Act {
     Opens,
     Ends,
-    /// Bytes came: whether a connection is there to take them.
-    Hears(&'static [u8], bool),
+    /// Bytes came, and why they are refused, if they are.
+    Hears(&'static [u8], Option<ConnectionFault>),
     /// The next packet: 1 for a CONNACK that takes the client, 2 for a PINGRESP, 3 for any other, 0 for none.
     Takes(u8),
-    /// A packet is to be written: whether a connection is there.
-    Says(&'static [u8], bool),
+    /// A packet is to be written, and why it is refused, if it is.
+    Says(&'static [u8], Option<ConnectionFault>),
     /// So many bytes were written.
     Wrote(usize),
     /// PINGREQ is to be written.
@@ -31,11 +31,11 @@ trait Speaks {
 
     fn end(&mut self, now: u64);
 
-    fn hear(&mut self, piece: &[u8], now: u64) -> bool;
+    fn hear(&mut self, piece: &[u8], now: u64) -> Option<ConnectionFault>;
 
     fn next(&mut self) -> Option<u8>;
 
-    fn say(&mut self, packet: &[u8]) -> bool;
+    fn say(&mut self, packet: &[u8]) -> Option<ConnectionFault>;
 
     fn note(&mut self, count: usize, now: u64);
 
@@ -57,10 +57,10 @@ impl Speaks for Connection {
         self.over(now);
     }
 
-    fn hear(&mut self, piece: &[u8], now: u64) -> bool {
+    fn hear(&mut self, piece: &[u8], now: u64) -> Option<ConnectionFault> {
         match self.read(piece, now) {
-            Err(ConnectionFault::NoMemory) => self.read(piece, now).is_ok(),
-            answer => answer.is_ok(),
+            Err(ConnectionFault::NoMemory) => self.read(piece, now).err(),
+            answer => answer.err(),
         }
     }
 
@@ -77,10 +77,10 @@ impl Speaks for Connection {
         })
     }
 
-    fn say(&mut self, packet: &[u8]) -> bool {
+    fn say(&mut self, packet: &[u8]) -> Option<ConnectionFault> {
         match self.send(packet) {
-            Err(ConnectionFault::NoMemory) => self.send(packet).is_ok(),
-            answer => answer.is_ok(),
+            Err(ConnectionFault::NoMemory) => self.send(packet).err(),
+            answer => answer.err(),
         }
     }
 
@@ -111,9 +111,9 @@ fn is_right(connection: &mut impl Speaks, now: u64, act: Act) -> bool {
         Act::Opens => connection.open(now),
         Act::Ends => connection.end(now),
         Act::Wrote(count) => connection.note(count, now),
-        Act::Hears(piece, is_open) => return connection.hear(piece, now) == is_open,
+        Act::Hears(piece, fault) => return connection.hear(piece, now) == fault,
         Act::Takes(kind) => return connection.next() == Some(kind),
-        Act::Says(packet, is_open) => return connection.say(packet) == is_open,
+        Act::Says(packet, fault) => return connection.say(packet) == fault,
         Act::Asks => return connection.ping(now),
         Act::Waits(bytes) => return connection.waiting() == bytes,
         Act::Is(due) => return connection.due_at(now) == due,
@@ -132,27 +132,30 @@ fn plays(connection: &mut impl Speaks, acts: &[(u64, Act)]) -> usize {
     acts.len()
 }
 
+/// There is no connection.
+const NOT_OPEN: Option<ConnectionFault> = Some(ConnectionFault::NotOpen);
+
 /// A packet that is cut by a connection's end is not taken in the next one.
 static CUT: [(u64, Act); 19] = [
     (0, Act::Is(Due::Connect)),
     (0, Act::Next(Some(0))),
-    (0, Act::Hears(b"\x20", false)),
+    (0, Act::Hears(b"\x20", NOT_OPEN)),
     (0, Act::Opens),
     (
         1,
-        Act::Hears(b"\x20\x02\x00\x00\x30\x07\x00\x01a\x20", true),
+        Act::Hears(b"\x20\x02\x00\x00\x30\x07\x00\x01a\x20", None),
     ),
     (1, Act::Takes(1)),
     (1, Act::Takes(0)),
-    (1, Act::Says(b"\xc0\x00", true)),
+    (1, Act::Says(b"\xc0\x00", None)),
     (2, Act::Ends),
-    (2, Act::Hears(b"\x20", false)),
+    (2, Act::Hears(b"\x20", NOT_OPEN)),
     (2, Act::Waits(b"")),
     (2, Act::Next(Some(502))),
     (600, Act::Opens),
-    (601, Act::Hears(b"\x20\x02\x00", true)),
+    (601, Act::Hears(b"\x20\x02\x00", None)),
     (601, Act::Takes(0)),
-    (602, Act::Hears(b"\x00\xd0\x00", true)),
+    (602, Act::Hears(b"\x00\xd0\x00", None)),
     (602, Act::Takes(1)),
     (602, Act::Takes(2)),
     (602, Act::Takes(0)),
@@ -160,11 +163,11 @@ static CUT: [(u64, Act); 19] = [
 
 /// What is sent is written in pieces.
 static PIECES: [(u64, Act); 10] = [
-    (0, Act::Says(b"x", false)),
+    (0, Act::Says(b"x", NOT_OPEN)),
     (0, Act::Opens),
-    (0, Act::Says(b"abc", true)),
+    (0, Act::Says(b"abc", None)),
     (1, Act::Wrote(2)),
-    (1, Act::Says(b"de", true)),
+    (1, Act::Says(b"de", None)),
     (1, Act::Waits(b"cde")),
     (2, Act::Wrote(2)),
     (2, Act::Waits(b"e")),
@@ -180,7 +183,7 @@ static PINGS: [(u64, Act); 9] = [
     (15_000, Act::Asks),
     (15_000, Act::Waits(b"\xc0\x00")),
     (15_000, Act::Is(Due::Nothing)),
-    (16_000, Act::Hears(b"\xd0\x00", true)),
+    (16_000, Act::Hears(b"\xd0\x00", None)),
     (60_999, Act::Is(Due::Ping)),
     (61_000, Act::Is(Due::End)),
 ];
