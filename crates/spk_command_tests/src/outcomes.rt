@@ -1,0 +1,61 @@
+//! What a run came to, as a text.
+
+use spk_commands::Outcome;
+use spk_plan::Plan;
+use spk_programs::{EdgePlan, HostPlan};
+use std::alloc::{AllocError, Global};
+
+/// Of a plan to be run: its group and host, how many nodes it has, and its numbers.
+fn plant_text(alloc: Global, plan: &Plan) -> Result<String, AllocError> {
+    let group = plan.group.as_str();
+    let host = plan.host.as_str();
+    let nodes = plan.nodes.len();
+    let width = plan.width.get();
+    format!(in alloc;
+        "plant {group} {host} nodes {nodes} ring {} ingress {} wait {} width {width}",
+        plan.ring, plan.ingress, plan.wait
+    )
+}
+
+/// Of an edge node to be run: its keep alive, how many brokers it may be connected with, its record, whether it has a login and keeps its values,
+/// and how many metrics it has.
+fn edge_text(alloc: Global, plan: &EdgePlan) -> Result<String, AllocError> {
+    let record = plan.record.as_str();
+    let brokers = plan.brokers.len();
+    let metrics = plan.names.metric_count();
+    let login = plan.login.is_some();
+    let kept = plan.kept.is_some();
+    format!(in alloc;
+        "edge keep {} brokers {brokers} record {record} login {login} kept {kept} metrics {metrics}",
+        plan.config.keep
+    )
+}
+
+/// Of a host to be run: how many brokers it may be connected with, and whether it has a login, an end and a silence.
+fn host_text(alloc: Global, plan: &HostPlan) -> Result<String, AllocError> {
+    let brokers = plan.brokers.len();
+    let login = plan.login.is_some();
+    let count = plan.count;
+    let silence = plan.silence;
+    format!(in alloc; "host brokers {brokers} login {login} count {count:?} silence {silence:?}")
+}
+
+/// What a run came to.
+pub(crate) fn text_of(alloc: Global, outcome: &Outcome) -> Result<String, AllocError> {
+    match outcome {
+        Outcome::Over(status) => format!(in alloc; "over {status}"),
+        Outcome::Serve {
+            bind,
+            port,
+            clients: Some(clients),
+        } => format!(in alloc; "serve {bind} {port} clients {clients}"),
+        Outcome::Serve {
+            bind,
+            port,
+            clients: None,
+        } => format!(in alloc; "serve {bind} {port} stay"),
+        Outcome::Plant(plan) => plant_text(alloc, plan),
+        Outcome::Edge(plan) => edge_text(alloc, plan),
+        Outcome::Host(plan) => host_text(alloc, plan),
+    }
+}

@@ -1,0 +1,129 @@
+//! Runs of the program's commands: what they print, note and come to, beside what a case wants.
+
+use crate::case::{Around, has, number_of, text_of, words_of};
+use crate::files::{Narrow, Texts};
+use crate::outcomes;
+use serde_json::Value as Json;
+use spk_commands::run_with_notes;
+use std::alloc::{AllocError, Global};
+
+/// The last line of a run that was refused memory.
+pub(crate) const REFUSED: &[u8; 19] = b"fault NoMemory (1)\n";
+
+/// Room for more than any run here prints, so that no write wants memory.
+pub(crate) const ROOM: usize = 65_536;
+
+/// What a run printed, what it noted, and what it came to.
+#[derive(Drop)]
+struct Ran {
+    held: Vec<u8>,
+    notes: Vec<u8>,
+    end: String,
+}
+
+/// Runs the words of a case once, with a writer that has so much room.
+fn once<R: AllocGlobal>(
+    rt: &R,
+    words: &[&str],
+    file: Option<&str>,
+    room: usize,
+) -> Result<Ran, AllocError> {
+    let mut narrow = Narrow {
+        held: Vec::with_capacity(rt.alloc(), ROOM)?,
+        room,
+    };
+    let mut notes = Vec::with_capacity(rt.alloc(), ROOM)?;
+    let mut files = Texts { file };
+    let outcome = run_with_notes(rt, words, &mut files, &mut narrow, &mut notes);
+    let Narrow { held, room: _ } = narrow;
+    let end = outcomes::text_of(rt.alloc(), &outcome)?;
+    Ok(Ran { held, notes, end })
+}
+
+/// Whether a run was refused memory: that fault stands last, or as much of it as a writer took that had no room for it.
+fn is_refused(held: &[u8]) -> bool {
+    held.ends_with(REFUSED) || (!held.is_empty() && REFUSED.starts_with(held))
+}
+
+/// Whether a run that was refused memory printed whole lines of what it prints else, but not all of them, before that fault.
+fn is_front(held: &[u8], whole: &[u8]) -> bool {
+    match held.strip_suffix(REFUSED.as_slice()) {
+        Some(front) => front.is_empty()
+            || (front.ends_with(b"\n") && whole.starts_with(front) && front.len() < whole.len()),
+        None => true,
+    }
+}
+
+/// What a run comes to that isn't refused memory. Where one is, it is made again, and None where what it printed before isn't right.
+fn run<R: AllocGlobal>(
+    rt: &R,
+    words: &[&str],
+    file: Option<&str>,
+    room: usize,
+) -> Result<Option<Ran>, AllocError> {
+    let first = once(rt, words, file, room)?;
+    if !is_refused(first.held.as_slice()) {
+        return Ok(Some(first));
+    }
+    let again = once(rt, words, file, room)?;
+    let is_right = first.end.as_str() == "over 1"
+        && is_front(first.held.as_slice(), again.held.as_slice());
+    Ok(if is_right { Some(again) } else { None })
+}
+
+/// Whether these bytes are what a case says they are: the whole text, if it says one, else a text that has another one in it.
+fn is_printed(case: &Json, held: &[u8]) -> bool {
+    let Ok(text) = str::from_utf8(held) else {
+        return false;
+    };
+    match text_of(case, "out") {
+        Some(out) => text == out,
+        None => !text.is_empty() && text.contains(text_of(case, "has").unwrap_or("")),
+    }
+}
+
+/// Whether these are the notes of a case: the whole text; or a bad plan of which it says how the cause begins; or any, where it says so; else none.
+fn is_noted(case: &Json, notes: &[u8]) -> bool {
+    let Ok(text) = str::from_utf8(notes) else {
+        return false;
+    };
+    if let Some(whole) = text_of(case, "notes") {
+        return text == whole;
+    }
+    if let Some(cause) = text_of(case, "bad plan") {
+        let rest = text.strip_prefix("sparkplug: BadPlan: ").unwrap_or("");
+        return rest.starts_with(cause) && rest.ends_with("\n");
+    }
+    has(case, "any notes") || text.is_empty()
+}
+
+/// What isn't as wanted of a run, if something isn't.
+fn complaint(case: &Json, ran: &Ran) -> Option<&'static str> {
+    if !is_printed(case, ran.held.as_slice()) {
+        return Some("what it prints");
+    }
+    if !is_noted(case, ran.notes.as_slice()) {
+        return Some("what it notes");
+    }
+    if ran.end.as_str() != text_of(case, "end").unwrap_or("over 0") {
+        return Some("what it comes to");
+    }
+    None
+}
+
+/// What isn't as wanted of the run of a case, if something isn't.
+pub(crate) fn judge<R: AllocGlobal>(
+    rt: &R,
+    around: &Around,
+    case: &Json,
+) -> Result<Option<&'static str>, AllocError> {
+    let alloc: Global = rt.alloc();
+    let words = words_of(alloc, case)?;
+    let file = around.file_of(alloc, case)?;
+    let file = file.as_ref().map(|text| text.as_str());
+    let room = usize::try_from(number_of(case, "room").unwrap_or(ROOM as u64)).unwrap_or(ROOM);
+    match run(rt, words.as_slice(), file, room)? {
+        Some(ran) => Ok(complaint(case, &ran)),
+        None => Ok(Some("what it prints where memory is refused")),
+    }
+}
