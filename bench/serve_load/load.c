@@ -1,9 +1,12 @@
 // A load for an MQTT 3.1.1 server on this machine: PUBS publishers with COUNT messages of 64 bytes each, SUBS subscribers to all of
-// them. usage: load PORT PUBS SUBS QOS COUNT WINDOW RATE JOINED. WINDOW: how many messages of a publisher may be under way (as the first
+// them. usage: load PORT PUBS SUBS QOS COUNT WINDOW RATE JOINED [DEAF]. WINDOW: how many messages of a publisher may be under way (as the first
 // subscriber counts). RATE: messages a second of each publisher, 0 for as many as go. JOINED: how many messages a publisher hands to the
 // socket in one write, where so many may go; with 1 the load's own calls bound the rate of a fast server. A publisher that may send no
-// more looks again some times and then sleeps until the subscriber has read. Prints: delivered messages a second, and the
-// median and the 99th percentile of the time from send to receipt, in microseconds.
+// more looks again some times and then sleeps until the subscriber has read. DEAF: how many more subscribers there are that never read, with the
+// least receive buffer that the system gives. Prints: delivered messages a second, and the median and the 99th percentile of the time from send to
+// receipt, in microseconds.
+// Or: load PORT connects COUNT. COUNT times, by 8 threads: a TCP connection, CONNECT, CONNACK, DISCONNECT, and the server's end of the connection.
+// Prints how many of these there were in a second.
 #include <arpa/inet.h>
 #include <netinet/tcp.h>
 #include <pthread.h>
@@ -55,10 +58,11 @@ static void get(int s, void *bytes, size_t len) {
     }
 }
 
-static int join_server(void) {
+static int join_with(int room) {
     struct sockaddr_in a = {.sin_family = AF_INET, .sin_port = htons((uint16_t)port)};
     inet_pton(AF_INET, "127.0.0.1", &a.sin_addr);
     int s = socket(AF_INET, SOCK_STREAM, 0), one = 1;
+    if (room > 0) setsockopt(s, SOL_SOCKET, SO_RCVBUF, &room, sizeof room);
     if (connect(s, (struct sockaddr *)&a, sizeof a) != 0) die("nobody listens");
     setsockopt(s, IPPROTO_TCP, TCP_NODELAY, &one, sizeof one);
     static const unsigned char hello[] = {0x10, 12, 0, 4, 'M', 'Q', 'T', 'T', 4, 2, 0, 0, 0, 0};
@@ -67,6 +71,36 @@ static int join_server(void) {
     get(s, answer, 4);
     if (answer[0] != 0x20 || answer[3] != 0) die("CONNECT was refused");
     return s;
+}
+
+static int join_server(void) { return join_with(0); }
+
+static void subscribe_to_all(int s) {
+    unsigned char ask[] = {0x82, 6, 0, 1, 0, 1, '#', (unsigned char)qos}, answer[5];
+    put(s, ask, sizeof ask);
+    get(s, answer, 5);
+}
+
+// connects, and goes in order, so often
+static void *comer(void *arg) {
+    static const unsigned char bye[] = {0xe0, 0};
+    char end;
+    for (long left = (long)arg; left > 0; left--) {
+        int s = join_server();
+        put(s, bye, sizeof bye);
+        while (read(s, &end, 1) > 0) {}
+        close(s);
+    }
+    return NULL;
+}
+
+static int connects(long all) {
+    pthread_t t[8];
+    uint64_t start = now();
+    for (long i = 0; i < 8; i++) pthread_create(&t[i], NULL, comer, (void *)(all / 8));
+    for (int i = 0; i < 8; i++) pthread_join(t[i], NULL);
+    printf("%.0f\n", (double)(all / 8 * 8) * 1e9 / (double)(now() - start));
+    return 0;
 }
 
 // waits until fewer than WINDOW messages of this publisher are under way; answers how many more may go
@@ -132,9 +166,7 @@ static void *publisher(void *arg) {
 static void *subscriber(void *arg) {
     long me = (long)arg;
     int s = join_server();
-    unsigned char ask[] = {0x82, 6, 0, 1, 0, 1, '#', (unsigned char)qos}, answer[5];
-    put(s, ask, sizeof ask);
-    get(s, answer, 5);
+    subscribe_to_all(s);
     atomic_fetch_add(&ready, 1);
     unsigned char *held = malloc(1 << 16), acks[1 << 14];
     size_t have = 0;
@@ -180,11 +212,16 @@ static int up(const void *a, const void *b) {
 }
 
 int main(int argc, char **argv) {
-    if (argc != 9) die("usage: load PORT PUBS SUBS QOS COUNT WINDOW RATE JOINED");
+    if (argc == 4 && strcmp(argv[2], "connects") == 0) {
+        port = atoi(argv[1]);
+        return connects(atol(argv[3]));
+    }
+    if (argc != 9 && argc != 10) die("usage: load PORT PUBS SUBS QOS COUNT WINDOW RATE JOINED [DEAF]");
     port = atoi(argv[1]), pubs = atoi(argv[2]), subs = atoi(argv[3]), qos = atoi(argv[4]), count = atoi(argv[5]);
     window = atoi(argv[6]), rate = atoi(argv[7]), joined = atoi(argv[8]);
     if (pubs < 1 || pubs > 50 || subs < 1 || subs > 200) die("1 to 50 publishers, 1 to 200 subscribers");
     if (joined < 1 || joined > MOST) die("1 to 64 joined");
+    for (int left = argc == 10 ? atoi(argv[9]) : 0; left > 0; left--) subscribe_to_all(join_with(1));
     times = calloc(4000000, 4);
     pthread_t t[256];
     for (long i = 0; i < subs; i++) pthread_create(&t[i], NULL, subscriber, (void *)i);

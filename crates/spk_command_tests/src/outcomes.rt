@@ -2,7 +2,7 @@
 
 use spk_commands::Outcome;
 use spk_plan::Plan;
-use spk_programs::{EdgePlan, HostPlan};
+use spk_program_plans::{EdgePlan, HostPlan};
 use std::alloc::{AllocError, Global};
 
 /// Of a plan to be run: its group and host, how many nodes it has, and its numbers.

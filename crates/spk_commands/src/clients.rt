@@ -6,7 +6,7 @@ use clap::ArgMatches;
 use spk_device::Registry;
 use spk_files::{Misfit, edge_of};
 use spk_host_session::HostConfig;
-use spk_programs::{EdgePlan, HostPlan, Words};
+use spk_program_plans::{EdgePlan, HostPlan, Words};
 use spk_sequence::Width;
 use std::alloc::{AllocError, Global};
 use std::io::Write;

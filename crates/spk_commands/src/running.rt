@@ -11,7 +11,7 @@ use crate::world::world;
 use clap::ArgMatches;
 use clap::error::ErrorKind;
 use spk_plan::Plan;
-use spk_programs::{EdgePlan, HostPlan};
+use spk_program_plans::{EdgePlan, HostPlan};
 use std::alloc::Global;
 use std::io::{self, BufWriter, Write};
 use std::net::IpAddr;

@@ -2,7 +2,8 @@
 use spk_files::edge_of;
 use spk_link::Due;
 use spk_network::App;
-use spk_programs::{Disk, Disks, EdgePlan, EdgeProgram, Lines, Listener, Opened, begin_edge};
+use spk_program_plans::EdgePlan;
+use spk_programs::{Disk, Disks, EdgeProgram, Lines, Listener, Opened, begin_edge};
 use std::alloc::Global;
 use std::io::{self, Write};
 use std::process::Abort;

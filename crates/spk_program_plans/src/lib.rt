@@ -1,8 +1,9 @@
-//! What the programs are to run.
+//! What the programs `edge` and `host` are to run, as plain data: the commands make it of words and files, and the programs run it.
+#![tactic(auto)]
 
 use spk_device::Registry;
 use spk_edge::EdgeConfig;
-use spk_host::HostConfig;
+use spk_host_session::HostConfig;
 use std::fmt;
 
 /// The user name that CONNECT says, of at most 65,535 bytes and without U+0000, and the password, if there is one, of at most 65,535 bytes (MQTT 3.1.1,
