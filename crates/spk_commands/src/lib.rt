@@ -13,7 +13,6 @@ mod plants;
 mod running;
 mod show;
 mod texts;
-mod words;
 mod world;
 
 pub use broker::{said, serve_clients};

@@ -1,4 +1,5 @@
-//! The command line.
+//! The command line of `sparkplug`: its commands, their words and what help says of them.
+#![tactic(auto)]
 
 use clap::{Arg, ArgAction, ArgGroup, Command, value_parser};
 use std::alloc::{AllocError, Global};
@@ -366,7 +367,7 @@ fn plant<'a>(alloc: Global) -> Result<Command<'a>, AllocError> {
 }
 
 /// The commands that there are.
-pub(crate) fn command_line<'a>(alloc: Global) -> Result<Command<'a>, AllocError> {
+pub fn command_line<'a>(alloc: Global) -> Result<Command<'a>, AllocError> {
     let command = Command::new(alloc, "sparkplug")
         .about(ABOUT)
         .version("0.3.0")
