@@ -144,10 +144,12 @@ Status: 0 is done; 1 is a fault, printed as `fault NAME (number)`, or output tha
 
 /// A command that takes hexadecimal digits, as a word or in a file.
 fn on_digits<'a>(alloc: Global, name: &'a str, digits: &'a str) -> Result<Command<'a>, AllocError> {
+    let command = Command::new(alloc, name);
     let hex = Arg::new(alloc, "hex")
         .value_name("HEX")
         .help(digits)
         .action(ArgAction::Set);
+    let command = command.arg(hex)?;
     let file = Arg::new(alloc, "file")
         .long("file")
         .value_name("NAME")
@@ -155,16 +157,18 @@ fn on_digits<'a>(alloc: Global, name: &'a str, digits: &'a str) -> Result<Comman
             "Reads HEX from a file of at most 1,048,576 bytes; white space at its end is passed over",
         )
         .action(ArgAction::Set);
+    let command = command.arg(file)?;
     // one of both, and not both
     let either = ArgGroup::new(alloc, "digits")
         .arg("hex")?
         .arg("file")?
         .required(true);
-    Command::new(alloc, name).arg(hex)?.arg(file)?.group(either)
+    command.group(either)
 }
 
 fn show<'a>(alloc: Global) -> Result<Command<'a>, AllocError> {
     let digits = "The payload's bytes in hexadecimal, of either case";
+    let command = on_digits(alloc, "show", digits)?;
     let birth = Arg::new(alloc, "birth")
         .long("birth")
         .value_name("HEX")
@@ -172,13 +176,14 @@ fn show<'a>(alloc: Global) -> Result<Command<'a>, AllocError> {
             "Reads the values by the datatypes of this birth's payload, as a host application does",
         )
         .action(ArgAction::Set);
+    let command = command.arg(birth)?;
     let file = Arg::new(alloc, "birth-file")
         .long("birth-file")
         .value_name("NAME")
         .help("Reads that HEX from a file")
         .conflicts_with("birth")?
         .action(ArgAction::Set);
-    let command = on_digits(alloc, "show", digits)?.arg(birth)?.arg(file)?;
+    let command = command.arg(file)?;
     Ok(
         command
             .about("Prints a payload and its metrics")
@@ -197,6 +202,7 @@ fn packets<'a>(alloc: Global) -> Result<Command<'a>, AllocError> {
 }
 
 fn serve<'a>(alloc: Global) -> Result<Command<'a>, AllocError> {
+    let command = Command::new(alloc, "serve");
     let port = Arg::new(alloc, "port")
         .long("port")
         .value_name("N")
@@ -204,6 +210,7 @@ fn serve<'a>(alloc: Global) -> Result<Command<'a>, AllocError> {
         .required(true)
         .value_parser(value_parser!(u16).range(1..=65535))
         .action(ArgAction::Set);
+    let command = command.arg(port)?;
     let clients = Arg::new(alloc, "clients")
         .long("clients")
         .value_name("K")
@@ -212,18 +219,19 @@ fn serve<'a>(alloc: Global) -> Result<Command<'a>, AllocError> {
         .value_parser(value_parser!(u16).range(1..=1000))
         .conflicts_with("stay")?
         .action(ArgAction::Set);
+    let command = command.arg(clients)?;
     let stay = Arg::new(alloc, "stay")
         .long("stay")
         .help("Serves for ever, 1000 clients at once at most; a signal ends it")
         .action(ArgAction::SetTrue);
+    let command = command.arg(stay)?;
     let bind = Arg::new(alloc, "bind")
         .long("bind")
         .value_name("ADDRESS")
         .help("The IP address that it listens on")
         .default_value("127.0.0.1")
         .action(ArgAction::Set);
-    let command = Command::new(alloc, "serve").arg(port)?.arg(clients)?;
-    let command = command.arg(stay)?.arg(bind)?;
+    let command = command.arg(bind)?;
     Ok(
         command
             .about("Runs an MQTT 3.1.1 broker (QoS 0 and 1)")
@@ -239,6 +247,7 @@ fn with_broker<'a>(alloc: Global, command: Command<'a>) -> Result<Command<'a>, A
         .help("A broker; several are tried in turn")
         .required(true)
         .action(ArgAction::Append);
+    let command = command.arg(broker)?;
     let keep = Arg::new(alloc, "keep-alive")
         .long("keep-alive")
         .value_name("SECONDS")
@@ -246,32 +255,37 @@ fn with_broker<'a>(alloc: Global, command: Command<'a>) -> Result<Command<'a>, A
         .default_value("30")
         .value_parser(value_parser!(u16))
         .action(ArgAction::Set);
+    let command = command.arg(keep)?;
     let user = Arg::new(alloc, "user")
         .long("user")
         .value_name("NAME")
         .help("The user name that it says")
         .action(ArgAction::Set);
+    let command = command.arg(user)?;
     let password = Arg::new(alloc, "password-file")
         .long("password-file")
         .value_name("NAME")
         .help("Reads the password from a file; white space at its end is passed over")
         .requires_arg("user")?
         .action(ArgAction::Set);
-    command.arg(broker)?.arg(keep)?.arg(user)?.arg(password)
+    command.arg(password)
 }
 
 fn edge<'a>(alloc: Global) -> Result<Command<'a>, AllocError> {
+    let command = Command::new(alloc, "edge");
     let file = Arg::new(alloc, "file")
         .value_name("FILE")
         .help("The edge node, as JSON of at most 1,048,576 bytes")
         .required(true)
         .action(ArgAction::Set);
+    let command = command.arg(file)?;
     let record = Arg::new(alloc, "record")
         .long("record")
         .value_name("NAME")
         .help("The file of its record: made where there is none")
         .required(true)
         .action(ArgAction::Set);
+    let command = command.arg(record)?;
     let kept = Arg::new(alloc, "kept")
         .long("kept")
         .value_name("NAME")
@@ -279,7 +293,6 @@ fn edge<'a>(alloc: Global) -> Result<Command<'a>, AllocError> {
             "The file in which values, devices and kept changes survive: made where there is none",
         )
         .action(ArgAction::Set);
-    let command = Command::new(alloc, "edge").arg(file)?.arg(record)?;
     let command = command.arg(kept)?;
     Ok(
         with_broker(alloc, command)?
@@ -289,18 +302,21 @@ fn edge<'a>(alloc: Global) -> Result<Command<'a>, AllocError> {
 }
 
 fn host<'a>(alloc: Global) -> Result<Command<'a>, AllocError> {
+    let command = Command::new(alloc, "host");
     let group = Arg::new(alloc, "group")
         .long("group")
         .value_name("G")
         .help("The group whose nodes it follows")
         .required(true)
         .action(ArgAction::Set);
+    let command = command.arg(group)?;
     let name = Arg::new(alloc, "name")
         .long("name")
         .value_name("H")
         .help("Its name: its STATE is published under it, and it is its client identifier")
         .required(true)
         .action(ArgAction::Set);
+    let command = command.arg(name)?;
     let wait = Arg::new(alloc, "wait")
         .long("wait")
         .value_name("MILLISECONDS")
@@ -308,6 +324,7 @@ fn host<'a>(alloc: Global) -> Result<Command<'a>, AllocError> {
         .default_value("2000")
         .value_parser(value_parser!(u64))
         .action(ArgAction::Set);
+    let command = command.arg(wait)?;
     let width = Arg::new(alloc, "width")
         .long("width")
         .value_name("N")
@@ -315,20 +332,21 @@ fn host<'a>(alloc: Global) -> Result<Command<'a>, AllocError> {
         .default_value("1")
         .value_parser(value_parser!(u8).range(1..=96))
         .action(ArgAction::Set);
+    let command = command.arg(width)?;
     let count = Arg::new(alloc, "count")
         .long("count")
         .value_name("N")
         .help("Ends once it has consumed so many messages")
         .value_parser(value_parser!(u64).range(1..))
         .action(ArgAction::Set);
+    let command = command.arg(count)?;
     let silence = Arg::new(alloc, "silence")
         .long("silence")
         .value_name("SECONDS")
         .help("Tells a node's values to be stale once nothing of it came for so long")
         .value_parser(value_parser!(u32).range(1..))
         .action(ArgAction::Set);
-    let command = Command::new(alloc, "host").arg(group)?.arg(name)?;
-    let command = command.arg(wait)?.arg(width)?.arg(count)?.arg(silence)?;
+    let command = command.arg(silence)?;
     Ok(
         with_broker(alloc, command)?
             .about(
@@ -374,12 +392,11 @@ pub fn command_line<'a>(alloc: Global) -> Result<Command<'a>, AllocError> {
         .after_help(STATUSES)
         .subcommand_required(true)
         .arg_required_else_help(true);
-    command
-        .subcommand(show(alloc)?)?
-        .subcommand(packets(alloc)?)?
-        .subcommand(world(alloc)?)?
-        .subcommand(plant(alloc)?)?
-        .subcommand(serve(alloc)?)?
-        .subcommand(edge(alloc)?)?
-        .subcommand(host(alloc)?)
+    let command = command.subcommand(show(alloc)?)?;
+    let command = command.subcommand(packets(alloc)?)?;
+    let command = command.subcommand(world(alloc)?)?;
+    let command = command.subcommand(plant(alloc)?)?;
+    let command = command.subcommand(serve(alloc)?)?;
+    let command = command.subcommand(edge(alloc)?)?;
+    command.subcommand(host(alloc)?)
 }
