@@ -7,3 +7,10 @@ mod Joining
 mod Plans
 mod Sends
 mod Whom
+mod Summing
+mod Facts
+mod Ledger
+mod Runs
+mod Pairs
+mod Routed
+mod Fates

@@ -1,10 +1,18 @@
 //! Laws of the definitions alone: functions that do nothing, whose contracts speak of definitions.
-ghost use Rattle.std.specs.Prelude.{◌≡◌, ◌≤◌, ℕ, List, true};
+ghost use Rattle.std.specs.Prelude.{◌≡◌, ◌+◌, ◌≤◌, ℕ, Bool, List, [], ◌∷◌, ◌++◌, Option, Some, true, false, length};
 ghost use Rattle.std.specs.List.{AllByRecursion};
-ghost use Rattle.spk_broker_rules.specs.Data.{Broker, Send};
-ghost use Rattle.spk_broker_rules.specs.Plan.{Event};
+ghost use Rattle.std.specs.Option.{option_map};
+ghost use Rattle.spk_packets.specs.Message.{Connect, Disconnect, WillData};
+ghost use Rattle.spk_broker_rules.specs.Data.{Broker, Post, Send};
+ghost use Rattle.spk_broker_rules.specs.Knowing.{IsWelcomed};
+ghost use Rattle.spk_broker_rules.specs.Listening.{is_joined};
+ghost use Rattle.spk_broker_rules.specs.Past.{Past, retained, routed};
+ghost use Rattle.spk_broker_rules.specs.Plan.{Event, Packet};
 ghost use Rattle.spk_broker_rules.specs.Step.{after, all_grants, knows, step};
+ghost use Rattle.spk_broker_rules.specs.Telling.{Leads, Telling, may_be};
+ghost use Rattle.spk_broker_rules.specs.Words.{will_post};
 ghost use Rattle.spk_broker_limits.specs.Limits.{IsBounded, IsOfKnown, IsWithin, KeepsItsCopies, Singles, kept_count};
+ghost use Rattle.spk_broker_limits.specs.Wills.{all_lost, all_taken, count, disconnects, lost, messages, of_conn, taken, will_in};
 
 use spk_broker_rules::laws;
 
@@ -41,3 +49,67 @@ pub fn known()
     ensures sends { (b : Broker) (e : Event) → IsOfKnown b e → AllByRecursion (λ (s : Send). knows b s.conn ≡ true) (step b e).sends }
     ensures closes { (b : Broker) (e : Event) → IsOfKnown b e → AllByRecursion (λ conn. knows b conn ≡ true) (step b e).closes }
 {}
+
+/// What is routed, for every limit of drops and every list of events, newest first, each of which might come: but for the order, the message of each
+/// PUBLISH that is taken, once, and the will of each connection that ends otherwise than by its DISCONNECT, once (MQTT 3.1.1, 3.1.2.5, 3.3 and 3.14).
+/// However one counts messages, so many were routed. What routing one message sends is `told_one`'s to say.
+pub fn routing()
+    // by an event: `routed` is read off its telling
+    ensures at_once { (limit : ℕ) (es : List Event) (h : Past) (e : Event) → Leads limit es h → may_be h e ≡ true
+        → (t : Telling limit h e) (such : Post → Bool)
+        → count such (routed t.end.past)
+        ≡ count such (routed h) + (count such (taken (after limit es) e) + count such (messages (lost (after limit es) e))) }
+
+    // which sends, closes and retains what `step` does
+    ensures told { (limit : ℕ) (es : List Event) (h : Past) (e : Event) → Leads limit es h → may_be h e ≡ true → (t : Telling limit h e)
+        → (t.end.sends ≡ (step (after limit es) e).sends) × (t.end.closes ≡ (step (after limit es) e).closes)
+        × (retained t.end.past ≡ (step (after limit es) e).broker.retained) }
+
+    // in all
+    ensures in_all { (limit : ℕ) (es : List Event) (h : Past) → Leads limit es h → (such : Post → Bool)
+        → count such (routed h) ≡ count such (all_taken limit es) + count such (messages (all_lost limit es)) }
+{
+    laws::any_list();
+    laws::knowing();
+}
+
+/// An accepted will is routed exactly once unless a DISCONNECT came: which of the wills that `routing` speaks of are those of one connection, for every
+/// limit of drops and every list of events, newest first (MQTT 3.1.1, 3.1.2.5 and 3.14).
+pub fn wills()
+    // a connection whose CONNECT isn't turned away has the will that this brought
+    ensures accepted { (limit : ℕ) (es : List Event) (h : Past) (conn moment : ℕ) (client : List ℕ) (clean : Bool) (alive : ℕ)
+        (will : Option WillData) → Leads limit (Packet conn (Connect client clean alive will) moment ∷ es) h
+        → is_joined (after limit es) conn ≡ false → IsWelcomed (after limit es) client clean alive will
+        → will_in (after limit (Packet conn (Connect client clean alive will) moment ∷ es)) conn ≡ option_map will_post will }
+
+    // and keeps it while it is joined
+    ensures same { (limit : ℕ) (es : List Event) (e : Event) (h : Past) (conn : ℕ) → Leads limit (e ∷ es) h
+        → is_joined (after limit es) conn ≡ true → is_joined (after limit (e ∷ es)) conn ≡ true
+        → will_in (after limit (e ∷ es)) conn ≡ will_in (after limit es) conn }
+
+    // no event routes a will of a connection whose CONNECT wasn't accepted
+    ensures unjoined { (limit : ℕ) (es : List Event) (e : Event) (conn : ℕ) → is_joined (after limit es) conn ≡ false
+        → of_conn conn (lost (after limit es) e) ≡ [] }
+
+    // a will is routed at most once
+    ensures once { (limit : ℕ) (es : List Event) (conn : ℕ) → length (of_conn conn (all_lost limit es)) ≤ 1 }
+
+    // not yet while its connection is joined
+    ensures stands { (limit : ℕ) (es : List Event) (conn : ℕ) → is_joined (after limit es) conn ≡ true
+        → of_conn conn (all_lost limit es) ≡ [] }
+
+    // never where its DISCONNECT came, whatever comes later
+    ensures discarded { (limit : ℕ) (es later : List Event) (conn moment : ℕ) → is_joined (after limit es) conn ≡ true
+        → of_conn conn (all_lost limit (later ++ Packet conn Disconnect moment ∷ es)) ≡ [] }
+
+    // and exactly once where another event ended it: by that event, and whatever comes later
+    ensures ended { (limit : ℕ) (es later : List Event) (e : Event) (conn : ℕ) (will : Post) → is_joined (after limit es) conn ≡ true
+        → will_in (after limit es) conn ≡ Some will → is_joined (after limit (e ∷ es)) conn ≡ false → disconnects conn e ≡ false
+        → (of_conn conn (lost (after limit es) e) ≡ (conn, will) ∷ [])
+        × (of_conn conn (all_lost limit (later ++ e ∷ es)) ≡ (conn, will) ∷ []) }
+{
+    laws::any_list();
+    laws::knowing();
+    laws::joining();
+    laws::staying();
+}

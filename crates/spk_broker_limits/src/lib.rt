@@ -1,4 +1,5 @@
-//! What a broker holds at most, whatever comes, and to whom it sends: laws over every list of events (own rules; MQTT 3.1.1, chapter 4).
+//! What a broker holds at most, whatever comes, to whom it sends, and what it routes: laws over every list of events (own rules; MQTT 3.1.1,
+//! chapters 3 and 4).
 #![tactic(auto)]
 
 pub mod laws;

@@ -1,0 +1,88 @@
+-- The wills of connections: which of them an event routes, and what else it routes (MQTT 3.1.1, 3.1.2.5 and 3.14).
+use Rattle.std.specs.Prelude.{ℕ, ◌==◌, Bool, true, false, not, ◌&&◌, List, [], ◌∷◌, ◌++◌, map, length, Option, Some, None, is_some, if◌then◌else◌}
+use Rattle.std.specs.List.{filter, flat_map}
+use Rattle.std.specs.Option.{option_map_or}
+use Rattle.spk_packets.specs.Fault.{first_of}
+use Rattle.spk_packets.specs.Message.{Message, Connect, ConnAck, Publish, PubAck, Subscribe, SubAck, Unsubscribe, UnsubAck, PingReq, PingResp, Disconnect}
+use Rattle.spk_packets.specs.Spelling.{unwritable}
+use Rattle.spk_topics.specs.Text.{topic_refusal}
+use Rattle.spk_broker_rules.specs.Data.{Post, Line, Seat, Broker}
+use Rattle.spk_broker_rules.specs.Words.{option_list}
+use Rattle.spk_broker_rules.specs.Plan.{Event, Open, Packet, Fault, Closed, Tick, Refused}
+use Rattle.spk_broker_rules.specs.Listening.{is_disconnect, is_joined}
+use Rattle.spk_broker_rules.specs.Step.{after, seat_at, step}
+
+-- the will of a connection whose CONNECT was accepted, where it has one
+abbrev pub will_in : Broker → ℕ → Option Post
+will_in b conn = option_map_or (λ (s : Seat). option_map_or (λ (l : Line). l.will) s.here None) (seat_at conn b.seats) None
+
+-- the event is this connection's DISCONNECT
+abbrev pub disconnects : ℕ → Event → Bool
+disconnects conn (Open moment) = false
+disconnects conn (Packet d p moment) = d == conn && is_disconnect p
+disconnects conn (Fault d f moment) = false
+disconnects conn (Closed d moment) = false
+disconnects conn (Tick moment) = false
+disconnects conn (Refused d s moment) = false
+
+-- the connection is joined no more behind the event, which isn't its DISCONNECT
+abbrev pub is_lost : Broker → Event → ℕ → Bool
+is_lost b e conn = not (is_joined (step b e).broker conn) && not (disconnects conn e)
+
+-- its will beside its number, where these connections are meant
+abbrev pub will_where : (ℕ → Bool) → Line → List (ℕ × Post)
+will_where meant l = if meant l.conn then map (λ (will : Post). (l.conn, will)) (option_list l.will) else []
+
+-- the wills of the joined connections that are meant, in the order of sessions
+abbrev pub wills_where : (ℕ → Bool) → List Seat → List (ℕ × Post)
+wills_where meant seats = flat_map (λ (s : Seat). option_map_or (will_where meant) s.here []) seats
+
+-- the wills of the connections that an event ends otherwise than by DISCONNECT
+abbrev pub lost : Broker → Event → List (ℕ × Post)
+lost b e = wills_where (is_lost b e) b.seats
+
+-- those of a list of events, newest first
+abbrev pub all_lost : ℕ → List Event → List (ℕ × Post)
+all_lost limit [] = []
+all_lost limit (e ∷ es) = lost (after limit es) e ++ all_lost limit es
+
+-- the message of a PUBLISH on a topic name
+abbrev pub message_of : Message → List Post
+message_of (Connect client clean alive will) = []
+message_of (ConnAck present code) = []
+message_of (Publish dup qos retain topic id payload) =
+    if is_some (topic_refusal topic) then [] else record { topic = topic; payload = payload; qos = qos; retain = retain } ∷ []
+message_of (PubAck id) = []
+message_of (Subscribe id entries) = []
+message_of (SubAck id codes) = []
+message_of (Unsubscribe id filters) = []
+message_of (UnsubAck id) = []
+message_of PingReq = []
+message_of PingResp = []
+message_of Disconnect = []
+
+-- the message of a packet that can be written, of a connection whose CONNECT was accepted
+abbrev pub taken : Broker → Event → List Post
+taken b (Open moment) = []
+taken b (Packet conn p moment) =
+    if is_some (first_of (unwritable p)) then [] else if is_joined b conn then message_of p else []
+taken b (Fault conn f moment) = []
+taken b (Closed conn moment) = []
+taken b (Tick moment) = []
+taken b (Refused conn s moment) = []
+
+-- those of a list of events, newest first
+abbrev pub all_taken : ℕ → List Event → List Post
+all_taken limit [] = []
+all_taken limit (e ∷ es) = taken (after limit es) e ++ all_taken limit es
+
+-- how many of these messages are such
+abbrev pub count : (Post → Bool) → List Post → ℕ
+count such posts = length (filter such posts)
+
+abbrev pub messages : List (ℕ × Post) → List Post
+messages wills = map (λ (w : ℕ × Post). w.1) wills
+
+-- the wills of this connection among them
+abbrev pub of_conn : ℕ → List (ℕ × Post) → List (ℕ × Post)
+of_conn conn wills = filter (λ (w : ℕ × Post). w.0 == conn) wills
