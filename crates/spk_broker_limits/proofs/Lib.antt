@@ -14,3 +14,4 @@ mod Runs
 mod Pairs
 mod Routed
 mod Fates
+mod Numbers

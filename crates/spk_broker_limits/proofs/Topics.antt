@@ -11,7 +11,7 @@ use Rattle.spk_broker_rules.specs.Table.{Table, has, put, remove, replaced}
 use Rattle.spk_broker_rules.specs.Words.{stored, most_topics, granted_of, offers_to}
 use Rattle.spk_broker_rules.specs.Plan.{Event, Act, Opens, At, Hear, Drop, Say, Leave, Tell, Queue, Route, Forget, Accept, Give, Take, Ack, before, plan}
 use Rattle.spk_broker_rules.specs.Step.{Turn, act, acts, after, step, noted, begun, seen, leave_at, seat_at, is_guest, is_away, forget_at, line_of, take_up, away_for, accept_of, other_grants, give_at, take_at, ack_at, offer, offer_at, with_key, retain_in, retained_with, route_one, route_some, route}
-use Rattle.spk_broker_limits.specs.Limits.{AreApart, IsBounded}
+use Rattle.spk_broker_limits.specs.Limits.{AreApart, IsBounded, IsFull, in_its_place}
 
 -- ---- tables
 
@@ -204,3 +204,29 @@ stepped b e h = kept_by_all (plan (seen (noted b e).broker e) e) (noted b e) (ke
 pub always : (limit : ℕ) (es : List Event) → IsBounded (after limit es).retained
 always limit [] = record { few = omega arith; apart = tt }
 always limit (e ∷ es) = stepped (after limit es) e (always limit es)
+
+-- ---- a topic that has one
+
+pub replaces : (table : Table Stored) (m : Post) → m.retain ≡ true → is_empty m.payload ≡ false → has m.topic table ≡ true → retained_with table m ≡ in_its_place m table
+replaces table m r p h =
+    ap (λ b. cond b (retain_in table m) table) r
+    ∙ ap (λ b. cond b (remove m.topic table) (cond (has m.topic table || ltb (length table) most_topics) (put m.topic (stored m) table) table)) p
+    ∙ ap (λ b. cond (b || ltb (length table) most_topics) (put m.topic (stored m) table) table) h
+    ∙ ap (λ b. cond b (map (replaced m.topic (stored m)) table) (table ++ (m.topic, stored m) ∷ [])) h
+
+full : (table : Table Stored) → IsFull table → ltb (length table) most_topics ≡ false
+full table n = by (ltb (length table) most_topics) refl
+  where
+    by : (b : Bool) → ltb (length table) most_topics ≡ b → b ≡ false
+    by true e = let few : length table < 10000 = ltb-true (length table) most_topics e in absurd (omega arith)
+    by false e = refl
+
+pub leaves : (table : Table Stored) (m : Post) → is_empty m.payload ≡ false → has m.topic table ≡ false → IsFull table → retained_with table m ≡ table
+leaves table m p h n = by m.retain
+  where
+    by : (b : Bool) → cond b (retain_in table m) table ≡ table
+    by true =
+        ap (λ b. cond b (remove m.topic table) (cond (has m.topic table || ltb (length table) most_topics) (put m.topic (stored m) table) table)) p
+        ∙ ap (λ b. cond (b || ltb (length table) most_topics) (put m.topic (stored m) table) table) h
+        ∙ ap (λ b. cond b (put m.topic (stored m) table) table) (full table n)
+    by false = refl

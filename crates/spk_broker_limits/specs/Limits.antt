@@ -2,10 +2,11 @@
 use Rattle.std.specs.Prelude.{◌≡◌, ◌≢◌, ℕ, ◌≤◌, true, false, List, [], ◌∷◌, map, length}
 use Rattle.std.specs.List.{AllByRecursion, filter}
 use Rattle.spk_packets.specs.Spelling.{is_empty}
-use Rattle.spk_broker_rules.specs.Data.{Broker, Copy, Seat, Stored}
+use Rattle.spk_broker_rules.specs.Data.{Broker, Copy, Post, Seat, Stored}
 use Rattle.spk_broker_rules.specs.Plan.{Event, Open, Packet, Fault, Closed, Tick, Refused}
 use Rattle.spk_broker_rules.specs.Step.{knows}
-use Rattle.spk_broker_rules.specs.Table.{Table, has}
+use Rattle.spk_broker_rules.specs.Table.{Table, has, replaced}
+use Rattle.spk_broker_rules.specs.Words.{stored}
 
 -- at most 1,024 packet identifiers are in use
 abbrev pub IsWithin : Seat → Type 0
@@ -25,6 +26,14 @@ AreApart (e ∷ es) = (has e.0 es ≡ false) × AreApart es
 pub record IsBounded (retained : Table Stored) : Type 0 where
   pub few : length retained ≤ 10000
   pub apart : AreApart retained
+
+-- as many topics have a retained message as may have one
+abbrev pub IsFull : Table Stored → Type 0
+IsFull retained = 10000 ≤ length retained
+
+-- the retained messages with this one in the place of its topic's
+abbrev pub in_its_place : Post → Table Stored → Table Stored
+in_its_place m retained = map (replaced m.topic (stored m)) retained
 
 -- no two sessions have one client id, but for the empty one
 abbrev pub Singles : List Seat → Type 0

@@ -1,17 +1,23 @@
 //! Laws of the definitions alone: functions that do nothing, whose contracts speak of definitions.
-ghost use Rattle.std.specs.Prelude.{◌≡◌, ◌+◌, ◌≤◌, ℕ, Bool, List, [], ◌∷◌, ◌++◌, Option, Some, true, false, length};
+ghost use Rattle.std.specs.Prelude.{◌≡◌, ◌+◌, ◌≤◌, ℕ, suc, Bool, List, [], ◌∷◌, ◌++◌, Option, Some, is_some, true, false, length};
 ghost use Rattle.std.specs.List.{AllByRecursion};
 ghost use Rattle.std.specs.Option.{option_map};
-ghost use Rattle.spk_packets.specs.Message.{Connect, Disconnect, WillData};
-ghost use Rattle.spk_broker_rules.specs.Data.{Broker, Post, Send};
+ghost use Rattle.spk_packets.specs.Fault.{first_of};
+ghost use Rattle.spk_packets.specs.Message.{Connect, Disconnect, PubAck, WillData};
+ghost use Rattle.spk_packets.specs.Spelling.{is_empty, unwritable};
+ghost use Rattle.spk_session.specs.PacketIds.{next_id};
+ghost use Rattle.spk_session.specs.Step.{has_room};
+ghost use Rattle.spk_broker_rules.specs.Data.{Broker, Post, Seat, Send};
 ghost use Rattle.spk_broker_rules.specs.Knowing.{IsWelcomed};
 ghost use Rattle.spk_broker_rules.specs.Listening.{is_joined};
 ghost use Rattle.spk_broker_rules.specs.Past.{Past, retained, routed};
 ghost use Rattle.spk_broker_rules.specs.Plan.{Event, Packet};
-ghost use Rattle.spk_broker_rules.specs.Step.{after, all_grants, knows, step};
+ghost use Rattle.spk_broker_rules.specs.Step.{Turn, after, all_grants, conn_at, knows, route_one, serve, step};
+ghost use Rattle.spk_broker_rules.specs.Table.{has};
 ghost use Rattle.spk_broker_rules.specs.Telling.{Leads, Telling, may_be};
-ghost use Rattle.spk_broker_rules.specs.Words.{will_post};
-ghost use Rattle.spk_broker_limits.specs.Limits.{IsBounded, IsOfKnown, IsWithin, KeepsItsCopies, Singles, kept_count};
+ghost use Rattle.spk_broker_rules.specs.Words.{best, level, numbered_packet, sent_as, to_line, will_post};
+ghost use Rattle.spk_broker_limits.specs.Identifiers.{GoesOn, HasIds, HasNext, acked_ids, ids_in};
+ghost use Rattle.spk_broker_limits.specs.Limits.{IsBounded, IsFull, IsOfKnown, IsWithin, KeepsItsCopies, Singles, in_its_place, kept_count};
 ghost use Rattle.spk_broker_limits.specs.Wills.{all_lost, all_taken, count, disconnects, lost, messages, of_conn, taken, will_in};
 
 use spk_broker_rules::laws;
@@ -29,6 +35,40 @@ pub fn sessions()
 pub fn retained()
     ensures { (limit : ℕ) (es : List Event) → IsBounded (after limit es).retained }
 {}
+
+/// A retained message takes the place of its topic's, whatever number of topics have one; on a further topic it is left out where 10,000 have one
+/// (MQTT 3.1.1, 3.3.1.3; the number is our own rule). That is so of each message that is routed, whenever.
+pub fn replacing()
+    ensures present { (m : Post) (t : Turn) → m.retain ≡ true → is_empty m.payload ≡ false → has m.topic t.broker.retained ≡ true
+        → (route_one m t).broker.retained ≡ in_its_place m t.broker.retained }
+    ensures further { (m : Post) (t : Turn) → is_empty m.payload ≡ false → has m.topic t.broker.retained ≡ false → IsFull t.broker.retained
+        → (route_one m t).broker.retained ≡ t.broker.retained }
+{}
+
+/// Packet identifiers of sessions (MQTT 3.1.1, 2.3.1): for every limit of drops and every list of events, newest first, they are distinct and go on
+/// behind the one given last, also behind an acknowledgement.
+pub fn identifiers()
+    // those in use of one session are from 1 to 65,535, no two are equal, and they are at most 1,024
+    ensures distinct { (limit : ℕ) (es : List Event) → AllByRecursion HasIds (after limit es).seats }
+
+    // the next one is the first behind the one given last that isn't in use
+    ensures next { (limit : ℕ) (es : List Event) → AllByRecursion HasNext (after limit es).seats }
+
+    // so the one behind it, where that isn't in use, and not the smallest that isn't
+    ensures goes_on { (limit : ℕ) (es : List Event) → AllByRecursion GoesOn (after limit es).seats }
+
+    // a message that is routed to a session at QoS 1 goes out with the next one, which is then the one given last
+    ensures sent { (m : Post) (s : Seat) (q : ℕ) → level m.qos (best m.topic s.grants) ≡ Some (suc q) → has_room s.used ≡ true
+        → ((serve m s).sends ≡ to_line (conn_at s) (numbered_packet false (next_id s.used s.last) (sent_as m (suc q) false)))
+        × AllByRecursion (λ (t : Seat). t.last ≡ next_id s.used s.last) (serve m s).left }
+
+    // PUBACK takes one out of use, and leaves which was given last
+    ensures acknowledged { (b : Broker) (conn id moment : ℕ) → is_some (first_of (unwritable (PubAck id))) ≡ false
+        → is_joined b conn ≡ true
+        → ids_in (step b (Packet conn (PubAck id) moment)).broker conn ≡ option_map (acked_ids id) (ids_in b conn) }
+{
+    spk_session::laws::any_list();
+}
 
 /// For every limit of drops and every list of events at most 10,000 filters are granted, of all sessions together.
 pub fn grants()
