@@ -1,6 +1,6 @@
 -- What each fact changes of the connections that sit, and of their wills.
-use Rattle.std.proofs.Common.{◌≡◌, ◌≢◌, ◌⊎◌, inl, inr, ℕ, zero, suc, ◌+◌, ◌≤◌, ◌<◌, ◌==◌, Bool, true, false, cond, List, [], ◌∷◌, ◌++◌, map, length, refl, sym, ap, ◌∙◌, subst, arith, append_assoc, Option, Some, None}
-use Rattle.std.specs.List.{filter, find, fold, flat_map}
+use Rattle.std.proofs.Common.{◌≡◌, ◌≢◌, inl, inr, ℕ, zero, suc, ◌+◌, ◌≤◌, ◌<◌, ◌==◌, Bool, true, false, cond, List, [], ◌∷◌, ◌++◌, length, refl, sym, ap, ◌∙◌, subst, arith, append_assoc, Option, Some, None}
+use Rattle.std.specs.List.{filter, flat_map}
 use Rattle.std.specs.Option.{is_some}
 use Rattle.std.proofs.lemmas.Bool.{ne_eqb}
 use Rattle.std.proofs.lemmas.Bool.Decides.{eqb_tells}
@@ -8,8 +8,8 @@ use Rattle.spk_session.specs.PacketIds.{next_id}
 use Rattle.spk_session.specs.Step.{has_room, without}
 use Rattle.spk_broker_rules.specs.Data.{Post}
 use Rattle.spk_broker_rules.specs.Words.{best, level, sent_as, option_list}
-use Rattle.spk_broker_rules.specs.Past.{Past, OfSession, Routed, Deed, Made, Joined, Left, Over, Granted, TakenBack, Numbered, Acked, Joining, deeds, made, is_making, made_by, sessions, here, routed, used, last_id, grants}
-use Rattle.spk_broker_rules.specs.Story.{Share, share, share_at, given_at, ends_at, numbers, session_facts, will_of}
+use Rattle.spk_broker_rules.specs.Past.{Past, OfSession, Deed, Made, Joined, Left, Over, Granted, TakenBack, Numbered, Acked, Joining, deeds, made, is_making, made_by, sessions, here, routed, used, last_id, grants}
+use Rattle.spk_broker_rules.specs.Story.{share, share_at, given_at, ends_at, numbers, session_facts, will_of}
 use Rattle.spk_broker_limits.specs.Wills.{count}
 use Rattle.spk_broker_limits.proofs.Summing.{Told, same, none_some, is_the, sum, bit, times, sum_same, sum_off, sum_at, sum_more, times_more, sum_without, times_without, times_other}
 

@@ -1,6 +1,6 @@
 -- What becomes of the will of each connection: routed at most once, not while it is joined, and not behind its DISCONNECT.
-use Rattle.std.proofs.Common.{◌≡◌, ◌≢◌, ◌⊎◌, inl, inr, ℕ, zero, suc, ◌+◌, ◌≤◌, ◌==◌, Bool, true, false, not, ◌&&◌, ◌||◌, cond, List, [], ◌∷◌, ◌++◌, map, length, refl, sym, ap, ◌∙◌, subst, arith, append_assoc, Option, Some, None}
-use Rattle.std.specs.List.{filter, find, list_any}
+use Rattle.std.proofs.Common.{◌≡◌, ◌⊎◌, inl, inr, ℕ, zero, suc, ◌+◌, ◌≤◌, ◌==◌, Bool, true, false, not, ◌&&◌, ◌||◌, cond, List, [], ◌∷◌, ◌++◌, map, length, refl, sym, ap, ◌∙◌, subst, arith, Option, Some, None}
+use Rattle.std.specs.List.{filter, find}
 use Rattle.std.specs.Option.{option_map, option_map_or, is_some}
 use Rattle.std.proofs.lemmas.Bool.Decides.{eqb_tells}
 use Rattle.spk_packets.specs.Message.{Connect, Disconnect, WillData}
@@ -15,7 +15,7 @@ use Rattle.spk_broker_rules.specs.Step.{after, is_guest, knows, seat_at, sits, s
 use Rattle.spk_broker_rules.specs.Telling.{Leads}
 use Rattle.spk_broker_limits.specs.Wills.{all_lost, disconnects, is_lost, lost, of_conn, will_in, will_where, wills_where}
 use Rattle.spk_broker_limits.proofs.Totals.{found}
-use Rattle.spk_broker_limits.proofs.Summing.{Told, same, none_some, is_the, yes_no, bit, times, passes, Pair, has, pair_at, Apart}
+use Rattle.spk_broker_limits.proofs.Summing.{Told, same, none_some, is_the, yes_no, times, passes, Pair, has, pair_at, Apart}
 use Rattle.spk_broker_limits.proofs.Facts.{Tidy}
 use Rattle.spk_broker_limits.proofs.Runs.{Old, SaysIn, runs}
 use Rattle.spk_broker_limits.proofs.Pairs.{pair_of, pairs_in, pairs, has_session, member, has_found}

@@ -1,16 +1,16 @@
 -- Each act keeps the sum of what was routed, what waits and the wills of the connections that sit, but for what it brings or discards.
-use Rattle.std.proofs.Common.{◌≡◌, ◌≢◌, ◌⊎◌, inl, inr, ℕ, zero, suc, ◌+◌, ◌≤◌, ◌<◌, ◌==◌, Bool, true, false, not, ◌&&◌, cond, List, [], ◌∷◌, ◌++◌, map, length, refl, sym, ap, ◌∙◌, subst, arith, Option, Some, None}
-use Rattle.std.specs.List.{filter, find, fold, flat_map}
+use Rattle.std.proofs.Common.{◌≡◌, inl, inr, ℕ, ◌+◌, ◌≤◌, ◌==◌, Bool, true, false, not, ◌&&◌, List, [], ◌∷◌, ◌++◌, refl, sym, ap, ◌∙◌, subst, arith, Option, Some, None}
+use Rattle.std.specs.List.{find, fold, flat_map}
 use Rattle.std.specs.Option.{is_some}
 use Rattle.std.proofs.lemmas.Bool.Decides.{eqb_tells}
 use Rattle.spk_broker_rules.specs.Data.{Post}
 use Rattle.spk_broker_rules.specs.Words.{option_list, granted_of, offers_to}
 use Rattle.spk_broker_rules.specs.Plan.{Act, Opens, At, Hear, Drop, Say, Leave, Tell, Queue, Route, Forget, Accept, Give, Take, Ack}
-use Rattle.spk_broker_rules.specs.Past.{Past, OfSession, Routed, Deed, Made, Joined, Left, Over, Granted, TakenBack, Acked, Joining, deeds, made, sessions, here, routed, kept, guests, grants, retained, session_at, sits_at, is_of}
-use Rattle.spk_broker_rules.specs.Story.{Story, note, session_facts, told_one, Routes, nothing_waits, goes_on, will_of, leaving, told_leave, is_away, told_forget, away_for, told_take_up, told_accept, gift, stands, told_offer, told_offer_at, other_pairs, granting, told_give, taking_back, told_take, told_ack, Tells, TellsAll}
+use Rattle.spk_broker_rules.specs.Past.{Past, OfSession, Made, Joined, Granted, TakenBack, Acked, Joining, deeds, made, sessions, here, routed, kept, grants, retained, session_at, sits_at, is_of}
+use Rattle.spk_broker_rules.specs.Story.{Story, note, session_facts, told_one, Routes, nothing_waits, goes_on, will_of, leaving, told_leave, is_away, told_forget, away_for, told_take_up, gift, stands, told_offer, told_offer_at, other_pairs, granting, told_give, taking_back, told_take, told_ack, Tells, TellsAll}
 use Rattle.spk_broker_limits.specs.Wills.{count}
-use Rattle.spk_broker_limits.proofs.Summing.{Told, same, none_some, yes_no, bit, times, found_times, passes}
-use Rattle.spk_broker_limits.proofs.Facts.{count_append, worth, standing, Tidy, Keeps, kept_joined, plain_sum, plain_tidy, plain_grown, over_grown, left_grown, left_over, given_grown, made_sum, made_tidy, made_once, joined_sum, joined_tidy, kept_fact, deed_at, Round, all_facts, all_freed, round}
+use Rattle.spk_broker_limits.proofs.Summing.{Told, same, none_some, yes_no, times, found_times, passes}
+use Rattle.spk_broker_limits.proofs.Facts.{count_append, worth, standing, Tidy, Keeps, kept_joined, plain_sum, plain_grown, over_grown, left_grown, left_over, given_grown, made_sum, made_tidy, made_once, joined_sum, joined_tidy, kept_fact, deed_at, all_facts, all_freed, round}
 
 -- what was routed, what waits, and the wills of who sits
 abbrev pub ledger : (Post → Bool) → Story → ℕ

@@ -15,3 +15,5 @@ mod Pairs
 mod Routed
 mod Fates
 mod Numbers
+mod Rows
+mod Alone

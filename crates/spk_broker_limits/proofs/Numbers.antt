@@ -1,6 +1,6 @@
 -- Packet identifiers of a session: distinct, and going on behind the one given last.
-use Rattle.std.proofs.Common.{◌≡◌, ◌≢◌, ◌⊎◌, inl, inr, ℕ, zero, suc, ◌+◌, ◌%◌, ◌≤◌, ◌<◌, ◌==◌, Bool, true, false, not, ◌||◌, cond, eqb, List, [], ◌∷◌, ◌++◌, map, length, refl, sym, ap, ◌∙◌, subst, arith, Option, Some, None, eq-eqb, ne_eqb}
-use Rattle.std.specs.List.{filter, find, list_any, AllByRecursion, IsDistinct}
+use Rattle.std.proofs.Common.{◌≡◌, inl, inr, ℕ, zero, suc, ◌+◌, ◌<◌, ◌==◌, Bool, true, false, not, ◌||◌, cond, eqb, List, [], ◌∷◌, ◌++◌, map, length, refl, sym, ap, ◌∙◌, subst, arith, Option, Some, None, eq-eqb, ne_eqb}
+use Rattle.std.specs.List.{filter, list_any, AllByRecursion, IsDistinct}
 use Rattle.std.specs.Option.{option_map, option_map_or, is_some}
 use Rattle.std.specs.Cmp.{IsEquivalence}
 use Rattle.std.proofs.lemmas.Bool.{ltb-true, cases_eq}
@@ -10,16 +10,17 @@ use Rattle.std.proofs.lemmas.List.Elements.{All-nil, All-push, All-filter}
 use Rattle.std.proofs.lemmas.List.Sums.{length-filter, count_by-le-length}
 use Rattle.std.proofs.lemmas.Map.Keys.{IsDistinct-push}
 use Rattle.spk_packets.specs.Fault.{first_of}
-use Rattle.spk_packets.specs.Message.{Message, PubAck}
+use Rattle.spk_packets.specs.Message.{PubAck}
 use Rattle.spk_packets.specs.Spelling.{unwritable}
 use Rattle.spk_session.specs.PacketIds.{AreIds, IsId, IsNextFree, id_after, is_in, next_id}
 use Rattle.spk_session.specs.Step.{has_room, without}
 use Rattle.spk_broker_rules.specs.Data.{Post, Line, Seat, Broker}
 use Rattle.spk_broker_rules.specs.Listening.{is_joined}
-use Rattle.spk_broker_rules.specs.Plan.{Event, Packet, Act, Ack, shut, first_packet, next_packet, packet, Seen}
+use Rattle.spk_broker_rules.specs.Plan.{Event, Packet, Ack, shut, first_packet, next_packet, Seen}
 use Rattle.spk_broker_rules.specs.Words.{best, level, numbered_packet, sent_as, to_line, without_id}
 use Rattle.spk_broker_rules.specs.Step.{Turn, Served, ack_at, acts, after, bursts, conn_at, hand_at, line_heard, noted, numbered, seat_at, seen, serve, serve_at, sits, step, swap}
 use Rattle.spk_broker_limits.specs.Identifiers.{GoesOn, HasIds, HasNext, acked_ids, ids_in}
+use Rattle.spk_broker_limits.proofs.Plans.{heard_conn}
 use Rattle.spk_broker_limits.proofs.Summing.{Told, same, none_some, is_the, yes_no, passes}
 use Rattle.spk_broker_limits.proofs.Seats.{Keeps, All, always}
 
@@ -173,13 +174,6 @@ heard c f keep change (s ∷ ss) = by (heard c f keep change ss)
     by rest =
         ap (λ b. option_map (ids_of change) (cond b (Some (record s { here = option_map f s.here })) (seat_at c (map (λ (u : Seat). record u { here = option_map f u.here }) ss)))) (same_line s.here)
         ∙ on (option_map_or (λ (l : Line). l.conn == c) s.here false) rest
-
-heard_conn : (conn clock : ℕ) (l : Line) → (line_heard conn clock l).conn ≡ l.conn
-heard_conn conn clock l = by (l.conn == conn)
-  where
-    by : (b : Bool) → (cond b (record l { heard = clock }) l).conn ≡ l.conn
-    by true = refl
-    by false = refl
 
 gone_ids : (c id : ℕ) (t : Turn) → is_some (seat_at c t.broker.seats) ≡ true → option_map (ids_of (λ used. used)) (seat_at c (ack_at (seat_at c t.broker.seats) id t).broker.seats) ≡ option_map (ids_of (without id)) (seat_at c t.broker.seats)
 gone_ids c id t j = by (seat_at c t.broker.seats) refl j

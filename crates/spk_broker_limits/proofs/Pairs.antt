@@ -1,16 +1,16 @@
 -- Connections that sit, each with its will: what the past says, and what the data say.
-use Rattle.std.proofs.Common.{◌≡◌, ◌⊎◌, inl, inr, ℕ, ◌+◌, ◌≤◌, ◌==◌, Bool, true, false, not, ◌&&◌, ◌||◌, cond, List, [], ◌∷◌, ◌++◌, map, length, refl, sym, ap, ◌∙◌, subst, arith, Option, Some, None}
+use Rattle.std.proofs.Common.{◌≡◌, inl, inr, ℕ, ◌+◌, ◌≤◌, ◌==◌, Bool, true, false, ◌||◌, cond, List, [], ◌∷◌, ◌++◌, map, length, refl, sym, ap, ◌∙◌, subst, arith, Option, Some, None}
 use Rattle.std.specs.List.{filter, find, flat_map, AllByRecursion}
 use Rattle.std.specs.Option.{option_map, option_map_or, is_some}
 use Rattle.std.proofs.lemmas.Bool.Decides.{eqb_tells}
 use Rattle.std.proofs.lemmas.List.{map-append}
-use Rattle.spk_broker_rules.specs.Data.{Post, Line, Seat}
+use Rattle.spk_broker_rules.specs.Data.{Post, Line}
 use Rattle.spk_broker_rules.specs.Words.{option_list}
 use Rattle.spk_broker_rules.specs.Past.{Past, Joining, deeds, sessions, here, line_of, seat_of, sits_at, session_at}
 use Rattle.spk_broker_rules.specs.Step.{sits}
 use Rattle.spk_broker_limits.specs.Wills.{count, messages, will_where, wills_where}
-use Rattle.spk_broker_limits.proofs.Summing.{Told, same, none_some, is_the, yes_no, bit, sum, times, passes, found_times, Pair, total, named, has, pair_at, Apart, total_append, named_append, only, only_none, only_one, none_has, also_in, within}
-use Rattle.spk_broker_limits.proofs.Facts.{count_append, worth, standing}
+use Rattle.spk_broker_limits.proofs.Summing.{Told, same, none_some, yes_no, bit, sum, times, passes, found_times, Pair, total, named, has, pair_at, Apart, total_append, named_append, only, only_none, only_one, none_has}
+use Rattle.spk_broker_limits.proofs.Facts.{count_append, worth}
 use Rattle.spk_broker_limits.proofs.Ledger.{worth_at}
 
 abbrev pub pair_of : Option Joining → List Pair

@@ -28,14 +28,14 @@ as_long : (a b : Bool) (s x : Seat) (n m : List Seat) → a ≡ b → length n �
 as_long true b s x n m e h = subst (λ c. suc (length n) ≡ length (cond c (s ∷ m) m)) e (ap suc h)
 as_long false b s x n m e h = subst (λ c. length n ≡ length (cond c (s ∷ m) m)) e h
 
-mapped : (f : Line → Line) → ((l : Line) → (f l).conn ≡ l.conn) → (conn : ℕ) (ss : List Seat)
+pub mapped : (f : Line → Line) → ((l : Line) → (f l).conn ≡ l.conn) → (conn : ℕ) (ss : List Seat)
     → length (filter (sits conn) (map (λ (s : Seat). record s { here = option_map f s.here }) ss)) ≡ length (filter (sits conn) ss)
 mapped f same conn [] = refl
 mapped f same conn (s ∷ ss) =
     as_long (sits conn (record s { here = option_map f s.here })) (sits conn s) s (record s { here = option_map f s.here })
     (filter (sits conn) (map (λ (u : Seat). record u { here = option_map f u.here }) ss)) (filter (sits conn) ss) (on_line f same conn s.here) (mapped f same conn ss)
 
-heard_conn : (conn clock : ℕ) (l : Line) → (line_heard conn clock l).conn ≡ l.conn
+pub heard_conn : (conn clock : ℕ) (l : Line) → (line_heard conn clock l).conn ≡ l.conn
 heard_conn conn clock l = by (l.conn == conn)
   where
     by : (b : Bool) → (cond b (record l { heard = clock }) l).conn ≡ l.conn

@@ -1,13 +1,13 @@
 -- What is routed: the message of each PUBLISH that is taken, and the will of each connection that ends otherwise than by its DISCONNECT.
-use Rattle.std.proofs.Common.{◌≡◌, ◌⊎◌, inl, inr, ℕ, zero, suc, ◌+◌, ◌≤◌, ◌==◌, Bool, true, false, not, ◌&&◌, ◌||◌, cond, List, [], ◌∷◌, ◌++◌, map, length, refl, sym, ap, ◌∙◌, subst, arith, Option, Some, None}
-use Rattle.std.specs.List.{filter, find, list_any}
+use Rattle.std.proofs.Common.{◌≡◌, inl, inr, ℕ, zero, suc, ◌+◌, ◌≤◌, ◌==◌, Bool, true, false, not, ◌&&◌, ◌||◌, cond, List, [], ◌∷◌, ◌++◌, map, length, refl, sym, ap, ◌∙◌, subst, arith, Option, Some, None}
+use Rattle.std.specs.List.{filter, list_any}
 use Rattle.std.specs.Option.{is_some}
 use Rattle.std.proofs.lemmas.Bool.Decides.{eqb_tells}
 use Rattle.std.proofs.lemmas.List.{map-append}
 use Rattle.spk_packets.specs.Fault.{first_of}
-use Rattle.spk_packets.specs.Message.{Message, Connect, ConnAck, Publish, PubAck, Subscribe, SubAck, Unsubscribe, UnsubAck, PingReq, PingResp, Disconnect}
+use Rattle.spk_packets.specs.Message.{Message, Disconnect}
 use Rattle.spk_packets.specs.Spelling.{unwritable}
-use Rattle.spk_broker_rules.specs.Data.{Post, Seat, Broker}
+use Rattle.spk_broker_rules.specs.Data.{Post, Broker}
 use Rattle.spk_broker_rules.specs.Words.{option_list}
 use Rattle.spk_broker_rules.specs.Lawful.{IsLawful}
 use Rattle.spk_broker_rules.specs.Plan.{Event, Open, Packet, Fault, Closed, Tick, Refused}
@@ -16,11 +16,10 @@ use Rattle.spk_broker_rules.specs.Listening.{is_disconnect, is_joined, lets_go}
 use Rattle.spk_broker_rules.specs.Step.{is_guest, sits, seat_at, after, step, knows}
 use Rattle.spk_broker_rules.specs.Telling.{Telling, Leads, may_be}
 use Rattle.spk_broker_limits.specs.Wills.{count, messages, message_of, disconnects, is_lost, wills_where, lost, all_lost, taken, all_taken}
-use Rattle.spk_broker_limits.proofs.Summing.{Told, same, none_some, is_the, yes_no, bit, times, Pair, total, named, has, pair_at, Apart, total_same, total_both, total_none, total_append, named_append, only, has_none, none_has, also_in, within}
+use Rattle.spk_broker_limits.proofs.Summing.{Told, same, none_some, yes_no, bit, times, Pair, total, named, has, pair_at, Apart, total_same, total_both, total_none, total_append, named_append, only, none_has, also_in, within}
 use Rattle.spk_broker_limits.proofs.Facts.{count_append, worth, standing, Tidy}
-use Rattle.spk_broker_limits.proofs.Ledger.{worth_at}
-use Rattle.spk_broker_limits.proofs.Runs.{Old, Sits, Run, gives_up, brought, brought_by, discards, runs}
-use Rattle.spk_broker_limits.proofs.Pairs.{pair_of, pairs_in, pairs, weight, standing_is, has_session, member, all_found, alone, has_found, named_seats, has_seat, where_, wills_are}
+use Rattle.spk_broker_limits.proofs.Runs.{Old, Sits, gives_up, brought, discards, runs}
+use Rattle.spk_broker_limits.proofs.Pairs.{pair_of, pairs, weight, standing_is, has_session, member, all_found, alone, has_found, named_seats, has_seat, where_, wills_are}
 
 -- ---- lists
 

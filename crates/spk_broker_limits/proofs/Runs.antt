@@ -10,14 +10,14 @@ use Rattle.spk_topics.specs.Text.{filter_refusal, topic_refusal}
 use Rattle.spk_session.specs.declared.answer.Sort.TheVariants as sort
 use Rattle.spk_broker_rules.specs.Data.{Post}
 use Rattle.spk_broker_rules.specs.Words.{will_post}
-use Rattle.spk_broker_rules.specs.Plan.{Event, Open, Packet, Fault, Closed, Tick, Refused, Act, Opens, Leave, Tell, Queue, Say, Give, Take, Ack, Route, Forget, Accept, Seen, shut, turn_away, take_over, tell_older, join, connect, has_bad_topic, has_bad_filter, is_bad_level, is_fatal, first_packet, next_packet, packet, puback, bad_bytes, tick, refused, plan}
+use Rattle.spk_broker_rules.specs.Plan.{Event, Open, Packet, Fault, Closed, Tick, Refused, Act, Opens, Leave, Tell, Queue, Say, Give, Take, Ack, Route, Forget, Accept, Seen, shut, turn_away, take_over, tell_older, join, connect, has_bad_topic, has_bad_filter, is_bad_level, first_packet, next_packet, packet, puback, plan}
 use Rattle.spk_broker_rules.specs.Past.{Past, Moment, OfConn, Heard, Dropped, Joining, clock, deeds, sessions, here, routed, guests, session_at, seen_in}
 use Rattle.spk_broker_rules.specs.Story.{Story, told_take, told_ack, told_forget, told_accept, told_take_up, away_for, is_away, Tells, TellsAll}
 use Rattle.spk_broker_rules.specs.Telling.{Telling, story_at}
 use Rattle.spk_broker_limits.specs.Wills.{count, message_of}
 use Rattle.spk_broker_limits.proofs.Summing.{Told, yes_no, times, passes}
-use Rattle.spk_broker_limits.proofs.Facts.{count_append, worth, standing, Tidy, Keeps}
-use Rattle.spk_broker_limits.proofs.Ledger.{ledger, Same, Done, itself, next, routes, Less, worth_at, discarded, forgot, joining, Came, came, IsFair, AllFair, fair, fair_all}
+use Rattle.spk_broker_limits.proofs.Facts.{worth, standing, Tidy, Keeps}
+use Rattle.spk_broker_limits.proofs.Ledger.{ledger, Done, itself, next, routes, Less, worth_at, discarded, joining, Came, came, AllFair, fair, fair_all}
 
 -- ---- lists of acts
 

@@ -1,11 +1,12 @@
 -- The wills of connections: which of them an event routes, and what else it routes (MQTT 3.1.1, 3.1.2.5 and 3.14).
-use Rattle.std.specs.Prelude.{ℕ, ◌==◌, Bool, true, false, not, ◌&&◌, List, [], ◌∷◌, ◌++◌, map, length, Option, Some, None, is_some, if◌then◌else◌}
+use Rattle.std.specs.Prelude.{ℕ, ◌==◌, Bool, false, not, ◌&&◌, List, [], ◌∷◌, ◌++◌, map, length, Option, None, is_some, if◌then◌else◌}
 use Rattle.std.specs.List.{filter, flat_map}
-use Rattle.std.specs.Option.{option_map_or}
+use Rattle.std.specs.Option.{option_map, option_map_or}
 use Rattle.spk_packets.specs.Fault.{first_of}
 use Rattle.spk_packets.specs.Message.{Message, Connect, ConnAck, Publish, PubAck, Subscribe, SubAck, Unsubscribe, UnsubAck, PingReq, PingResp, Disconnect}
 use Rattle.spk_packets.specs.Spelling.{unwritable}
 use Rattle.spk_topics.specs.Text.{topic_refusal}
+use Rattle.spk_session.specs.declared.answer.Sort.TheVariants as sort
 use Rattle.spk_broker_rules.specs.Data.{Post, Line, Seat, Broker}
 use Rattle.spk_broker_rules.specs.Words.{option_list}
 use Rattle.spk_broker_rules.specs.Plan.{Event, Open, Packet, Fault, Closed, Tick, Refused}
@@ -86,3 +87,21 @@ messages wills = map (λ (w : ℕ × Post). w.1) wills
 -- the wills of this connection among them
 abbrev pub of_conn : ℕ → List (ℕ × Post) → List (ℕ × Post)
 of_conn conn wills = filter (λ (w : ℕ × Post). w.0 == conn) wills
+
+-- a connection without its will, where it is this one
+abbrev pub unwilled : ℕ → Line → Line
+unwilled conn l = if l.conn == conn then record l { will = None } else l
+
+-- the same data, but that this connection has no will
+abbrev pub without_will : ℕ → Broker → Broker
+without_will conn b = record b { seats = map (λ (s : Seat). record s { here = option_map (unwilled conn) s.here }) b.seats }
+
+-- The event ends this connection by itself: it is gone, what came is no packet, or a send to it that isn't a QoS 0 PUBLISH was refused.
+abbrev pub is_its_end : ℕ → Event → Bool
+is_its_end conn (Open moment) = false
+is_its_end conn (Packet d p moment) = false
+is_its_end conn (Fault d f moment) = d == conn
+is_its_end conn (Closed d moment) = d == conn
+is_its_end conn (Tick moment) = false
+is_its_end conn (Refused d sort.QosZero moment) = false
+is_its_end conn (Refused d sort.Other moment) = d == conn

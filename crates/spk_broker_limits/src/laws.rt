@@ -9,16 +9,17 @@ ghost use Rattle.spk_session.specs.PacketIds.{next_id};
 ghost use Rattle.spk_session.specs.Step.{has_room};
 ghost use Rattle.spk_broker_rules.specs.Data.{Broker, Post, Seat, Send};
 ghost use Rattle.spk_broker_rules.specs.Knowing.{IsWelcomed};
+ghost use Rattle.spk_broker_rules.specs.Lawful.{IsLawful};
 ghost use Rattle.spk_broker_rules.specs.Listening.{is_joined};
 ghost use Rattle.spk_broker_rules.specs.Past.{Past, retained, routed};
 ghost use Rattle.spk_broker_rules.specs.Plan.{Event, Packet};
-ghost use Rattle.spk_broker_rules.specs.Step.{Turn, after, all_grants, conn_at, knows, route_one, serve, step};
+ghost use Rattle.spk_broker_rules.specs.Step.{Turn, after, all_grants, conn_at, knows, route, route_one, serve, step};
 ghost use Rattle.spk_broker_rules.specs.Table.{has};
 ghost use Rattle.spk_broker_rules.specs.Telling.{Leads, Telling, may_be};
-ghost use Rattle.spk_broker_rules.specs.Words.{best, level, numbered_packet, sent_as, to_line, will_post};
+ghost use Rattle.spk_broker_rules.specs.Words.{best, level, numbered_packet, option_list, sent_as, to_line, will_post};
 ghost use Rattle.spk_broker_limits.specs.Identifiers.{GoesOn, HasIds, HasNext, acked_ids, ids_in};
 ghost use Rattle.spk_broker_limits.specs.Limits.{IsBounded, IsFull, IsOfKnown, IsWithin, KeepsItsCopies, Singles, in_its_place, kept_count};
-ghost use Rattle.spk_broker_limits.specs.Wills.{all_lost, all_taken, count, disconnects, lost, messages, of_conn, taken, will_in};
+ghost use Rattle.spk_broker_limits.specs.Wills.{all_lost, all_taken, count, disconnects, is_its_end, lost, messages, of_conn, taken, will_in, without_will};
 
 use spk_broker_rules::laws;
 
@@ -131,6 +132,14 @@ pub fn wills()
     ensures unjoined { (limit : ℕ) (es : List Event) (e : Event) (conn : ℕ) → is_joined (after limit es) conn ≡ false
         → of_conn conn (lost (after limit es) e) ≡ [] }
 
+    // what a will adds to an event that ends its connection by itself is that it is routed then, and what follows from that: data, sends and closes
+    ensures adds { (b : Broker) (conn : ℕ) (e : Event) → IsLawful b → is_joined b conn ≡ true → is_its_end conn e ≡ true
+        → step b e ≡ route (record (step (without_will conn b) e) { waiting = option_list (will_in b conn) }) }
+
+    // and to its DISCONNECT it adds nothing
+    ensures forgotten { (b : Broker) (conn moment : ℕ) → IsLawful b → is_joined b conn ≡ true
+        → step b (Packet conn Disconnect moment) ≡ step (without_will conn b) (Packet conn Disconnect moment) }
+
     // a will is routed at most once
     ensures once { (limit : ℕ) (es : List Event) (conn : ℕ) → length (of_conn conn (all_lost limit es)) ≤ 1 }
 
@@ -152,4 +161,5 @@ pub fn wills()
     laws::knowing();
     laws::joining();
     laws::staying();
+    laws::routing();
 }
