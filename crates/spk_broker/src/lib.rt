@@ -13,6 +13,7 @@ mod desk;
 mod ending;
 mod events;
 mod fault;
+mod figures;
 mod firsts;
 mod fitting;
 mod following;

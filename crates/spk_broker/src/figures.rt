@@ -1,0 +1,20 @@
+//! How much a broker keeps.
+ghost use Rattle.std.specs.Prelude.{◌≡◌, length};
+
+use crate::broker::Broker;
+
+impl Broker {
+    /// How many sessions there are, clean and kept ones, with and without a connection (section 3.1.2.4).
+    pub fn sessions(&self) -> usize
+        ensures { result ≡ length self.now.seats }
+    {
+        self.desk.seats.len()
+    }
+
+    /// How many topics have a retained message (section 3.3.1.3).
+    pub fn retained(&self) -> usize
+        ensures { result ≡ length self.now.retained }
+    {
+        self.desk.retained.len()
+    }
+}
