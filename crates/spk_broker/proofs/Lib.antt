@@ -27,6 +27,7 @@ pub mod Passing
 pub mod Places
 pub mod Quiet
 pub mod Refilled
+pub mod Requested
 pub mod Retained
 pub mod Rounds
 pub mod Routes

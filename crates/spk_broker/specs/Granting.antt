@@ -1,13 +1,10 @@
 -- Grants in the midst of a SUBSCRIBE.
 use Rattle.std.specs.Prelude.{ℕ, ◌+◌, nat_lt, Bool, ◌||◌, List, [], ◌∷◌, ◌++◌, length, map, if◌then◌else◌, min, Option, Some, None}
 use Rattle.std.specs.List.{fold}
-use Rattle.std.specs.String.{string_bytes}
-use Rattle.std.specs.Str.{bytes_eq}
 use Rattle.spk_broker_rules.specs.Data as plain
 use Rattle.spk_broker_rules.specs.Table.{Table, has, remove}
 use Rattle.spk_broker_rules.specs.Words.{codes_of, granted, granted_of, is_granted, most_grants, with_entry}
 use Rattle.spk_broker.specs.Parts.{grant_view}
-use Rattle.spk_broker.specs.declared.seat.Grant.{Grant}
 use Rattle.spk_broker.specs.declared.granting.Granting.{Granting}
 
 -- the grants, the codes, and the entries that were granted so far
@@ -42,10 +39,6 @@ regranted grants s = record s { grants = grants }
 abbrev pub standing_grants : Option plain.Seat → Table ℕ
 standing_grants None = []
 standing_grants (Some s) = s.grants
-
--- a grant with another QoS, where it is of this filter
-abbrev pub renewed : List ℕ → ℕ → Grant → Grant
-renewed name qos g = if bytes_eq (string_bytes g.filter) name then record g { qos = qos } else g
 
 -- a session without the grants of these filters
 abbrev pub without_grants : List (List ℕ) → plain.Seat → plain.Seat

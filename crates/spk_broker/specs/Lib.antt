@@ -24,5 +24,6 @@ pub mod Sent
 pub mod Settling
 pub mod Sitting
 pub mod Sizes
+pub mod Tables
 pub mod Touched
 pub mod View

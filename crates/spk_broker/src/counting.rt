@@ -11,7 +11,8 @@ ghost use Rattle.spk_broker.specs.Counting.{grants_in};
 ghost use Rattle.spk_broker.specs.Filters.{AreFilters};
 ghost use Rattle.spk_broker.specs.Granting.{granting_view};
 
-use crate::granting::{Granting, copied};
+use crate::granting::Granting;
+use crate::requests::Requests;
 use crate::seat::Seat;
 use spk_packets::Request;
 use std::alloc::{AllocError, Global};
@@ -57,11 +58,11 @@ fn count_others(seats: &[Seat], place: usize) -> usize
 }
 
 /// The grants of the session at a place after a SUBSCRIBE, the codes of SUBACK, and the entries that were granted.
-pub(crate) fn granted(
+pub(crate) fn granted<'a>(
     alloc: Global,
-    seats: &[Seat],
+    seats: &'a [Seat],
     place: usize,
-    entries: &[Request],
+    entries: &'a [Request],
 ) -> Result<Granting, AllocError>
     requires place { place < length seats.now }
     requires filters { AreFilters (map request_view entries.now) }
@@ -78,11 +79,7 @@ pub(crate) fn granted(
         })) }
 {
     let others = count_others(seats, place);
-    let mut granting = Granting {
-        grants: copied(alloc, seats[place].grants())?,
-        codes: Vec::new(alloc),
-        given: Vec::new(alloc),
-    };
-    granting.request_all(others, entries)?;
-    Ok(granting)
+    let mut requests = Requests::new(alloc, seats[place].grants())?;
+    requests.request_all(others, entries)?;
+    Ok(requests.settled())
 }

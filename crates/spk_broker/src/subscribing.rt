@@ -17,7 +17,7 @@ ghost use Rattle.spk_broker.specs.declared.out.Draft.{Draft};
 
 use crate::desk::Desk;
 use crate::ending::Ending;
-use crate::granting::{copied, take_all};
+use crate::granting::without;
 use crate::out::{Conn, Draft};
 use crate::seat::Seat;
 use spk_packets::Packet;
@@ -60,8 +60,7 @@ fn take_in(
         (without_grants (map (λ name. string_bytes name) names.now)) (seats_now seats.old)) }
     ensures touched { AreTouched (place ∷ []) seats.old → AreTouched (place ∷ []) seats.new }
 {
-    let mut grants = copied(alloc, seats[place].grants())?;
-    take_all(&mut grants, names);
+    let grants = without(alloc, seats[place].grants(), names)?;
     seats[place].set_grants(grants);
     Ok(())
 }

@@ -1,4 +1,4 @@
-use Rattle.std.proofs.Common.{◌≡◌, ◌∙◌, ap, map, subst, refl, get_or, string_bytes}
+use Rattle.std.proofs.Common.{◌≡◌, ◌∙◌, map, subst, refl, get_or, string_bytes}
 use Rattle.std.specs.List.{fold}
 use Rattle.std.specs.Option.{IfSome}
 use Rattle.spk_broker_rules.specs.Data as plain
@@ -22,8 +22,7 @@ returns-clause-now c = λ low top r.
     let bs = c.args.seats.now in
     let i = c.args.place in
     let names = map (λ name. string_bytes name) c.args.names.now in
-    let new : map grant_view c.take_all.new.grants.items ≡ fold taken_from (map grant_view c.grants.result.now) names =
-    c.take_all.ensures ∙ ap (λ g. fold taken_from g names) c.in_ok-grants.ensures in
+    let new : map grant_view c.in_ok-grants.grants.items ≡ fold taken_from (map grant_view c.grants.result.now) names = c.in_ok-grants.ensures in
     let here : (get_or bs i c.index-seats-place.result).now ≡ (get_or bs i c.index-seats-place-2.result).now =
     same-there seat_here (sits c.args.conn) bs i c.index-seats-place.result c.index-seats-place-2.result c.requires in
     let some : IfSome (get_or bs i c.index-seats-place-2.result).now (λ s. map grant_view c.grants.result.now ≡ s.grants) =
