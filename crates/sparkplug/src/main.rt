@@ -75,7 +75,8 @@ fn main(rt: HostRuntime) -> io::Result<ExitCode> {
             bind,
             port,
             clients,
-        } => serve_clients(&rt, bind, port, clients, &mut writer),
+            status,
+        } => serve_clients(&rt, bind, port, clients, status, &mut writer, &mut notes),
         Outcome::Plant(plan) => plant(&rt, plan, &mut writer),
         Outcome::Edge(plan) => {
             let mut disks = MachineDisks { rt: &rt };

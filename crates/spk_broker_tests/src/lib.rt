@@ -6,11 +6,15 @@ mod beside_twin;
 #[cfg(test)]
 mod broker;
 #[cfg(test)]
+mod causes;
+#[cfg(test)]
 mod hostile;
 #[cfg(test)]
 mod indexed;
 #[cfg(test)]
 mod limits;
+#[cfg(test)]
+mod page;
 #[cfg(test)]
 mod pressure;
 #[cfg(test)]

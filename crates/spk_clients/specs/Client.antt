@@ -13,6 +13,8 @@ use Rattle.spk_session.specs.declared.answer.Sort.TheVariants.{QosZero, Other}
 use Rattle.spk_outbox.specs.Data.{first_room, fresh_outbox}
 use Rattle.spk_outbox.specs.Step.{put, written}
 use Rattle.spk_outbox.specs.Waits.{began, ended, fresh_waits, lasts}
+use Rattle.spk_clients.specs.declared.cause.Cause.{Cause}
+use Rattle.spk_clients.specs.declared.cause.Cause.TheVariants.{Gone}
 use Rattle.spk_clients.specs.declared.client.Client.{Client}
 use Rattle.spk_clients.specs.declared.client.Phase.{Phase}
 use Rattle.spk_clients.specs.declared.client.Phase.TheVariants.{Quiet, Open, Over, Done}
@@ -25,6 +27,7 @@ fresh_client until = record {
   feed = [];
   outbox = fresh_outbox;
   until = until;
+  cause = Gone;
   touched = false;
   cut = false;
   unacknowledged = 0;
@@ -128,8 +131,9 @@ is_done c = (length c.outbox.packets == 0) || c.cut
 
 -- ---- its end
 
-abbrev pub over_until : ℕ → Client → Client
-over_until until c = if is_over c then c else record c { phase = Over; until = until }
+-- of two ends the first counts, and its cause
+abbrev pub over_until : ℕ → Cause → Client → Client
+over_until until cause c = if is_over c then c else record c { phase = Over; until = until; cause = cause }
 
 -- its end came, and its socket isn't to be shut yet
 abbrev pub is_leaving : Phase → Bool
@@ -141,6 +145,17 @@ is_leaving Done = false
 -- its socket is to be shut from now on
 abbrev pub settles : Client → Bool
 settles c = is_leaving c.phase && is_done c
+
+-- its socket is to be shut
+abbrev pub is_shut : Phase → Bool
+is_shut Quiet = false
+is_shut Open = false
+is_shut Over = false
+is_shut Done = true
+
+-- why its end came, where its socket is to be shut
+abbrev pub cause_done : Client → Option Cause
+cause_done c = if is_shut c.phase then Some c.cause else None
 
 abbrev pub settled : Client → Client
 settled c = if settles c then record c { phase = Done } else c
@@ -169,9 +184,9 @@ cut_off c = settled (record c { cut = true })
 abbrev pub untouched : Client → Client
 untouched c = record c { touched = false }
 
--- its end comes: it may read what is left until this moment
-abbrev pub leaves : ℕ → Client → Client
-leaves until c = settled (over_until until c)
+-- its end comes, for this cause: it may read what is left until this moment
+abbrev pub leaves : ℕ → Cause → Client → Client
+leaves until cause c = settled (over_until until cause c)
 
 -- ---- what comes of it
 

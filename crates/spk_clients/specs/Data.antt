@@ -3,6 +3,7 @@ use Rattle.std.specs.Prelude.{◌≡◌, ◌≢◌, ◌<◌, ◌≤◌, ◌⊎�
 use Rattle.std.specs.Option.{option_map, option_map_or, IfSome}
 use Rattle.std.specs.HashMap.{get, hash_map_len, spare}
 use Rattle.spk_session.specs.declared.answer.Sort.{Sort}
+use Rattle.spk_clients.specs.declared.cause.Cause.{Cause}
 use Rattle.spk_clients.specs.declared.client.Client.{Client}
 use Rattle.spk_clients.specs.declared.client.Phase.{Phase}
 use Rattle.spk_clients.specs.declared.client.Offered.{Offered}
@@ -11,7 +12,7 @@ use Rattle.spk_clients.specs.declared.clients.Clients.{Clients}
 use Rattle.spk_outbox.specs.Data.{waiting}
 use Rattle.spk_packets.specs.declared.packet.Packet.{Packet}
 use Rattle.spk_packets.specs.declared.fault.PacketFault.{PacketFault}
-use Rattle.spk_clients.specs.Client.{GivesFront, IsOffered, has_moment, is_due, is_untold, most_number}
+use Rattle.spk_clients.specs.Client.{GivesFront, IsOffered, cause_done, has_moment, is_due, is_untold, most_number}
 
 abbrev pub client_at : Clients → ℕ → Option Client
 client_at cs k = get nat_eq cs.table k
@@ -68,6 +69,10 @@ AllStay old new = (k : ℕ) → client_at new k ≡ client_at old k
 -- how far a client is; none that isn't there
 abbrev pub phase_at : Clients → ℕ → Option Phase
 phase_at cs k = option_map (λ (c : Client). c.phase) (client_at cs k)
+
+-- why the end of a client came whose socket is to be shut; none where there is no such client
+abbrev pub cause_at : Clients → ℕ → Option Cause
+cause_at cs k = option_map_or cause_done (client_at cs k) None
 
 -- the bytes that are still to be written to a client
 abbrev pub waiting_at : Clients → ℕ → List ℕ

@@ -4,8 +4,9 @@ ghost use Rattle.spk_packets.specs.Fault.{first_of, IsNamed};
 ghost use Rattle.spk_packets.specs.Refusals.{refusals};
 ghost use Rattle.spk_packets.specs.declared.fault.PacketFault.TheVariants as PacketFault;
 ghost use Rattle.spk_packets.specs.View.{view};
-ghost use Rattle.spk_clients.specs.Client.{GivesFront, IsOffered, after_hearing, fresh_client, given_up, has_many, has_moment, has_some, is_done, is_due, is_leaving, is_numbered, is_over, is_untold, over_until, settled, settles, sort_untold, told};
+ghost use Rattle.spk_clients.specs.Client.{GivesFront, IsOffered, after_hearing, cause_done, fresh_client, given_up, has_many, has_moment, has_some, is_done, is_due, is_leaving, is_numbered, is_over, is_untold, over_until, settled, settles, sort_untold, told};
 
+use crate::cause::Cause;
 use spk_bytes::Bytes;
 use spk_outbox::{Outbox, Patience};
 use spk_packets::{Feed, Packet, PacketFault};
@@ -50,6 +51,8 @@ pub struct Client {
     pub outbox: Outbox,
     /// When it is to be shut, in milliseconds; only looked at while it is Quiet or Over.
     pub until: u64,
+    /// Why its end came; only looked at where it came.
+    pub cause: Cause,
     /// It is among those to whom something is to be written.
     pub touched: bool,
     /// Its socket takes no more.
@@ -85,6 +88,7 @@ impl Client {
             feed: Feed::new(alloc),
             outbox,
             until,
+            cause: Cause::Gone,
             touched: false,
             cut: false,
             unacknowledged: 0,
@@ -187,13 +191,14 @@ impl Client {
         !self.is_over() && (self.outbox.len() >= FEW || (!own && self.unacknowledged >= FEW))
     }
 
-    /// Its end came: what is left may be read until this moment.
-    pub fn end(&mut self, until: u64)
-        ensures { self.new ≡ over_until until self.old }
+    /// Its end came: what is left may be read until this moment. Where its end came before, nothing changes.
+    pub fn end(&mut self, until: u64, cause: Cause)
+        ensures { self.new ≡ over_until until cause self.old }
     {
         if !self.is_over() {
             self.phase = Phase::Over;
             self.until = until;
+            self.cause = cause;
         }
     }
 
@@ -219,6 +224,16 @@ impl Client {
             return true;
         }
         false
+    }
+
+    /// Why its end came, where its socket is to be shut.
+    pub fn done(&self) -> Option<Cause>
+        ensures { result ≡ cause_done self.now }
+    {
+        if self.phase == Phase::Done {
+            return Some(self.cause);
+        }
+        None
     }
 
     /// Whether there is a moment at which it is to be shut.

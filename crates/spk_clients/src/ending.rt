@@ -2,23 +2,23 @@
 ghost use Rattle.std.specs.Prelude.{◌≡◌, ◌≢◌, ◌≤◌, ℕ, nat_eq, Some, None, OnOk, IfSome, IfNone, true, false};
 ghost use Rattle.std.specs.Option.{option_map, option_map_or};
 ghost use Rattle.std.specs.HashMap.{get};
-ghost use Rattle.spk_clients.specs.declared.client.Phase.TheVariants as Phase;
-ghost use Rattle.spk_clients.specs.Client.{given_up, is_due, leaves};
-ghost use Rattle.spk_clients.specs.Data.{AllStay, AreNoted, Becomes, IsSoonest, NobodyIsDue, OthersStay, client_at, phase_at};
+ghost use Rattle.spk_clients.specs.Client.{cause_done, given_up, is_due, leaves};
+ghost use Rattle.spk_clients.specs.Data.{AllStay, AreNoted, Becomes, IsSoonest, NobodyIsDue, OthersStay, cause_at, client_at, phase_at};
 
+use crate::cause::Cause;
 use crate::client::{Client, Phase};
 use crate::clients::Clients;
 use std::alloc::AllocError;
 use std::collections::HashMap;
 
 /// A client's end came. Whether its socket is to be shut from now on.
-fn end_at(table: &mut HashMap<u64, Client>, conn: u64, until: u64) -> bool
-    ensures here { get nat_eq table.new conn ≡ option_map (leaves until) (get nat_eq table.old conn) }
+fn end_at(table: &mut HashMap<u64, Client>, conn: u64, until: u64, cause: Cause) -> bool
+    ensures here { get nat_eq table.new conn ≡ option_map (leaves until cause) (get nat_eq table.old conn) }
     ensures others { (k : ℕ) → k ≢ conn → get nat_eq table.new k ≡ get nat_eq table.old k }
 {
     match table.get_mut(&conn) {
         Some(client) => {
-            client.end(until);
+            client.end(until, cause);
             client.settle()
         }
         None => false,
@@ -42,6 +42,16 @@ fn phase_at(table: &HashMap<u64, Client>, conn: u64) -> Option<Phase>
 {
     match table.get(&conn) {
         Some(client) => Some(client.phase),
+        None => None,
+    }
+}
+
+/// Why the end of a client came whose socket is to be shut. None where there is no such client.
+fn done_at(table: &HashMap<u64, Client>, conn: u64) -> Option<Cause>
+    ensures { result ≡ option_map_or cause_done (get nat_eq table.now conn) None }
+{
+    match table.get(&conn) {
+        Some(client) => client.done(),
         None => None,
     }
 }
@@ -82,15 +92,15 @@ impl Clients {
         phase_at(&self.table, conn)
     }
 
-    /// A client's end came. Its socket is to be shut at once if nothing is left to be written, else once it is, or when
-    /// `give_up` is called at this moment, in milliseconds.
-    pub fn end(&mut self, conn: u64, until: u64) -> Result<(), AllocError>
-        ensures done { Becomes (leaves until) conn self.old self.new }
+    /// A client's end came, for this cause. Its socket is to be shut at once if nothing is left to be written, else once it is, or when
+    /// `give_up` is called at this moment, in milliseconds. Where its end came before, that one's moment and cause stay.
+    pub fn end(&mut self, conn: u64, until: u64, cause: Cause) -> Result<(), AllocError>
+        ensures done { Becomes (leaves until cause) conn self.old self.new }
         ensures noted { AreNoted self.old → AreNoted self.new }
         ensures untold { self.new.untold.items ≡ self.old.untold.items }
     {
         self.soonest = self.soonest.min(until);
-        if end_at(&mut self.table, conn, until) {
+        if end_at(&mut self.table, conn, until, cause) {
             self.done.push_back(conn)?;
         }
         Ok(())
@@ -108,31 +118,30 @@ impl Clients {
         Ok(())
     }
 
-    /// Takes a client whose socket is to be shut off the table.
-    fn forget(&mut self, conn: u64) -> bool
-        ensures gone { result ≡ true → (phase_at self.old conn ≡ Some Phase.Done)
-            × (client_at self.new conn ≡ None) × OthersStay conn self.old self.new }
-        ensures stays { result ≡ false → AllStay self.old self.new }
+    /// Takes a client whose socket is to be shut off the table, and answers why its end came.
+    fn forget(&mut self, conn: u64) -> Option<Cause>
+        ensures gone { IfSome result (λ cause. (cause_at self.old conn ≡ Some cause)
+            × (client_at self.new conn ≡ None) × OthersStay conn self.old self.new) }
+        ensures stays { IfNone result (AllStay self.old self.new) }
         ensures noted { AreNoted self.old → AreNoted self.new }
         ensures untold { self.new.untold.items ≡ self.old.untold.items }
     {
-        if phase_at(&self.table, conn) != Some(Phase::Done) {
-            return false;
-        }
+        let cause = done_at(&self.table, conn)?;
         let _ = self.table.remove(&conn);
-        true
+        Some(cause)
     }
 
-    /// The next client whose socket is to be shut. It is forgotten.
-    pub fn next_to_shut(&mut self) -> Option<u64>
-        ensures some { IfSome result (λ k. (phase_at self.old k ≡ Some Phase.Done)
-            × (client_at self.new k ≡ None) × OthersStay k self.old self.new) }
+    /// The next client whose socket is to be shut, and why its end came. It is forgotten.
+    pub fn next_to_shut(&mut self) -> Option<(u64, Cause)>
+        ensures some { IfSome result (λ r. (cause_at self.old r.0 ≡ Some r.1)
+            × (client_at self.new r.0 ≡ None) × OthersStay r.0 self.old self.new) }
         ensures none { IfNone result (AllStay self.old self.new) }
         ensures noted { AreNoted self.old → AreNoted self.new }
         ensures untold { self.new.untold.items ≡ self.old.untold.items }
     {
         let conn = self.done.pop_front()?;
-        if self.forget(conn) { Some(conn) } else { None }
+        let cause = self.forget(conn)?;
+        Some((conn, cause))
     }
 
     /// A client whose moment has come: it sent nothing, or its end came and something is left. None exactly where no client's has.

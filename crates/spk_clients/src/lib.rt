@@ -2,6 +2,7 @@
 //! that wait to be written to it, and how far it is. No standard speaks of it (own rules).
 #![tactic(auto)]
 
+mod cause;
 mod client;
 mod clients;
 mod coming;
@@ -10,6 +11,7 @@ pub mod laws;
 mod offering;
 mod writing;
 
+pub use cause::Cause;
 pub use client::{Client, Offered, Phase};
 pub use clients::Clients;
 pub use spk_bytes::Bytes;

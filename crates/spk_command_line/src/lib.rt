@@ -52,6 +52,11 @@ and mosquitto_sub prints 1.
 It has neither TLS nor passwords; what it holds is lost when it is ended. It ends by itself once that many
 clients have come and gone, and prints `served K`; with --stay it doesn't end.
 
+For each client whose connection is shut a line `closed N CAUSE` stands on standard error, at most ten in a
+second, and then `K more closed`. CAUSE is `left`, `gone`, `silent`, `unreadable`, `refused`, `keep-alive`,
+`taken-over`, `slow` or `memory`. With --status PORT its figures are told, too: clients, sessions, retained
+messages, messages in and out, drops, waits, and closes by cause.
+
 Who publishes to a subscriber that reads too slowly is slowed, for less than 200 milliseconds at a time; a
 subscriber that loses 128 messages of QoS 0, or one of QoS 1, is closed. docs/SECURITY.md tells more.
 
@@ -232,6 +237,13 @@ fn serve<'a>(alloc: Global) -> Result<Command<'a>, AllocError> {
         .default_value("127.0.0.1")
         .action(ArgAction::Set);
     let command = command.arg(bind)?;
+    let status = Arg::new(alloc, "status")
+        .long("status")
+        .value_name("PORT")
+        .help("Tells its figures at http://127.0.0.1:PORT/metrics, as Prometheus reads them")
+        .value_parser(value_parser!(u16).range(1..=65535))
+        .action(ArgAction::Set);
+    let command = command.arg(status)?;
     Ok(
         command
             .about("Runs an MQTT 3.1.1 broker (QoS 0 and 1)")

@@ -47,13 +47,9 @@ pub(crate) fn text_of(alloc: Global, outcome: &Outcome) -> Result<String, AllocE
         Outcome::Serve {
             bind,
             port,
-            clients: Some(clients),
-        } => format!(in alloc; "serve {bind} {port} clients {clients}"),
-        Outcome::Serve {
-            bind,
-            port,
-            clients: None,
-        } => format!(in alloc; "serve {bind} {port} stay"),
+            clients,
+            status,
+        } => format!(in alloc; "serve {bind} {port} clients {clients:?} status {status:?}"),
         Outcome::Plant(plan) => plant_text(alloc, plan),
         Outcome::Edge(plan) => edge_text(alloc, plan),
         Outcome::Host(plan) => host_text(alloc, plan),

@@ -24,19 +24,23 @@ pub fn said<W: Write>(out: &mut W, answer: Result<u32, ServeFault>) -> io::Resul
     Ok(status)
 }
 
-/// Serves clients at this address and port, so many or for ever, and answers the status. All texts go to the writer.
-pub fn serve_clients<R: AllocGlobal + Wait + Clock + Net, W: Write>(
+/// Serves clients at this address and port, so many or for ever, with a status page at the other port, where there is one, and answers the
+/// status. All texts go to the writer, but for the lines of closes, which go to the log.
+pub fn serve_clients<R: AllocGlobal + Wait + Clock + Net, W: Write, L: Write>(
     rt: &R,
     bind: IpAddr,
     port: u16,
     clients: Option<u16>,
+    status: Option<u16>,
     out: &mut W,
+    log: &mut L,
 ) -> u8 {
     let serving = Serving {
         bind,
         port,
         clients: clients.map(usize::from),
+        status,
     };
-    let answer = serve_at(rt, rt.alloc(), &serving, out);
+    let answer = serve_at(rt, rt.alloc(), &serving, out, log);
     said(out, answer).unwrap_or(1)
 }

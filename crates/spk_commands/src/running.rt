@@ -82,6 +82,10 @@ pub const NOT_TEXT: &str = "error: a word isn't UTF-8\n\nFor more information, t
 const NO_ADDRESS: &str =
     "error: --bind takes an IP address\n\nFor more information, try '--help'.\n";
 
+/// What is said of a status port that is the broker's, like what clap says of other words that it refuses.
+const NO_STATUS: &str =
+    "error: --status takes another port than --port\n\nFor more information, try '--help'.\n";
+
 /// A writer that keeps nothing.
 #[derive(Drop)]
 struct Silence;
@@ -106,6 +110,8 @@ pub enum Outcome {
         bind: IpAddr,
         port: u16,
         clients: Option<u16>,
+        /// The port of the status page, where there is to be one.
+        status: Option<u16>,
     },
     /// This plan is to be run.
     Plant(Plan),
@@ -179,7 +185,7 @@ fn warn<N: Write>(bind: IpAddr, notes: &mut N) {
     }
 }
 
-/// `serve`: where clients are to be served, and how many.
+/// `serve`: where clients are to be served, how many, and where figures are told.
 fn serving<N: Write>(
     alloc: Global,
     given: &ArgMatches<'_>,
@@ -192,6 +198,11 @@ fn serving<N: Write>(
     else {
         return Err(Stop::Words(String::from_str(alloc, NO_ADDRESS)?, 2));
     };
+    let port = given.get_one::<u16>("port").unwrap_or(0);
+    let status = given.get_one::<u16>("status");
+    if status == Some(port) {
+        return Err(Stop::Words(String::from_str(alloc, NO_STATUS)?, 2));
+    }
     warn(bind, notes);
     let clients = if given.get_flag("stay") {
         None
@@ -200,8 +211,9 @@ fn serving<N: Write>(
     };
     Ok(Outcome::Serve {
         bind,
-        port: given.get_one::<u16>("port").unwrap_or(0),
+        port,
         clients,
+        status,
     })
 }
 

@@ -1,5 +1,6 @@
 //! The listening socket: who comes is accepted, while there is room.
 
+use crate::page::FIRST;
 use crate::rounds::Rounds;
 use mio::net::{TcpListener, TcpStream};
 use mio::{Interest, Poll, Token};
@@ -110,8 +111,9 @@ impl Doors {
 
 /// A client's socket is registered under the number of its connection, and kept.
 fn keep(rounds: &mut Rounds<TcpStream>, poll: &Poll, mut stream: TcpStream, conn: Conn) -> bool {
-    let Ok(token) = usize::try_from(conn) else {
-        return false;
+    let token = match usize::try_from(conn) {
+        Ok(token) if token < FIRST => token,
+        _ => return false,
     };
     let interest = Interest::READABLE | Interest::WRITABLE;
     poll.registry()

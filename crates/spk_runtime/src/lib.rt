@@ -5,6 +5,7 @@
 mod doors;
 mod fault;
 mod line;
+mod page;
 mod port;
 mod rounds;
 mod server;

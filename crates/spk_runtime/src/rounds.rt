@@ -2,7 +2,8 @@
 
 use crate::line::{Line, Read, Written};
 use crate::port::Port;
-use spk_server::{Conn, Server, ServerFault};
+use spk_server::{Cause, Conn, Server, ServerFault};
+use spk_status::{Closes, Figures};
 use std::alloc::{AllocError, Global};
 use std::collections::{HashMap, VecDeque};
 
@@ -31,6 +32,8 @@ pub(crate) struct Rounds<P: Port> {
     again: u64,
     piece: Vec<u8>,
     batch: Vec<u8>,
+    /// How many sockets were shut.
+    closes: Closes,
 }
 
 impl<P: Port> Rounds<P> {
@@ -44,6 +47,7 @@ impl<P: Port> Rounds<P> {
             again: 0,
             piece: Vec::from_elem(alloc, 0, PIECE)?,
             batch: Vec::with_capacity(alloc, PIECE)?,
+            closes: Closes::new(),
         })
     }
 
@@ -246,15 +250,28 @@ impl<P: Port> Rounds<P> {
         Ok(!self.more.is_empty())
     }
 
-    /// Shuts the sockets of those who are done.
-    pub(crate) fn shut_all(&mut self) {
-        for _ in 0..u64::MAX {
-            let Some(conn) = self.server.next_to_shut() else {
-                break;
-            };
-            if let Some(mut line) = self.lines.remove(&conn) {
-                line.port.shut();
-            }
+    /// Shuts the socket of the next client who is done: whose, and why its end came.
+    pub(crate) fn shut_next(&mut self) -> Option<(Conn, Cause)> {
+        let (conn, cause) = self.server.next_to_shut()?;
+        if let Some(mut line) = self.lines.remove(&conn) {
+            line.port.shut();
+        }
+        self.closes.count(cause);
+        Some((conn, cause))
+    }
+
+    /// The broker's figures by now.
+    pub(crate) fn figures(&self) -> Figures {
+        let tally = self.server.tally();
+        Figures {
+            clients: self.server.clients() as u64,
+            sessions: self.server.sessions() as u64,
+            retained: self.server.retained() as u64,
+            heard: tally.heard,
+            sent: tally.sent,
+            dropped: tally.dropped,
+            stalls: tally.stalls,
+            closes: self.closes,
         }
     }
 
@@ -264,14 +281,14 @@ impl<P: Port> Rounds<P> {
         self.server.cut(conn)
     }
 
-    /// What is to be done before sockets are waited for, with what is ready. Whether more is ready at once.
+    /// What is to be done before sockets are waited for, with what is ready; those who are done are shut behind it. Whether more is ready at
+    /// once.
     pub(crate) fn round(&mut self, now: u64) -> Result<bool, ServerFault> {
         self.server.moment(now)?;
         self.try_all_again(now)?;
         self.server.go_on(now)?;
         let more_to_read = self.read_all(now)?;
         let more_to_write = self.write_all()?;
-        self.shut_all();
         Ok(more_to_read || more_to_write)
     }
 }

@@ -4,12 +4,14 @@ ghost use Rattle.spk_runtime.specs.Fault.{IsCount, IsServing};
 
 use crate::doors::Doors;
 use crate::fault::ServeFault;
+use crate::page::{FIRST, PAGE, Page};
 use crate::rounds::Rounds;
 use mio::net::{TcpListener, TcpStream};
 use mio::{Events, Interest, Poll, Token};
 use spk_server::ServerFault;
+use spk_status::Telling;
 use std::alloc::Global;
-use std::io::Write;
+use std::io::{Write, sink};
 use std::net::{IpAddr, Ipv4Addr, Net, SocketAddr};
 use std::sync::Wait;
 use std::time::{Clock, Duration, Instant};
@@ -30,6 +32,8 @@ pub struct Serving {
     pub port: u16,
     /// How many clients come before it ends; none where it stays.
     pub clients: Option<usize>,
+    /// The port of the status page, on 127.0.0.1; none where there is no page.
+    pub status: Option<u16>,
 }
 
 /// Milliseconds since the start, or the last ones where the clock can't be read.
@@ -45,17 +49,84 @@ fn moment<R: Clock>(rt: &R, start: &Option<Instant>, last: u64) -> u64 {
     }
 }
 
+/// When a round is to begin at the latest, if no socket does anything; the greatest number where it need not.
+fn due(
+    doors: &Doors,
+    rounds: &Rounds<TcpStream>,
+    page: &Option<Page>,
+    telling: &Telling,
+    now: u64,
+) -> u64 {
+    let mut due = rounds.due().unwrap_or(u64::MAX);
+    if doors.knocked && now < doors.from {
+        due = due.min(doors.from);
+    }
+    if let Some(page) = page {
+        due = due.min(page.due(now));
+    }
+    due.min(telling.due().unwrap_or(u64::MAX))
+}
+
+/// Whether a socket of the page is ready.
+fn is_page_ready(page: &Option<Page>, now: u64) -> bool {
+    match page {
+        Some(page) => page.is_ready(now),
+        None => false,
+    }
+}
+
 /// How long may be waited for the sockets. None where nothing is due.
-fn pause(doors: &Doors, rounds: &Rounds<TcpStream>, more: bool, now: u64) -> Option<Duration> {
-    if more || doors.may_accept(rounds, now) {
+fn pause(
+    doors: &Doors,
+    rounds: &Rounds<TcpStream>,
+    page: &Option<Page>,
+    telling: &Telling,
+    more: bool,
+    now: u64,
+) -> Option<Duration> {
+    if more || doors.may_accept(rounds, now) || is_page_ready(page, now) {
         return Some(Duration::ZERO);
     }
-    let mut due = rounds.due();
-    if doors.knocked && now < doors.from {
-        due = Some(due.unwrap_or(u64::MAX).min(doors.from));
+    let due = due(doors, rounds, page, telling, now);
+    if due == u64::MAX {
+        return None;
     }
-    let due = due?;
     Some(Duration::from_millis(due.saturating_sub(now)))
+}
+
+/// Notes that a socket of the page is ready.
+fn note_page(page: &mut Option<Page>, token: usize) {
+    if let Some(page) = page {
+        page.note(token);
+    }
+}
+
+/// Reads and writes each of those who ask for the page once.
+fn show(alloc: Global, poll: &Poll, rounds: &Rounds<TcpStream>, page: &mut Option<Page>, now: u64) {
+    if let Some(page) = page {
+        page.round(alloc, poll, &rounds.figures(), now);
+    }
+}
+
+/// Shuts the sockets of those who are done, and tells of them: a line for each, ten in a second, and behind it how many more there were. A
+/// log that can't be written changes nothing.
+fn shut_all<L: Write>(
+    rounds: &mut Rounds<TcpStream>,
+    telling: &mut Telling,
+    log: &mut L,
+    now: u64,
+) {
+    if let Some(more) = telling.rest(now) {
+        let _ = writeln!(log, "{more} more closed");
+    }
+    for _ in 0..u64::MAX {
+        let Some((conn, cause)) = rounds.shut_next() else {
+            break;
+        };
+        if telling.note(now) {
+            let _ = writeln!(log, "closed {conn} {cause}");
+        }
+    }
 }
 
 /// Notes what is ready.
@@ -63,11 +134,16 @@ fn note(
     events: &Events<Global>,
     doors: &mut Doors,
     rounds: &mut Rounds<TcpStream>,
+    page: &mut Option<Page>,
 ) -> Result<(), ServerFault> {
     for event in events.iter() {
         let Token(token) = event.token();
         if token == LISTENER {
             doors.knocked = true;
+            continue;
+        }
+        if token >= FIRST {
+            note_page(page, token);
             continue;
         }
         let conn = token as u64;
@@ -83,46 +159,77 @@ fn note(
 }
 
 /// Runs rounds until no more clients come and all have ended.
-fn run<R: Wait + Clock>(
+fn run<R: Wait + Clock, L: Write>(
     rt: &R,
+    alloc: Global,
     poll: &mut Poll,
     events: &mut Events<Global>,
     doors: &mut Doors,
     rounds: &mut Rounds<TcpStream>,
+    page: &mut Option<Page>,
+    log: &mut L,
 ) -> Result<(), ServeFault>
     ensures { IfErr result (λ e. e ≢ ServeFault.BadPlan) }
 {
     let start = Instant::now(rt).ok();
     let mut now = 0;
     let mut more = false;
+    let mut telling = Telling::new();
     for _ in rt.forever() {
         if doors.are_closed() && rounds.server.clients() == 0 {
             break;
         }
-        let timeout = pause(doors, rounds, more, now);
+        let timeout = pause(doors, rounds, page, &telling, more, now);
         if poll.poll(events, timeout).is_err() {
             return Err(ServeFault::Device);
         }
         now = moment(rt, &start, now);
-        note(events, doors, rounds)?;
+        note(events, doors, rounds, page)?;
         doors.accept(rounds, poll, now)?;
         more = rounds.round(now)?;
+        shut_all(rounds, &mut telling, log, now);
+        show(alloc, poll, rounds, page, now);
     }
     Ok(())
 }
 
-/// Serves on a listening socket.
-fn serve_on<R: Wait + Clock + Net>(
+/// The status page on this port of 127.0.0.1, if there is one.
+fn page_at<R: Net>(
     rt: &R,
     alloc: Global,
+    poll: &Poll,
+    status: Option<u16>,
+) -> Result<Option<Page>, ServeFault>
+    ensures { IfErr result (λ e. e ≢ ServeFault.BadPlan) }
+{
+    let Some(port) = status else {
+        return Ok(None);
+    };
+    let address = SocketAddr::new(IpAddr::V4(Ipv4Addr::LOCALHOST), port);
+    let Ok(mut listener) = TcpListener::bind(rt, address) else {
+        return Err(ServeFault::Device);
+    };
+    let registered = poll
+        .registry()
+        .register(&mut listener, Token(PAGE), Interest::READABLE);
+    if registered.is_err() {
+        return Err(ServeFault::Device);
+    }
+    Ok(Some(Page::new(alloc, listener)?))
+}
+
+/// Serves on a listening socket.
+fn serve_on<R: Wait + Clock + Net, L: Write>(
+    rt: &R,
+    alloc: Global,
+    mut poll: Poll,
     mut listener: TcpListener,
+    mut page: Option<Page>,
     clients: Option<u32>,
+    log: &mut L,
 ) -> Result<u32, ServeFault>
     ensures { IfErr result (λ e. e ≢ ServeFault.BadPlan) }
 {
-    let Ok(mut poll) = Poll::new(rt) else {
-        return Err(ServeFault::Device);
-    };
     let registered = poll
         .registry()
         .register(&mut listener, Token(LISTENER), Interest::READABLE);
@@ -132,7 +239,16 @@ fn serve_on<R: Wait + Clock + Net>(
     let mut events = Events::with_capacity(alloc, EVENTS)?;
     let mut doors = Doors::new(listener, clients);
     let mut rounds = Rounds::new(alloc)?;
-    run(rt, &mut poll, &mut events, &mut doors, &mut rounds)?;
+    run(
+        rt,
+        alloc,
+        &mut poll,
+        &mut events,
+        &mut doors,
+        &mut rounds,
+        &mut page,
+        log,
+    )?;
     if doors.failed {
         return Err(ServeFault::Device);
     }
@@ -153,14 +269,17 @@ fn count_of(clients: Option<usize>) -> Result<Option<u32>, ServeFault>
 
 /// An MQTT 3.1.1 server (QoS 0 and 1). Once it listens it writes the line `listening N`, flushed. Where it is for so many
 /// clients (1 to 1,000) it ends when they were accepted and all have ended, and answers how many were served; else it
-/// stays, and serves 1,000 at once. What it does besides is `spk_server`'s. Refused with BadPlan (92) for another number of
+/// stays, and serves 1,000 at once. What it does besides is `spk_server`'s. Where it has a port for it, `spk_status`' page is served on 127.0.0.1,
+/// to sixteen at once, for five seconds each. The log gets a line `closed CONN CAUSE` for each client whose socket is shut, ten in
+/// a second, and then `N more closed`; what becomes of it changes nothing. Refused with BadPlan (92) for another number of
 /// clients, and with Device (96) where listening, waiting, accepting or the writer failed. No contract says what goes over a
 /// socket.
-pub fn serve_at<R: Wait + Clock + Net, W: Write>(
+pub fn serve_at<R: Wait + Clock + Net, W: Write, L: Write>(
     rt: &R,
     alloc: Global,
     serving: &Serving,
     writer: &mut W,
+    log: &mut L,
 ) -> Result<u32, ServeFault>
     ensures ok { OnOk result (IsServing serving.now.clients) }
     ensures bad_plan { IfErr result (λ e. e ≡ ServeFault.BadPlan
@@ -174,14 +293,21 @@ pub fn serve_at<R: Wait + Clock + Net, W: Write>(
     let Ok(listener) = TcpListener::bind(rt, address) else {
         return Err(ServeFault::Device);
     };
+    let Ok(poll) = Poll::new(rt) else {
+        return Err(ServeFault::Device);
+    };
+    let page = match page_at(rt, alloc, &poll, serving.status) {
+        Ok(page) => page,
+        Err(fault) => return Err(fault),
+    };
     let port = serving.port;
     if writeln!(writer, "listening {port}").is_err() || writer.flush().is_err() {
         return Err(ServeFault::Device);
     }
-    serve_on(rt, alloc, listener, clients)
+    serve_on(rt, alloc, poll, listener, page, clients, log)
 }
 
-/// `serve_at` 127.0.0.1 for so many clients, 1 to 1,000.
+/// `serve_at` 127.0.0.1 for so many clients, 1 to 1,000, without a status page and a log.
 pub fn serve<R: Wait + Clock + Net, W: Write>(
     rt: &R,
     alloc: Global,
@@ -196,6 +322,7 @@ pub fn serve<R: Wait + Clock + Net, W: Write>(
         bind: IpAddr::V4(Ipv4Addr::LOCALHOST),
         port,
         clients: Some(clients),
+        status: None,
     };
-    serve_at(rt, alloc, &serving, writer)
+    serve_at(rt, alloc, &serving, writer, &mut sink())
 }

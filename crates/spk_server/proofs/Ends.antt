@@ -7,6 +7,7 @@ use Rattle.spk_session.specs.declared.answer.Sort.{Sort}
 use Rattle.spk_session.specs.declared.answer.Sort.TheVariants as sort
 use Rattle.spk_broker_rules.specs.Plan as event
 use Rattle.spk_outbox.specs.Step.{written}
+use Rattle.spk_clients.specs.declared.cause.Cause.{Cause}
 use Rattle.spk_clients.specs.declared.client.Client.{Client}
 use Rattle.spk_clients.specs.declared.client.Phase.{Phase}
 use Rattle.spk_clients.specs.declared.client.Phase.TheVariants.{Quiet, Open, Over, Done}
@@ -15,13 +16,13 @@ use Rattle.spk_clients.specs.declared.client.Offered.TheVariants.{Taken, Refused
 use Rattle.spk_clients.specs.Client.{after_hearing, awaited, cut_off, fresh_client, given_up, has_ended, heard_phase, is_leaving, is_over, leaves, may_be_awaited, over_until, refused_with, settled, settles, takes_in, told, untouched, waiting_for, written_to}
 use Rattle.spk_server.specs.Data.{Deed, Offer, Room, Slow, Timed, Joined, Skipped, Took, Came, Broke, Left, Ticked, Handed, Shut, Told, Cut, Tried, Waited, Freed, Dropped, Wrote, Blocked, Named, Forgot}
 use Rattle.spk_server.specs.Data as deed
-use Rattle.spk_server.specs.Step.{after, behind, change, changed, freed_from, grace, is_slow, later, offered, placed, quiet, set_free, slow_of, tried, tried_at}
+use Rattle.spk_server.specs.Step.{after, behind, cause_why, change, changed, freed_from, grace, is_slow, later, offered, placed, quiet, set_free, slow_of, tried, tried_at}
 use Rattle.spk_server.specs.Log.{IsRun, May, any_deed, is_open}
 use Rattle.spk_server.specs.Past.{hears, joins}
 use Rattle.spk_server.proofs.Histories.{unequal}
 use Rattle.spk_server.proofs.Lives.{called_keeps, came_keeps, pick}
 
-abbrev Ends : (Client → Client) → Type 0
+abbrev pub Ends : (Client → Client) → Type 0
 Ends f = (c : Client) → is_over c ≡ true → is_over (f c) ≡ true
 
 over_not : (b : Bool) → (if b then false else true) ≡ false → b ≡ true
@@ -42,37 +43,37 @@ either_over : (b : Bool) (x y : Client) → is_over x ≡ true → is_over y ≡
 either_over true x y p q = p
 either_over false x y p q = q
 
-ends_settled : Ends settled
+pub ends_settled : Ends settled
 ends_settled c e = either_over (settles c) (record c { phase = Done }) c refl e
 
-ends_over : (until : ℕ) → Ends (over_until until)
-ends_over until c e = either_over (is_over c) c (record c { phase = Over; until = until }) e refl
+pub ends_over : (until : ℕ) (why : Cause) → Ends (over_until until why)
+ends_over until why c e = either_over (is_over c) c (record c { phase = Over; until = until; cause = why }) e refl
 
-ends_leaves : (until : ℕ) → Ends (leaves until)
-ends_leaves until c e = ends_settled (over_until until c) (ends_over until c e)
+pub ends_leaves : (until : ℕ) (why : Cause) → Ends (leaves until why)
+ends_leaves until why c e = ends_settled (over_until until why c) (ends_over until why c e)
 
-ends_told : Ends told
+pub ends_told : Ends told
 ends_told c e = either_over c.lost (record c { lost = false }) (record c { drops = c.drops - 1 }) e e
 
 ends_refused : (s : Sort) → Ends (refused_with s)
 ends_refused sort.QosZero c e = e
 ends_refused sort.Other c e = e
 
-ends_offered : (o : Offer) (fate : Offered) → Ends (offered o.send fate)
+pub ends_offered : (o : Offer) (fate : Offered) → Ends (offered o.send fate)
 ends_offered o Taken c e = e
 ends_offered o Refused c e = ends_refused o.send.sort c e
 ends_offered o Passed c e = e
 
-ends_given_up : Ends given_up
+pub ends_given_up : Ends given_up
 ends_given_up c e = either_over (is_leaving c.phase) (record c { phase = Done }) c refl e
 
-ends_awaited : (own : Bool) (now : ℕ) → Ends (awaited own now)
+pub ends_awaited : (own : Bool) (now : ℕ) → Ends (awaited own now)
 ends_awaited own now c e = either_over (may_be_awaited own c) _ c e e
 
-ends_takes_in : (piece : List ℕ) → Ends (takes_in piece)
+pub ends_takes_in : (piece : List ℕ) → Ends (takes_in piece)
 ends_takes_in piece c e = either_over (is_over c) c (record c { feed = c.feed ++ piece }) e e
 
-heard_over : (p : Phase) → has_ended p ≡ true → has_ended (heard_phase p) ≡ true
+pub heard_over : (p : Phase) → has_ended p ≡ true → has_ended (heard_phase p) ≡ true
 heard_over Quiet e = cc
 heard_over Open e = cc
 heard_over Over e = refl
@@ -84,8 +85,8 @@ came_closed k cs ds same e = ap (λ q. option_map_or (λ c. if is_over c then fa
 
 left_closed : (k conn : ℕ) (why : deed.Why) (r : Room) → is_open r k ≡ false → is_open (after (Left conn why) r) k ≡ false
 left_closed k conn why r e =
-    came_closed k _ _ (called_keeps None conn (event.Closed conn r.now) (record (changed (leaves (later grace r.now)) conn r) { in_hand = None }))
-    (closed_at (leaves (later grace r.now)) (ends_leaves (later grace r.now)) conn k r.clients e)
+    came_closed k _ _ (called_keeps None conn (event.Closed conn r.now) (record (changed (leaves (later grace r.now) (cause_why why)) conn r) { in_hand = None }))
+    (closed_at (leaves (later grace r.now) (cause_why why)) (ends_leaves (later grace r.now) (cause_why why)) conn k r.clients e)
 
 tried_closed : (k : ℕ) (o : Option Slow) (r : Room) → is_open r k ≡ false → is_open (tried o r) k ≡ false
 tried_closed k None r e = e
@@ -115,7 +116,7 @@ closed_step k (Broke conn f) r j e = came_closed k _ _ (called_keeps None conn _
 closed_step k (Left conn why) r j e = left_closed k conn why r e
 closed_step k Ticked r j e = e
 closed_step k (Handed o fate) r j e = closed_at (offered o.send fate) (ends_offered o fate) o.send.conn k r.clients e
-closed_step k (Shut conn) r j e = closed_at (leaves (later grace r.now)) (ends_leaves (later grace r.now)) conn k r.clients e
+closed_step k (Shut q) r j e = closed_at (leaves (later grace r.now) q.cause) (ends_leaves (later grace r.now) q.cause) q.conn k r.clients e
 closed_step k (Told conn s) r j e = came_closed k _ _ (called_keeps None conn _ (changed told conn r)) (closed_at told ends_told conn k r.clients e)
 closed_step k (Cut conn s) r j e = left_closed k conn deed.Want (changed told conn r) (closed_at told ends_told conn k r.clients e)
 closed_step k Tried r j e = tried_closed k r.slow r e
@@ -159,11 +160,11 @@ silent_step k (Blocked c) r may e = refl
 silent_step k (Named c) r may e = refl
 silent_step k (Forgot c) r may e = refl
 
-both : (a b : Bool) → (a && b) ≡ true → (a ≡ true) × (b ≡ true)
+pub both : (a b : Bool) → (a && b) ≡ true → (a ≡ true) × (b ≡ true)
 both true b e = (refl, e)
 both false b e = cc
 
-not_true : (b : Bool) → not b ≡ true → b ≡ false
+pub not_true : (b : Bool) → not b ≡ true → b ≡ false
 not_true true e = cc
 not_true false e = refl
 

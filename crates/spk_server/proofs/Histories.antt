@@ -10,6 +10,8 @@ use Rattle.spk_packets.specs.Stream as stream
 use Rattle.spk_broker_rules.specs.Plan as event
 use Rattle.spk_outbox.specs.Data.{Outbox, fresh_outbox}
 use Rattle.spk_outbox.specs.Calls as outbox
+use Rattle.spk_clients.specs.declared.cause.Cause.{Cause}
+use Rattle.spk_clients.specs.declared.cause.Cause.TheVariants as cause
 use Rattle.spk_clients.specs.declared.client.Client.{Client}
 use Rattle.spk_clients.specs.declared.client.Offered.{Offered}
 use Rattle.spk_clients.specs.declared.client.Offered.TheVariants.{Taken, Refused, Passed}
@@ -17,15 +19,15 @@ use Rattle.spk_clients.specs.Client.{after_hearing, awaited, cut_off, fresh_clie
 use Rattle.spk_outbox.specs.Step.{written}
 use Rattle.spk_server.specs.Data.{Deed, InHand, Offer, Room, Slow, Timed, Joined, Skipped, Took, Came, Broke, Left, Ticked, Handed, Shut, Told, Cut, Tried, Waited, Freed, Dropped, Wrote, Blocked, Named, Forgot}
 use Rattle.spk_server.specs.Data as deed
-use Rattle.spk_server.specs.Step.{after, behind, change, changed, freed_from, grace, is_slow, later, offered, placed, publisher, quiet, set_free, slow_of, tried, tried_at}
+use Rattle.spk_server.specs.Step.{after, behind, cause_why, change, changed, freed_from, grace, is_slow, later, offered, placed, publisher, quiet, set_free, slow_of, tried, tried_at}
 use Rattle.spk_server.specs.Log.{HasClient, IsRun, May, is_open}
 use Rattle.spk_server.specs.Past.{event_at, handed_in, handed_of, in_outbox, in_stream, joins, of_hand, sends_at, sends_from, since}
 use Rattle.spk_server.proofs.Lives.{Steady, called_keeps, came_keeps, either, here, kept, lives, others, pick, sends_called, steady_feed, steady_outbox}
 
 -- ---- what no deed but a few changes
 
-leaves_keeps : {X : Type 0} (g : Client → X) → Steady g → (until : ℕ) (c : Client) → g (leaves until c) ≡ g c
-leaves_keeps g s until c = s.settled (over_until until c) ∙ s.over until c
+leaves_keeps : {X : Type 0} (g : Client → X) → Steady g → (until : ℕ) (why : Cause) (c : Client) → g (leaves until why c) ≡ g c
+leaves_keeps g s until why c = s.settled (over_until until why c) ∙ s.over until why c
 
 tried_keeps : {X : Type 0} (g : Client → X) → Steady g → (o : Option Slow) (r : Room) (k : ℕ) → option_map g ((tried o r).clients k) ≡ option_map g (r.clients k)
 tried_keeps g s None r k = refl
@@ -41,8 +43,8 @@ freed_keeps g s (Some slow) conn r k = kept g (set_free r.now (slow == conn)) (s
 
 left_keeps : {X : Type 0} (g : Client → X) → Steady g → (conn : ℕ) (why : deed.Why) (r : Room) (k : ℕ) → option_map g ((after (Left conn why) r).clients k) ≡ option_map g (r.clients k)
 left_keeps g s conn why r k =
-    ap (λ cs. option_map g (cs k)) (called_keeps None conn (event.Closed conn r.now) (record (changed (leaves (later grace r.now)) conn r) { in_hand = None }))
-    ∙ kept g (leaves (later grace r.now)) (leaves_keeps g s (later grace r.now)) conn k r.clients
+    ap (λ cs. option_map g (cs k)) (called_keeps None conn (event.Closed conn r.now) (record (changed (leaves (later grace r.now) (cause_why why)) conn r) { in_hand = None }))
+    ∙ kept g (leaves (later grace r.now) (cause_why why)) (leaves_keeps g s (later grace r.now) (cause_why why)) conn k r.clients
 
 -- ---- the stream of what a client sends
 
@@ -121,7 +123,7 @@ feed_step k (Broke conn f) r x may j e = unfed k (Broke conn f) r x refl (ap (λ
 feed_step k (Left conn why) r x may j e = unfed k (Left conn why) r x refl (left_keeps _ steady_feed conn why r k) e
 feed_step k Ticked r x may j e = unfed k Ticked r x refl refl e
 feed_step k (Handed o fate) r x may j e = unfed k (Handed o fate) r x refl (kept (λ (c : Client). c.feed) (offered o.send fate) (offered_feed o fate) o.send.conn k r.clients) e
-feed_step k (Shut conn) r x may j e = unfed k (Shut conn) r x refl (kept (λ (c : Client). c.feed) (leaves (later grace r.now)) (leaves_keeps _ steady_feed (later grace r.now)) conn k r.clients) e
+feed_step k (Shut q) r x may j e = unfed k (Shut q) r x refl (kept (λ (c : Client). c.feed) (leaves (later grace r.now) q.cause) (leaves_keeps _ steady_feed (later grace r.now) q.cause) q.conn k r.clients) e
 feed_step k (Told conn s) r x may j e = unfed k (Told conn s) r x refl
     (ap (λ cs. option_map (λ (c : Client). c.feed) (cs k)) (called_keeps None conn _ (changed told conn r)) ∙ kept (λ (c : Client). c.feed) told steady_feed.told conn k r.clients) e
 feed_step k (Cut conn s) r x may j e = unfed k (Cut conn s) r x refl
@@ -234,7 +236,7 @@ outbox_step k (Broke conn f) r x j e = unowed k (Broke conn f) r x refl (ap (λ 
 outbox_step k (Left conn why) r x j e = unowed k (Left conn why) r x refl (left_keeps _ steady_outbox conn why r k) e
 outbox_step k Ticked r x j e = unowed k Ticked r x refl refl e
 outbox_step k (Handed o fate) r x j e = handed_outbox k o fate r x e
-outbox_step k (Shut conn) r x j e = unowed k (Shut conn) r x refl (kept (λ (c : Client). c.outbox) (leaves (later grace r.now)) (leaves_keeps _ steady_outbox (later grace r.now)) conn k r.clients) e
+outbox_step k (Shut q) r x j e = unowed k (Shut q) r x refl (kept (λ (c : Client). c.outbox) (leaves (later grace r.now) q.cause) (leaves_keeps _ steady_outbox (later grace r.now) q.cause) q.conn k r.clients) e
 outbox_step k (Told conn s) r x j e = unowed k (Told conn s) r x refl
     (ap (λ cs. option_map (λ (c : Client). c.outbox) (cs k)) (called_keeps None conn _ (changed told conn r)) ∙ kept (λ (c : Client). c.outbox) told steady_outbox.told conn k r.clients) e
 outbox_step k (Cut conn s) r x j e = unowed k (Cut conn s) r x refl
@@ -315,12 +317,12 @@ sends_step (Skipped c p) r may = append-nil r.pending
 sends_step (Took c p rest) r may = append-nil r.pending
 sends_step Came r may = came_pending r.in_hand r
 sends_step (Broke c f) r may = sym (sends_called None c (event.Fault c f r.now) r)
-sends_step (Left c w) r may = sym (sends_called None c (event.Closed c r.now) (record (changed (leaves (later grace r.now)) c r) { in_hand = None }))
+sends_step (Left c w) r may = sym (sends_called None c (event.Closed c r.now) (record (changed (leaves (later grace r.now) (cause_why w)) c r) { in_hand = None }))
 sends_step Ticked r may = refl
 sends_step (Handed o f) r may = append-nil r.pending ∙ may.0.1 ∙ ap (λ (ps : List Offer). o ∷ behind ps) (sym may.0.1)
 sends_step (Shut c) r may = append-nil r.pending
 sends_step (Told c s) r may = sym (sends_called None c (event.Refused c s r.now) (changed told c r))
-sends_step (Cut c s) r may = sym (sends_called None c (event.Closed c r.now) (record (changed (leaves (later grace r.now)) c (changed told c r)) { in_hand = None }))
+sends_step (Cut c s) r may = sym (sends_called None c (event.Closed c r.now) (record (changed (leaves (later grace r.now) cause.Memory) c (changed told c r)) { in_hand = None }))
 sends_step Tried r may = append-nil r.pending ∙ sym (tried_pending r.slow r)
 sends_step (Waited c) r may = append-nil r.pending
 sends_step (Freed c) r may = append-nil r.pending ∙ sym (freed_pending (slow_of r.clients c) c (record r { held = behind r.held }))

@@ -1,4 +1,6 @@
 pub mod Allowed
+pub mod Causes
+pub mod Counted
 pub mod Due
 pub mod Ends
 pub mod Histories
@@ -7,6 +9,7 @@ pub mod Logs
 pub mod Looking
 pub mod Rooms
 pub mod Runs
+pub mod Shutting
 pub mod Taking
 pub mod Times
 pub mod Told

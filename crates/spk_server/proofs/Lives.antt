@@ -4,6 +4,7 @@ use Rattle.std.proofs.lemmas.List.{append-nil}
 use Rattle.std.specs.Option.{option_map}
 use Rattle.spk_broker_rules.specs.Plan.{Event}
 use Rattle.spk_broker_rules.specs.Step.{knows}
+use Rattle.spk_clients.specs.declared.cause.Cause.{Cause}
 use Rattle.spk_clients.specs.declared.client.Client.{Client}
 use Rattle.spk_session.specs.declared.answer.Sort.{Sort}
 use Rattle.spk_session.specs.declared.answer.Sort.TheVariants as sort
@@ -55,7 +56,7 @@ either g false x y e = refl
 -- what a deed leaves as it was: a part that no end, no note and no wait changes
 pub record Steady {X : Type 0} (g : Client → X) : Type 0 where
   pub settled : (c : Client) → g (settled c) ≡ g c
-  pub over : (until : ℕ) (c : Client) → g (over_until until c) ≡ g c
+  pub over : (until : ℕ) (why : Cause) (c : Client) → g (over_until until why c) ≡ g c
   pub told : (c : Client) → g (told c) ≡ g c
   pub refused : (s : Sort) (c : Client) → g (refused_with s c) ≡ g c
   pub given_up : (c : Client) → g (given_up c) ≡ g c
@@ -76,7 +77,7 @@ refused_outbox sort.Other c = refl
 pub steady_feed : Steady (λ (c : Client). c.feed)
 steady_feed = record {
   settled = λ c. either (λ (x : Client). x.feed) (settles c) _ c refl;
-  over = λ until c. either (λ (x : Client). x.feed) (is_over c) c _ refl;
+  over = λ until why c. either (λ (x : Client). x.feed) (is_over c) c _ refl;
   told = λ c. either (λ (x : Client). x.feed) c.lost _ (record c { drops = c.drops - 1 }) refl;
   refused = refused_feed;
   given_up = λ c. either (λ (x : Client). x.feed) (is_leaving c.phase) _ c refl;
@@ -90,7 +91,7 @@ steady_feed = record {
 pub steady_outbox : Steady (λ (c : Client). c.outbox)
 steady_outbox = record {
   settled = λ c. either (λ (x : Client). x.outbox) (settles c) _ c refl;
-  over = λ until c. either (λ (x : Client). x.outbox) (is_over c) c _ refl;
+  over = λ until why c. either (λ (x : Client). x.outbox) (is_over c) c _ refl;
   told = λ c. either (λ (x : Client). x.outbox) c.lost _ (record c { drops = c.drops - 1 }) refl;
   refused = refused_outbox;
   given_up = λ c. either (λ (x : Client). x.outbox) (is_leaving c.phase) _ c refl;

@@ -4,9 +4,10 @@ use Rattle.std.proofs.lemmas.List.{length-append}
 use Rattle.spk_broker_rules.specs.Plan.{Event}
 use Rattle.spk_broker_rules.specs.Step.{knows}
 use Rattle.spk_broker_rules.specs.Plan as event
+use Rattle.spk_clients.specs.declared.cause.Cause.TheVariants as cause
 use Rattle.spk_clients.specs.Client.{awaited, leaves, told}
 use Rattle.spk_server.specs.Data.{Deed, InHand, Room, Slow, Timed, Joined, Fed, Skipped, Took, Came, Broke, Left, Ticked, Handed, Shut, Told, Cut, Tried, Waited, Freed, Dropped, Wrote, Blocked, Named, Forgot}
-use Rattle.spk_server.specs.Step.{after, behind, called, called_on, came, changed, freed_from, grace, is_slow, later, tried, tried_at}
+use Rattle.spk_server.specs.Step.{after, behind, called, called_on, came, cause_why, changed, freed_from, grace, is_slow, later, tried, tried_at}
 use Rattle.spk_server.specs.Log.{IsRun, LooksAt, May, goes_on, looked_at, looks_at, takes}
 use Rattle.spk_server.proofs.Runs.{joined}
 
@@ -52,12 +53,12 @@ grows : (d : Deed) (r : Room) → goes_on d ≡ true → May d r → Grows d r
 grows (Handed o f) r e may = nobody r.held r.held refl
 grows (Shut c) r e may = nobody r.held r.held refl
 grows (Told c s) r e may = nobody _ r.held (called_held None c (event.Refused c s r.now) (changed told c r))
-grows (Cut c s) r e may = nobody _ r.held (called_held None c (event.Closed c r.now) (record (changed (leaves (later grace r.now)) c (changed told c r)) { in_hand = None }))
+grows (Cut c s) r e may = nobody _ r.held (called_held None c (event.Closed c r.now) (record (changed (leaves (later grace r.now) cause.Memory) c (changed told c r)) { in_hand = None }))
 grows Ticked r e may = nobody r.held r.held refl
 grows (Took c p rest) r e may = nobody r.held r.held refl
 grows Came r e may = nobody _ r.held (came_held r.in_hand r)
 grows (Broke c f) r e may = nobody _ r.held (called_held None c (event.Fault c f r.now) r)
-grows (Left c w) r e may = nobody _ r.held (called_held None c (event.Closed c r.now) (record (changed (leaves (later grace r.now)) c r) { in_hand = None }))
+grows (Left c w) r e may = nobody _ r.held (called_held None c (event.Closed c r.now) (record (changed (leaves (later grace r.now) (cause_why w)) c r) { in_hand = None }))
 grows Tried r e may = tried_grows r.slow r
 grows (Waited c) r e may = (c ∷ [], ap (λ x. x ++ c ∷ []) (first_again c r.held may.1.0 may.1.1))
 grows (Freed c) r e may = nobody _ r.held (ap (λ x. c ∷ x) (freed_held _ c (record r { held = behind r.held })) ∙ first_again c r.held may.1.0 may.1.1)

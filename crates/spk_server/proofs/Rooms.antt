@@ -13,6 +13,8 @@ use Rattle.spk_broker_rules.specs.Data.{Broker}
 use Rattle.spk_broker_rules.specs.Plan.{Event}
 use Rattle.spk_broker_rules.specs.Plan as event
 use Rattle.spk_broker_rules.specs.Step.{step}
+use Rattle.spk_clients.specs.declared.cause.Cause.{Cause}
+use Rattle.spk_clients.specs.declared.cause.Cause.TheVariants as cause
 use Rattle.spk_clients.specs.declared.client.Client.{Client}
 use Rattle.spk_clients.specs.declared.client.Offered.{Offered}
 use Rattle.spk_clients.specs.declared.client.Offered.TheVariants.{Taken, Refused, Passed}
@@ -21,9 +23,11 @@ use Rattle.spk_clients.specs.Client.{fresh_client, has_many, is_untold, leaves, 
 use Rattle.spk_clients.specs.Data.{Becomes, IsSettled, OfferedTo, OthersStay, client_at}
 use Rattle.spk_server.specs.declared.server.Server.{Server}
 use Rattle.spk_server.specs.Answers.{AnswersOn}
-use Rattle.spk_server.specs.Data.{Offer, Room, Slow}
+use Rattle.spk_server.specs.Data.{Close, Offer, Room, Slow}
 use Rattle.spk_server.specs.Data as deed
-use Rattle.spk_server.specs.Step.{joined, called, called_on, change, changed, grace, later, left, offer_of, offered, slowed}
+use Rattle.spk_server.specs.declared.tally.Tally.{Tally}
+use Rattle.spk_server.specs.Step.{joined, called, called_on, cause_of, change, changed, closes_of, grace, later, left, offer_of, offered, packet_of, slowed}
+use Rattle.spk_server.specs.Tallies.{handed_with, is_message}
 use Rattle.spk_server.specs.Log.{IsRested, MayFall, Reaches, follows}
 use Rattle.spk_server.specs.Rooms.{amid, closes_in, offers_in, offers_of, pressed, room_of}
 use Rattle.spk_server.proofs.Runs.{at_end, begins, stays}
@@ -58,15 +62,15 @@ same_after conn old new here others = fun_ext λ k.
 -- ---- an answer of the broker
 
 pub answered_is : (by : Option ℕ) (conn : ℕ) (old new : Broker) (e : Event) (o : Option Out) (r : Room) → AnswersOn conn old new e o
-    → called_on by conn e (record r { broker = old; pending = []; closing = [] }) ≡ record r { broker = new; pending = offers_in by o; closing = closes_in o }
+    → called_on by conn e (record r { broker = old; pending = []; closing = [] }) ≡ record r { broker = new; pending = offers_in by o; closing = closes_in (packet_of e) (cause_of e) o }
 answered_is by conn old new e None r a =
     ap (λ b. if b then called by e (record r { broker = old; pending = []; closing = [] }) else (record r { broker = old; pending = []; closing = [] })) a.0
     ∙ ap (λ b. record r { broker = b; pending = []; closing = [] }) (sym a.1)
 answered_is by conn old new e (Some out) r a =
     ap (λ b. if b then called by e (record r { broker = old; pending = []; closing = [] }) else (record r { broker = old; pending = []; closing = [] })) a.0
-    ∙ ap (λ b. record r { broker = b; pending = map (offer_of by) (map outgoing (step old e).sends); closing = (step old e).closes }) (sym a.1.done)
-    ∙ ap (λ ss. record r { broker = new; pending = map (offer_of by) ss; closing = (step old e).closes }) (sym a.1.sends)
-    ∙ ap (λ cs. record r { broker = new; pending = offers_of by out.sends.items; closing = cs }) (sym a.1.closes)
+    ∙ ap (λ b. record r { broker = b; pending = map (offer_of by) (map outgoing (step old e).sends); closing = closes_of (packet_of e) (cause_of e) (step old e).closes }) (sym a.1.done)
+    ∙ ap (λ ss. record r { broker = new; pending = map (offer_of by) ss; closing = closes_of (packet_of e) (cause_of e) (step old e).closes }) (sym a.1.sends)
+    ∙ ap (λ cs. record r { broker = new; pending = offers_of by out.sends.items; closing = closes_of (packet_of e) (cause_of e) cs }) (sym a.1.closes)
 
 -- ---- handing out
 
@@ -110,14 +114,15 @@ slowed_is None s true (Some c) before = refl
 slowed_is (Some p) s true slow before = refl
 slowed_is by s false slow before = refl
 
-pub handed_is : (old : Server) (n : Clients) (s : Sent) (fate : Offered) (many : Bool) (slow r : Option ℕ)
+pub handed_is : (old : Server) (n : Clients) (t : Tally) (s : Sent) (fate : Offered) (many : Bool) (slow r : Option ℕ)
     → OfferedTo s.sort s.bytes (client_at old.clients s.conn) fate (client_at n s.conn)
     → OthersStay s.conn old.clients n
     → many ≡ option_map_or (has_many false) (client_at n s.conn) false
+    → t ≡ handed_with fate (is_message s.bytes) old.tally
     → r ≡ (if many then Some s.conn else slow)
-    → (by : Option ℕ) (rest : List Offer) (closes : List ℕ) (before : Option Slow)
-    → Reaches follows (amid old (offer_of by s ∷ rest) closes (pressed by slow before)) (amid (record old { clients = n }) rest closes (pressed by r before))
-handed_is old n s fate many slow r h others has is by rest closes before =
+    → (by : Option ℕ) (rest : List Offer) (closes : List Close) (before : Option Slow)
+    → Reaches follows (amid old (offer_of by s ∷ rest) closes (pressed by slow before)) (amid (record old { clients = n; tally = t }) rest closes (pressed by r before))
+handed_is old n t s fate many slow r h others has counted is by rest closes before =
     let here : client_at n s.conn ≡ option_map (offered s fate) (client_at old.clients s.conn) = offered_is s fate _ _ h in
     let clients : client_at n ≡ change (offered s fate) s.conn (client_at old.clients) = change_is (offered s fate) s.conn old.clients n (here, others) in
     let slows : slowed (offer_of by s) (option_map (offered s fate) (client_at old.clients s.conn)) (pressed by slow before) ≡ pressed by r before =
@@ -128,24 +133,25 @@ handed_is old n s fate many slow r h others has is by rest closes before =
     begins follows (deed.Handed (offer_of by s) fate) (amid old (offer_of by s ∷ rest) closes (pressed by slow before)) _ refl
     ((rest, refl), may_fall s.sort s.bytes fate (client_at old.clients s.conn) (client_at n s.conn) h)
     (at_end follows _ _ _ (stays follows _)
-    (ap (λ cs. record (amid old rest closes (slowed (offer_of by s) (option_map (offered s fate) (client_at old.clients s.conn)) (pressed by slow before))) { clients = cs }) (sym clients)
-    ∙ ap (λ x. record (amid old rest closes x) { clients = client_at n }) slows))
+    (ap (λ cs. record (amid old rest closes (slowed (offer_of by s) (option_map (offered s fate) (client_at old.clients s.conn)) (pressed by slow before))) { clients = cs; tally = handed_with fate (is_message s.bytes) old.tally }) (sym clients)
+    ∙ ap (λ x. record (amid old rest closes x) { clients = client_at n; tally = handed_with fate (is_message s.bytes) old.tally }) slows
+    ∙ ap {A = Tally} {B = Room} (λ x. record (amid old rest closes (pressed by r before)) { clients = client_at n; tally = x }) (sym counted)))
 
 -- the end of the first of those who are to be closed
-pub shut_is : (old new : Server) (conn : ℕ) (rest : List ℕ) (slow : Option Slow)
-    → room_of new ≡ changed (leaves (later grace old.now)) conn (room_of old)
-    → Reaches follows (amid old [] (conn ∷ rest) slow) (amid new [] rest slow)
-shut_is old new conn rest slow e =
-    begins follows (deed.Shut conn) (amid old [] (conn ∷ rest) slow) (amid new [] rest slow) refl (refl, (rest, refl))
+pub shut_is : (old new : Server) (q : Close) (rest : List Close) (slow : Option Slow)
+    → room_of new ≡ changed (leaves (later grace old.now) q.cause) q.conn (room_of old)
+    → Reaches follows (amid old [] (q ∷ rest) slow) (amid new [] rest slow)
+shut_is old new q rest slow e =
+    begins follows (deed.Shut q) (amid old [] (q ∷ rest) slow) (amid new [] rest slow) refl (refl, (rest, refl))
     (at_end follows _ _ _ (stays follows _) (ap {A = Room} {B = Room} (λ r. record r { pending = []; closing = rest; slow = slow }) (sym e)))
 
 -- ---- ends
 
-pub left_is : (old new : Server) (b : Broker) (conn : ℕ) (o : Option Out) (before : Option Slow)
-    → room_of new ≡ changed (leaves (later grace old.now)) conn (room_of old)
+pub left_is : (old new : Server) (b : Broker) (conn : ℕ) (why : Cause) (o : Option Out) (before : Option Slow)
+    → room_of new ≡ changed (leaves (later grace old.now) why) conn (room_of old)
     → AnswersOn conn new.broker b (event.Closed conn new.now) o
-    → left conn (amid old [] [] before) ≡ amid (record new { broker = b }) (offers_in None o) (closes_in o) before
-left_is old new b conn o before e a =
+    → left conn why (amid old [] [] before) ≡ amid (record new { broker = b }) (offers_in None o) (closes_in None cause.Refused o) before
+left_is old new b conn why o before e a =
     ap {A = Room} {B = Room} (λ r. called_on None conn (event.Closed conn r.now) (record r { pending = []; closing = []; slow = before })) (sym e)
     ∙ answered_is None conn new.broker b (event.Closed conn new.now) o (amid new [] [] before) a
 
@@ -190,25 +196,25 @@ pub rested : (s : Server) (before : Option Slow) → IsSettled s.clients → IsR
 rested s before h = ((refl, (refl, refl)), λ k. told_at (client_at s.clients k) s.clients.untold.items k h.1 (h.0.0 k))
 
 -- what nobody published makes nobody wait
-pub hands_none : (s new : Server) (o : Option Out) (r : Option ℕ) (before : Option Slow)
-    → Reaches follows (amid s (offers_in None o) (closes_in o ++ []) before) (amid new [] [] (pressed None r before))
-    → Reaches follows (amid s (offers_in None o) (closes_in o) before) (amid new [] [] before)
-hands_none s new o r before t =
-    at_end follows _ _ _ (subst (λ cs. Reaches follows (amid s (offers_in None o) cs before) (amid new [] [] (pressed None r before))) (append-nil (closes_in o)) t)
+pub hands_none : (s new : Server) (why : Cause) (o : Option Out) (r : Option ℕ) (before : Option Slow)
+    → Reaches follows (amid s (offers_in None o) (closes_in None why o ++ []) before) (amid new [] [] (pressed None r before))
+    → Reaches follows (amid s (offers_in None o) (closes_in None why o) before) (amid new [] [] before)
+hands_none s new why o r before t =
+    at_end follows _ _ _ (subst (λ cs. Reaches follows (amid s (offers_in None o) cs before) (amid new [] [] (pressed None r before))) (append-nil (closes_in None why o)) t)
     (ap (amid new [] []) (pressed_none r before))
 
 -- a refused send was told
 pub tells_is : (old : Server) (n : Clients) (conn : ℕ) (s : Sort) (new : Server) (before : Option Slow)
     → Becomes told conn old.clients n → Some s ≡ option_map_or sort_untold (client_at old.clients conn) None
     → Reaches follows (called_on None conn (event.Refused conn s old.now) (amid (record old { clients = n }) [] [] before)) (amid new [] [] before)
-    ⊎ Reaches follows (left conn (amid (record old { clients = n }) [] [] before)) (amid new [] [] before)
+    ⊎ Reaches follows (left conn cause.Memory (amid (record old { clients = n }) [] [] before)) (amid new [] [] before)
     → Reaches follows (amid old [] [] before) (amid new [] [] before)
 tells_is old n conn s new before b is (inl t) =
     begins follows (deed.Told conn s) (amid old [] [] before) (amid new [] [] before) refl ((refl, (refl, refl)), sym is)
     (subst (λ cs. Reaches follows (called_on None conn (event.Refused conn s old.now) (record (amid old [] [] before) { clients = cs })) (amid new [] [] before)) (change_is told conn old.clients n b) t)
 tells_is old n conn s new before b is (inr t) =
     begins follows (deed.Cut conn s) (amid old [] [] before) (amid new [] [] before) refl ((refl, (refl, refl)), sym is)
-    (subst (λ cs. Reaches follows (left conn (record (amid old [] [] before) { clients = cs })) (amid new [] [] before)) (change_is told conn old.clients n b) t)
+    (subst (λ cs. Reaches follows (left conn cause.Memory (record (amid old [] [] before) { clients = cs })) (amid new [] [] before)) (change_is told conn old.clients n b) t)
 
 pub nothing_left : {X : Type 0} (xs : List X) → length xs ≡ 0 → xs ≡ []
 nothing_left [] e = refl

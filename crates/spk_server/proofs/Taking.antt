@@ -14,15 +14,19 @@ use Rattle.spk_packets.specs.declared.packet.Packet.{Packet}
 use Rattle.spk_broker.specs.declared.out.Out.{Out}
 use Rattle.spk_broker_rules.specs.Data.{Broker}
 use Rattle.spk_broker_rules.specs.Plan as event
+use Rattle.spk_clients.specs.declared.cause.Cause.{Cause}
+use Rattle.spk_clients.specs.declared.cause.Cause.TheVariants as cause
 use Rattle.spk_clients.specs.declared.client.Client.{Client}
 use Rattle.spk_clients.specs.declared.clients.Clients.{Clients}
 use Rattle.spk_clients.specs.Client.{after_hearing, awaited, is_awaited, is_over, leaves, waiting_for}
 use Rattle.spk_clients.specs.Data.{Becomes, GivesFrontOf, IsSettled, OthersStay, client_at}
 use Rattle.spk_server.specs.declared.server.Server.{Server}
 use Rattle.spk_server.specs.Answers.{AnswersOn}
-use Rattle.spk_server.specs.Data.{Room, Slow, Want}
+use Rattle.spk_server.specs.Data.{Close, Room, Slow, Want}
 use Rattle.spk_server.specs.Data as deed
-use Rattle.spk_server.specs.Step.{broke, called_on, change, changed, ended_behind, ends_behind, grace, is_publish, later, left, publisher, tried_at}
+use Rattle.spk_server.specs.declared.tally.Tally.{Tally}
+use Rattle.spk_server.specs.Step.{broke, called_on, cause_fault, change, changed, ended_behind, ends_behind, grace, later, left, one_close, publisher, tried_at}
+use Rattle.spk_server.specs.Tallies.{heard_with, is_publish, stalled}
 use Rattle.spk_server.specs.Log.{HasClient, Reaches, follows, takes}
 use Rattle.spk_server.specs.Rooms.{amid, closes_in, offers_in, pressed, room_of, slow_for, with_packet}
 use Rattle.spk_server.proofs.Allowed.{follows_takes}
@@ -35,14 +39,16 @@ own_want conn = ap (λ b. b && true) (eq-eqb conn conn refl)
 -- ---- a packet in hand
 
 -- there is no memory for it
-pub came_to_end : (old : Server) (n : Clients) (b : Broker) (conn : ℕ) (p : Message) (new : Server) → Becomes (after_hearing p) conn old.clients n → b ≡ old.broker
-    → Reaches follows (left conn (amid (record old { broker = b; clients = n }) [] [] None)) (room_of new)
+pub came_to_end : (old : Server) (n : Clients) (b : Broker) (t : Tally) (conn : ℕ) (p : Message) (new : Server) → Becomes (after_hearing p) conn old.clients n → b ≡ old.broker
+    → t ≡ heard_with p old.tally
+    → Reaches follows (left conn cause.Memory (amid (record old { broker = b; clients = n; tally = t }) [] [] None)) (room_of new)
     → Reaches (takes conn) (with_packet conn p (room_of old)) (room_of new)
-came_to_end old n b conn p new h same t =
+came_to_end old n b t conn p new h same heard run =
     begins (takes conn) (deed.Left conn Want) (with_packet conn p (room_of old)) (room_of new) (own_want conn) ((refl, refl), tt)
     (wider follows (takes conn) (follows_takes conn) _ _
-    (subst (λ cs. Reaches follows (left conn (record (room_of old) { clients = cs })) (room_of new)) (change_is (after_hearing p) conn old.clients n h)
-    (subst (λ (x : Broker). Reaches follows (left conn (record (room_of old) { broker = x; clients = client_at n })) (room_of new)) same t)))
+    (subst (λ cs. Reaches follows (left conn cause.Memory (record (room_of old) { clients = cs; tally = heard_with p old.tally })) (room_of new)) (change_is (after_hearing p) conn old.clients n h)
+    (subst (λ (x : Broker). Reaches follows (left conn cause.Memory (record (room_of old) { broker = x; clients = client_at n; tally = heard_with p old.tally })) (room_of new)) same
+    (subst (λ (x : Tally). Reaches follows (left conn cause.Memory (record (room_of old) { broker = b; clients = client_at n; tally = x })) (room_of new)) heard run))))
 
 pressed_for : (b : Bool) (conn : ℕ) (slow : Option ℕ) → pressed (if b then Some conn else None) slow None ≡ slow_for conn (if b then slow else None)
 pressed_for true conn None = refl
@@ -51,20 +57,22 @@ pressed_for false conn None = refl
 pressed_for false conn (Some s) = refl
 
 -- it comes to the broker
-pub came_on : (old : Server) (n : Clients) (b : Broker) (conn : ℕ) (p : Message) (o : Option Out) (slow r : Option ℕ) (mid new : Server)
+pub came_on : (old : Server) (n : Clients) (b : Broker) (t : Tally) (conn : ℕ) (p : Message) (o : Option Out) (slow r : Option ℕ) (mid new : Server)
     → Becomes (after_hearing p) conn old.clients n
+    → t ≡ heard_with p old.tally
     → AnswersOn conn old.broker b (event.Packet conn p old.now) o
-    → ((by : Option ℕ) (more : List ℕ) (before : Option Slow) → Reaches follows (amid (record old { broker = b; clients = n }) (offers_in by o) (closes_in o ++ more) before) (amid mid [] more (pressed by slow before)))
+    → ((by : Option ℕ) (more : List Close) (before : Option Slow) → Reaches follows (amid (record old { broker = b; clients = n; tally = t }) (offers_in by o) (closes_in (Some conn) cause.Refused o ++ more) before) (amid mid [] more (pressed by slow before)))
     → ((before : Option Slow) → Reaches follows (amid mid [] (ends_behind (record { conn = conn; packet = p })) before) (amid new [] [] before))
     → r ≡ (if is_publish p then slow else None)
     → Reaches (takes conn) (with_packet conn p (room_of old)) (amid new [] [] (slow_for conn r))
-came_on old n b conn p o slow r mid new h a hands ends is =
+came_on old n b t conn p o slow r mid new h heard a hands ends is =
     let by : Option ℕ = publisher (record { conn = conn; packet = p }) in
-    let gone : List ℕ = ends_behind (record { conn = conn; packet = p }) in
-    let answer : called_on by conn (event.Packet conn p old.now) (record (room_of old) { clients = change (after_hearing p) conn (client_at old.clients) })
-    ≡ record (room_of old) { broker = b; clients = client_at n; pending = offers_in by o; closing = closes_in o } =
-    ap {A = ℕ → Option Client} {B = Room} (λ cs. called_on by conn (event.Packet conn p old.now) (record (room_of old) { clients = cs })) (sym (change_is (after_hearing p) conn old.clients n h))
-    ∙ answered_is by conn old.broker b (event.Packet conn p old.now) o (record (room_of old) { clients = client_at n }) a in
+    let gone : List Close = ends_behind (record { conn = conn; packet = p }) in
+    let answer : called_on by conn (event.Packet conn p old.now) (record (room_of old) { clients = change (after_hearing p) conn (client_at old.clients); tally = heard_with p old.tally })
+    ≡ record (room_of old) { broker = b; clients = client_at n; pending = offers_in by o; closing = closes_in (Some conn) cause.Refused o; tally = t } =
+    ap {A = ℕ → Option Client} {B = Room} (λ cs. called_on by conn (event.Packet conn p old.now) (record (room_of old) { clients = cs; tally = heard_with p old.tally })) (sym (change_is (after_hearing p) conn old.clients n h))
+    ∙ ap {A = Tally} {B = Room} (λ x. called_on by conn (event.Packet conn p old.now) (record (room_of old) { clients = client_at n; tally = x })) (sym heard)
+    ∙ answered_is by conn old.broker b (event.Packet conn p old.now) o (record (room_of old) { clients = client_at n; tally = t }) a in
     begins (takes conn) deed.Came (with_packet conn p (room_of old)) _ refl ((record { conn = conn; packet = p }, refl), (refl, refl))
     (at_start (takes conn) _ _ _ (ap {A = Room} {B = Room} (ended_behind gone) answer)
     (wider follows (takes conn) (follows_takes conn) _ _
@@ -73,15 +81,16 @@ came_on old n b conn p o slow r mid new h a hands ends is =
 
 -- ---- what is no packet
 
-pub broke_on : (old : Server) (b : Broker) (conn : ℕ) (f : PacketFault) (o : Option Out) (r : Option ℕ) (mid new : Server)
+pub broke_on : (old : Server) (b : Broker) (conn : ℕ) (f : PacketFault) (why : Cause) (o : Option Out) (r : Option ℕ) (mid new : Server) → why ≡ cause_fault f
     → AnswersOn conn old.broker b (event.Fault conn f old.now) o
-    → Reaches follows (amid (record old { broker = b }) (offers_in None o) (closes_in o ++ conn ∷ []) None) (amid mid [] (conn ∷ []) (pressed None r None))
-    → room_of new ≡ changed (leaves (later grace mid.now)) conn (room_of mid)
+    → Reaches follows (amid (record old { broker = b }) (offers_in None o) (closes_in None why o ++ one_close conn why) None) (amid mid [] (one_close conn why) (pressed None r None))
+    → room_of new ≡ changed (leaves (later grace mid.now) why) conn (room_of mid)
     → Reaches follows (broke conn (event.Fault conn f old.now) (room_of old)) (room_of new)
-broke_on old b conn f o r mid new a hands ended =
-    at_start follows _ _ _ (ap {A = Room} {B = Room} (ended_behind (conn ∷ [])) (answered_is None conn old.broker b (event.Fault conn f old.now) o (room_of old) a))
-    (and_then follows _ _ _ (at_end follows _ _ _ hands (ap {A = Option Slow} {B = Room} (amid mid [] (conn ∷ [])) (pressed_none r None)))
-    (shut_is mid new conn [] None ended))
+broke_on old b conn f why o r mid new is a hands ended =
+    at_start follows _ _ _ (ap {A = Room} {B = Room} (ended_behind (one_close conn (cause_fault f))) (answered_is None conn old.broker b (event.Fault conn f old.now) o (room_of old) a)
+    ∙ ap {A = Cause} {B = Room} (λ w. ended_behind (one_close conn w) (record (room_of old) { broker = b; pending = offers_in None o; closing = closes_in None w o })) (sym is))
+    (and_then follows _ _ _ (at_end follows _ _ _ hands (ap {A = Option Slow} {B = Room} (amid mid [] (one_close conn why)) (pressed_none r None)))
+    (shut_is mid new (record { conn = conn; cause = why }) [] None ended))
 
 -- ---- the front of what a client sent
 
@@ -105,7 +114,7 @@ took_at old n conn p s (Some c) (Some d) x y h others settled t =
           ∙ sym (ap (λ e. if e then option_map (after_hearing (view p)) (client_at n k) else client_at n k) q.0)
     ] in
     begins (takes conn) (deed.Took conn (view p) d.feed) (room_of old) s (eq-eqb conn conn refl) (rested old None settled, (c, x, (h.0, h.1)))
-    (subst (λ cs. Reaches (takes conn) (record (room_of old) { clients = cs; in_hand = Some (record { conn = conn; packet = view p }) }) s) (sym same) t)
+    (subst (λ cs. Reaches (takes conn) (record (room_of old) { clients = cs; in_hand = Some (record { conn = conn; packet = view p }); tally = heard_with (view p) old.tally }) s) (sym same) t)
 
 pub took_is : (old : Server) (n : Clients) (conn : ℕ) (p : Packet) (s : Room) → GivesFrontOf (client_at old.clients conn) (Some (Ok p)) (client_at n conn)
     → OthersStay conn old.clients n → IsSettled old.clients
@@ -133,7 +142,7 @@ named_is conn f old n h others = named_at conn f old n _ _ refl refl h others
 -- it broke, or there was no memory
 pub broke_is : (old new : Server) (conn : ℕ) (f : PacketFault) → IsSettled old.clients
     → HasClient (λ c. (is_over c ≡ false) × IsNamed f (first_of (refusals c.feed))) conn (room_of old) → f ≢ fault.More → f ≢ fault.NoMemory
-    → Reaches follows (broke conn (event.Fault conn f old.now) (room_of old)) (room_of new) ⊎ Reaches follows (left conn (room_of old)) (room_of new)
+    → Reaches follows (broke conn (event.Fault conn f old.now) (room_of old)) (room_of new) ⊎ Reaches follows (left conn cause.Memory (room_of old)) (room_of new)
     → Reaches (takes conn) (room_of old) (room_of new)
 broke_is old new conn f settled has more memory (inl t) =
     begins (takes conn) (deed.Broke conn f) (room_of old) (room_of new) (eq-eqb conn conn refl) (rested old None settled, has, more, memory)
@@ -142,7 +151,7 @@ broke_is old new conn f settled has more memory (inr t) =
     begins (takes conn) (deed.Left conn Want) (room_of old) (room_of new) (own_want conn) ((refl, refl), tt)
     (wider follows (takes conn) (follows_takes conn) _ _ t)
 
-pub want_is : (old new : Server) (conn : ℕ) → Reaches follows (left conn (room_of old)) (room_of new) → Reaches (takes conn) (room_of old) (room_of new)
+pub want_is : (old new : Server) (conn : ℕ) → Reaches follows (left conn cause.Memory (room_of old)) (room_of new) → Reaches (takes conn) (room_of old) (room_of new)
 want_is old new conn t =
     begins (takes conn) (deed.Left conn Want) (room_of old) (room_of new) (own_want conn) ((refl, refl), tt)
     (wider follows (takes conn) (follows_takes conn) _ _ t)
@@ -162,15 +171,15 @@ tried_not old n conn slow waits settled h is e =
 pub tried_is : (old new : Server) (n m : Clients) (conn slow : ℕ) (waits : Bool) → IsSettled old.clients → Becomes (awaited (slow == conn) old.now) slow old.clients n
     → waits ≡ option_map_or (is_awaited (slow == conn) old.now) (client_at old.clients slow) false → waits ≡ true
     → Becomes (waiting_for (Some slow)) conn n m
-    → room_of new ≡ record (room_of old) { clients = client_at m; held = old.held.items ++ conn ∷ [] }
+    → room_of new ≡ record (room_of old) { clients = client_at m; held = old.held.items ++ conn ∷ []; tally = stalled old.tally }
     → Reaches (takes conn) (amid old [] [] (Some (record { publisher = conn; client = slow }))) (room_of new)
 tried_is old new n m conn slow waits settled h is e w same =
     let s : Slow = record { publisher = conn; client = slow } in
     begins (takes conn) deed.Tried (amid old [] [] (Some s)) _ refl (rested old (Some s) settled, (s, refl))
     (at_end (takes conn) _ _ _ (stays (takes conn) _)
     (ap {A = Bool} {B = Room} (λ b. record (tried_at b s (changed (awaited (slow == conn) old.now) slow (amid old [] [] (Some s)))) { slow = None }) (sym is ∙ e)
-    ∙ ap {A = ℕ → Option Client} {B = Room} (λ cs. record (room_of old) { clients = change (waiting_for (Some slow)) conn cs; held = old.held.items ++ conn ∷ [] }) (sym (change_is (awaited (slow == conn) old.now) slow old.clients n h))
-    ∙ ap {A = ℕ → Option Client} {B = Room} (λ cs. record (room_of old) { clients = cs; held = old.held.items ++ conn ∷ [] }) (sym (change_is (waiting_for (Some slow)) conn n m w))
+    ∙ ap {A = ℕ → Option Client} {B = Room} (λ cs. record (room_of old) { clients = change (waiting_for (Some slow)) conn cs; held = old.held.items ++ conn ∷ []; tally = stalled old.tally }) (sym (change_is (awaited (slow == conn) old.now) slow old.clients n h))
+    ∙ ap {A = ℕ → Option Client} {B = Room} (λ cs. record (room_of old) { clients = cs; held = old.held.items ++ conn ∷ []; tally = stalled old.tally }) (sym (change_is (waiting_for (Some slow)) conn n m w))
     ∙ sym same))
 
 same_front : (c d : Option Client) → GivesFrontOf c None d → d ≡ c

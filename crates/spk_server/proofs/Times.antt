@@ -6,6 +6,7 @@ use Rattle.spk_broker.specs.declared.out.Out.{Out}
 use Rattle.spk_broker_rules.specs.Data.{Broker}
 use Rattle.spk_broker_rules.specs.Plan as event
 use Rattle.spk_broker_rules.specs.Step.{step}
+use Rattle.spk_clients.specs.declared.cause.Cause.TheVariants as cause
 use Rattle.spk_clients.specs.declared.client.Client.{Client}
 use Rattle.spk_clients.specs.declared.client.Phase.{Phase}
 use Rattle.spk_clients.specs.declared.client.Phase.TheVariants as phase
@@ -16,7 +17,7 @@ use Rattle.spk_server.specs.declared.server.Server.{Server}
 use Rattle.spk_server.specs.Answers.{Answers}
 use Rattle.spk_server.specs.Data.{Deed, Room, Slow, Silent}
 use Rattle.spk_server.specs.Data as deed
-use Rattle.spk_server.specs.Step.{after, behind, called, changed, freed_from, is_quiet, left, offer_of, slow_of, still_waits}
+use Rattle.spk_server.specs.Step.{after, behind, called, changed, closes_of, freed_from, is_quiet, left, offer_of, slow_of, still_waits}
 use Rattle.spk_server.specs.Log.{HasClient, IsRun, LooksAt, Reaches, calls, follows, goes_on, takes}
 use Rattle.spk_server.specs.Rooms.{amid, closes_in, offers_in, offers_of, room_of}
 use Rattle.spk_server.proofs.Allowed.{follows_calls, takes_goes_on}
@@ -25,15 +26,15 @@ use Rattle.spk_server.proofs.Looking.{looked_none}
 use Rattle.spk_server.proofs.Runs.{at_end, at_start, begins, stays, widened, wider}
 
 pub ticked_is : (old : Server) (b : Broker) (out : Out) (before : Option Slow) → Answers old.broker b (event.Tick old.now) out
-    → record (called None (event.Tick old.now) (amid old [] [] before)) { ticked = old.now } ≡ amid (record old { broker = b; ticked = old.now }) (offers_in None (Some out)) (closes_in (Some out)) before
+    → record (called None (event.Tick old.now) (amid old [] [] before)) { ticked = old.now } ≡ amid (record old { broker = b; ticked = old.now }) (offers_in None (Some out)) (closes_in None cause.KeepAlive (Some out)) before
 ticked_is old b out before a =
     let r : Room = record (amid old [] [] before) { ticked = old.now } in
-    ap {B = Room} (λ x. record r { broker = x; pending = map (offer_of None) (map outgoing (step old.broker (event.Tick old.now)).sends); closing = (step old.broker (event.Tick old.now)).closes }) (sym a.done)
-    ∙ ap {B = Room} (λ ss. record r { broker = b; pending = map (offer_of None) ss; closing = (step old.broker (event.Tick old.now)).closes }) (sym a.sends)
-    ∙ ap {B = Room} (λ cs. record r { broker = b; pending = offers_of None out.sends.items; closing = cs }) (sym a.closes)
+    ap {B = Room} (λ x. record r { broker = x; pending = map (offer_of None) (map outgoing (step old.broker (event.Tick old.now)).sends); closing = closes_of None cause.KeepAlive (step old.broker (event.Tick old.now)).closes }) (sym a.done)
+    ∙ ap {B = Room} (λ ss. record r { broker = b; pending = map (offer_of None) ss; closing = closes_of None cause.KeepAlive (step old.broker (event.Tick old.now)).closes }) (sym a.sends)
+    ∙ ap {B = Room} (λ cs. record r { broker = b; pending = offers_of None out.sends.items; closing = closes_of None cause.KeepAlive cs }) (sym a.closes)
 
 pub ticks_is : (old : Server) (b : Broker) (out : Out) (s : Room) (before : Option Slow) → IsSettled old.clients → old.ticked < old.now → Answers old.broker b (event.Tick old.now) out
-    → Reaches follows (amid (record old { broker = b; ticked = old.now }) (offers_in None (Some out)) (closes_in (Some out)) before) s
+    → Reaches follows (amid (record old { broker = b; ticked = old.now }) (offers_in None (Some out)) (closes_in None cause.KeepAlive (Some out)) before) s
     → Reaches follows (amid old [] [] before) s
 ticks_is old b out s before settled less a t =
     begins follows deed.Ticked (amid old [] [] before) s refl (rested old before settled, less)
@@ -50,7 +51,7 @@ quiet_at : (conn : ℕ) (r : Room) (b : Bool) (has : HasClient (λ c. is_due r.n
 quiet_at conn r b has e = ap (λ o. option_map_or (λ (c : Client). is_quiet c.phase) o false) (sym has.1) ∙ e
 
 pub silent_is : (old new : Server) (conn : ℕ) → IsSettled old.clients → HasClient (λ c. is_due old.now c ≡ true) conn (room_of old)
-    → option_map_or (λ (c : Client). is_quiet c.phase) (client_at old.clients conn) false ≡ true → Reaches follows (left conn (room_of old)) (room_of new) → Reaches calls (room_of old) (room_of new)
+    → option_map_or (λ (c : Client). is_quiet c.phase) (client_at old.clients conn) false ≡ true → Reaches follows (left conn cause.Silent (room_of old)) (room_of new) → Reaches calls (room_of old) (room_of new)
 silent_is old new conn settled has is t =
     let quiet : has.0.phase ≡ phase.Quiet = quiet_is has.0.phase (quiet_at conn (room_of old) true has is) in
     begins calls (deed.Left conn Silent) (room_of old) (room_of new) refl ((refl, refl), (has.0, has.1, (quiet, has.2)))

@@ -5,13 +5,15 @@ use Rattle.std.proofs.lemmas.Bool.{lt-leb}
 use Rattle.spk_broker_rules.specs.Plan.{Event}
 use Rattle.spk_broker_rules.specs.Plan as event
 use Rattle.spk_broker_rules.specs.Step.{knows}
+use Rattle.spk_clients.specs.declared.cause.Cause.{Cause}
+use Rattle.spk_clients.specs.declared.cause.Cause.TheVariants as cause
 use Rattle.spk_clients.specs.declared.client.Client.{Client}
 use Rattle.spk_clients.specs.declared.clients.Clients.{Clients}
 use Rattle.spk_clients.specs.Client.{has_moment, is_due, leaves, told}
 use Rattle.spk_clients.specs.Data.{AreNoted, NobodyIsDue, client_at}
 use Rattle.spk_server.specs.Data.{Deed, Room, Timed, Joined, Fed, Skipped, Took, Came, Broke, Left, Ticked, Handed, Shut, Told, Cut, Tried, Waited, Freed, Dropped, Wrote, Blocked, Named, Forgot}
 use Rattle.spk_server.specs.Calls.{IsTold}
-use Rattle.spk_server.specs.Step.{after, called, called_on, changed, grace, later, left}
+use Rattle.spk_server.specs.Step.{after, called, called_on, cause_why, changed, grace, later, left}
 use Rattle.spk_server.specs.Log.{IsRun, Reaches, calls, follows}
 use Rattle.spk_server.proofs.Allowed.{follows_calls}
 use Rattle.spk_server.proofs.Runs.{wider}
@@ -23,8 +25,8 @@ either_told false x y s t = t
 called_told : (conn : ℕ) (e : Event) (r : Room) → IsTold r → IsTold (called_on None conn e r)
 called_told conn e r t = either_told (knows r.broker conn) (called None e r) r t t
 
-left_told : (conn : ℕ) (r : Room) → IsTold r → IsTold (left conn r)
-left_told conn r t = called_told conn (event.Closed conn r.now) (record (changed (leaves (later grace r.now)) conn r) { in_hand = None }) t
+left_told : (conn : ℕ) (why : Cause) (r : Room) → IsTold r → IsTold (left conn why r)
+left_told conn why r t = called_told conn (event.Closed conn r.now) (record (changed (leaves (later grace r.now) why) conn r) { in_hand = None }) t
 
 after_told : (d : Deed) (r : Room) → calls d ≡ true → IsTold r → IsTold (after d r)
 after_told (Timed moment) r ok t = cc
@@ -34,12 +36,12 @@ after_told (Skipped conn piece) r ok t = cc
 after_told (Took conn p rest) r ok t = cc
 after_told Came r ok t = cc
 after_told (Broke conn fault) r ok t = cc
-after_told (Left conn why) r ok t = left_told conn r t
+after_told (Left conn why) r ok t = left_told conn (cause_why why) r t
 after_told Ticked r ok t = omega arith
 after_told (Handed o fate) r ok t = t
 after_told (Shut conn) r ok t = t
 after_told (Told conn s) r ok t = called_told conn (event.Refused conn s r.now) (changed told conn r) t
-after_told (Cut conn s) r ok t = left_told conn (changed told conn r) t
+after_told (Cut conn s) r ok t = left_told conn cause.Memory (changed told conn r) t
 after_told Tried r ok t = cc
 after_told (Waited conn) r ok t = cc
 after_told (Freed conn) r ok t = cc

@@ -5,6 +5,8 @@ use Rattle.std.specs.List.{list_any}
 use Rattle.std.specs.Option.{option_map, option_map_or}
 use Rattle.spk_session.specs.declared.answer.Sort.{Sort}
 use Rattle.spk_session.specs.declared.answer.Sort.TheVariants as sort
+use Rattle.spk_clients.specs.declared.cause.Cause.{Cause}
+use Rattle.spk_clients.specs.declared.cause.Cause.TheVariants as cause
 use Rattle.spk_clients.specs.declared.client.Client.{Client}
 use Rattle.spk_clients.specs.declared.client.Offered.{Offered}
 use Rattle.spk_clients.specs.declared.client.Offered.TheVariants.{Taken, Refused, Passed}
@@ -14,7 +16,7 @@ use Rattle.spk_broker_rules.specs.Plan.{Event}
 use Rattle.spk_broker_rules.specs.Plan as event
 use Rattle.spk_broker.specs.Sent.{Sent}
 use Rattle.spk_server.specs.Data.{Deed, InHand, Offer, Room, Slow, Timed, Joined, Fed, Skipped, Took, Came, Broke, Left, Ticked, Handed, Shut, Told, Cut, Tried, Waited, Freed, Dropped, Wrote, Blocked, Named, Forgot}
-use Rattle.spk_server.specs.Step.{after, awaits, behind, called_on, came, change, changed, freed_from, grace, is_among, is_slow, later, offered, placed, quiet, set_free, slow_of, tried, tried_at}
+use Rattle.spk_server.specs.Step.{after, awaits, behind, called_on, came, cause_why, change, changed, freed_from, grace, is_among, is_slow, later, offered, placed, quiet, set_free, slow_of, tried, tried_at}
 use Rattle.spk_server.specs.Log.{IsRun, May}
 use Rattle.spk_server.proofs.Lives.{called_keeps, came_keeps, either, pick}
 use Rattle.spk_server.proofs.Looking.{called_held, came_held, freed_held}
@@ -55,10 +57,10 @@ w_takes_in piece c = go (is_over c)
 w_settled : (c : Client) → (settled c).waits_for ≡ c.waits_for
 w_settled c = either (λ (x : Client). x.waits_for) (settles c) _ c refl
 
-w_leaves : (until : ℕ) (c : Client) → (leaves until c).waits_for ≡ c.waits_for
-w_leaves until c = w_settled (over_until until c) ∙ go (is_over c)
+w_leaves : (until : ℕ) (why : Cause) (c : Client) → (leaves until why c).waits_for ≡ c.waits_for
+w_leaves until why c = w_settled (over_until until why c) ∙ go (is_over c)
   where
-    go : (b : Bool) → (if b then c else record c { phase = Rattle.spk_clients.specs.declared.client.Phase.TheVariants.Over; until = until }).waits_for ≡ c.waits_for
+    go : (b : Bool) → (if b then c else record c { phase = Rattle.spk_clients.specs.declared.client.Phase.TheVariants.Over; until = until; cause = why }).waits_for ≡ c.waits_for
     go true = refl
     go false = refl
 
@@ -180,15 +182,15 @@ seen_after (Took c p rest) r may seen = kept (λ x. after_hearing p (record x { 
 seen_after Came r may seen = came_seen r.in_hand r seen
 seen_after (Broke c f) r may seen = called_seen None c (event.Fault c f r.now) r seen
 seen_after (Left c w) r may seen =
-    called_seen None c (event.Closed c r.now) (record (changed (leaves (later grace r.now)) c r) { in_hand = None })
-    (kept (leaves (later grace r.now)) (w_leaves (later grace r.now)) c r.clients r.held seen)
+    called_seen None c (event.Closed c r.now) (record (changed (leaves (later grace r.now) (cause_why w)) c r) { in_hand = None })
+    (kept (leaves (later grace r.now) (cause_why w)) (w_leaves (later grace r.now) (cause_why w)) c r.clients r.held seen)
 seen_after Ticked r may seen = seen
 seen_after (Handed o f) r may seen = kept (offered o.send f) (w_offered o.send f) o.send.conn r.clients r.held seen
-seen_after (Shut c) r may seen = kept (leaves (later grace r.now)) (w_leaves (later grace r.now)) c r.clients r.held seen
+seen_after (Shut q) r may seen = kept (leaves (later grace r.now) q.cause) (w_leaves (later grace r.now) q.cause) q.conn r.clients r.held seen
 seen_after (Told c s) r may seen = called_seen None c (event.Refused c s r.now) (changed told c r) (kept told w_told c r.clients r.held seen)
 seen_after (Cut c s) r may seen =
-    called_seen None c (event.Closed c r.now) (record (changed (leaves (later grace r.now)) c (changed told c r)) { in_hand = None })
-    (kept (leaves (later grace r.now)) (w_leaves (later grace r.now)) c (change told c r.clients) r.held (kept told w_told c r.clients r.held seen))
+    called_seen None c (event.Closed c r.now) (record (changed (leaves (later grace r.now) cause.Memory) c (changed told c r)) { in_hand = None })
+    (kept (leaves (later grace r.now) cause.Memory) (w_leaves (later grace r.now) cause.Memory) c (change told c r.clients) r.held (kept told w_told c r.clients r.held seen))
 seen_after Tried r may seen = tried_seen r.slow r seen
 seen_after (Waited c) r may seen = λ k e. turned k c r.held may.1.0 may.1.1 (seen k e)
 seen_after (Freed c) r may seen = freed_seen c r may.1.0 may.1.1 seen

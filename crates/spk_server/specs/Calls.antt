@@ -6,6 +6,7 @@ use Rattle.spk_packets.specs.Refusals.{refusals}
 use Rattle.spk_packets.specs.declared.fault.PacketFault.TheVariants.{More}
 use Rattle.spk_broker_rules.specs.Data.{fresh_broker}
 use Rattle.spk_broker_rules.specs.Step.{is_full}
+use Rattle.spk_clients.specs.declared.cause.Cause.{Cause}
 use Rattle.spk_clients.specs.declared.client.Client.{Client}
 use Rattle.spk_clients.specs.declared.client.Phase.TheVariants.{Done}
 use Rattle.spk_clients.specs.Client.{is_over}
@@ -13,6 +14,7 @@ use Rattle.spk_clients.specs.Data.{NobodyIsDue}
 use Rattle.spk_server.specs.Data.{Deed, Room, Want}
 use Rattle.spk_server.specs.Data as deed
 use Rattle.spk_server.specs.Step.{after, second}
+use Rattle.spk_server.specs.Tallies.{fresh_tally}
 use Rattle.spk_server.specs.Log.{HasClient, IsRested, LooksAt, Reaches, calls, follows, goes_on, is_open, takes}
 
 -- a call, with what the loop told the server or was told by it
@@ -27,7 +29,7 @@ pub data Call : Type 0 where
   Wrote : (conn : ℕ) (count : ℕ) → Call
   Cut : (conn : ℕ) → Call
   NextToWrite : (conn : Option ℕ) → Call
-  NextToShut : (conn : Option ℕ) → Call
+  NextToShut : (shut : Option (ℕ × Cause)) → Call
 
 abbrev pub IsHeld : Option ℕ → Type 0
 IsHeld None = ⊥
@@ -81,7 +83,7 @@ IsDone (Cut conn) r s = s ≡ after (deed.Blocked conn) r
 IsDone (NextToWrite None) r s = s ≡ r
 IsDone (NextToWrite (Some conn)) r s = s ≡ after (deed.Named conn) r
 IsDone (NextToShut None) r s = s ≡ r
-IsDone (NextToShut (Some conn)) r s = HasClient (λ c. c.phase ≡ Done) conn r × (s ≡ after (deed.Forgot conn) r)
+IsDone (NextToShut (Some shut)) r s = HasClient (λ c. (c.phase ≡ Done) × (c.cause ≡ shut.1)) shut.0 r × (s ≡ after (deed.Forgot shut.0) r)
 
 -- a new server
 abbrev pub fresh_room : Room
@@ -95,6 +97,7 @@ fresh_room = record {
   pending = [];
   closing = [];
   slow = None;
+  tally = fresh_tally;
 }
 
 -- Each of these calls was done, one after the other, and the broker is told of each refused send behind each.
@@ -123,7 +126,7 @@ IsLogOf (Cut conn) log = log ≡ deed.Blocked conn ∷ []
 IsLogOf (NextToWrite None) log = log ≡ []
 IsLogOf (NextToWrite (Some conn)) log = log ≡ deed.Named conn ∷ []
 IsLogOf (NextToShut None) log = log ≡ []
-IsLogOf (NextToShut (Some conn)) log = log ≡ deed.Forgot conn ∷ []
+IsLogOf (NextToShut (Some shut)) log = log ≡ deed.Forgot shut.0 ∷ []
 
 -- the deeds of these calls, one call behind the other
 abbrev pub LogOf : List Call → List Deed → Type 0

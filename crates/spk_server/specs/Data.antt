@@ -5,8 +5,10 @@ use Rattle.spk_packets.specs.declared.fault.PacketFault.{PacketFault}
 use Rattle.spk_session.specs.declared.answer.Sort.{Sort}
 use Rattle.spk_broker.specs.Sent.{Sent}
 use Rattle.spk_broker_rules.specs.Data.{Broker}
+use Rattle.spk_clients.specs.declared.cause.Cause.{Cause}
 use Rattle.spk_clients.specs.declared.client.Client.{Client}
 use Rattle.spk_clients.specs.declared.client.Offered.{Offered}
+use Rattle.spk_server.specs.declared.tally.Tally.{Tally}
 
 -- A send of the broker that is to be offered to its client, and whose own PUBLISH brought it, if one did. Wills, ticks, ends, and
 -- refusals told are nobody's.
@@ -24,6 +26,11 @@ pub record Slow : Type 0 where
   pub publisher : ℕ
   pub client : ℕ
 
+-- a client that is to be ended, and why
+pub record Close : Type 0 where
+  pub conn : ℕ
+  pub cause : Cause
+
 pub record Room : Type 0 where
   pub broker : Broker
   -- by the numbers of their connections
@@ -39,9 +46,11 @@ pub record Room : Type 0 where
   -- what the broker sends that isn't offered yet, in order
   pub pending : List Offer
   -- whom it closes, as soon as all is offered
-  pub closing : List ℕ
+  pub closing : List Close
   -- of the last packet: for whom its client may be made to wait
   pub slow : Option Slow
+  -- what came and went, in numbers
+  pub tally : Tally
 
 -- why the server ends a connection by itself
 pub data Why : Type 0 where
@@ -73,8 +82,8 @@ pub data Deed : Type 0 where
   Ticked : Deed
   -- a send was offered to its client
   Handed : (offer : Offer) (fate : Offered) → Deed
-  -- the end of one whom the broker closes came
-  Shut : (conn : ℕ) → Deed
+  -- the end of one whom the broker closes, or who sent DISCONNECT or what is no packet, came
+  Shut : (close : Close) → Deed
   -- the broker was told of a refused send
   Told : (conn : ℕ) (sort : Sort) → Deed
   -- there was no memory to tell the broker of a refused send: its connection was ended instead

@@ -6,3 +6,4 @@ pub mod Log
 pub mod Past
 pub mod Rooms
 pub mod Step
+pub mod Tallies

@@ -67,7 +67,7 @@ May (Broke conn fault) r = IsRested r
 May (Left conn why) r = IsHandedOut r × MayLeave why conn r
 May Ticked r = IsRested r × (r.ticked < r.now)
 May (Handed o fate) r = IsFirst o r.pending × MayFall fate (r.clients o.send.conn)
-May (Shut conn) r = (r.pending ≡ []) × IsFirst conn r.closing
+May (Shut close) r = (r.pending ≡ []) × IsFirst close r.closing
 May (Told conn s) r = IsIdle r × (option_map_or sort_untold (r.clients conn) None ≡ Some s)
 May (Cut conn s) r = IsIdle r × (option_map_or sort_untold (r.clients conn) None ≡ Some s)
 May Tried r = IsRested r × ((s : Slow) × (r.slow ≡ Some s))
@@ -92,7 +92,7 @@ Reaches allowed r s = (ds : List Deed) × IsRun allowed r ds s
 -- what follows of any other: what the broker answers is handed out, refused sends are told, and time is told
 abbrev pub follows : Deed → Bool
 follows (Handed o fate) = true
-follows (Shut conn) = true
+follows (Shut close) = true
 follows (Told conn s) = true
 follows (Cut conn s) = true
 follows Ticked = true

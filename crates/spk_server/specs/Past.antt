@@ -1,6 +1,7 @@
 -- What is read off a run of deeds (own rules): for each client what it sent and what it is owed, and for the broker what came to it.
-use Rattle.std.specs.Prelude.{ℕ, ◌==◌, Bool, false, List, [], ◌∷◌, ◌++◌, map, Option, Some, None, if◌then◌else◌}
-use Rattle.std.specs.List.{flat_map}
+use Rattle.std.specs.Prelude.{◌≡◌, ℕ, ◌+◌, ◌==◌, Bool, true, false, List, [], ◌∷◌, ◌++◌, length, map, Option, Some, None, if◌then◌else◌}
+use Rattle.std.specs.List.{filter, flat_map}
+use Rattle.std.specs.Option.{option_map_or}
 use Rattle.spk_packets.specs.Stream.{Fed, Gave}
 use Rattle.spk_packets.specs.Stream as stream
 use Rattle.spk_broker.specs.Sent.{outgoing}
@@ -9,10 +10,14 @@ use Rattle.spk_broker_rules.specs.Plan.{Event}
 use Rattle.spk_broker_rules.specs.Plan as event
 use Rattle.spk_broker_rules.specs.Step.{step, knows}
 use Rattle.spk_outbox.specs.Calls as outbox
-use Rattle.spk_clients.specs.declared.client.Offered.TheVariants.{Taken}
+use Rattle.spk_clients.specs.declared.cause.Cause.{Cause}
+use Rattle.spk_clients.specs.declared.client.Client.{Client}
+use Rattle.spk_clients.specs.Client.{is_over}
+use Rattle.spk_clients.specs.declared.client.Offered.TheVariants.{Taken, Refused}
 use Rattle.spk_server.specs.Data.{Deed, InHand, Offer, Room, Timed, Joined, Skipped, Took, Came, Broke, Left, Ticked, Handed, Shut, Told, Cut, Tried, Waited, Freed, Dropped, Wrote, Blocked, Named, Forgot}
 use Rattle.spk_server.specs.Data as deed
-use Rattle.spk_server.specs.Step.{after, offer_of, publisher}
+use Rattle.spk_server.specs.Step.{after, is_slow, offer_of, publisher}
+use Rattle.spk_server.specs.Tallies.{is_message, is_publish}
 
 -- ---- one client
 
@@ -93,3 +98,38 @@ hears k (deed.Fed conn piece) = conn == k
 hears k (Took conn p rest) = conn == k
 hears k (Broke conn fault) = conn == k
 hears k _ = false
+
+-- its end came, for this cause
+abbrev pub IsEndedBy : Cause → Client → Type 0
+IsEndedBy why c = (is_over c ≡ true) × (c.cause ≡ why)
+
+-- ---- what is counted
+
+-- a PUBLISH of a client was taken
+abbrev pub hears_publish : Deed → Bool
+hears_publish (Took conn p rest) = is_publish p
+hears_publish _ = false
+
+-- a PUBLISH for a client was put among what waits to be written
+abbrev pub sends_publish : Deed → Bool
+sends_publish (Handed o Taken) = is_message o.send.bytes
+sends_publish _ = false
+
+-- a packet for a client was refused
+abbrev pub drops : Deed → Bool
+drops (Handed o Refused) = true
+drops _ = false
+
+-- a publisher is made to wait for another client
+abbrev pub stalls_at : Room → Deed → Bool
+stalls_at r Tried = option_map_or (λ s. is_slow s r) r.slow false
+stalls_at r _ = false
+
+-- how many of these deeds are such
+abbrev pub how_many : (Deed → Bool) → List Deed → ℕ
+how_many test log = length (filter test log)
+
+-- how often a publisher was made to wait in a run of deeds
+abbrev pub stalls_from : Room → List Deed → ℕ
+stalls_from r [] = 0
+stalls_from r (d ∷ ds) = (if stalls_at r d then 1 else 0) + stalls_from (after d r) ds

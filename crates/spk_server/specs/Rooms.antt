@@ -6,11 +6,13 @@ use Rattle.spk_packets.specs.Message.{Message}
 use Rattle.spk_broker.specs.Sent.{sent_view}
 use Rattle.spk_broker.specs.declared.out.Out.{Out}
 use Rattle.spk_broker.specs.declared.out.Outgoing.{Outgoing}
+use Rattle.spk_clients.specs.declared.cause.Cause.{Cause}
 use Rattle.spk_clients.specs.Client.{after_hearing}
 use Rattle.spk_clients.specs.Data.{NobodyIsDue, client_at, client_count}
 use Rattle.spk_server.specs.declared.server.Server.{Server}
-use Rattle.spk_server.specs.Data.{Offer, Room, Slow}
-use Rattle.spk_server.specs.Step.{changed, first_wait, later, offer_of, second, still_waits}
+use Rattle.spk_server.specs.Data.{Close, Offer, Room, Slow}
+use Rattle.spk_server.specs.Tallies.{heard_with}
+use Rattle.spk_server.specs.Step.{changed, closes_of, first_wait, later, offer_of, second, still_waits}
 
 -- between two calls
 abbrev pub room_of : Server → Room
@@ -24,10 +26,11 @@ room_of s = record {
   pending = [];
   closing = [];
   slow = None;
+  tally = s.tally;
 }
 
 -- in the midst of one
-abbrev pub amid : Server → List Offer → List ℕ → Option Slow → Room
+abbrev pub amid : Server → List Offer → List Close → Option Slow → Room
 amid s pending closing slow = record (room_of s) { pending = pending; closing = closing; slow = slow }
 
 -- the sends of an answer, as offers
@@ -38,9 +41,10 @@ abbrev pub offers_in : Option ℕ → Option Out → List Offer
 offers_in by None = []
 offers_in by (Some out) = offers_of by out.sends.items
 
-abbrev pub closes_in : Option Out → List ℕ
-closes_in None = []
-closes_in (Some out) = out.closes.items
+-- whom an answer closes, and why
+abbrev pub closes_in : Option ℕ → Cause → Option Out → List Close
+closes_in own why None = []
+closes_in own why (Some out) = closes_of own why out.closes.items
 
 -- where a client published and one of those whom that went to is slow, they are noted
 abbrev pub pressed : Option ℕ → Option ℕ → Option Slow → Option Slow
@@ -53,7 +57,7 @@ slow_for conn slow = option_map (λ client. record { publisher = conn; client = 
 
 -- a packet of a client was heard, and comes to the broker next
 abbrev pub with_packet : ℕ → Message → Room → Room
-with_packet conn p r = record (changed (after_hearing p) conn r) { in_hand = Some (record { conn = conn; packet = p }) }
+with_packet conn p r = record (changed (after_hearing p) conn r) { in_hand = Some (record { conn = conn; packet = p }); tally = heard_with p r.tally }
 
 -- when it is to be called next: a second behind the last tick, or at the first moment that is noted of a client, or where the first wait
 -- ends; none where no client is here

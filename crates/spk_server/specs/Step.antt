@@ -4,17 +4,22 @@ use Rattle.std.specs.List.{list_any}
 use Rattle.std.specs.Option.{option_map, option_map_or}
 use Rattle.spk_packets.specs.Message.{Message, Connect, ConnAck, Publish, PubAck, Subscribe, SubAck, Unsubscribe, UnsubAck, PingReq, PingResp, Disconnect}
 use Rattle.spk_broker.specs.Sent.{Sent, outgoing}
-use Rattle.spk_broker_rules.specs.Plan.{Event}
+use Rattle.spk_packets.specs.declared.fault.PacketFault.{PacketFault}
+use Rattle.spk_broker_rules.specs.Plan.{Event, is_bad_level}
 use Rattle.spk_broker_rules.specs.Plan as event
 use Rattle.spk_broker_rules.specs.Step.{Turn, step, knows}
 use Rattle.spk_outbox.specs.Waits.{until}
+use Rattle.spk_clients.specs.declared.cause.Cause.{Cause}
+use Rattle.spk_clients.specs.declared.cause.Cause.TheVariants as cause
 use Rattle.spk_clients.specs.declared.client.Client.{Client}
 use Rattle.spk_clients.specs.declared.client.Phase.{Phase}
 use Rattle.spk_clients.specs.declared.client.Phase.TheVariants.{Quiet, Open, Over, Done}
 use Rattle.spk_clients.specs.declared.client.Offered.{Offered}
 use Rattle.spk_clients.specs.declared.client.Offered.TheVariants.{Taken, Refused, Passed}
 use Rattle.spk_clients.specs.Client.{after_hearing, awaited, cut_off, freed, fresh_client, given_up, has_many, has_some, is_awaited, leaves, most_number, refused_with, takes_in, taken_in, told, untouched, waiting_for, written_to}
-use Rattle.spk_server.specs.Data.{Deed, InHand, Offer, Room, Slow, Timed, Joined, Fed, Skipped, Took, Came, Broke, Left, Ticked, Handed, Shut, Told, Cut, Tried, Waited, Freed, Dropped, Wrote, Blocked, Named, Forgot}
+use Rattle.spk_server.specs.Tallies.{handed_with, heard_with, is_message, is_publish, stalled}
+use Rattle.spk_server.specs.Data as deed
+use Rattle.spk_server.specs.Data.{Close, Deed, InHand, Offer, Room, Slow, Timed, Joined, Fed, Skipped, Took, Came, Broke, Left, Ticked, Handed, Shut, Told, Cut, Tried, Waited, Freed, Dropped, Wrote, Blocked, Named, Forgot}
 
 -- how long a client may send nothing
 abbrev pub quiet : ℕ
@@ -59,33 +64,53 @@ is_quiet Done = false
 abbrev pub offer_of : Option ℕ → Sent → Offer
 offer_of by s = record { by = by; send = s }
 
+-- whose packet an event is
+abbrev pub packet_of : Event → Option ℕ
+packet_of (event.Packet conn p moment) = Some conn
+packet_of (event.Open moment) = None
+packet_of (event.Fault conn f moment) = None
+packet_of (event.Closed conn moment) = None
+packet_of (event.Tick moment) = None
+packet_of (event.Refused conn s moment) = None
+
+-- a CONNECT of another protocol level is refused (3.1.2.2), and what is no packet can't be read
+abbrev pub cause_fault : PacketFault → Cause
+cause_fault f = if is_bad_level f then cause.Refused else cause.Unreadable
+
+-- why the broker closes a connection at an event
+abbrev pub cause_of : Event → Cause
+cause_of (event.Packet conn p moment) = cause.Refused
+cause_of (event.Open moment) = cause.Refused
+cause_of (event.Fault conn f moment) = cause_fault f
+cause_of (event.Closed conn moment) = cause.Refused
+cause_of (event.Tick moment) = cause.KeepAlive
+cause_of (event.Refused conn s moment) = cause.Slow
+
+-- the same for one connection: another one than that whose packet it is was taken over (3.1.4)
+abbrev pub cause_for : Option ℕ → Cause → ℕ → Cause
+cause_for None why conn = why
+cause_for (Some own) why conn = if conn == own then why else cause.TakenOver
+
+abbrev pub close_of : Option ℕ → Cause → ℕ → Close
+close_of own why conn = record { conn = conn; cause = cause_for own why conn }
+
+abbrev pub closes_of : Option ℕ → Cause → List ℕ → List Close
+closes_of own why conns = map (close_of own why) conns
+
 -- its sends are to be offered, and then those whom it closes are ended
-abbrev pub answered : Option ℕ → Turn → Room → Room
-answered by t r = record r {
+abbrev pub answered : Option ℕ → Event → Turn → Room → Room
+answered by e t r = record r {
   broker = t.broker;
   pending = r.pending ++ map (offer_of by) (map outgoing t.sends);
-  closing = r.closing ++ t.closes;
+  closing = r.closing ++ closes_of (packet_of e) (cause_of e) t.closes;
 }
 
 abbrev pub called : Option ℕ → Event → Room → Room
-called by e r = answered by (step r.broker e) r
+called by e r = answered by e (step r.broker e) r
 
 -- an event of a connection, where the broker knows it
 abbrev pub called_on : Option ℕ → ℕ → Event → Room → Room
 called_on by conn e r = if knows r.broker conn then called by e r else r
-
-abbrev pub is_publish : Message → Bool
-is_publish (Publish dup qos retain topic id payload) = true
-is_publish (Connect client clean keep will) = false
-is_publish (ConnAck present code) = false
-is_publish (PubAck id) = false
-is_publish (Subscribe id entries) = false
-is_publish (SubAck id codes) = false
-is_publish (Unsubscribe id filters) = false
-is_publish (UnsubAck id) = false
-is_publish PingReq = false
-is_publish PingResp = false
-is_publish Disconnect = false
 
 abbrev pub is_disconnect : Message → Bool
 is_disconnect Disconnect = true
@@ -104,12 +129,16 @@ is_disconnect PingResp = false
 abbrev pub publisher : InHand → Option ℕ
 publisher h = if is_publish h.packet then Some h.conn else None
 
--- behind a DISCONNECT a client's end comes
-abbrev pub ends_behind : InHand → List ℕ
-ends_behind h = if is_disconnect h.packet then h.conn ∷ [] else []
+-- one client is to be ended
+abbrev pub one_close : ℕ → Cause → List Close
+one_close conn why = (record { conn = conn; cause = why }) ∷ []
 
-abbrev pub ended_behind : List ℕ → Room → Room
-ended_behind conns r = record r { closing = r.closing ++ conns }
+-- behind a DISCONNECT a client's end comes
+abbrev pub ends_behind : InHand → List Close
+ends_behind h = if is_disconnect h.packet then one_close h.conn cause.Left else []
+
+abbrev pub ended_behind : List Close → Room → Room
+ended_behind closes r = record r { closing = r.closing ++ closes }
 
 abbrev pub came : Option InHand → Room → Room
 came None r = r
@@ -117,11 +146,16 @@ came (Some h) r = ended_behind (ends_behind h)
     (called_on (publisher h) h.conn (event.Packet h.conn h.packet r.now) (record r { in_hand = None }))
 
 abbrev pub broke : ℕ → Event → Room → Room
-broke conn e r = ended_behind (conn ∷ []) (called_on None conn e r)
+broke conn e r = ended_behind (one_close conn (cause_of e)) (called_on None conn e r)
+
+abbrev pub cause_why : deed.Why → Cause
+cause_why deed.Gone = cause.Gone
+cause_why deed.Silent = cause.Silent
+cause_why deed.Want = cause.Memory
 
 -- its end comes, and comes to the broker; a packet of it that is in hand is given up
-abbrev pub left : ℕ → Room → Room
-left conn r = called_on None conn (event.Closed conn r.now) (record (changed (leaves (later grace r.now)) conn r) { in_hand = None })
+abbrev pub left : ℕ → Cause → Room → Room
+left conn why r = called_on None conn (event.Closed conn r.now) (record (changed (leaves (later grace r.now) why) conn r) { in_hand = None })
 
 -- ---- what goes out
 
@@ -144,6 +178,7 @@ handed o fate r = record r {
   clients = change (offered o.send fate) o.send.conn r.clients;
   pending = behind r.pending;
   slow = slowed o (option_map (offered o.send fate) (r.clients o.send.conn)) r.slow;
+  tally = handed_with fate (is_message o.send.bytes) r.tally;
 }
 
 -- ---- who waits
@@ -196,7 +231,7 @@ freed_from (Some slow) conn r = changed (set_free r.now (slow == conn)) slow r
 -- its client waits, where others are to wait for the slow one
 abbrev pub tried_at : Bool → Slow → Room → Room
 tried_at false s r = r
-tried_at true s r = record (changed (waiting_for (Some s.client)) s.publisher r) { held = r.held ++ s.publisher ∷ [] }
+tried_at true s r = record (changed (waiting_for (Some s.client)) s.publisher r) { held = r.held ++ s.publisher ∷ []; tally = stalled r.tally }
 
 abbrev pub is_slow : Slow → Room → Bool
 is_slow s r = option_map_or (is_awaited (s.client == s.publisher) r.now) (r.clients s.client) false
@@ -219,15 +254,19 @@ after (Timed moment) r = record r { now = max r.now moment }
 after (Joined conn) r = joined conn (later quiet r.now) r
 after (Fed conn piece) r = changed (takes_in piece) conn r
 after (Skipped conn piece) r = r
-after (Took conn p rest) r = record (changed (λ c. after_hearing p (record c { feed = rest })) conn r) { in_hand = Some (record { conn = conn; packet = p }); slow = None }
+after (Took conn p rest) r = record (changed (λ c. after_hearing p (record c { feed = rest })) conn r) {
+  in_hand = Some (record { conn = conn; packet = p });
+  slow = None;
+  tally = heard_with p r.tally;
+}
 after Came r = came r.in_hand r
 after (Broke conn fault) r = broke conn (event.Fault conn fault r.now) r
-after (Left conn why) r = left conn r
+after (Left conn why) r = left conn (cause_why why) r
 after Ticked r = record (called None (event.Tick r.now) r) { ticked = r.now }
 after (Handed o fate) r = handed o fate r
-after (Shut conn) r = record (changed (leaves (later grace r.now)) conn r) { closing = behind r.closing }
+after (Shut close) r = record (changed (leaves (later grace r.now) close.cause) close.conn r) { closing = behind r.closing }
 after (Told conn s) r = called_on None conn (event.Refused conn s r.now) (changed told conn r)
-after (Cut conn s) r = left conn (changed told conn r)
+after (Cut conn s) r = left conn cause.Memory (changed told conn r)
 after Tried r = tried r.slow r
 after (Waited conn) r = record r { held = behind r.held ++ conn ∷ [] }
 after (Freed conn) r = changed (waiting_for None) conn (freed_from (slow_of r.clients conn) conn (record r { held = behind r.held }))

@@ -29,6 +29,7 @@ impl Server {
         }
         self.clients.wait(conn, Some(slow));
         self.held.push_back(conn)?;
+        self.tally.stall();
         Ok(true)
     }
 

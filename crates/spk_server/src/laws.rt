@@ -1,18 +1,21 @@
 //! What holds of each list of calls, and of each run of deeds.
 
-ghost use Rattle.std.specs.Prelude.{◌≡◌, ◌<◌, ◌++◌, [], List, Some, ℕ, not, true, false};
+ghost use Rattle.std.specs.Prelude.{◌≡◌, ◌<◌, ◌++◌, [], List, Some, ℕ, min, not, true, false};
 ghost use Rattle.std.specs.List.{list_all};
+ghost use Rattle.std.specs.Option.{IfSome};
 ghost use Rattle.spk_packets.specs.Message.{Message};
 ghost use Rattle.spk_packets.specs.Stream as stream;
 ghost use Rattle.spk_outbox.specs.Calls as outbox;
 ghost use Rattle.spk_outbox.specs.Data.{fresh_outbox, waiting};
+ghost use Rattle.spk_clients.specs.declared.cause.Cause.{Cause};
+ghost use Rattle.spk_clients.specs.Client.{most_number};
 ghost use Rattle.spk_clients.specs.Data.{IsSettled};
 ghost use Rattle.spk_clients.specs.declared.client.Client.{Client};
 ghost use Rattle.spk_server.specs.declared.server.Server.{Server};
 ghost use Rattle.spk_server.specs.Data.{Deed, Room};
 ghost use Rattle.spk_server.specs.Calls.{AreDone, Call, LogOf, fresh_room};
 ghost use Rattle.spk_server.specs.Log.{IsRested, IsRun, any_deed, is_open};
-ghost use Rattle.spk_server.specs.Past.{handed_of, hears, joins, outbox_of, sends_from, stream_of};
+ghost use Rattle.spk_server.specs.Past.{IsEndedBy, drops, handed_of, hears, hears_publish, how_many, joins, outbox_of, sends_from, sends_publish, stalls_from, stream_of};
 ghost use Rattle.spk_server.specs.Rooms.{IsCalm, due_of, room_of};
 ghost use Rattle.spk_server.specs.Step.{awaits, is_among};
 
@@ -70,8 +73,29 @@ pub fn nothing_comes_behind_an_end()
         → list_all (λ d. not (joins k d)) log ≡ true → list_all (λ d. not (hears k d)) log ≡ true }
 {}
 
+/// Of two causes the first counts: a client whose end came keeps the cause with which it did, as long as it doesn't come anew.
+pub fn first_cause_stays()
+    ensures { (log : List Deed) (r s : Room) (k : ℕ) (why : Cause) → IsRun any_deed r log s
+        → list_all (λ d. not (joins k d)) log ≡ true
+        → IfSome (r.clients k) (IsEndedBy why) → IfSome (s.clients k) (IsEndedBy why) }
+{}
+
 /// Before the moment that `due` says nothing is to be done: nobody's moment has come, whoever waits for another waits still, and the
 /// broker was told of the time less than a second ago.
 pub fn nothing_is_due_before()
     ensures { (s : Server) (m now : ℕ) → IsSettled s.clients → due_of s ≡ Some m → now < m → IsCalm now s }
+{}
+
+/// Each count is the number of such deeds since the server began: PUBLISH packets of clients that were taken, PUBLISH packets for clients
+/// that were put among what waits to be written, packets for clients that were refused, and waits that a publisher began. It stands at
+/// the greatest number.
+pub fn counts_are_of_the_log()
+    ensures heard { (log : List Deed) (r : Room) → IsRun any_deed fresh_room log r
+        → r.tally.heard ≡ min (how_many hears_publish log) most_number }
+    ensures sent { (log : List Deed) (r : Room) → IsRun any_deed fresh_room log r
+        → r.tally.sent ≡ min (how_many sends_publish log) most_number }
+    ensures dropped { (log : List Deed) (r : Room) → IsRun any_deed fresh_room log r
+        → r.tally.dropped ≡ min (how_many drops log) most_number }
+    ensures stalls { (log : List Deed) (r : Room) → IsRun any_deed fresh_room log r
+        → r.tally.stalls ≡ min (stalls_from fresh_room log) most_number }
 {}

@@ -10,8 +10,11 @@ pub mod laws;
 mod moments;
 mod reading;
 mod server;
+mod tally;
 mod writing;
 
 pub use fault::ServerFault;
 pub use server::Server;
 pub use spk_broker::Conn;
+pub use spk_clients::Cause;
+pub use tally::Tally;

@@ -13,7 +13,7 @@ ghost use Rattle.spk_server.specs.Rooms.{amid, due_of, room_of};
 use crate::fault::ServerFault;
 use crate::server::Server;
 use spk_broker::Conn;
-use spk_clients::Phase;
+use spk_clients::{Cause, Phase};
 
 /// How often the broker is told of the time, in milliseconds (own rule).
 const TICK: u64 = 1_000;
@@ -33,7 +33,7 @@ impl Server {
             return Ok(false);
         };
         self.ticked = self.now;
-        self.hand_on(Some(out))?;
+        self.hand_on(Some(out), None, Cause::KeepAlive)?;
         self.tell_all()?;
         Ok(true)
     }
@@ -56,7 +56,7 @@ impl Server {
         ensures settled { OnOk result (IsSettled self.old.clients → IsSettled self.new.clients) }
     {
         if self.is_quiet(conn) {
-            self.give_up(conn)?;
+            self.give_up(conn, Cause::Silent)?;
             return Ok(());
         }
         self.clients.give_up(conn)?;

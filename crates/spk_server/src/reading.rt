@@ -5,12 +5,14 @@ ghost use Rattle.spk_packets.specs.Refusals.{refusals};
 ghost use Rattle.spk_packets.specs.View.{view};
 ghost use Rattle.spk_packets.specs.declared.fault.PacketFault.TheVariants as PacketFault;
 ghost use Rattle.spk_broker_rules.specs.Plan as event;
+ghost use Rattle.spk_clients.specs.declared.cause.Cause.TheVariants as Cause;
 ghost use Rattle.spk_clients.specs.Client.{is_over};
 ghost use Rattle.spk_clients.specs.Data.{AreNoted, IsSettled, client_at};
 ghost use Rattle.spk_server.specs.Calls.{IsDone, IsTakenUp, RanOut, TookUp};
 ghost use Rattle.spk_server.specs.Calls as call;
 ghost use Rattle.spk_server.specs.Data.{Slow};
-ghost use Rattle.spk_server.specs.Step.{broke, ends_behind, is_disconnect, is_publish, left};
+ghost use Rattle.spk_server.specs.Step.{broke, cause_fault, ends_behind, is_disconnect, left};
+ghost use Rattle.spk_server.specs.Tallies.{is_publish};
 ghost use Rattle.spk_server.specs.Log.{HasClient, Reaches, follows, is_open, takes};
 ghost use Rattle.spk_server.specs.Rooms.{amid, room_of, slow_for, with_packet};
 
@@ -18,6 +20,7 @@ use crate::answers::{fault_on, packet_on};
 use crate::fault::ServerFault;
 use crate::server::Server;
 use spk_broker::Conn;
+use spk_clients::Cause;
 use spk_packets::{Packet, PacketFault};
 
 /// Whether a packet publishes.
@@ -34,6 +37,16 @@ fn is_disconnect(packet: &Packet) -> bool
     matches!(packet, Packet::Disconnect)
 }
 
+/// Why a client is ended whose bytes are no packet: one of another protocol level is refused (section 3.1.2.2).
+fn cause_fault(fault: PacketFault) -> Cause
+    ensures { result ≡ cause_fault fault }
+{
+    match fault {
+        PacketFault::BadLevel => Cause::Refused,
+        _ => Cause::Unreadable,
+    }
+}
+
 impl Server {
     /// Behind a DISCONNECT a client's end came.
     fn leave_behind(&mut self, conn: Conn, packet: &Packet) -> Result<(), ServerFault>
@@ -43,7 +56,7 @@ impl Server {
         ensures noted { OnOk result (AreNoted self.old.clients → AreNoted self.new.clients) }
     {
         if is_disconnect(packet) {
-            self.over(conn)?;
+            self.over(conn, Cause::Left)?;
             return Ok(());
         }
         Ok(())
@@ -58,11 +71,12 @@ impl Server {
         ensures noted { OnOk result (AreNoted self.old.clients → AreNoted self.new.clients) }
     {
         self.clients.heard(conn, packet);
+        self.tally.hear(packet);
         let Ok(answer) = packet_on(&mut self.broker, conn, packet, self.now) else {
-            self.end(conn)?;
+            self.end(conn, Cause::Memory)?;
             return Ok(None);
         };
-        let slow = self.hand_on(answer)?;
+        let slow = self.hand_on(answer, Some(conn), Cause::Refused)?;
         self.leave_behind(conn, packet)?;
         if is_publish(packet) {
             return Ok(slow);
@@ -87,15 +101,16 @@ impl Server {
     fn come_fault(&mut self, conn: Conn, fault: PacketFault) -> Result<(), ServerFault>
         ensures comes { OnOk result (Reaches follows
             (broke conn (event.Fault conn fault self.old.now) (room_of self.old)) (room_of self.new)
-            ⊎ Reaches follows (left conn (room_of self.old)) (room_of self.new)) }
+            ⊎ Reaches follows (left conn Cause.Memory (room_of self.old)) (room_of self.new)) }
         ensures noted { OnOk result (AreNoted self.old.clients → AreNoted self.new.clients) }
     {
         let Ok(answer) = fault_on(&mut self.broker, conn, fault, self.now) else {
-            self.end(conn)?;
+            self.end(conn, Cause::Memory)?;
             return Ok(());
         };
-        self.hand_on(answer)?;
-        self.over(conn)?;
+        let cause = cause_fault(fault);
+        self.hand_on(answer, None, cause)?;
+        self.over(conn, cause)?;
         Ok(())
     }
 
@@ -103,7 +118,7 @@ impl Server {
     fn fault(&mut self, conn: Conn, fault: PacketFault) -> Result<(), ServerFault>
         ensures comes { OnOk result (Reaches follows
             (broke conn (event.Fault conn fault self.old.now) (room_of self.old)) (room_of self.new)
-            ⊎ Reaches follows (left conn (room_of self.old)) (room_of self.new)) }
+            ⊎ Reaches follows (left conn Cause.Memory (room_of self.old)) (room_of self.new)) }
         ensures settled { OnOk result (AreNoted self.old.clients → IsSettled self.new.clients) }
     {
         self.come_fault(conn, fault)?;
@@ -111,12 +126,13 @@ impl Server {
         Ok(())
     }
 
-    /// Ends a client's connection.
-    pub(crate) fn give_up(&mut self, conn: Conn) -> Result<(), ServerFault>
-        ensures ends { OnOk result (Reaches follows (left conn (room_of self.old)) (room_of self.new)) }
+    /// Ends a client's connection, for this cause.
+    pub(crate) fn give_up(&mut self, conn: Conn, cause: Cause) -> Result<(), ServerFault>
+        ensures ends { OnOk result
+            (Reaches follows (left conn cause (room_of self.old)) (room_of self.new)) }
         ensures settled { OnOk result (AreNoted self.old.clients → IsSettled self.new.clients) }
     {
-        self.end(conn)?;
+        self.end(conn, cause)?;
         self.tell_all()?;
         Ok(())
     }
@@ -131,7 +147,7 @@ impl Server {
     {
         match fault {
             PacketFault::NoMemory => {
-                self.give_up(conn)?;
+                self.give_up(conn, Cause::Memory)?;
                 return Ok(());
             }
             _ => {
@@ -202,7 +218,7 @@ impl Server {
             self.take_packets(conn)?;
             return Ok(());
         }
-        self.give_up(conn)?;
+        self.give_up(conn, Cause::Memory)?;
         Ok(())
     }
 
@@ -239,7 +255,7 @@ impl Server {
     {
         self.at(now);
         if self.is_open(conn) {
-            self.give_up(conn)?;
+            self.give_up(conn, Cause::Gone)?;
             return Ok(());
         }
         Ok(())

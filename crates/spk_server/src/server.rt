@@ -1,6 +1,6 @@
 //! The server, and how clients come.
 
-ghost use Rattle.std.specs.Prelude.{◌≡◌, ◌+◌, ◌<◌, nat_le, IfOk, OnOk, OnErr, false};
+ghost use Rattle.std.specs.Prelude.{◌≡◌, ◌+◌, ◌<◌, nat_le, length, IfOk, OnOk, OnErr, false};
 ghost use Rattle.spk_broker_rules.specs.Step.{is_full};
 ghost use Rattle.spk_clients.specs.Data.{AreNoted, IsSettled, client_count};
 ghost use Rattle.spk_server.specs.Calls.{IsDone, fresh_room, timed};
@@ -9,6 +9,7 @@ ghost use Rattle.spk_server.specs.Rooms.{room_of};
 ghost use Rattle.spk_server.specs.Step.{joined};
 
 use crate::fault::ServerFault;
+use crate::tally::Tally;
 use spk_broker::{Broker, BrokerFault, Conn};
 use spk_clients::Clients;
 use std::alloc::Global;
@@ -35,6 +36,7 @@ pub struct Server {
     pub(crate) now: u64,
     /// The moment of the last tick.
     pub(crate) ticked: u64,
+    pub(crate) tally: Tally,
 }
 
 impl fmt::Debug for Server {
@@ -55,6 +57,12 @@ impl Server {
             held: VecDeque::new(alloc),
             now: 0,
             ticked: 0,
+            tally: Tally {
+                heard: 0,
+                sent: 0,
+                dropped: 0,
+                stalls: 0,
+            },
         }
     }
 
@@ -63,6 +71,27 @@ impl Server {
         ensures { result ≡ client_count self.entry.now.clients }
     {
         self.clients.len()
+    }
+
+    /// How many sessions the broker has, clean and kept ones, with and without a connection (section 3.1.2.4).
+    pub fn sessions(&self) -> usize
+        ensures { result ≡ length self.entry.now.broker.seats }
+    {
+        self.broker.sessions()
+    }
+
+    /// How many topics have a retained message (section 3.3.1.3).
+    pub fn retained(&self) -> usize
+        ensures { result ≡ length self.entry.now.broker.retained }
+    {
+        self.broker.retained()
+    }
+
+    /// What came and went since the server began, in numbers.
+    pub fn tally(&self) -> Tally
+        ensures { result ≡ (room_of self.entry.now).tally }
+    {
+        self.tally
     }
 
     /// Whether no further client may come: 1,000 are here (own rule).

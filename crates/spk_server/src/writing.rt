@@ -10,6 +10,7 @@ ghost use Rattle.spk_server.specs.Rooms.{room_of};
 use crate::fault::ServerFault;
 use crate::server::Server;
 use spk_broker::Conn;
+use spk_clients::Cause;
 
 impl Server {
     /// The next client to whom something is to be written: each that is named, once. None exactly where nobody is named.
@@ -61,8 +62,8 @@ impl Server {
         Ok(())
     }
 
-    /// The next client whose socket is to be shut. It is forgotten.
-    pub fn next_to_shut(&mut self) -> Option<Conn>
+    /// The next client whose socket is to be shut, and why its end came. It is forgotten.
+    pub fn next_to_shut(&mut self) -> Option<(Conn, Cause)>
         ensures done { IsDone (call.NextToShut result) (room_of self.old) (room_of self.new) }
         ensures settled { IsSettled self.old.clients → IsSettled self.new.clients }
     {

@@ -62,7 +62,8 @@ impl Serves for Server {
     }
 
     fn shut(&mut self) -> Option<Conn> {
-        self.next_to_shut()
+        let (conn, _) = self.next_to_shut()?;
+        Some(conn)
     }
 }
 

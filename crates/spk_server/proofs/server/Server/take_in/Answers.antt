@@ -1,4 +1,5 @@
 use Rattle.std.proofs.Common.{◌∙◌, ℕ, Option, inl, inr, ap, sym}
+use Rattle.spk_clients.specs.declared.cause.Cause.TheVariants as cause
 use Rattle.spk_clients.specs.declared.client.Client.{Client}
 use Rattle.spk_clients.specs.Client.{takes_in}
 use Rattle.spk_clients.specs.Data.{IsSettled}
@@ -24,6 +25,6 @@ pub returns-clause-done : goal.returns-clause-done
 returns-clause-done c settled here =
     inr (record {
       here = here;
-      ended = at_start follows _ _ _ (ap {A = ℕ → Option Client} {B = Room} (λ cs. left c.args.conn (record (room_of c.args.self.now) { clients = cs })) (sym (same_after c.args.conn c.args.self.now.clients c.feed.new.self (c.feed.ensures.refused c.if-feed.false) c.feed.ensures.others)))
+      ended = at_start follows _ _ _ (ap {A = ℕ → Option Client} {B = Room} (λ cs. left c.args.conn cause.Memory (record (room_of c.args.self.now) { clients = cs })) (sym (same_after c.args.conn c.args.self.now.clients c.feed.new.self (c.feed.ensures.refused c.if-feed.false) c.feed.ensures.others)))
           c.in_ok-give_up.ensures.ends;
     })
