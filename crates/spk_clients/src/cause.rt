@@ -11,17 +11,20 @@ pub enum Cause {
     Gone,
     /// It sent no packet in time (own rule).
     Silent,
-    /// It sent bytes that are no packet (section 4.8).
+    /// It sent bytes that this broker can't read: no packet, one of QoS 2, or one that is too long (section 4.8).
     Unreadable,
-    /// It sent a packet that the broker refuses, a CONNECT among them (sections 3.1.4 and 4.8).
+    /// It sent a packet that the broker refuses, a CONNECT among them (sections 3.1.4 and 4.8), or one of its own made its unacknowledged messages
+    /// too many (own rule).
     Refused,
-    /// It was silent for more than one and a half times its keep alive (section 3.1.2.10).
+    /// It was silent for more than one and a half times its keep alive (section 3.1.2.10), or the will of one that was made its unacknowledged
+    /// messages too many.
     KeepAlive,
-    /// Another connection came with its client identifier (section 3.1.4).
+    /// Another connection came with its client identifier (section 3.1.4), or the will of one that was taken over made its unacknowledged messages
+    /// too many.
     TakenOver,
-    /// Packets for it were refused, since too many waited (own rule).
+    /// It doesn't read, or doesn't acknowledge: packets for it were refused, or its unacknowledged messages were too many (own rules).
     Slow,
-    /// Memory was refused for what it sent, or more would wait than may.
+    /// Memory was refused: for what it sent, or to tell the broker that a packet for it was refused.
     Memory,
 }
 

@@ -150,7 +150,7 @@ shut_is old new q rest slow e =
 pub left_is : (old new : Server) (b : Broker) (conn : ℕ) (why : Cause) (o : Option Out) (before : Option Slow)
     → room_of new ≡ changed (leaves (later grace old.now) why) conn (room_of old)
     → AnswersOn conn new.broker b (event.Closed conn new.now) o
-    → left conn why (amid old [] [] before) ≡ amid (record new { broker = b }) (offers_in None o) (closes_in None cause.Refused o) before
+    → left conn why (amid old [] [] before) ≡ amid (record new { broker = b }) (offers_in None o) (closes_in None cause.Slow o) before
 left_is old new b conn why o before e a =
     ap {A = Room} {B = Room} (λ r. called_on None conn (event.Closed conn r.now) (record r { pending = []; closing = []; slow = before })) (sym e)
     ∙ answered_is None conn new.broker b (event.Closed conn new.now) o (amid new [] [] before) a

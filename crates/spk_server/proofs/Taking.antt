@@ -25,7 +25,7 @@ use Rattle.spk_server.specs.Answers.{AnswersOn}
 use Rattle.spk_server.specs.Data.{Close, Room, Slow, Want}
 use Rattle.spk_server.specs.Data as deed
 use Rattle.spk_server.specs.declared.tally.Tally.{Tally}
-use Rattle.spk_server.specs.Step.{broke, called_on, cause_fault, change, changed, ended_behind, ends_behind, grace, later, left, one_close, publisher, tried_at}
+use Rattle.spk_server.specs.Step.{broke, called_on, cause_fault, cause_other, change, changed, ended_behind, ends_behind, grace, later, left, one_close, publisher, tried_at}
 use Rattle.spk_server.specs.Tallies.{heard_with, is_publish, stalled}
 use Rattle.spk_server.specs.Log.{HasClient, Reaches, follows, takes}
 use Rattle.spk_server.specs.Rooms.{amid, closes_in, offers_in, pressed, room_of, slow_for, with_packet}
@@ -57,22 +57,24 @@ pressed_for false conn None = refl
 pressed_for false conn (Some s) = refl
 
 -- it comes to the broker
-pub came_on : (old : Server) (n : Clients) (b : Broker) (t : Tally) (conn : ℕ) (p : Message) (o : Option Out) (slow r : Option ℕ) (mid new : Server)
+pub came_on : (old : Server) (n : Clients) (b : Broker) (t : Tally) (conn : ℕ) (p : Message) (other : Cause) (o : Option Out) (slow r : Option ℕ) (mid new : Server)
+    → other ≡ cause_other p
     → Becomes (after_hearing p) conn old.clients n
     → t ≡ heard_with p old.tally
     → AnswersOn conn old.broker b (event.Packet conn p old.now) o
-    → ((by : Option ℕ) (more : List Close) (before : Option Slow) → Reaches follows (amid (record old { broker = b; clients = n; tally = t }) (offers_in by o) (closes_in (Some conn) cause.Refused o ++ more) before) (amid mid [] more (pressed by slow before)))
+    → ((by : Option ℕ) (more : List Close) (before : Option Slow) → Reaches follows (amid (record old { broker = b; clients = n; tally = t }) (offers_in by o) (closes_in (Some (conn, other)) cause.Refused o ++ more) before) (amid mid [] more (pressed by slow before)))
     → ((before : Option Slow) → Reaches follows (amid mid [] (ends_behind (record { conn = conn; packet = p })) before) (amid new [] [] before))
     → r ≡ (if is_publish p then slow else None)
     → Reaches (takes conn) (with_packet conn p (room_of old)) (amid new [] [] (slow_for conn r))
-came_on old n b t conn p o slow r mid new h heard a hands ends is =
+came_on old n b t conn p other o slow r mid new is_other h heard a hands ends is =
     let by : Option ℕ = publisher (record { conn = conn; packet = p }) in
     let gone : List Close = ends_behind (record { conn = conn; packet = p }) in
     let answer : called_on by conn (event.Packet conn p old.now) (record (room_of old) { clients = change (after_hearing p) conn (client_at old.clients); tally = heard_with p old.tally })
-    ≡ record (room_of old) { broker = b; clients = client_at n; pending = offers_in by o; closing = closes_in (Some conn) cause.Refused o; tally = t } =
+    ≡ record (room_of old) { broker = b; clients = client_at n; pending = offers_in by o; closing = closes_in (Some (conn, other)) cause.Refused o; tally = t } =
     ap {A = ℕ → Option Client} {B = Room} (λ cs. called_on by conn (event.Packet conn p old.now) (record (room_of old) { clients = cs; tally = heard_with p old.tally })) (sym (change_is (after_hearing p) conn old.clients n h))
     ∙ ap {A = Tally} {B = Room} (λ x. called_on by conn (event.Packet conn p old.now) (record (room_of old) { clients = client_at n; tally = x })) (sym heard)
-    ∙ answered_is by conn old.broker b (event.Packet conn p old.now) o (record (room_of old) { clients = client_at n; tally = t }) a in
+    ∙ answered_is by conn old.broker b (event.Packet conn p old.now) o (record (room_of old) { clients = client_at n; tally = t }) a
+    ∙ ap {A = Cause} {B = Room} (λ w. record (room_of old) { broker = b; clients = client_at n; pending = offers_in by o; closing = closes_in (Some (conn, w)) cause.Refused o; tally = t }) (sym is_other) in
     begins (takes conn) deed.Came (with_packet conn p (room_of old)) _ refl ((record { conn = conn; packet = p }, refl), (refl, refl))
     (at_start (takes conn) _ _ _ (ap {A = Room} {B = Room} (ended_behind gone) answer)
     (wider follows (takes conn) (follows_takes conn) _ _
@@ -83,12 +85,12 @@ came_on old n b t conn p o slow r mid new h heard a hands ends is =
 
 pub broke_on : (old : Server) (b : Broker) (conn : ℕ) (f : PacketFault) (why : Cause) (o : Option Out) (r : Option ℕ) (mid new : Server) → why ≡ cause_fault f
     → AnswersOn conn old.broker b (event.Fault conn f old.now) o
-    → Reaches follows (amid (record old { broker = b }) (offers_in None o) (closes_in None why o ++ one_close conn why) None) (amid mid [] (one_close conn why) (pressed None r None))
+    → Reaches follows (amid (record old { broker = b }) (offers_in None o) (closes_in (Some (conn, cause.Slow)) why o ++ one_close conn why) None) (amid mid [] (one_close conn why) (pressed None r None))
     → room_of new ≡ changed (leaves (later grace mid.now) why) conn (room_of mid)
     → Reaches follows (broke conn (event.Fault conn f old.now) (room_of old)) (room_of new)
 broke_on old b conn f why o r mid new is a hands ended =
     at_start follows _ _ _ (ap {A = Room} {B = Room} (ended_behind (one_close conn (cause_fault f))) (answered_is None conn old.broker b (event.Fault conn f old.now) o (room_of old) a)
-    ∙ ap {A = Cause} {B = Room} (λ w. ended_behind (one_close conn w) (record (room_of old) { broker = b; pending = offers_in None o; closing = closes_in None w o })) (sym is))
+    ∙ ap {A = Cause} {B = Room} (λ w. ended_behind (one_close conn w) (record (room_of old) { broker = b; pending = offers_in None o; closing = closes_in (Some (conn, cause.Slow)) w o })) (sym is))
     (and_then follows _ _ _ (at_end follows _ _ _ hands (ap {A = Option Slow} {B = Room} (amid mid [] (one_close conn why)) (pressed_none r None)))
     (shut_is mid new (record { conn = conn; cause = why }) [] None ended))
 

@@ -42,7 +42,7 @@ offers_in by None = []
 offers_in by (Some out) = offers_of by out.sends.items
 
 -- whom an answer closes, and why
-abbrev pub closes_in : Option ℕ → Cause → Option Out → List Close
+abbrev pub closes_in : Option (ℕ × Cause) → Cause → Option Out → List Close
 closes_in own why None = []
 closes_in own why (Some out) = closes_of own why out.closes.items
 

@@ -64,11 +64,29 @@ is_quiet Done = false
 abbrev pub offer_of : Option ℕ → Sent → Offer
 offer_of by s = record { by = by; send = s }
 
--- whose packet an event is
-abbrev pub packet_of : Event → Option ℕ
-packet_of (event.Packet conn p moment) = Some conn
+abbrev pub is_connect : Message → Bool
+is_connect (Connect client clean keep will) = true
+is_connect (Publish dup qos retain topic id payload) = false
+is_connect (ConnAck present code) = false
+is_connect (PubAck id) = false
+is_connect (Subscribe id entries) = false
+is_connect (SubAck id codes) = false
+is_connect (Unsubscribe id filters) = false
+is_connect (UnsubAck id) = false
+is_connect PingReq = false
+is_connect PingResp = false
+is_connect Disconnect = false
+
+-- why the broker closes another connection at a packet: that of the client identifier of a CONNECT is taken over (3.1.4), else one for whom
+-- too many messages are unacknowledged
+abbrev pub cause_other : Message → Cause
+cause_other p = if is_connect p then cause.TakenOver else cause.Slow
+
+-- whose bytes an event is of, and why the broker closes another connection at it
+abbrev pub packet_of : Event → Option (ℕ × Cause)
+packet_of (event.Packet conn p moment) = Some (conn, cause_other p)
 packet_of (event.Open moment) = None
-packet_of (event.Fault conn f moment) = None
+packet_of (event.Fault conn f moment) = Some (conn, cause.Slow)
 packet_of (event.Closed conn moment) = None
 packet_of (event.Tick moment) = None
 packet_of (event.Refused conn s moment) = None
@@ -77,24 +95,25 @@ packet_of (event.Refused conn s moment) = None
 abbrev pub cause_fault : PacketFault → Cause
 cause_fault f = if is_bad_level f then cause.Refused else cause.Unreadable
 
--- why the broker closes a connection at an event
+-- why the broker closes a connection at an event: that whose bytes it is of, or any where it is of nobody's. A will that is routed at an end
+-- may be one unacknowledged message too many for its receiver.
 abbrev pub cause_of : Event → Cause
 cause_of (event.Packet conn p moment) = cause.Refused
-cause_of (event.Open moment) = cause.Refused
+cause_of (event.Open moment) = cause.Slow
 cause_of (event.Fault conn f moment) = cause_fault f
-cause_of (event.Closed conn moment) = cause.Refused
+cause_of (event.Closed conn moment) = cause.Slow
 cause_of (event.Tick moment) = cause.KeepAlive
 cause_of (event.Refused conn s moment) = cause.Slow
 
--- the same for one connection: another one than that whose packet it is was taken over (3.1.4)
-abbrev pub cause_for : Option ℕ → Cause → ℕ → Cause
+-- the same for one connection
+abbrev pub cause_for : Option (ℕ × Cause) → Cause → ℕ → Cause
 cause_for None why conn = why
-cause_for (Some own) why conn = if conn == own then why else cause.TakenOver
+cause_for (Some own) why conn = if conn == own.0 then why else own.1
 
-abbrev pub close_of : Option ℕ → Cause → ℕ → Close
+abbrev pub close_of : Option (ℕ × Cause) → Cause → ℕ → Close
 close_of own why conn = record { conn = conn; cause = cause_for own why conn }
 
-abbrev pub closes_of : Option ℕ → Cause → List ℕ → List Close
+abbrev pub closes_of : Option (ℕ × Cause) → Cause → List ℕ → List Close
 closes_of own why conns = map (close_of own why) conns
 
 -- its sends are to be offered, and then those whom it closes are ended

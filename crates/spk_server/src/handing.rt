@@ -21,12 +21,12 @@ use spk_session::Sort;
 /// How long a client whose end came may read what is left, in milliseconds (own rule).
 const GRACE: u64 = 5_000;
 
-/// Why one whom the broker closes is closed: another one than that whose packet it is was taken over (section 3.1.4).
-fn cause_for(own: Option<Conn>, why: Cause, conn: Conn) -> Cause
+/// Why one whom the broker closes is closed: where it is another one than that whose bytes came, for the cause beside that one.
+fn cause_for(own: Option<(Conn, Cause)>, why: Cause, conn: Conn) -> Cause
     ensures { result ≡ cause_for own why conn }
 {
     match own {
-        Some(sender) if conn != sender => Cause::TakenOver,
+        Some((sender, other)) if conn != sender => other,
         _ => why,
     }
 }
@@ -78,7 +78,12 @@ impl Server {
     }
 
     /// The end of one whom the broker closes came.
-    fn close(&mut self, conn: Conn, own: Option<Conn>, why: Cause) -> Result<(), ServerFault>
+    fn close(
+        &mut self,
+        conn: Conn,
+        own: Option<(Conn, Cause)>,
+        why: Cause,
+    ) -> Result<(), ServerFault>
         ensures ended { OnOk result (room_of self.new
             ≡ changed (leaves (later grace self.old.now) (cause_for own why conn)) conn (room_of self.old)) }
         ensures noted { OnOk result (AreNoted self.old.clients → AreNoted self.new.clients) }
@@ -92,7 +97,7 @@ impl Server {
     fn end_all(
         &mut self,
         closes: Vec<Conn>,
-        own: Option<Conn>,
+        own: Option<(Conn, Cause)>,
         why: Cause,
     ) -> Result<(), ServerFault>
         ensures hands { OnOk result ((more : List Close) (slow : Option Slow)
@@ -111,7 +116,7 @@ impl Server {
     fn hand_out(
         &mut self,
         out: Out,
-        own: Option<Conn>,
+        own: Option<(Conn, Cause)>,
         why: Cause,
     ) -> Result<Option<Conn>, ServerFault>
         ensures hands { IfOk result (λ r. (by : Option ℕ) (more : List Close) (before : Option Slow)
@@ -130,7 +135,7 @@ impl Server {
     pub(crate) fn hand_on(
         &mut self,
         answer: Option<Out>,
-        own: Option<Conn>,
+        own: Option<(Conn, Cause)>,
         why: Cause,
     ) -> Result<Option<Conn>, ServerFault>
         ensures hands { IfOk result (λ r. (by : Option ℕ) (more : List Close) (before : Option Slow)
@@ -154,8 +159,8 @@ impl Server {
         ensures noted { OnOk result (AreNoted self.old.clients → AreNoted self.new.clients) }
     {
         self.over(conn, cause)?;
-        let answer = closed_on(&mut self.broker, conn, self.now)?;
-        self.hand_on(answer, None, Cause::Refused)?;
+        let left = closed_on(&mut self.broker, conn, self.now)?;
+        self.hand_on(left, None, Cause::Slow)?;
         Ok(())
     }
 

@@ -11,7 +11,7 @@ ghost use Rattle.spk_clients.specs.Data.{AreNoted, IsSettled, client_at};
 ghost use Rattle.spk_server.specs.Calls.{IsDone, IsTakenUp, RanOut, TookUp};
 ghost use Rattle.spk_server.specs.Calls as call;
 ghost use Rattle.spk_server.specs.Data.{Slow};
-ghost use Rattle.spk_server.specs.Step.{broke, cause_fault, ends_behind, is_disconnect, left};
+ghost use Rattle.spk_server.specs.Step.{broke, cause_fault, cause_other, ends_behind, is_disconnect, left};
 ghost use Rattle.spk_server.specs.Tallies.{is_publish};
 ghost use Rattle.spk_server.specs.Log.{HasClient, Reaches, follows, is_open, takes};
 ghost use Rattle.spk_server.specs.Rooms.{amid, room_of, slow_for, with_packet};
@@ -35,6 +35,17 @@ fn is_disconnect(packet: &Packet) -> bool
     ensures { result ≡ is_disconnect (view packet.now) }
 {
     matches!(packet, Packet::Disconnect)
+}
+
+/// Why another client than its sender is ended at a packet: taken over by a CONNECT (section 3.1.4), else since too many messages for it are
+/// unacknowledged.
+fn cause_other(packet: &Packet) -> Cause
+    ensures { result ≡ cause_other (view packet.now) }
+{
+    match packet {
+        Packet::Connect { .. } => Cause::TakenOver,
+        _ => Cause::Slow,
+    }
 }
 
 /// Why a client is ended whose bytes are no packet: one of another protocol level is refused (section 3.1.2.2).
@@ -70,13 +81,14 @@ impl Server {
             (amid self.new [] [] (slow_for conn slow))) }
         ensures noted { OnOk result (AreNoted self.old.clients → AreNoted self.new.clients) }
     {
+        let other = cause_other(packet);
         self.clients.heard(conn, packet);
         self.tally.hear(packet);
         let Ok(answer) = packet_on(&mut self.broker, conn, packet, self.now) else {
             self.end(conn, Cause::Memory)?;
             return Ok(None);
         };
-        let slow = self.hand_on(answer, Some(conn), Cause::Refused)?;
+        let slow = self.hand_on(answer, Some((conn, other)), Cause::Refused)?;
         self.leave_behind(conn, packet)?;
         if is_publish(packet) {
             return Ok(slow);
@@ -109,7 +121,7 @@ impl Server {
             return Ok(());
         };
         let cause = cause_fault(fault);
-        self.hand_on(answer, None, cause)?;
+        self.hand_on(answer, Some((conn, Cause::Slow)), cause)?;
         self.over(conn, cause)?;
         Ok(())
     }

@@ -9,12 +9,12 @@ returns-in_default-clause-comes c =
 
 pub returns-then-is_publish-clause-comes : goal.returns-then-is_publish-clause-comes
 returns-then-is_publish-clause-comes c =
-    came_on c.args.self.now c.heard.new.self c.packet_on.new.broker c.hear.new.self c.args.conn (view c.args.packet.now) c.in-Ok.answer c.in_ok-slow.slow c.in_ok-slow.slow c.hand_on.new.self c.leave_behind.new.self
-    c.heard.ensures.done c.hear.ensures c.in-Ok.ensures.on c.in_ok-slow.ensures.hands c.in_ok-leave_behind.ensures.ends
+    came_on c.args.self.now c.heard.new.self c.packet_on.new.broker c.hear.new.self c.args.conn (view c.args.packet.now) c.cause_other-other.result c.in-Ok.answer c.in_ok-slow.slow c.in_ok-slow.slow c.hand_on.new.self c.leave_behind.new.self
+    c.cause_other-other.ensures c.heard.ensures.done c.hear.ensures c.in-Ok.ensures.on c.in_ok-slow.ensures.hands c.in_ok-leave_behind.ensures.ends
     (ap (λ b. if b then c.in_ok-slow.slow else None) (sym c.if-is_publish.true ∙ c.is_publish.ensures))
 
 pub returns-clause-comes : goal.returns-clause-comes
 returns-clause-comes c =
-    came_on c.args.self.now c.heard.new.self c.packet_on.new.broker c.hear.new.self c.args.conn (view c.args.packet.now) c.in-Ok.answer c.in_ok-slow.slow None c.hand_on.new.self c.leave_behind.new.self
-    c.heard.ensures.done c.hear.ensures c.in-Ok.ensures.on c.in_ok-slow.ensures.hands c.in_ok-leave_behind.ensures.ends
+    came_on c.args.self.now c.heard.new.self c.packet_on.new.broker c.hear.new.self c.args.conn (view c.args.packet.now) c.cause_other-other.result c.in-Ok.answer c.in_ok-slow.slow None c.hand_on.new.self c.leave_behind.new.self
+    c.cause_other-other.ensures c.heard.ensures.done c.hear.ensures c.in-Ok.ensures.on c.in_ok-slow.ensures.hands c.in_ok-leave_behind.ensures.ends
     (ap (λ b. if b then c.in_ok-slow.slow else None) (sym c.if-is_publish.false ∙ c.is_publish.ensures))
