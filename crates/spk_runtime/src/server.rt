@@ -108,17 +108,22 @@ fn show(alloc: Global, poll: &Poll, rounds: &Rounds<TcpStream>, page: &mut Optio
     }
 }
 
+/// Tells how many closes weren't told of, once their second is over at this moment.
+fn tell_rest<L: Write>(telling: &mut Telling, log: &mut L, now: u64) {
+    if let Some(more) = telling.rest(now) {
+        let _ = writeln!(log, "{more} more closed");
+    }
+}
+
 /// Shuts the sockets of those who are done, and tells of them: a line for each, ten in a second, and behind it how many more there were. A
-/// log that can't be written changes nothing.
+/// log that fails changes nothing; one that takes nothing, as a full pipe, is waited for.
 fn shut_all<L: Write>(
     rounds: &mut Rounds<TcpStream>,
     telling: &mut Telling,
     log: &mut L,
     now: u64,
 ) {
-    if let Some(more) = telling.rest(now) {
-        let _ = writeln!(log, "{more} more closed");
-    }
+    tell_rest(telling, log, now);
     for _ in 0..u64::MAX {
         let Some((conn, cause)) = rounds.shut_next() else {
             break;
@@ -159,6 +164,41 @@ fn note(
 }
 
 /// Runs rounds until no more clients come and all have ended.
+fn run_all<R: Wait + Clock, L: Write>(
+    rt: &R,
+    alloc: Global,
+    poll: &mut Poll,
+    events: &mut Events<Global>,
+    doors: &mut Doors,
+    rounds: &mut Rounds<TcpStream>,
+    page: &mut Option<Page>,
+    telling: &mut Telling,
+    log: &mut L,
+) -> Result<(), ServeFault>
+    ensures { IfErr result (λ e. e ≢ ServeFault.BadPlan) }
+{
+    let start = Instant::now(rt).ok();
+    let mut now = 0;
+    let mut more = false;
+    for _ in rt.forever() {
+        if doors.are_closed() && rounds.server.clients() == 0 {
+            break;
+        }
+        let timeout = pause(doors, rounds, page, telling, more, now);
+        if poll.poll(events, timeout).is_err() {
+            return Err(ServeFault::Device);
+        }
+        now = moment(rt, &start, now);
+        note(events, doors, rounds, page)?;
+        doors.accept(rounds, poll, now)?;
+        more = rounds.round(now)?;
+        shut_all(rounds, telling, log, now);
+        show(alloc, poll, rounds, page, now);
+    }
+    Ok(())
+}
+
+/// Runs rounds until no more clients come and all have ended, and then tells of the closes that weren't told of.
 fn run<R: Wait + Clock, L: Write>(
     rt: &R,
     alloc: Global,
@@ -171,26 +211,20 @@ fn run<R: Wait + Clock, L: Write>(
 ) -> Result<(), ServeFault>
     ensures { IfErr result (λ e. e ≢ ServeFault.BadPlan) }
 {
-    let start = Instant::now(rt).ok();
-    let mut now = 0;
-    let mut more = false;
     let mut telling = Telling::new();
-    for _ in rt.forever() {
-        if doors.are_closed() && rounds.server.clients() == 0 {
-            break;
-        }
-        let timeout = pause(doors, rounds, page, &telling, more, now);
-        if poll.poll(events, timeout).is_err() {
-            return Err(ServeFault::Device);
-        }
-        now = moment(rt, &start, now);
-        note(events, doors, rounds, page)?;
-        doors.accept(rounds, poll, now)?;
-        more = rounds.round(now)?;
-        shut_all(rounds, &mut telling, log, now);
-        show(alloc, poll, rounds, page, now);
-    }
-    Ok(())
+    let answer = run_all(
+        rt,
+        alloc,
+        poll,
+        events,
+        doors,
+        rounds,
+        page,
+        &mut telling,
+        log,
+    );
+    tell_rest(&mut telling, log, u64::MAX);
+    answer
 }
 
 /// The status page on this port of 127.0.0.1, if there is one.
@@ -271,7 +305,7 @@ fn count_of(clients: Option<usize>) -> Result<Option<u32>, ServeFault>
 /// clients (1 to 1,000) it ends when they were accepted and all have ended, and answers how many were served; else it
 /// stays, and serves 1,000 at once. What it does besides is `spk_server`'s. Where it has a port for it, `spk_status`' page is served on 127.0.0.1,
 /// to sixteen at once, for five seconds each. The log gets a line `closed CONN CAUSE` for each client whose socket is shut, ten in
-/// a second, and then `N more closed`; what becomes of it changes nothing. Refused with BadPlan (92) for another number of
+/// a second, and then `N more closed`; one that fails changes nothing, one that takes nothing is waited for. Refused with BadPlan (92) for another number of
 /// clients, and with Device (96) where listening, waiting, accepting or the writer failed. No contract says what goes over a
 /// socket.
 pub fn serve_at<R: Wait + Clock + Net, W: Write, L: Write>(

@@ -13,9 +13,9 @@ pub struct Tally {
     pub heard: u64,
     /// How many PUBLISH packets for clients were put among what waits to be written.
     pub sent: u64,
-    /// How many packets for clients were refused, since too many waited.
+    /// How many packets for clients were refused: too many waited, or there was no memory.
     pub dropped: u64,
-    /// How often a publisher was made to wait for another client.
+    /// How often a publisher was made to wait for a client, itself among these, for whom many packets wait.
     pub stalls: u64,
 }
 

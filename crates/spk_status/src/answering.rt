@@ -16,10 +16,13 @@ fn reason(status: u16) -> &'static str {
     }
 }
 
-/// The text of an answer: of 200 the figures, else its reason.
+/// The text of an answer: of 200 the figures, else its reason; none of 405, since the method may be HEAD (RFC 9110, section 9.3.2).
 fn body(alloc: Global, status: u16, figures: &Figures) -> Result<String, AllocError> {
     if status == 200 {
         return format!(in alloc; "{figures}");
+    }
+    if status == 405 {
+        return Ok(String::new(alloc));
     }
     let reason = reason(status);
     format!(in alloc; "{reason}\n")

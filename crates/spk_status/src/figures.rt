@@ -32,7 +32,7 @@ pub struct Figures {
     pub sent: u64,
     /// Packets for clients that were refused.
     pub dropped: u64,
-    /// Waits of a publisher for another client.
+    /// Waits of a publisher for a slow client.
     pub stalls: u64,
     /// Clients whose sockets were shut.
     pub closes: Closes,
@@ -81,9 +81,10 @@ fn counters<W: fmt::Write>(f: &mut fmt::Formatter<W>, figures: &Figures) -> fmt:
     figure(f, "messages_in_total", "counter", help, figures.heard)?;
     let help = "PUBLISH packets for clients.";
     figure(f, "messages_out_total", "counter", help, figures.sent)?;
-    let help = "Packets for clients that were refused, since too many waited.";
+    let help =
+        "Packets for clients that were refused, since too many waited or memory was refused.";
     figure(f, "drops_total", "counter", help, figures.dropped)?;
-    let help = "Waits of a publisher for another client.";
+    let help = "Waits of a publisher for a slow client.";
     figure(f, "stalls_total", "counter", help, figures.stalls)
 }
 

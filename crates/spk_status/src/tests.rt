@@ -62,10 +62,10 @@ juldremm_messages_in_total 6
 # HELP juldremm_messages_out_total PUBLISH packets for clients.
 # TYPE juldremm_messages_out_total counter
 juldremm_messages_out_total 7
-# HELP juldremm_drops_total Packets for clients that were refused, since too many waited.
+# HELP juldremm_drops_total Packets for clients that were refused, since too many waited or memory was refused.
 # TYPE juldremm_drops_total counter
 juldremm_drops_total 8
-# HELP juldremm_stalls_total Waits of a publisher for another client.
+# HELP juldremm_stalls_total Waits of a publisher for a slow client.
 # TYPE juldremm_stalls_total counter
 juldremm_stalls_total 18446744073709551615
 # HELP juldremm_closes_total Clients whose sockets were shut.
@@ -92,16 +92,24 @@ Not Found
 const NOT_ALLOWED: &str = "HTTP/1.1 405 Method Not Allowed\r
 Allow: GET\r
 Content-Type: text/plain; version=0.0.4; charset=utf-8\r
-Content-Length: 19\r
+Content-Length: 0\r
 Connection: close\r
 \r
-Method Not Allowed
 ";
 
-const ANSWERS: [(Asked, &str); 3] = [
+const BAD: &str = "HTTP/1.1 400 Bad Request\r
+Content-Type: text/plain; version=0.0.4; charset=utf-8\r
+Content-Length: 12\r
+Connection: close\r
+\r
+Bad Request
+";
+
+const ANSWERS: [(Asked, &str); 4] = [
     (Asked::Page, PAGE),
     (Asked::Elsewhere, NOT_FOUND),
     (Asked::Otherwise, NOT_ALLOWED),
+    (Asked::NoRequest, BAD),
 ];
 
 fn figures() -> Figures {
