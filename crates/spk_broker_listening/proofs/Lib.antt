@@ -1,0 +1,5 @@
+mod Fine
+mod Given
+mod Room
+mod Held
+mod First
