@@ -1,0 +1,5 @@
+mod Whole
+mod Subscribed
+mod Connected
+mod Due
+mod Rows
