@@ -56,6 +56,7 @@ For each client whose connection is shut a line `closed N CAUSE` stands on stand
 second, and then `K more closed`. CAUSE is `left`, `gone`, `silent`, `unreadable`, `refused`, `keep-alive`,
 `taken-over`, `slow` or `memory`. With --status PORT its figures are told, too: clients, sessions, retained
 messages, messages in and out, drops, waits, and closes by cause.
+Standard error has to be read, or led to a file: where it is a pipe that is full, the broker waits.
 
 Who publishes to a subscriber that reads too slowly is slowed, for less than 200 milliseconds at a time; a
 subscriber that loses 128 messages of QoS 0, or one of QoS 1, is closed. docs/SECURITY.md tells more.

@@ -37,6 +37,36 @@ impl Around {
     }
 }
 
+/// What a case may say.
+const KNOWN: [&str; 13] = [
+    "run",
+    "file",
+    "front",
+    "back",
+    "out",
+    "has",
+    "notes",
+    "bad plan",
+    "any notes",
+    "end",
+    "room",
+    "reads",
+    "plant",
+];
+
+/// Whether a case says nothing else.
+pub(crate) fn is_known(case: &Json) -> bool {
+    let Some(members) = case.as_object() else {
+        return false;
+    };
+    for name in members.keys() {
+        if !KNOWN.iter().any(|known| *known == name.as_str()) {
+            return false;
+        }
+    }
+    true
+}
+
 /// Whether a case has this member.
 pub(crate) fn has(case: &Json, name: &'static str) -> bool {
     case.get(name).is_some()

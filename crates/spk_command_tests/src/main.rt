@@ -44,7 +44,7 @@ where
     let path = path_of(rt.alloc(), folder, name)?;
     let counts = try_all(rt, name, path.as_str(), only)?;
     println!(rt; "{name}: {} of {} cases as wanted", counts.good, counts.all)?;
-    Ok(counts.good == counts.all)
+    Ok(counts.all > 0 && counts.good == counts.all)
 }
 
 /// Tries all cases. Whether all were as wanted.

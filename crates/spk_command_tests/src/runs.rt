@@ -45,12 +45,13 @@ fn is_refused(held: &[u8]) -> bool {
     held.ends_with(REFUSED) || (!held.is_empty() && REFUSED.starts_with(held))
 }
 
-/// Whether a run that was refused memory printed whole lines of what it prints else, but not all of them, before that fault.
-fn is_front(held: &[u8], whole: &[u8]) -> bool {
+/// Whether a run that was refused memory printed whole lines of what it prints else, but not all of them, before that fault; or as much of
+/// the fault as there was room for.
+fn is_front(held: &[u8], whole: &[u8], room: usize) -> bool {
     match held.strip_suffix(REFUSED.as_slice()) {
         Some(front) => front.is_empty()
             || (front.ends_with(b"\n") && whole.starts_with(front) && front.len() < whole.len()),
-        None => true,
+        None => held.len() == room.min(REFUSED.len()),
     }
 }
 
@@ -67,7 +68,7 @@ fn run<R: AllocGlobal>(
     }
     let again = once(rt, words, file, room)?;
     let is_right = first.end.as_str() == "over 1"
-        && is_front(first.held.as_slice(), again.held.as_slice());
+        && is_front(first.held.as_slice(), again.held.as_slice(), room);
     Ok(if is_right { Some(again) } else { None })
 }
 

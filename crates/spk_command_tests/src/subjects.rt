@@ -1,6 +1,6 @@
 //! The cases of one file, one behind the other.
 
-use crate::case::{Around, has};
+use crate::case::{Around, has, is_known};
 use crate::{events, plants, runs};
 use serde_json::{Error as JsonError, Value as Json};
 use std::alloc::AllocError;
@@ -53,6 +53,9 @@ where
         Err(error) if error.is_memory() => return Err(AllocError),
         Err(_) => return Ok(Verdict::Bad("it isn't JSON")),
     };
+    if !is_known(&case) {
+        return Ok(Verdict::Bad("it says what isn't known"));
+    }
     if has(&case, "front") {
         around.set(rt.alloc(), &case)?;
         return Ok(Verdict::None);
