@@ -13,9 +13,9 @@ asked_for method target =
     else if bytes_eq target (codes "/metrics") || bytes_eq target (codes "/") then Page
     else Elsewhere
 
--- a request stands at the front, and this is what it asks for
+-- a request of at most 64 fields stands at the front, and this is what it asks for
 abbrev pub IsRequestFor : List ℕ → Asked → Type 0
-IsRequestFor bytes asked = (h : RequestHead) × (rest : List ℕ) × ReadsRequest bytes h rest × (asked ≡ asked_for h.method h.target)
+IsRequestFor bytes asked = (h : RequestHead) × (rest : List ℕ) × ReadsRequest bytes h rest × (length h.fields ≤ 64) × (asked ≡ asked_for h.method h.target)
 
 -- no request stands at the front, and one may yet
 abbrev pub IsBegun : List ℕ → Asked → Type 0

@@ -44,7 +44,7 @@ fn more_than_4096_bytes_are_no_request(rt: HostRuntime) -> Result<(), Fail> {
 
 const PAGE: &str = "HTTP/1.1 200 OK\r
 Content-Type: text/plain; version=0.0.4; charset=utf-8\r
-Content-Length: 1388\r
+Content-Length: 1409\r
 Connection: close\r
 \r
 # HELP juldremm_clients Clients that are connected.
@@ -155,5 +155,19 @@ fn ten_closes_are_told_of_in_a_second(rt: HostRuntime) -> Result<(), Fail> {
     assert_eq!(rt; telling.rest(2_000), Some(2));
     assert_eq!(rt; telling.rest(2_000), None);
     assert!(rt; telling.note(2_000));
+    Ok(())
+}
+
+#[test]
+fn a_request_has_at_most_64_fields(rt: HostRuntime) -> Result<(), Fail> {
+    for (count, wanted) in [(64, Asked::Page), (65, Asked::NoRequest)] {
+        let mut bytes = Vec::new(rt.alloc());
+        bytes.extend_from_slice(b"GET / HTTP/1.1\r\n")?;
+        for _ in 0..count {
+            bytes.extend_from_slice(b"a: b\r\n")?;
+        }
+        bytes.extend_from_slice(b"\r\n")?;
+        assert_eq!(rt; Asked::of(bytes.as_slice()), wanted);
+    }
     Ok(())
 }
