@@ -1,6 +1,7 @@
 //! What is read of a world's file: its events, or what is wrong with it.
 
 use crate::case::{Around, text_of};
+use crate::flaw::Flaw;
 use serde_json::Value as Json;
 use spk_files::{FileFault, Misfit, read_world, world_of};
 use spk_world::Event;
@@ -42,16 +43,16 @@ pub(crate) fn judge(
     alloc: Global,
     around: &Around,
     case: &Json,
-) -> Result<Option<&'static str>, AllocError> {
+) -> Result<Option<Flaw>, AllocError> {
     let Some(file) = around.file_of(alloc, case)? else {
-        return Ok(Some("it has no file"));
+        return Ok(Some(Flaw::NoFile));
     };
     let (said, fault) = read(alloc, file.as_str())?;
     if said.as_str() != text_of(case, "reads").unwrap_or("") {
-        return Ok(Some("what is read"));
+        return Ok(Some(Flaw::Read));
     }
     if fault_of(alloc, file.as_str())? != fault {
-        return Ok(Some("the fault"));
+        return Ok(Some(Flaw::Fault));
     }
     Ok(None)
 }

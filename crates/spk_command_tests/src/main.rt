@@ -8,6 +8,7 @@ mod answers;
 mod case;
 mod events;
 mod files;
+mod flaw;
 mod outcomes;
 mod plants;
 mod runs;

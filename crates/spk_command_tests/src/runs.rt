@@ -2,6 +2,7 @@
 
 use crate::case::{Around, has, number_of, text_of, words_of};
 use crate::files::{Narrow, Texts};
+use crate::flaw::Flaw;
 use crate::outcomes;
 use serde_json::Value as Json;
 use spk_commands::run_with_notes;
@@ -99,15 +100,15 @@ fn is_noted(case: &Json, notes: &[u8]) -> bool {
 }
 
 /// What isn't as wanted of a run, if something isn't.
-fn complaint(case: &Json, ran: &Ran) -> Option<&'static str> {
+fn complaint(case: &Json, ran: &Ran) -> Option<Flaw> {
     if !is_printed(case, ran.held.as_slice()) {
-        return Some("what it prints");
+        return Some(Flaw::Printed);
     }
     if !is_noted(case, ran.notes.as_slice()) {
-        return Some("what it notes");
+        return Some(Flaw::Noted);
     }
     if ran.end.as_str() != text_of(case, "end").unwrap_or("over 0") {
-        return Some("what it comes to");
+        return Some(Flaw::End);
     }
     None
 }
@@ -117,7 +118,7 @@ pub(crate) fn judge<R: AllocGlobal>(
     rt: &R,
     around: &Around,
     case: &Json,
-) -> Result<Option<&'static str>, AllocError> {
+) -> Result<Option<Flaw>, AllocError> {
     let alloc: Global = rt.alloc();
     let words = words_of(alloc, case)?;
     let file = around.file_of(alloc, case)?;
@@ -125,6 +126,6 @@ pub(crate) fn judge<R: AllocGlobal>(
     let room = usize::try_from(number_of(case, "room").unwrap_or(ROOM as u64)).unwrap_or(ROOM);
     match run(rt, words.as_slice(), file, room)? {
         Some(ran) => Ok(complaint(case, &ran)),
-        None => Ok(Some("what it prints where memory is refused")),
+        None => Ok(Some(Flaw::Memory)),
     }
 }

@@ -1,6 +1,7 @@
 //! The cases of one file, one behind the other.
 
 use crate::case::{Around, has, is_known};
+use crate::flaw::Flaw;
 use crate::{events, plants, runs};
 use serde_json::{Error as JsonError, Value as Json};
 use std::alloc::AllocError;
@@ -16,7 +17,7 @@ enum Verdict {
     /// It isn't a case.
     None,
     Good,
-    Bad(&'static str),
+    Bad(Flaw),
 }
 
 /// How many cases there were, and how many of them were as wanted.
@@ -27,7 +28,7 @@ pub(crate) struct Counts {
 }
 
 /// What isn't as wanted of a case, if something isn't.
-fn complaint<R>(rt: &R, around: &Around, case: &Json) -> Result<Option<&'static str>, AllocError>
+fn complaint<R>(rt: &R, around: &Around, case: &Json) -> Result<Option<Flaw>, AllocError>
 where
     R: AllocGlobal + Threads + Wait + Eprint + Sync,
 {
@@ -40,7 +41,7 @@ where
     if has(case, "plant") {
         return plants::judge(rt, around, case);
     }
-    Ok(Some("it is no case"))
+    Ok(Some(Flaw::NoCase))
 }
 
 /// What becomes of a line.
@@ -51,10 +52,10 @@ where
     let case = match Json::from_str(rt.alloc(), line) {
         Ok(case) => case,
         Err(error) if error.is_memory() => return Err(AllocError),
-        Err(_) => return Ok(Verdict::Bad("it isn't JSON")),
+        Err(_) => return Ok(Verdict::Bad(Flaw::NoJson)),
     };
     if !is_known(&case) {
-        return Ok(Verdict::Bad("it says what isn't known"));
+        return Ok(Verdict::Bad(Flaw::Unknown));
     }
     if has(&case, "front") {
         around.set(rt.alloc(), &case)?;
@@ -108,7 +109,7 @@ where
             }
             Verdict::Bad(what) => {
                 counts.all = counts.all.saturating_add(1);
-                println!(rt; "{name}, line {number}: not as wanted: {what}")?;
+                println!(rt; "{name}, line {number}: not as wanted: {}", what.text())?;
             }
         }
     }
