@@ -4,13 +4,16 @@ use Rattle.std.specs.Prelude.{IfSome}
 use Rattle.std.specs.Option.{option_map, option_or}
 use Rattle.std.specs.List.{filter_map, cons_option, flat_map}
 use Rattle.std.specs.Str.{IsUtf8}
+use Rattle.std.specs.Int.{w32, w64, to_le_bytes}
+use Rattle.std.proofs.lemmas.Nat.{from_le_bytes-to_le_bytes_4, from_le_bytes-to_le_bytes_8}
 use Rattle.std.proofs.lemmas.List.{append-nil}
 use Rattle.std.proofs.lemmas.List.Elements.{All-nil, All-cons, All-head, All-tail, All-append, filter_map-append}
 use Rattle.std.proofs.lemmas.List.Concat.{flat_map-cons}
-use Rattle.spk_protobuf.specs.Grammar.{Varint, Bytes, Entry, IsVarint, IsField, FieldList}
+use Rattle.spk_protobuf.specs.Grammar.{Varint, Eight, Bytes, Four, Entry, IsVarint, IsField, FieldList}
 use Rattle.spk_protobuf.specs.Spelling.{varint, bytes_field}
 use Rattle.spk_protobuf.proofs.Shortest.{varint_is, bytes_field-is}
-use Rattle.spk_payload.specs.Meaning.{Content, Int, Long, Flag, Words, Octets, Other, MetricData, PayloadData, number_in, bytes_in, content_in, last, metric_of, HasText, MeansMetric, MeanEach, MeansPayload}
+use Rattle.spk_payload.specs.declared.values.Values.TheVariants as choice
+use Rattle.spk_payload.specs.Meaning.{Content, Int, Long, Flag, Words, Octets, Float, Double, Other, MetricData, PayloadData, number_in, bytes_in, content_in, last, metric_of, HasText, MeansMetric, MeanEach, MeansPayload}
 use Rattle.spk_payload.specs.Spelling.{number_field, bit, if_there, content_spelling, metric_spelling, spelling, ContentFits, MetricFits, PayloadFits}
 use Rattle.spk_payload.proofs.Metrics.{ok_is, or_none, same_metric}
 use Rattle.spk_payload.proofs.Payloads.{payload_again}
@@ -52,6 +55,8 @@ content_entry (Long n) = number_entry 11 n
 content_entry (Flag b) = flag_entry 14 b
 content_entry (Words bytes) = bytes_entry 15 bytes
 content_entry (Octets bytes) = bytes_entry 16 bytes
+content_entry (Float n) = record { number = 12; shape = Four (to_le_bytes w32 n) }
+content_entry (Double n) = record { number = 13; shape = Eight (to_le_bytes w64 n) }
 content_entry Other = bytes_entry 20 []
 
 number_field-is : (k n : ℕ) → 0 < k → k < 100 → n < 2 ^ 64 → IsField (number_field (k * 8) n) (number_entry k n)
@@ -69,6 +74,8 @@ content-is (Long n) h = number_field-is 11 n (omega arith) (omega arith) h
 content-is (Flag b) h = number_field-is 14 (bit b) (omega arith) (omega arith) (bit-below b)
 content-is (Words bytes) h = bytes_field-is 15 bytes (omega arith) (omega arith) h.1
 content-is (Octets bytes) h = bytes_field-is 16 bytes (omega arith) (omega arith) h
+content-is (Float n) h = (omega arith, varint (12 * 8 + 5), to_le_bytes w32 n, varint_is (12 * 8 + 5) (omega arith), (refl, refl), refl)
+content-is (Double n) h = (omega arith, varint (13 * 8 + 1), to_le_bytes w64 n, varint_is (13 * 8 + 1) (omega arith), (refl, refl), refl)
 content-is Other h = absurd h
 
 -- ---- a metric
@@ -134,6 +141,8 @@ content_no_name (Long n) = refl
 content_no_name (Flag b) = refl
 content_no_name (Words bytes) = refl
 content_no_name (Octets bytes) = refl
+content_no_name (Float n) = refl
+content_no_name (Double n) = refl
 content_no_name Other = refl
 
 content_no_alias : (c : Content) → number_in 2 (content_entry c) ≡ None
@@ -142,6 +151,8 @@ content_no_alias (Long n) = refl
 content_no_alias (Flag b) = refl
 content_no_alias (Words bytes) = refl
 content_no_alias (Octets bytes) = refl
+content_no_alias (Float n) = refl
+content_no_alias (Double n) = refl
 content_no_alias Other = refl
 
 content_no_timestamp : (c : Content) → number_in 3 (content_entry c) ≡ None
@@ -150,6 +161,8 @@ content_no_timestamp (Long n) = refl
 content_no_timestamp (Flag b) = refl
 content_no_timestamp (Words bytes) = refl
 content_no_timestamp (Octets bytes) = refl
+content_no_timestamp (Float n) = refl
+content_no_timestamp (Double n) = refl
 content_no_timestamp Other = refl
 
 content_no_datatype : (c : Content) → number_in 4 (content_entry c) ≡ None
@@ -158,6 +171,8 @@ content_no_datatype (Long n) = refl
 content_no_datatype (Flag b) = refl
 content_no_datatype (Words bytes) = refl
 content_no_datatype (Octets bytes) = refl
+content_no_datatype (Float n) = refl
+content_no_datatype (Double n) = refl
 content_no_datatype Other = refl
 
 content_no_historical : (c : Content) → number_in 5 (content_entry c) ≡ None
@@ -166,6 +181,8 @@ content_no_historical (Long n) = refl
 content_no_historical (Flag b) = refl
 content_no_historical (Words bytes) = refl
 content_no_historical (Octets bytes) = refl
+content_no_historical (Float n) = refl
+content_no_historical (Double n) = refl
 content_no_historical Other = refl
 
 content_no_transient : (c : Content) → number_in 6 (content_entry c) ≡ None
@@ -174,6 +191,8 @@ content_no_transient (Long n) = refl
 content_no_transient (Flag b) = refl
 content_no_transient (Words bytes) = refl
 content_no_transient (Octets bytes) = refl
+content_no_transient (Float n) = refl
+content_no_transient (Double n) = refl
 content_no_transient Other = refl
 
 content_no_null : (c : Content) → number_in 7 (content_entry c) ≡ None
@@ -182,18 +201,22 @@ content_no_null (Long n) = refl
 content_no_null (Flag b) = refl
 content_no_null (Words bytes) = refl
 content_no_null (Octets bytes) = refl
+content_no_null (Float n) = refl
+content_no_null (Double n) = refl
 content_no_null Other = refl
 
-content_own : (c : Content) → ContentFits c → content_in (content_entry c) ≡ Some c
+content_own : (c : Content) → ContentFits c → content_in choice.All (content_entry c) ≡ Some c
 content_own (Int n) h = let e : n % 2 ^ 32 ≡ n = omega (arith, h) in ap (λ (k : ℕ). Some (Int k)) e
 content_own (Long n) h = refl
 content_own (Flag true) h = refl
 content_own (Flag false) h = refl
 content_own (Words bytes) h = refl
 content_own (Octets bytes) h = refl
+content_own (Float n) h = ap (λ (k : ℕ). Some (Float k)) (from_le_bytes-to_le_bytes_4 n h)
+content_own (Double n) h = ap (λ (k : ℕ). Some (Double k)) (from_le_bytes-to_le_bytes_8 n h)
 content_own Other h = absurd h
 
-value_own : (o : Option Content) → IfSome o ContentFits → last content_in (entry_if content_entry o) ≡ o
+value_own : (o : Option Content) → IfSome o ContentFits → last (content_in choice.All) (entry_if content_entry o) ≡ o
 value_own None h = refl
 value_own (Some c) h = content_own c h
 
@@ -346,26 +369,26 @@ last_null m =
     let q7 : last (number_in 7) (entry_if name_entry m.name ++ entry_if (number_entry 2) m.alias ++ entry_if (number_entry 3) m.timestamp ++ entry_if (number_entry 4) m.datatype ++ entry_if (flag_entry 5) m.historical ++ entry_if (flag_entry 6) m.transient ++ entry_if (flag_entry 7) m.null ++ entry_if content_entry m.value) ≡ option_map bit m.null = last-append (number_in 7) (entry_if name_entry m.name ++ entry_if (number_entry 2) m.alias ++ entry_if (number_entry 3) m.timestamp ++ entry_if (number_entry 4) m.datatype ++ entry_if (flag_entry 5) m.historical ++ entry_if (flag_entry 6) m.transient ++ entry_if (flag_entry 7) m.null) (entry_if content_entry m.value) ∙ both p7 q6 in
     q7
 
-last_value : (m : MetricData) → MetricFits m → last content_in (entries_of m) ≡ m.value
+last_value : (m : MetricData) → MetricFits m → last (content_in choice.All) (entries_of m) ≡ m.value
 last_value m h =
-    let p0 : last content_in (entry_if name_entry m.name) ≡ None = last-other content_in name_entry m.name (λ x. refl) in
-    let p1 : last content_in (entry_if (number_entry 2) m.alias) ≡ None = last-other content_in (number_entry 2) m.alias (λ x. refl) in
-    let p2 : last content_in (entry_if (number_entry 3) m.timestamp) ≡ None = last-other content_in (number_entry 3) m.timestamp (λ x. refl) in
-    let p3 : last content_in (entry_if (number_entry 4) m.datatype) ≡ None = last-other content_in (number_entry 4) m.datatype (λ x. refl) in
-    let p4 : last content_in (entry_if (flag_entry 5) m.historical) ≡ None = last-other content_in (flag_entry 5) m.historical (λ x. refl) in
-    let p5 : last content_in (entry_if (flag_entry 6) m.transient) ≡ None = last-other content_in (flag_entry 6) m.transient (λ x. refl) in
-    let p6 : last content_in (entry_if (flag_entry 7) m.null) ≡ None = last-other content_in (flag_entry 7) m.null (λ x. refl) in
-    let p7 : last content_in (entry_if content_entry m.value) ≡ m.value = value_own m.value h.value in
-    let q1 : last content_in (entry_if name_entry m.name ++ entry_if (number_entry 2) m.alias) ≡ None = last-append content_in (entry_if name_entry m.name) (entry_if (number_entry 2) m.alias) ∙ both p1 p0 in
-    let q2 : last content_in (entry_if name_entry m.name ++ entry_if (number_entry 2) m.alias ++ entry_if (number_entry 3) m.timestamp) ≡ None = last-append content_in (entry_if name_entry m.name ++ entry_if (number_entry 2) m.alias) (entry_if (number_entry 3) m.timestamp) ∙ both p2 q1 in
-    let q3 : last content_in (entry_if name_entry m.name ++ entry_if (number_entry 2) m.alias ++ entry_if (number_entry 3) m.timestamp ++ entry_if (number_entry 4) m.datatype) ≡ None = last-append content_in (entry_if name_entry m.name ++ entry_if (number_entry 2) m.alias ++ entry_if (number_entry 3) m.timestamp) (entry_if (number_entry 4) m.datatype) ∙ both p3 q2 in
-    let q4 : last content_in (entry_if name_entry m.name ++ entry_if (number_entry 2) m.alias ++ entry_if (number_entry 3) m.timestamp ++ entry_if (number_entry 4) m.datatype ++ entry_if (flag_entry 5) m.historical) ≡ None = last-append content_in (entry_if name_entry m.name ++ entry_if (number_entry 2) m.alias ++ entry_if (number_entry 3) m.timestamp ++ entry_if (number_entry 4) m.datatype) (entry_if (flag_entry 5) m.historical) ∙ both p4 q3 in
-    let q5 : last content_in (entry_if name_entry m.name ++ entry_if (number_entry 2) m.alias ++ entry_if (number_entry 3) m.timestamp ++ entry_if (number_entry 4) m.datatype ++ entry_if (flag_entry 5) m.historical ++ entry_if (flag_entry 6) m.transient) ≡ None = last-append content_in (entry_if name_entry m.name ++ entry_if (number_entry 2) m.alias ++ entry_if (number_entry 3) m.timestamp ++ entry_if (number_entry 4) m.datatype ++ entry_if (flag_entry 5) m.historical) (entry_if (flag_entry 6) m.transient) ∙ both p5 q4 in
-    let q6 : last content_in (entry_if name_entry m.name ++ entry_if (number_entry 2) m.alias ++ entry_if (number_entry 3) m.timestamp ++ entry_if (number_entry 4) m.datatype ++ entry_if (flag_entry 5) m.historical ++ entry_if (flag_entry 6) m.transient ++ entry_if (flag_entry 7) m.null) ≡ None = last-append content_in (entry_if name_entry m.name ++ entry_if (number_entry 2) m.alias ++ entry_if (number_entry 3) m.timestamp ++ entry_if (number_entry 4) m.datatype ++ entry_if (flag_entry 5) m.historical ++ entry_if (flag_entry 6) m.transient) (entry_if (flag_entry 7) m.null) ∙ both p6 q5 in
-    let q7 : last content_in (entry_if name_entry m.name ++ entry_if (number_entry 2) m.alias ++ entry_if (number_entry 3) m.timestamp ++ entry_if (number_entry 4) m.datatype ++ entry_if (flag_entry 5) m.historical ++ entry_if (flag_entry 6) m.transient ++ entry_if (flag_entry 7) m.null ++ entry_if content_entry m.value) ≡ m.value = last-append content_in (entry_if name_entry m.name ++ entry_if (number_entry 2) m.alias ++ entry_if (number_entry 3) m.timestamp ++ entry_if (number_entry 4) m.datatype ++ entry_if (flag_entry 5) m.historical ++ entry_if (flag_entry 6) m.transient ++ entry_if (flag_entry 7) m.null) (entry_if content_entry m.value) ∙ both p7 q6 ∙ or_none (m.value) in
+    let p0 : last (content_in choice.All) (entry_if name_entry m.name) ≡ None = last-other (content_in choice.All) name_entry m.name (λ x. refl) in
+    let p1 : last (content_in choice.All) (entry_if (number_entry 2) m.alias) ≡ None = last-other (content_in choice.All) (number_entry 2) m.alias (λ x. refl) in
+    let p2 : last (content_in choice.All) (entry_if (number_entry 3) m.timestamp) ≡ None = last-other (content_in choice.All) (number_entry 3) m.timestamp (λ x. refl) in
+    let p3 : last (content_in choice.All) (entry_if (number_entry 4) m.datatype) ≡ None = last-other (content_in choice.All) (number_entry 4) m.datatype (λ x. refl) in
+    let p4 : last (content_in choice.All) (entry_if (flag_entry 5) m.historical) ≡ None = last-other (content_in choice.All) (flag_entry 5) m.historical (λ x. refl) in
+    let p5 : last (content_in choice.All) (entry_if (flag_entry 6) m.transient) ≡ None = last-other (content_in choice.All) (flag_entry 6) m.transient (λ x. refl) in
+    let p6 : last (content_in choice.All) (entry_if (flag_entry 7) m.null) ≡ None = last-other (content_in choice.All) (flag_entry 7) m.null (λ x. refl) in
+    let p7 : last (content_in choice.All) (entry_if content_entry m.value) ≡ m.value = value_own m.value h.value in
+    let q1 : last (content_in choice.All) (entry_if name_entry m.name ++ entry_if (number_entry 2) m.alias) ≡ None = last-append (content_in choice.All) (entry_if name_entry m.name) (entry_if (number_entry 2) m.alias) ∙ both p1 p0 in
+    let q2 : last (content_in choice.All) (entry_if name_entry m.name ++ entry_if (number_entry 2) m.alias ++ entry_if (number_entry 3) m.timestamp) ≡ None = last-append (content_in choice.All) (entry_if name_entry m.name ++ entry_if (number_entry 2) m.alias) (entry_if (number_entry 3) m.timestamp) ∙ both p2 q1 in
+    let q3 : last (content_in choice.All) (entry_if name_entry m.name ++ entry_if (number_entry 2) m.alias ++ entry_if (number_entry 3) m.timestamp ++ entry_if (number_entry 4) m.datatype) ≡ None = last-append (content_in choice.All) (entry_if name_entry m.name ++ entry_if (number_entry 2) m.alias ++ entry_if (number_entry 3) m.timestamp) (entry_if (number_entry 4) m.datatype) ∙ both p3 q2 in
+    let q4 : last (content_in choice.All) (entry_if name_entry m.name ++ entry_if (number_entry 2) m.alias ++ entry_if (number_entry 3) m.timestamp ++ entry_if (number_entry 4) m.datatype ++ entry_if (flag_entry 5) m.historical) ≡ None = last-append (content_in choice.All) (entry_if name_entry m.name ++ entry_if (number_entry 2) m.alias ++ entry_if (number_entry 3) m.timestamp ++ entry_if (number_entry 4) m.datatype) (entry_if (flag_entry 5) m.historical) ∙ both p4 q3 in
+    let q5 : last (content_in choice.All) (entry_if name_entry m.name ++ entry_if (number_entry 2) m.alias ++ entry_if (number_entry 3) m.timestamp ++ entry_if (number_entry 4) m.datatype ++ entry_if (flag_entry 5) m.historical ++ entry_if (flag_entry 6) m.transient) ≡ None = last-append (content_in choice.All) (entry_if name_entry m.name ++ entry_if (number_entry 2) m.alias ++ entry_if (number_entry 3) m.timestamp ++ entry_if (number_entry 4) m.datatype ++ entry_if (flag_entry 5) m.historical) (entry_if (flag_entry 6) m.transient) ∙ both p5 q4 in
+    let q6 : last (content_in choice.All) (entry_if name_entry m.name ++ entry_if (number_entry 2) m.alias ++ entry_if (number_entry 3) m.timestamp ++ entry_if (number_entry 4) m.datatype ++ entry_if (flag_entry 5) m.historical ++ entry_if (flag_entry 6) m.transient ++ entry_if (flag_entry 7) m.null) ≡ None = last-append (content_in choice.All) (entry_if name_entry m.name ++ entry_if (number_entry 2) m.alias ++ entry_if (number_entry 3) m.timestamp ++ entry_if (number_entry 4) m.datatype ++ entry_if (flag_entry 5) m.historical ++ entry_if (flag_entry 6) m.transient) (entry_if (flag_entry 7) m.null) ∙ both p6 q5 in
+    let q7 : last (content_in choice.All) (entry_if name_entry m.name ++ entry_if (number_entry 2) m.alias ++ entry_if (number_entry 3) m.timestamp ++ entry_if (number_entry 4) m.datatype ++ entry_if (flag_entry 5) m.historical ++ entry_if (flag_entry 6) m.transient ++ entry_if (flag_entry 7) m.null ++ entry_if content_entry m.value) ≡ m.value = last-append (content_in choice.All) (entry_if name_entry m.name ++ entry_if (number_entry 2) m.alias ++ entry_if (number_entry 3) m.timestamp ++ entry_if (number_entry 4) m.datatype ++ entry_if (flag_entry 5) m.historical ++ entry_if (flag_entry 6) m.transient ++ entry_if (flag_entry 7) m.null) (entry_if content_entry m.value) ∙ both p7 q6 ∙ or_none (m.value) in
     q7
 
-entries_mean : (m : MetricData) → MetricFits m → metric_of (entries_of m) ≡ m
+entries_mean : (m : MetricData) → MetricFits m → metric_of choice.All (entries_of m) ≡ m
 entries_mean m h =
     same_metric
     (last_name m)
@@ -389,6 +412,8 @@ content_texts (Long n) h = (tt, tt)
 content_texts (Flag b) h = (tt, tt)
 content_texts (Words bytes) h = (tt, h.0)
 content_texts (Octets bytes) h = (tt, tt)
+content_texts (Float n) h = (tt, tt)
+content_texts (Double n) h = (tt, tt)
 content_texts Other h = absurd h
 
 metric_texts : (m : MetricData) → MetricFits m → All HasText (entries_of m)
@@ -410,7 +435,7 @@ metric_texts m h =
     let u7 = All-append HasText (entry_if name_entry m.name ++ entry_if (number_entry 2) m.alias ++ entry_if (number_entry 3) m.timestamp ++ entry_if (number_entry 4) m.datatype ++ entry_if (flag_entry 5) m.historical ++ entry_if (flag_entry 6) m.transient ++ entry_if (flag_entry 7) m.null) (entry_if content_entry m.value) u6 t7 in
     u7
 
-pub metric_means : (m : MetricData) → MetricFits m → MeansMetric (metric_spelling m) m
+pub metric_means : (m : MetricData) → MetricFits m → MeansMetric choice.All (metric_spelling m) m
 metric_means m h = record { fields = entries_of m; are = metric_fields m h; texts = metric_texts m h; is = sym (entries_mean m h) }
 
 -- ---- a payload
@@ -428,7 +453,7 @@ metrics_fields (m ∷ ms) h =
     let first = FieldList-one (spelled_metric m) (metric_entry m) (bytes_field-is 2 (metric_spelling m) (omega arith) (omega arith) one.short) in
     rw flat_map-cons (FieldList-append (spelled_metric m) (flat_map spelled_metric ms) (metric_entry m ∷ []) (map metric_entry ms) first (metrics_fields ms (All-tail MetricFits m ms h)))
 
-metrics_mean : (ms : List MetricData) → All MetricFits ms → MeanEach (filter_map (bytes_in 2) (map metric_entry ms)) ms
+metrics_mean : (ms : List MetricData) → All MetricFits ms → MeanEach choice.All (filter_map (bytes_in 2) (map metric_entry ms)) ms
 metrics_mean [] h = tt
 metrics_mean (m ∷ ms) h = (metric_means m (All-head MetricFits m ms h), metrics_mean ms (All-tail MetricFits m ms h))
 
@@ -443,7 +468,7 @@ no_metric_in : (k : ℕ) (o : Option ℕ) → ((n : ℕ) → bytes_in 2 (number_
 no_metric_in k None none = refl
 no_metric_in k (Some n) none = ap (λ (o : Option (List ℕ)). cons_option o []) (none n)
 
-pub canonical_means : (p : PayloadData) → PayloadFits p → MeansPayload (spelling p) p
+pub canonical_means : (p : PayloadData) → PayloadFits p → MeansPayload choice.All (spelling p) p
 unfolding spelling
 canonical_means p h =
     let time = entry_if (number_entry 1) p.timestamp in
@@ -468,8 +493,8 @@ canonical_means p h =
       are = g2;
       timestamp = sym time_is;
       seq = sym seq_is;
-      metrics = subst (λ (texts : List (List ℕ)). MeanEach texts p.metrics) (sym parts) (metrics_mean p.metrics h.metrics);
+      metrics = subst (λ (texts : List (List ℕ)). MeanEach choice.All texts p.metrics) (sym parts) (metrics_mean p.metrics h.metrics);
     }
 
-pub canonical_only : (p q : PayloadData) → PayloadFits p → MeansPayload (spelling p) q → q ≡ p
-canonical_only p q h k = ok_is q p (sym (payload_again (spelling p) q k) ∙ payload_again (spelling p) p (canonical_means p h))
+pub canonical_only : (p q : PayloadData) → PayloadFits p → MeansPayload choice.All (spelling p) q → q ≡ p
+canonical_only p q h k = ok_is q p (sym (payload_again choice.All (spelling p) q k) ∙ payload_again choice.All (spelling p) p (canonical_means p h))

@@ -8,3 +8,4 @@ mod Canonical
 mod Appended
 mod Typings
 mod Asking
+mod Choices

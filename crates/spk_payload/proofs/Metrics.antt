@@ -11,6 +11,7 @@ use Rattle.spk_protobuf.specs.Reading.{items_of}
 use Rattle.spk_protobuf.proofs.Items.{same_fields}
 use Rattle.spk_payload.specs.declared.fault.PayloadFault.{PayloadFault}
 use Rattle.spk_payload.specs.declared.fault.PayloadFault.TheVariants.{Wire, NotText}
+use Rattle.spk_payload.specs.declared.values.Values.{Values}
 use Rattle.spk_payload.specs.Meaning.{Content, MetricData, number_in, bytes_in, content_in, last, metric_of, HasText, MeansMetric}
 use Rattle.spk_payload.specs.Reading.{◌>>=◌, each_item, no_metric, metric_entry, metric_at}
 use Rattle.spk_payload.proofs.Texts.{text_at-text, text_at-other}
@@ -28,8 +29,8 @@ at n shape = record { number = n; shape = shape }
 -- ---- one entry
 
 -- what the entry says, and else what stood before
-abbrev pub with_more : MetricData → Entry → MetricData
-with_more m e = record {
+abbrev pub with_more : Values → MetricData → Entry → MetricData
+with_more w m e = record {
   name = option_or (bytes_in 1 e) m.name;
   alias = option_or (number_in 2 e) m.alias;
   timestamp = option_or (number_in 3 e) m.timestamp;
@@ -37,7 +38,7 @@ with_more m e = record {
   historical = option_or (option_map (λ n. not (eqb n 0)) (number_in 5 e)) m.historical;
   transient = option_or (option_map (λ n. not (eqb n 0)) (number_in 6 e)) m.transient;
   null = option_or (option_map (λ n. not (eqb n 0)) (number_in 7 e)) m.null;
-  value = option_or (content_in e) m.value;
+  value = option_or (content_in w e) m.value;
 }
 
 -- a fact of each number of the schema, and of all others
@@ -46,34 +47,34 @@ by_number : (P : ℕ → Type 0) (n : ℕ) → P 1 → P 2 → P 3 → P 4 → P
 by_number P n p1 p2 p3 p4 p5 p6 p7 p10 p11 p12 p13 p14 p15 p16 p17 p18 p19 other =
     at_or_not P 1 n p1 (λ f1. at_or_not P 2 n p2 (λ f2. at_or_not P 3 n p3 (λ f3. at_or_not P 4 n p4 (λ f4. at_or_not P 5 n p5 (λ f5. at_or_not P 6 n p6 (λ f6. at_or_not P 7 n p7 (λ f7. at_or_not P 10 n p10 (λ f10. at_or_not P 11 n p11 (λ f11. at_or_not P 12 n p12 (λ f12. at_or_not P 13 n p13 (λ f13. at_or_not P 14 n p14 (λ f14. at_or_not P 15 n p15 (λ f15. at_or_not P 16 n p16 (λ f16. at_or_not P 17 n p17 (λ f17. at_or_not P 18 n p18 (λ f18. at_or_not P 19 n p19 (λ f19. other f1 f2 f3 f4 f5 f6 f7 f10 f11 f12 f13 f14 f15 f16 f17 f18 f19)))))))))))))))))
 
-varint_entry : (m : MetricData) (n v : ℕ) → metric_entry m (at n (Varint v)) ≡ Ok (with_more m (at n (Varint v)))
-varint_entry m n v =
-    by_number (λ k. metric_entry m (at k (Varint v)) ≡ Ok (with_more m (at k (Varint v)))) n refl refl refl refl refl refl refl refl refl refl refl refl refl refl refl refl refl
+varint_entry : (w : Values) (m : MetricData) (n v : ℕ) → metric_entry w m (at n (Varint v)) ≡ Ok (with_more w m (at n (Varint v)))
+varint_entry w m n v =
+    by_number (λ k. metric_entry w m (at k (Varint v)) ≡ Ok (with_more w m (at k (Varint v)))) n refl refl refl refl refl refl refl refl refl refl refl refl refl refl refl refl refl
     (λ f1 f2 f3 f4 f5 f6 f7 f10 f11 f12 f13 f14 f15 f16 f17 f18 f19. rw (f1, f2, f3, f4, f5, f6, f7, f10, f11, f12, f13, f14, f15, f16, f17, f18, f19) refl)
 
-eight_entry : (m : MetricData) (n : ℕ) (b : List ℕ) → metric_entry m (at n (Eight b)) ≡ Ok (with_more m (at n (Eight b)))
-eight_entry m n b =
-    by_number (λ k. metric_entry m (at k (Eight b)) ≡ Ok (with_more m (at k (Eight b)))) n refl refl refl refl refl refl refl refl refl refl refl refl refl refl refl refl refl
+eight_entry : (w : Values) (m : MetricData) (n : ℕ) (b : List ℕ) → metric_entry w m (at n (Eight b)) ≡ Ok (with_more w m (at n (Eight b)))
+eight_entry w m n b =
+    by_number (λ k. metric_entry w m (at k (Eight b)) ≡ Ok (with_more w m (at k (Eight b)))) n refl refl refl refl refl refl refl refl refl refl refl refl refl refl refl refl refl
     (λ f1 f2 f3 f4 f5 f6 f7 f10 f11 f12 f13 f14 f15 f16 f17 f18 f19. rw (f1, f2, f3, f4, f5, f6, f7, f10, f11, f12, f13, f14, f15, f16, f17, f18, f19) refl)
 
-four_entry : (m : MetricData) (n : ℕ) (b : List ℕ) → metric_entry m (at n (Four b)) ≡ Ok (with_more m (at n (Four b)))
-four_entry m n b =
-    by_number (λ k. metric_entry m (at k (Four b)) ≡ Ok (with_more m (at k (Four b)))) n refl refl refl refl refl refl refl refl refl refl refl refl refl refl refl refl refl
+four_entry : (w : Values) (m : MetricData) (n : ℕ) (b : List ℕ) → metric_entry w m (at n (Four b)) ≡ Ok (with_more w m (at n (Four b)))
+four_entry w m n b =
+    by_number (λ k. metric_entry w m (at k (Four b)) ≡ Ok (with_more w m (at k (Four b)))) n refl refl refl refl refl refl refl refl refl refl refl refl refl refl refl refl refl
     (λ f1 f2 f3 f4 f5 f6 f7 f10 f11 f12 f13 f14 f15 f16 f17 f18 f19. rw (f1, f2, f3, f4, f5, f6, f7, f10, f11, f12, f13, f14, f15, f16, f17, f18, f19) refl)
 
-bytes_entry : (m : MetricData) (n : ℕ) (b : List ℕ) → HasText (at n (Bytes b)) → metric_entry m (at n (Bytes b)) ≡ Ok (with_more m (at n (Bytes b)))
-bytes_entry m n b =
-    by_number (λ k. HasText (at k (Bytes b)) → metric_entry m (at k (Bytes b)) ≡ Ok (with_more m (at k (Bytes b)))) n (λ h. rw (text_at-text b h.0) refl) (λ h. refl) (λ h. refl) (λ h. refl) (λ h. refl) (λ h. refl) (λ h. refl) (λ h. refl) (λ h. refl) (λ h. refl) (λ h. refl) (λ h. refl) (λ h. rw (text_at-text b h.1) refl) (λ h. refl) (λ h. refl) (λ h. refl) (λ h. refl)
+bytes_entry : (w : Values) (m : MetricData) (n : ℕ) (b : List ℕ) → HasText (at n (Bytes b)) → metric_entry w m (at n (Bytes b)) ≡ Ok (with_more w m (at n (Bytes b)))
+bytes_entry w m n b =
+    by_number (λ k. HasText (at k (Bytes b)) → metric_entry w m (at k (Bytes b)) ≡ Ok (with_more w m (at k (Bytes b)))) n (λ h. rw (text_at-text b h.0) refl) (λ h. refl) (λ h. refl) (λ h. refl) (λ h. refl) (λ h. refl) (λ h. refl) (λ h. refl) (λ h. refl) (λ h. refl) (λ h. refl) (λ h. refl) (λ h. rw (text_at-text b h.1) refl) (λ h. refl) (λ h. refl) (λ h. refl) (λ h. refl)
     (λ f1 f2 f3 f4 f5 f6 f7 f10 f11 f12 f13 f14 f15 f16 f17 f18 f19 h. rw (f1, f2, f3, f4, f5, f6, f7, f10, f11, f12, f13, f14, f15, f16, f17, f18, f19) refl)
 
-pub entry_ok : (m : MetricData) (e : Entry) → HasText e → metric_entry m e ≡ Ok (with_more m e)
-entry_ok m e h = by_shape e.number e.shape h
+pub entry_ok : (w : Values) (m : MetricData) (e : Entry) → HasText e → metric_entry w m e ≡ Ok (with_more w m e)
+entry_ok w m e h = by_shape e.number e.shape h
   where
-    by_shape : (n : ℕ) (shape : Shape) → HasText (at n shape) → metric_entry m (at n shape) ≡ Ok (with_more m (at n shape))
-    by_shape n (Varint v) t = varint_entry m n v
-    by_shape n (Eight b) t = eight_entry m n b
-    by_shape n (Bytes b) t = bytes_entry m n b t
-    by_shape n (Four b) t = four_entry m n b
+    by_shape : (n : ℕ) (shape : Shape) → HasText (at n shape) → metric_entry w m (at n shape) ≡ Ok (with_more w m (at n shape))
+    by_shape n (Varint v) t = varint_entry w m n v
+    by_shape n (Eight b) t = eight_entry w m n b
+    by_shape n (Bytes b) t = bytes_entry w m n b t
+    by_shape n (Four b) t = four_entry w m n b
 
 -- whether a text is UTF-8
 utf8_or_not : (b : List ℕ) → IsUtf8 b ⊎ (IsUtf8 b → ⊥)
@@ -91,15 +92,15 @@ no_bytes true = refl
 no_bytes false = refl
 
 -- an entry has its texts, or it is refused
-pub entry_or_not : (m : MetricData) (e : Entry) → HasText e ⊎ ((HasText e → ⊥) × (metric_entry m e ≡ Err NotText))
-entry_or_not m e = by_shape e.number e.shape
+pub entry_or_not : (w : Values) (m : MetricData) (e : Entry) → HasText e ⊎ ((HasText e → ⊥) × (metric_entry w m e ≡ Err NotText))
+entry_or_not w m e = by_shape e.number e.shape
   where
-    by_shape : (n : ℕ) (shape : Shape) → HasText (at n shape) ⊎ ((HasText (at n shape) → ⊥) × (metric_entry m (at n shape) ≡ Err NotText))
+    by_shape : (n : ℕ) (shape : Shape) → HasText (at n shape) ⊎ ((HasText (at n shape) → ⊥) × (metric_entry w m (at n shape) ≡ Err NotText))
     by_shape n (Varint v) = inl (plain_texts n (Varint v) (λ k. no_bytes (eqb n k)))
     by_shape n (Eight b) = inl (plain_texts n (Eight b) (λ k. no_bytes (eqb n k)))
     by_shape n (Four b) = inl (plain_texts n (Four b) (λ k. no_bytes (eqb n k)))
     by_shape n (Bytes b) =
-        let P : ℕ → Type 0 = λ k. HasText (at k (Bytes b)) ⊎ ((HasText (at k (Bytes b)) → ⊥) × (metric_entry m (at k (Bytes b)) ≡ Err NotText)) in
+        let P : ℕ → Type 0 = λ k. HasText (at k (Bytes b)) ⊎ ((HasText (at k (Bytes b)) → ⊥) × (metric_entry w m (at k (Bytes b)) ≡ Err NotText)) in
         at_or_not P 1 n (elim (utf8_or_not b) [ inl u ↦ inl (u, tt) | inr u ↦ inr (λ h. u h.0, rw (text_at-other b u) refl) ])
         (λ f1. at_or_not P 15 n (elim (utf8_or_not b) [ inl u ↦ inl (tt, u) | inr u ↦ inr (λ h. u h.1, rw (text_at-other b u) refl) ])
         (λ f15. inl (rw f1 tt, rw f15 tt)))
@@ -114,13 +115,13 @@ pub or_none : {X : Type 0} (a : Option X) → option_or a None ≡ a
 or_none None = refl
 or_none (Some x) = refl
 
-map_or : {X Y : Type 0} (f : X → Y) (a b : Option X) → option_map f (option_or a b) ≡ option_or (option_map f a) (option_map f b)
+pub map_or : {X Y : Type 0} (f : X → Y) (a b : Option X) → option_map f (option_or a b) ≡ option_or (option_map f a) (option_map f b)
 map_or f None b = refl
 map_or f (Some x) b = refl
 
 -- what the last entries say, and else what stood before
-abbrev with_all : MetricData → List Entry → MetricData
-with_all m es = record {
+abbrev with_all : Values → MetricData → List Entry → MetricData
+with_all w m es = record {
   name = option_or (last (bytes_in 1) es) m.name;
   alias = option_or (last (number_in 2) es) m.alias;
   timestamp = option_or (last (number_in 3) es) m.timestamp;
@@ -128,7 +129,7 @@ with_all m es = record {
   historical = option_or (option_map (λ n. not (eqb n 0)) (last (number_in 5) es)) m.historical;
   transient = option_or (option_map (λ n. not (eqb n 0)) (last (number_in 6) es)) m.transient;
   null = option_or (option_map (λ n. not (eqb n 0)) (last (number_in 7) es)) m.null;
-  value = option_or (last content_in es) m.value;
+  value = option_or (last (content_in w) es) m.value;
 }
 
 abbrev pub metric_with : Option (List ℕ) → Option ℕ → Option ℕ → Option ℕ → Option Bool → Option Bool → Option Bool → Option Content → MetricData
@@ -141,8 +142,8 @@ same_metric n a t d h r u v = cc
 map_step : {X : Type 0} (f : ℕ → X) (a b : Option ℕ) (old : Option X) → option_or (option_map f a) (option_or (option_map f b) old) ≡ option_or (option_map f (option_or a b)) old
 map_step f a b old = or_assoc (option_map f a) (option_map f b) old ∙ ap (λ x. option_or x old) (sym (map_or f a b))
 
-with_all-more : (m : MetricData) (e : Entry) (es : List Entry) → with_all (with_more m e) es ≡ with_all m (e ∷ es)
-with_all-more m e es =
+with_all-more : (w : Values) (m : MetricData) (e : Entry) (es : List Entry) → with_all w (with_more w m e) es ≡ with_all w m (e ∷ es)
+with_all-more w m e es =
     same_metric
     (or_assoc (last (bytes_in 1) es) (bytes_in 1 e) m.name)
     (or_assoc (last (number_in 2) es) (number_in 2 e) m.alias)
@@ -151,10 +152,10 @@ with_all-more m e es =
     (map_step (λ n. not (eqb n 0)) (last (number_in 5) es) (number_in 5 e) m.historical)
     (map_step (λ n. not (eqb n 0)) (last (number_in 6) es) (number_in 6 e) m.transient)
     (map_step (λ n. not (eqb n 0)) (last (number_in 7) es) (number_in 7 e) m.null)
-    (or_assoc (last content_in es) (content_in e) m.value)
+    (or_assoc (last (content_in w) es) (content_in w e) m.value)
 
-with_all-none : (es : List Entry) → with_all no_metric es ≡ metric_of es
-with_all-none es = same_metric (or_none (last (bytes_in 1) es)) (or_none (last (number_in 2) es)) (or_none (last (number_in 3) es)) (or_none (option_map (λ n. n % 2 ^ 32) (last (number_in 4) es))) (or_none (option_map (λ n. not (eqb n 0)) (last (number_in 5) es))) (or_none (option_map (λ n. not (eqb n 0)) (last (number_in 6) es))) (or_none (option_map (λ n. not (eqb n 0)) (last (number_in 7) es))) (or_none (last content_in es))
+with_all-none : (w : Values) (es : List Entry) → with_all w no_metric es ≡ metric_of w es
+with_all-none w es = same_metric (or_none (last (bytes_in 1) es)) (or_none (last (number_in 2) es)) (or_none (last (number_in 3) es)) (or_none (option_map (λ n. n % 2 ^ 32) (last (number_in 4) es))) (or_none (option_map (λ n. not (eqb n 0)) (last (number_in 5) es))) (or_none (option_map (λ n. not (eqb n 0)) (last (number_in 6) es))) (or_none (option_map (λ n. not (eqb n 0)) (last (number_in 7) es))) (or_none (last (content_in w) es))
 
 abbrev pub Items : Type 0
 Items = List (Result Entry WireFault)
@@ -168,18 +169,18 @@ done x = Ok x
 abbrev pub failed : {A : Type 0} → PayloadFault → Result A PayloadFault
 failed f = Err f
 
-metric_items : (m : MetricData) (es : List Entry) → All HasText es → each_item metric_entry m (fields es) ≡ Ok (with_all m es)
+metric_items : (w : Values) (m : MetricData) (es : List Entry) → All HasText es → each_item (metric_entry w) m (fields es) ≡ Ok (with_all w m es)
 unfolding each_item
-metric_items m [] h = refl
-metric_items m (e ∷ es) h =
-    let one = entry_ok m e (All-head HasText e es h) in
-    rw one (metric_items (with_more m e) es (All-tail HasText e es h) ∙ ap done (with_all-more m e es))
+metric_items w m [] h = refl
+metric_items w m (e ∷ es) h =
+    let one = entry_ok w m e (All-head HasText e es h) in
+    rw one (metric_items w (with_more w m e) es (All-tail HasText e es h) ∙ ap done (with_all-more w m e es))
 
-record ReadsMetric (m : MetricData) (items : Items) (result : MetricData) : Type 0 where
+record ReadsMetric (w : Values) (m : MetricData) (items : Items) (result : MetricData) : Type 0 where
   pub entries : List Entry
   pub are : items ≡ map Ok entries
   pub texts : All HasText entries
-  pub is : result ≡ with_all m entries
+  pub is : result ≡ with_all w m entries
 
 pub ok_is : {A : Type 0} (x y : A) → done x ≡ done y → x ≡ y
 ok_is x y e = cc
@@ -187,35 +188,35 @@ ok_is x y e = cc
 pub err_no_ok : {A X : Type 0} (f : PayloadFault) (x : A) → Err f ≡ done x → X
 err_no_ok f x e = absurd cc
 
-reads_metric : (m : MetricData) (items : Items) (result : MetricData) → each_item metric_entry m items ≡ Ok result → ReadsMetric m items result
+reads_metric : (w : Values) (m : MetricData) (items : Items) (result : MetricData) → each_item (metric_entry w) m items ≡ Ok result → ReadsMetric w m items result
 unfolding each_item
-reads_metric m [] result e = record { entries = []; are = refl; texts = All-nil HasText; is = sym (ok_is m result e) }
-reads_metric m (Err w ∷ items) result e = err_no_ok (Wire w) result e
-reads_metric m (Ok x ∷ items) result e =
-    elim (entry_or_not m x) [
+reads_metric w m [] result e = record { entries = []; are = refl; texts = All-nil HasText; is = sym (ok_is m result e) }
+reads_metric w m (Err x ∷ items) result e = err_no_ok (Wire x) result e
+reads_metric w m (Ok x ∷ items) result e =
+    elim (entry_or_not w m x) [
       | inl h ↦
-          let one = entry_ok m x h in
-          let rest : each_item metric_entry (with_more m x) items ≡ Ok result = ap (λ (r : Result MetricData PayloadFault). r >>= λ t. each_item metric_entry t items) (sym one) ∙ e in
-          let r = reads_metric (with_more m x) items result rest in
+          let one = entry_ok w m x h in
+          let rest : each_item (metric_entry w) (with_more w m x) items ≡ Ok result = ap (λ (r : Result MetricData PayloadFault). r >>= λ t. each_item (metric_entry w) t items) (sym one) ∙ e in
+          let r = reads_metric w (with_more w m x) items result rest in
           record {
             entries = x ∷ r.entries;
             are = ap (λ (others : Items). Ok x ∷ others) r.are;
             texts = All-cons HasText x r.entries h r.texts;
-            is = r.is ∙ with_all-more m x r.entries;
+            is = r.is ∙ with_all-more w m x r.entries;
           }
-      | inr h ↦ err_no_ok NotText result (ap (λ (r : Result MetricData PayloadFault). r >>= λ t. each_item metric_entry t items) (sym h.1) ∙ e)
+      | inr h ↦ err_no_ok NotText result (ap (λ (r : Result MetricData PayloadFault). r >>= λ t. each_item (metric_entry w) t items) (sym h.1) ∙ e)
     ]
 
 -- ---- the laws of a metric
 
-pub metric_takes : (text : List ℕ) (m : MetricData) → metric_at text ≡ Ok m → MeansMetric text m
+pub metric_takes : (w : Values) (text : List ℕ) (m : MetricData) → metric_at w text ≡ Ok m → MeansMetric w text m
 unfolding metric_at
-metric_takes text m e =
-    let r = reads_metric no_metric (items_of text) m e in
-    record { fields = r.entries; are = (same_fields text r.entries).1 r.are; texts = r.texts; is = r.is ∙ with_all-none r.entries }
+metric_takes w text m e =
+    let r = reads_metric w no_metric (items_of text) m e in
+    record { fields = r.entries; are = (same_fields text r.entries).1 r.are; texts = r.texts; is = r.is ∙ with_all-none w r.entries }
 
-pub metric_again : (text : List ℕ) (m : MetricData) → MeansMetric text m → metric_at text ≡ Ok m
+pub metric_again : (w : Values) (text : List ℕ) (m : MetricData) → MeansMetric w text m → metric_at w text ≡ Ok m
 unfolding metric_at
-metric_again text m h =
+metric_again w text m h =
     let items = (same_fields text h.fields).0 h.are in
-    rw items (metric_items no_metric h.fields h.texts ∙ ap done (with_all-none h.fields ∙ sym h.is))
+    rw items (metric_items w no_metric h.fields h.texts ∙ ap done (with_all-none w h.fields ∙ sym h.is))

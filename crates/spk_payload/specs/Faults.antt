@@ -5,6 +5,7 @@ use Rattle.spk_protobuf.specs.Grammar.{Entry}
 use Rattle.spk_protobuf.specs.Faults.{AreItems}
 use Rattle.spk_payload.specs.declared.fault.PayloadFault.{PayloadFault}
 use Rattle.spk_payload.specs.declared.fault.PayloadFault.TheVariants.{Wire, NotText}
+use Rattle.spk_payload.specs.declared.values.Values.TheVariants as choice
 use Rattle.spk_payload.specs.Meaning.{MetricData, bytes_in, HasText, MeansMetric}
 
 -- An item of a metric's text that is no fault, and one that is.
@@ -27,7 +28,7 @@ pub record IsMetricFault (text : List ℕ) (f : PayloadFault) : Type 0 where
 
 -- An item of a payload that holds no fault, and one that is a fault or a metric with one.
 abbrev pub IsSoundEntry : Result Entry WireFault → Type 0
-IsSoundEntry (Ok e) = IfSome (bytes_in 2 e) (λ text. (m : MetricData) × MeansMetric text m)
+IsSoundEntry (Ok e) = IfSome (bytes_in 2 e) (λ text. (m : MetricData) × MeansMetric choice.All text m)
 IsSoundEntry (Err w) = ⊥
 
 abbrev pub IsEntryFault : Result Entry WireFault → PayloadFault → Type 0

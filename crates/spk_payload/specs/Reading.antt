@@ -1,13 +1,14 @@
 -- What bytes mean, or their first fault, as a function: item by item, from the front. `laws::reading` says that it gives
--- exactly what Meaning and Faults ask: `payload_at bytes` is Ok of the meaning, or Err of the first fault.
-use Rattle.std.specs.Prelude.{ℕ, ◌%◌, ◌^◌, Bool, true, false, ◌||◌, is_some, not, List, [], ◌∷◌, ◌++◌, Some, None, Result, Ok, Err, ◌==◌, if◌then◌else◌}
+-- exactly what Meaning and Faults ask: `payload_at values bytes` is Ok of the meaning, or Err of the first fault.
+use Rattle.std.specs.Prelude.{ℕ, ◌%◌, ◌^◌, Bool, false, ◌||◌, is_some, not, List, [], ◌∷◌, ◌++◌, Some, None, Result, Ok, Err, ◌==◌, if◌then◌else◌}
 use Rattle.std.specs.Str.{is_utf8}
 use Rattle.spk_protobuf.specs.declared.fault.WireFault.{WireFault}
 use Rattle.spk_protobuf.specs.Grammar.{Shape, Varint, Eight, Bytes, Four, Entry}
 use Rattle.spk_protobuf.specs.Reading.{items_of}
 use Rattle.spk_payload.specs.declared.fault.PayloadFault.{PayloadFault}
 use Rattle.spk_payload.specs.declared.fault.PayloadFault.TheVariants.{Wire, NotText}
-use Rattle.spk_payload.specs.Meaning.{Int, Long, Flag, Words, Octets, Other, MetricData, PayloadData, bytes_in}
+use Rattle.spk_payload.specs.declared.values.Values.{Values}
+use Rattle.spk_payload.specs.Meaning.{Int, Long, Flag, Words, Octets, Other, MetricData, PayloadData, bytes_in, float_of, double_of, whole_payload}
 
 infixl 10 ◌>>=◌
 abbrev pub ◌>>=◌ : {A B : Type 0} → Result A PayloadFault → (A → Result B PayloadFault) → Result B PayloadFault
@@ -49,38 +50,43 @@ metric_bytes m number bytes =
     if number == 18 then Ok (record m { value = Some Other }) else (
     if number == 19 then Ok (record m { value = Some Other }) else Ok m)))))
 
-abbrev pub metric_entry : MetricData → Entry → Result MetricData PayloadFault
-metric_entry m e = by_shape e.shape
+abbrev pub metric_entry : Values → MetricData → Entry → Result MetricData PayloadFault
+metric_entry values m e = by_shape e.shape
   where
     by_shape : Shape → Result MetricData PayloadFault
     by_shape (Varint n) = Ok (metric_number m e.number n)
-    by_shape (Eight bytes) = Ok (if e.number == 13 then record m { value = Some Other } else m)
+    by_shape (Eight bytes) = Ok (if e.number == 13 then record m { value = Some (double_of values bytes) } else m)
     by_shape (Bytes bytes) = metric_bytes m e.number bytes
-    by_shape (Four bytes) = Ok (if e.number == 12 then record m { value = Some Other } else m)
+    by_shape (Four bytes) = Ok (if e.number == 12 then record m { value = Some (float_of values bytes) } else m)
 
-unfoldable pub metric_at : List ℕ → Result MetricData PayloadFault
-metric_at bytes = each_item metric_entry no_metric (items_of bytes)
+unfoldable pub metric_at : Values → List ℕ → Result MetricData PayloadFault
+metric_at values bytes = each_item (metric_entry values) no_metric (items_of bytes)
 
 -- ---- payloads
 
 abbrev pub no_payload : PayloadData
 no_payload = record { timestamp = None; metrics = []; seq = None }
 
-abbrev pub payload_entry : PayloadData → Entry → Result PayloadData PayloadFault
-payload_entry p e = by_shape e.shape
+abbrev pub payload_entry : Values → PayloadData → Entry → Result PayloadData PayloadFault
+payload_entry values p e = by_shape e.shape
   where
     by_shape : Shape → Result PayloadData PayloadFault
     by_shape (Varint n) = Ok (if e.number == 1 then record p { timestamp = Some n } else (if e.number == 3 then record p { seq = Some n } else p))
     by_shape (Eight bytes) = Ok p
-    by_shape (Bytes bytes) = if e.number == 2 then (metric_at bytes >>= λ m. Ok (record p { metrics = p.metrics ++ m ∷ [] })) else Ok p
+    by_shape (Bytes bytes) = if e.number == 2 then (metric_at values bytes >>= λ m. Ok (record p { metrics = p.metrics ++ m ∷ [] })) else Ok p
     by_shape (Four bytes) = Ok p
 
 -- the payload that the bytes mean, or the first fault
-unfoldable pub payload_at : List ℕ → Result PayloadData PayloadFault
-payload_at bytes = each_item payload_entry no_payload (items_of bytes)
+unfoldable pub payload_at : Values → List ℕ → Result PayloadData PayloadFault
+payload_at values bytes = each_item (payload_entry values) no_payload (items_of bytes)
 
 -- whether a metric stands before the first fault: to read a payload without one takes no memory
 unfoldable pub has_metric : List (Result Entry WireFault) → Bool
 has_metric [] = false
 has_metric (Err w ∷ items) = false
 has_metric (Ok e ∷ items) = is_some (bytes_in 2 e) || has_metric items
+
+-- what is read where whole values alone are
+abbrev pub whole_result : Result PayloadData PayloadFault → Result PayloadData PayloadFault
+whole_result (Ok p) = Ok (whole_payload p)
+whole_result (Err f) = Err f

@@ -1,10 +1,11 @@
 -- The canonical spelling of a payload: fields in ascending number, each that is there, zero and false too, shortest
 -- varints, metrics in order (the choice of a spelling is the project's own; any other writer's is read too).
-use Rattle.std.specs.Prelude.{◌≡◌, Any, ℕ, ◌*◌, ◌^◌, ◌<◌, Bool, true, false, List, [], ◌++◌, length, All, Option, Some, None, IfSome}
+use Rattle.std.specs.Prelude.{◌≡◌, Any, ℕ, ◌+◌, ◌*◌, ◌^◌, ◌<◌, Bool, true, false, List, [], ◌++◌, length, All, Option, Some, None, IfSome}
+use Rattle.std.specs.Int.{w32, w64, to_le_bytes}
 use Rattle.std.specs.List.{flat_map}
 use Rattle.std.specs.Str.{IsUtf8}
 use Rattle.spk_protobuf.specs.Spelling.{varint, bytes_field}
-use Rattle.spk_payload.specs.Meaning.{Content, Int, Long, Flag, Words, Octets, Other, MetricData, PayloadData}
+use Rattle.spk_payload.specs.Meaning.{Content, Int, Long, Flag, Words, Octets, Float, Double, Other, MetricData, PayloadData}
 
 -- A field of wire type 0, whose tag is its number times 8.
 abbrev pub number_field : ℕ → ℕ → List ℕ
@@ -25,6 +26,8 @@ content_spelling (Long n) = number_field (11 * 8) n
 content_spelling (Flag b) = number_field (14 * 8) (bit b)
 content_spelling (Words bytes) = bytes_field 15 bytes
 content_spelling (Octets bytes) = bytes_field 16 bytes
+content_spelling (Float n) = varint (12 * 8 + 5) ++ to_le_bytes w32 n
+content_spelling (Double n) = varint (13 * 8 + 1) ++ to_le_bytes w64 n
 content_spelling Other = []
 
 unfoldable pub metric_spelling : MetricData → List ℕ
@@ -52,6 +55,8 @@ ContentFits (Long n) = n < 2 ^ 64
 ContentFits (Flag b) = Unit {0}
 ContentFits (Words bytes) = IsUtf8 bytes × (length bytes < 2 ^ 64)
 ContentFits (Octets bytes) = length bytes < 2 ^ 64
+ContentFits (Float n) = n < 2 ^ 32
+ContentFits (Double n) = n < 2 ^ 64
 ContentFits Other = ⊥
 
 pub record MetricFits (m : MetricData) : Type 0 where

@@ -5,15 +5,18 @@ use Rattle.std.specs.Option.{option_map}
 use Rattle.spk_payload.specs.declared.typing.Value.{Value}
 use Rattle.spk_payload.specs.declared.typing.Value.TheVariants as value
 use Rattle.std.specs.String.{string_bytes}
-use Rattle.spk_payload.specs.Meaning.{Content, Int, Long, Flag, Words, Octets, Other}
+use Rattle.spk_payload.specs.Meaning.{Content, Int, Long, Flag, Words, Octets, Float, Double, Other}
 
--- A value with its type, without where it lies in memory.
+-- A value with its type, without where it lies in memory: a float and a double by the bits of IEEE 754 binary32 and binary64, so
+-- that a NaN is equal to itself, and 0 and -0 differ.
 pub data Typed : Type 0 where
   Signed : ℤ → Typed
   Unsigned : ℕ → Typed
   Truth : Bool → Typed
   Text : List ℕ → Typed
   Bytes : List ℕ → Typed
+  Binary32 : ℕ → Typed
+  Binary64 : ℕ → Typed
 
 abbrev pub typed_view : Value → Typed
 typed_view (value.Signed z) = Signed z
@@ -21,6 +24,8 @@ typed_view (value.Unsigned n) = Unsigned n
 typed_view (value.Flag b) = Truth b
 typed_view (value.Words s) = Text (string_bytes s)
 typed_view (value.Octets v) = Bytes v.items
+typed_view (value.Float n) = Binary32 n
+typed_view (value.Double n) = Binary64 n
 
 -- whether a value is a text or bytes: to write or copy any other takes no memory
 abbrev pub is_text_or_bytes : Typed → Bool
@@ -29,6 +34,8 @@ is_text_or_bytes (Unsigned n) = false
 is_text_or_bytes (Truth b) = false
 is_text_or_bytes (Text bytes) = true
 is_text_or_bytes (Bytes bytes) = true
+is_text_or_bytes (Binary32 n) = false
+is_text_or_bytes (Binary64 n) = false
 
 -- ---- what stands in a field of the value
 
@@ -38,6 +45,8 @@ int_in (Long n) = None
 int_in (Flag b) = None
 int_in (Words bytes) = None
 int_in (Octets bytes) = None
+int_in (Float n) = None
+int_in (Double n) = None
 int_in Other = None
 
 abbrev pub long_in : Content → Option ℕ
@@ -46,6 +55,8 @@ long_in (Long n) = Some n
 long_in (Flag b) = None
 long_in (Words bytes) = None
 long_in (Octets bytes) = None
+long_in (Float n) = None
+long_in (Double n) = None
 long_in Other = None
 
 abbrev pub int_or_long_in : Content → Option ℕ
@@ -54,6 +65,8 @@ int_or_long_in (Long n) = Some n
 int_or_long_in (Flag b) = None
 int_or_long_in (Words bytes) = None
 int_or_long_in (Octets bytes) = None
+int_or_long_in (Float n) = None
+int_or_long_in (Double n) = None
 int_or_long_in Other = None
 
 abbrev pub truth_in : Content → Option Typed
@@ -62,6 +75,8 @@ truth_in (Long n) = None
 truth_in (Flag b) = Some (Truth b)
 truth_in (Words bytes) = None
 truth_in (Octets bytes) = None
+truth_in (Float n) = None
+truth_in (Double n) = None
 truth_in Other = None
 
 abbrev pub text_in : Content → Option Typed
@@ -70,6 +85,8 @@ text_in (Long n) = None
 text_in (Flag b) = None
 text_in (Words bytes) = Some (Text bytes)
 text_in (Octets bytes) = None
+text_in (Float n) = None
+text_in (Double n) = None
 text_in Other = None
 
 abbrev pub bytes_in : Content → Option Typed
@@ -78,7 +95,17 @@ bytes_in (Long n) = None
 bytes_in (Flag b) = None
 bytes_in (Words bytes) = None
 bytes_in (Octets bytes) = Some (Bytes bytes)
+bytes_in (Float n) = None
+bytes_in (Double n) = None
 bytes_in Other = None
+
+abbrev pub float_in : Content → Option Typed
+float_in (Float n) = Some (Binary32 n)
+float_in _ = None
+
+abbrev pub double_in : Content → Option Typed
+double_in (Double n) = Some (Binary64 n)
+double_in _ = None
 
 -- ---- the table
 
@@ -97,8 +124,8 @@ signed_64 n = if nat_lt n (2 ^ 63) then Signed (pos n) else Signed (pos n -ℤ p
 abbrev pub below : ℕ → ℕ → Option Typed
 below limit n = if nat_lt n limit then Some (Unsigned n) else None
 
--- 1 Int8, 2 Int16, 3 Int32, 4 Int64, 5 UInt8, 6 UInt16, 7 UInt32, 8 UInt64, 11 Boolean, 12 String, 13 DateTime,
--- 14 Text, 15 UUID, 17 Bytes, 18 File. Nothing else is read.
+-- 1 Int8, 2 Int16, 3 Int32, 4 Int64, 5 UInt8, 6 UInt16, 7 UInt32, 8 UInt64, 9 Float, 10 Double, 11 Boolean, 12 String,
+-- 13 DateTime, 14 Text, 15 UUID, 17 Bytes, 18 File. Nothing else is read.
 abbrev pub typed_of : ℕ → Content → Option Typed
 typed_of datatype c =
     if datatype == 1 then option_and_then (narrow_signed (2 ^ 7)) (int_in c) else (
@@ -109,13 +136,15 @@ typed_of datatype c =
     if datatype == 6 then option_and_then (below (2 ^ 16)) (int_in c) else (
     if datatype == 7 then option_and_then (below (2 ^ 32)) (int_or_long_in c) else (
     if datatype == 8 then option_map Unsigned (long_in c) else (
+    if datatype == 9 then float_in c else (
+    if datatype == 10 then double_in c else (
     if datatype == 11 then truth_in c else (
     if datatype == 12 then text_in c else (
     if datatype == 13 then option_map Unsigned (int_or_long_in c) else (
     if datatype == 14 then text_in c else (
     if datatype == 15 then text_in c else (
     if datatype == 17 then bytes_in c else (
-    if datatype == 18 then bytes_in c else None))))))))))))))
+    if datatype == 18 then bytes_in c else None))))))))))))))))
 
 -- ---- what is written
 
@@ -139,6 +168,8 @@ int_of_signed half (Unsigned n) = None
 int_of_signed half (Truth b) = None
 int_of_signed half (Text bytes) = None
 int_of_signed half (Bytes bytes) = None
+int_of_signed half (Binary32 n) = None
+int_of_signed half (Binary64 n) = None
 
 abbrev pub long_of_signed : Typed → Option Content
 long_of_signed (Signed z) = Some (Long (bits_64 z))
@@ -146,6 +177,8 @@ long_of_signed (Unsigned n) = None
 long_of_signed (Truth b) = None
 long_of_signed (Text bytes) = None
 long_of_signed (Bytes bytes) = None
+long_of_signed (Binary32 n) = None
+long_of_signed (Binary64 n) = None
 
 abbrev pub int_of_unsigned : ℕ → Typed → Option Content
 int_of_unsigned limit (Signed z) = None
@@ -153,6 +186,8 @@ int_of_unsigned limit (Unsigned n) = if nat_lt n limit then Some (Int n) else No
 int_of_unsigned limit (Truth b) = None
 int_of_unsigned limit (Text bytes) = None
 int_of_unsigned limit (Bytes bytes) = None
+int_of_unsigned limit (Binary32 n) = None
+int_of_unsigned limit (Binary64 n) = None
 
 abbrev pub long_of_unsigned : Typed → Option Content
 long_of_unsigned (Signed z) = None
@@ -160,6 +195,8 @@ long_of_unsigned (Unsigned n) = Some (Long n)
 long_of_unsigned (Truth b) = None
 long_of_unsigned (Text bytes) = None
 long_of_unsigned (Bytes bytes) = None
+long_of_unsigned (Binary32 n) = None
+long_of_unsigned (Binary64 n) = None
 
 abbrev pub flag_of : Typed → Option Content
 flag_of (Signed z) = None
@@ -167,6 +204,8 @@ flag_of (Unsigned n) = None
 flag_of (Truth b) = Some (Flag b)
 flag_of (Text bytes) = None
 flag_of (Bytes bytes) = None
+flag_of (Binary32 n) = None
+flag_of (Binary64 n) = None
 
 abbrev pub words_of : Typed → Option Content
 words_of (Signed z) = None
@@ -174,6 +213,8 @@ words_of (Unsigned n) = None
 words_of (Truth b) = None
 words_of (Text bytes) = Some (Words bytes)
 words_of (Bytes bytes) = None
+words_of (Binary32 n) = None
+words_of (Binary64 n) = None
 
 abbrev pub octets_of : Typed → Option Content
 octets_of (Signed z) = None
@@ -181,9 +222,19 @@ octets_of (Unsigned n) = None
 octets_of (Truth b) = None
 octets_of (Text bytes) = None
 octets_of (Bytes bytes) = Some (Octets bytes)
+octets_of (Binary32 n) = None
+octets_of (Binary64 n) = None
+
+abbrev pub float_written : Typed → Option Content
+float_written (Binary32 n) = Some (Float n)
+float_written _ = None
+
+abbrev pub double_written : Typed → Option Content
+double_written (Binary64 n) = Some (Double n)
+double_written _ = None
 
 -- How a value of a datatype is written: signed numbers of up to 32 bits as int in 32 bits of two's complement, Int64 as
--- long, UInt8 to UInt32 as int, UInt64 and DateTime as long, Boolean, texts and bytes as they are. Nothing else is.
+-- long, UInt8 to UInt32 as int, UInt64 and DateTime as long, Float, Double, Boolean, texts and bytes as they are. Nothing else is.
 abbrev pub written_of : ℕ → Typed → Option Content
 written_of datatype v =
     if datatype == 1 then int_of_signed (2 ^ 7) v else (
@@ -194,15 +245,17 @@ written_of datatype v =
     if datatype == 6 then int_of_unsigned (2 ^ 16) v else (
     if datatype == 7 then int_of_unsigned (2 ^ 32) v else (
     if datatype == 8 then long_of_unsigned v else (
+    if datatype == 9 then float_written v else (
+    if datatype == 10 then double_written v else (
     if datatype == 11 then flag_of v else (
     if datatype == 12 then words_of v else (
     if datatype == 13 then long_of_unsigned v else (
     if datatype == 14 then words_of v else (
     if datatype == 15 then words_of v else (
     if datatype == 17 then octets_of v else (
-    if datatype == 18 then octets_of v else None))))))))))))))
+    if datatype == 18 then octets_of v else None))))))))))))))))
 
--- The numbers of a value have 64 bits.
+-- The numbers of a value have 64 bits, those of a float 32.
 abbrev pub TypedFits : Typed → Type 0
 TypedFits (Signed (pos n)) = n < 2 ^ 63
 TypedFits (Signed (negsuc n)) = n < 2 ^ 63
@@ -210,3 +263,5 @@ TypedFits (Unsigned n) = n < 2 ^ 64
 TypedFits (Truth b) = Unit {0}
 TypedFits (Text bytes) = Unit {0}
 TypedFits (Bytes bytes) = Unit {0}
+TypedFits (Binary32 n) = n < 2 ^ 32
+TypedFits (Binary64 n) = n < 2 ^ 64

@@ -8,7 +8,7 @@ use Rattle.spk_payload.specs.declared.metric.Raw.{Raw}
 use Rattle.spk_payload.specs.declared.metric.Raw.TheVariants as raw
 use Rattle.spk_payload.specs.declared.metric.Metric.{Metric}
 use Rattle.spk_payload.specs.declared.payload.Payload.{Payload}
-use Rattle.spk_payload.specs.Meaning.{Content, Int, Long, Flag, Words, Octets, Other, MetricData, PayloadData}
+use Rattle.spk_payload.specs.Meaning.{Content, Int, Long, Flag, Words, Octets, Float, Double, Other, MetricData, PayloadData}
 
 abbrev pub content_of : Raw → Content
 content_of (raw.Int n) = Int n
@@ -16,6 +16,8 @@ content_of (raw.Long n) = Long n
 content_of (raw.Flag b) = Flag b
 content_of (raw.Words s) = Words (string_bytes s)
 content_of (raw.Octets v) = Octets v.items
+content_of (raw.Float n) = Float n
+content_of (raw.Double n) = Double n
 content_of raw.Other = Other
 
 abbrev pub metric_view : Metric → MetricData

@@ -50,6 +50,8 @@ impl Raw {
             Raw::Flag(flag) => Ok(Raw::Flag(*flag)),
             Raw::Words(text) => Ok(Raw::Words(copied_text(alloc, text)?)),
             Raw::Octets(bytes) => Ok(Raw::Octets(Vec::from_slice(alloc, bytes)?)),
+            Raw::Float(bits) => Ok(Raw::Float(*bits)),
+            Raw::Double(bits) => Ok(Raw::Double(*bits)),
             Raw::Other => Ok(Raw::Other),
         }
     }
@@ -68,6 +70,8 @@ impl Value {
             Value::Flag(flag) => Ok(Value::Flag(*flag)),
             Value::Words(text) => Ok(Value::Words(copied_text(alloc, text)?)),
             Value::Octets(bytes) => Ok(Value::Octets(Vec::from_slice(alloc, bytes)?)),
+            Value::Float(bits) => Ok(Value::Float(*bits)),
+            Value::Double(bits) => Ok(Value::Double(*bits)),
         }
     }
 }

@@ -9,10 +9,12 @@ pub mod laws;
 mod metric;
 mod payload;
 mod typing;
+mod values;
 mod writing;
 
 pub use fault::PayloadFault;
 pub use metric::{Metric, Raw};
-pub use payload::{Payload, decode};
+pub use payload::{Payload, decode, decode_as};
 pub use typing::{Value, typed, written};
+pub use values::Values;
 pub use writing::encode;

@@ -3,9 +3,11 @@
 ghost use Rattle.std.specs.Prelude.{◌≡◌, string_bytes, Result, Ok, ◌%◌, ◌^◌};
 ghost use Rattle.spk_protobuf.specs.View.{entry_of};
 ghost use Rattle.spk_payload.specs.Reading as spec;
-ghost use Rattle.spk_payload.specs.View.{metric_view, Gives, Turns};
+ghost use Rattle.spk_payload.specs.Meaning.{double_of, float_of};
+ghost use Rattle.spk_payload.specs.View.{content_of, metric_view, Gives, Turns};
 
 use crate::fault::PayloadFault;
+use crate::values::Values;
 use spk_protobuf::{Field, Fields, Wire};
 use std::alloc::Global;
 
@@ -22,7 +24,11 @@ pub enum Raw {
     Words(String),
     /// `bytes_value`.
     Octets(Vec<u8>),
-    /// A float, double, data set, template or extension: it is there, and its value isn't read.
+    /// `float_value`, by its bits.
+    Float(u32),
+    /// `double_value`, by its bits.
+    Double(u64),
+    /// A data set, template or extension, or by `Values::Whole` a float or double: it is there, and its value isn't read.
     Other,
 }
 
@@ -57,6 +63,28 @@ fn low(number: u64) -> u32
     ensures { result ≡ number % 2 ^ 32 }
 {
     (number % (1 << 32)) as u32
+}
+
+impl Values {
+    /// A float of a metric: its bits stand with the least significant byte first.
+    fn float(self, bytes: [u8; 4]) -> Raw
+        ensures { content_of result ≡ float_of self bytes }
+    {
+        match self {
+            Values::Whole => Raw::Other,
+            Values::All => Raw::Float(u32::from_le_bytes(bytes)),
+        }
+    }
+
+    /// A double of a metric, likewise.
+    fn double(self, bytes: [u8; 8]) -> Raw
+        ensures { content_of result ≡ double_of self bytes }
+    {
+        match self {
+            Values::Whole => Raw::Other,
+            Values::All => Raw::Double(u64::from_le_bytes(bytes)),
+        }
+    }
 }
 
 impl Metric {
@@ -107,21 +135,21 @@ impl Metric {
         Ok(())
     }
 
-    fn set(&mut self, alloc: Global, field: Field<'_>) -> Result<(), PayloadFault>
+    fn set(&mut self, alloc: Global, values: Values, field: Field<'_>) -> Result<(), PayloadFault>
         ensures { Turns metric_view result self.new
-            (spec.metric_entry (metric_view self.old) (entry_of field.entry)) }
+            (spec.metric_entry values (metric_view self.old) (entry_of field.entry)) }
     {
         match field.wire {
             Wire::Varint(number) => self.set_number(field.number, number),
             Wire::Bytes(bytes) => self.set_bytes(alloc, field.number, bytes)?,
-            Wire::Eight(_) => {
+            Wire::Eight(bytes) => {
                 if field.number == 13 {
-                    self.value = Some(Raw::Other);
+                    self.value = Some(values.double(bytes));
                 }
             }
-            Wire::Four(_) => {
+            Wire::Four(bytes) => {
                 if field.number == 12 {
-                    self.value = Some(Raw::Other);
+                    self.value = Some(values.float(bytes));
                 }
             }
         }
@@ -130,12 +158,12 @@ impl Metric {
 }
 
 /// The metric that a text means, or the first fault in it.
-pub(crate) fn metric_at(alloc: Global, bytes: &[u8]) -> Result<Metric, PayloadFault>
-    ensures { Gives metric_view result (spec.metric_at bytes.now) }
+pub(crate) fn metric_at(alloc: Global, values: Values, bytes: &[u8]) -> Result<Metric, PayloadFault>
+    ensures { Gives metric_view result (spec.metric_at values bytes.now) }
 {
     let mut metric = Metric::empty();
     for field in Fields::new(bytes) {
-        metric.set(alloc, field?)?;
+        metric.set(alloc, values, field?)?;
     }
     Ok(metric)
 }

@@ -22,6 +22,10 @@ pub enum Value {
     Words(String),
     /// Bytes, File.
     Octets(Vec<u8>),
+    /// Float, by its bits (IEEE 754 binary32): equal where the bits are.
+    Float(u32),
+    /// Double, by its bits (IEEE 754 binary64), likewise.
+    Double(u64),
 }
 
 /// A signed number of 8, 16 or 32 bits in an `int_value`.
@@ -98,6 +102,14 @@ pub fn typed(datatype: u32, raw: Raw) -> Result<Value, Raw>
             17 | 18 => Ok(Value::Octets(bytes)),
             _ => Err(Raw::Octets(bytes)),
         },
+        Raw::Float(bits) => match datatype {
+            9 => Ok(Value::Float(bits)),
+            _ => Err(Raw::Float(bits)),
+        },
+        Raw::Double(bits) => match datatype {
+            10 => Ok(Value::Double(bits)),
+            _ => Err(Raw::Double(bits)),
+        },
         Raw::Other => Err(Raw::Other),
     }
 }
@@ -163,6 +175,14 @@ fn written_as(alloc: Global, datatype: u32, value: &Value) -> Result<Raw, Payloa
         6 => int_of_unsigned(1 << 16, value).ok_or(PayloadFault::Mistyped),
         7 => int_of_unsigned(1 << 32, value).ok_or(PayloadFault::Mistyped),
         8 | 13 => long_of_unsigned(value).ok_or(PayloadFault::Mistyped),
+        9 => match value {
+            Value::Float(bits) => Ok(Raw::Float(*bits)),
+            _ => Err(PayloadFault::Mistyped),
+        },
+        10 => match value {
+            Value::Double(bits) => Ok(Raw::Double(*bits)),
+            _ => Err(PayloadFault::Mistyped),
+        },
         11 => match value {
             Value::Flag(flag) => Ok(Raw::Flag(*flag)),
             _ => Err(PayloadFault::Mistyped),

@@ -4,7 +4,7 @@ ghost use Rattle.std.specs.Prelude.{◌≡◌, ◌⊎◌, ◌+◌, ◌%◌, ◌^
 ghost use Rattle.std.specs.List.{flat_map};
 ghost use Rattle.std.specs.Option.{option_map};
 ghost use Rattle.std.specs.Str.{IsUtf8};
-ghost use Rattle.spk_protobuf.specs.Spelling.{bytes_field};
+ghost use Rattle.spk_protobuf.specs.Spelling.{bytes_field, varint};
 ghost use Rattle.spk_payload.specs.Meaning.{Other, MeansPayload};
 ghost use Rattle.spk_payload.specs.Spelling as spec;
 ghost use Rattle.spk_payload.specs.View.{content_of, metric_view, payload_view};
@@ -77,6 +77,14 @@ fn put_octets(out: &mut Vec<u8>, field: u64, bytes: &[u8]) -> Result<(), AllocEr
     put_bytes(out, field, bytes)
 }
 
+/// A field of wire type 1 or 5: its tag and its bytes.
+fn put_fixed(out: &mut Vec<u8>, tag: u64, bytes: &[u8]) -> Result<(), AllocError>
+    ensures { OnOk result (out.new.items ≡ out.old.items ++ varint tag ++ bytes.now) }
+{
+    put_varint(out, tag)?;
+    out.extend_from_slice(bytes)
+}
+
 fn put_name(out: &mut Vec<u8>, name: &Option<String>) -> Result<(), AllocError>
     ensures ok { OnOk result (out.new.items
         ≡ out.old.items ++ spec.if_there (bytes_field 1) (option_map string_bytes name.now)) }
@@ -102,6 +110,8 @@ fn put_raw(out: &mut Vec<u8>, raw: &Raw) -> Result<(), PayloadFault>
         Raw::Flag(flag) => put_number(out, 14 * 8, bit(*flag))?,
         Raw::Words(text) => put_text(out, 15, text.as_str())?,
         Raw::Octets(bytes) => put_octets(out, 16, bytes)?,
+        Raw::Float(bits) => put_fixed(out, 12 * 8 + 5, &bits.to_le_bytes())?,
+        Raw::Double(bits) => put_fixed(out, 13 * 8 + 1, &bits.to_le_bytes())?,
         Raw::Other => return Err(PayloadFault::HasOther),
     }
     Ok(())
@@ -203,6 +213,8 @@ fn raw_size(raw: &Raw) -> u64
         Raw::Flag(flag) => number_size(14 * 8, bit(*flag)),
         Raw::Words(text) => bytes_size(15, text.as_bytes()),
         Raw::Octets(bytes) => bytes_size(16, bytes),
+        Raw::Float(_) => (varint_size(12 * 8 + 5) + 4) as u64,
+        Raw::Double(_) => (varint_size(13 * 8 + 1) + 8) as u64,
         Raw::Other => 0,
     }
 }

@@ -9,5 +9,5 @@ abbrev pub invariant-loop-field : goal.invariant-loop-field
 invariant-loop-field l = record {
   can : (goal.iterator-loop-field).can_next l.field-iterator;
   finite : (goal.iterator-loop-field).is_finite l.field-iterator;
-  gives : each_item metric_entry (metric_view l.metric) (items_left l.field-iterator) ≡ metric_at l.bytes;
+  gives : each_item (metric_entry l.values) (metric_view l.metric) (items_left l.field-iterator) ≡ metric_at l.values l.bytes;
 }

@@ -11,6 +11,6 @@ abbrev pub invariant-loop-field : goal.invariant-loop-field
 invariant-loop-field l = record {
   can : (goal.iterator-loop-field).can_next l.field-iterator;
   finite : (goal.iterator-loop-field).is_finite l.field-iterator;
-  gives : each_item payload_entry (payload_view l.payload) (items_left l.field-iterator) ≡ payload_at l.bytes;
+  gives : each_item (payload_entry l.values) (payload_view l.payload) (items_left l.field-iterator) ≡ payload_at l.values l.bytes;
   memory : IsTrue (has_metric (items_left l.field-iterator)) → IsTrue (has_metric (items_of l.bytes));
 }
