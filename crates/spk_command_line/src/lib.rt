@@ -19,7 +19,8 @@ prints
   metric 0 name \"bdSeq\" alias - time - type 4 historical - transient - null - value 0
 
 A field that isn't there is `-`. A value is what the metric's datatype makes of it; bytes are `hex:` and
-digits. `other` is a float, a double, a data set, a template or an extension, whose values aren't read.
+digits. `other` is a data set, a template or an extension, whose values aren't read; and a float or a
+double is, but with --values all, which prints these as decimals.
 `mistyped` is a value that the datatype doesn't read. NDATA and DDATA carry no datatypes: they are in the
 birth certificate. With its payload they are known, by a metric's alias or, without one, by its name:
   sparkplug show 080712061001180750081801 --birth 0806120b0a017410011806200350071800
@@ -190,6 +191,14 @@ fn show<'a>(alloc: Global) -> Result<Command<'a>, AllocError> {
         .conflicts_with("birth")?
         .action(ArgAction::Set);
     let command = command.arg(file)?;
+    let values = Arg::new(alloc, "values")
+        .long("values")
+        .value_name("WHICH")
+        .help("Which values are read: whole numbers, truth values, texts and bytes alone, or all, floats and doubles as well")
+        .value_parser(["whole", "all"].as_slice())
+        .default_value("whole")
+        .action(ArgAction::Set);
+    let command = command.arg(values)?;
     Ok(
         command
             .about("Prints a payload and its metrics")

@@ -10,6 +10,7 @@ use crate::world::world;
 use clap::ArgMatches;
 use clap::error::ErrorKind;
 use spk_command_line::command_line;
+use spk_payload::Values;
 use spk_plan::Plan;
 use spk_program_plans::{EdgePlan, HostPlan};
 use std::alloc::Global;
@@ -132,7 +133,11 @@ fn shown<F: Files, W: Write, N: Write>(
     let digits = digits_of(alloc, given, files)?;
     let birth = birth_of(alloc, given, files)?;
     let birth = birth.as_ref().map(|digits| digits.as_str());
-    show(alloc, out, notes, digits.as_str(), birth)?;
+    let values = match given.get_str("values") {
+        Some("all") => Values::All,
+        _ => Values::Whole,
+    };
+    show(alloc, out, notes, digits.as_str(), birth, values)?;
     Ok(Outcome::Over(0))
 }
 

@@ -4,7 +4,7 @@ use crate::fault::{Fault, Stop};
 use crate::places::place_of_fault;
 use crate::texts::{OrDash, json_text, value_text};
 use hex::FromHexError;
-use spk_payload::{Metric, Payload, PayloadFault, decode};
+use spk_payload::{Metric, Payload, PayloadFault, Values, decode_as};
 use spk_view::{NodeView, Ready, Watch};
 use std::alloc::Global;
 use std::io::Write;
@@ -70,9 +70,10 @@ fn decode_noting<N: Write>(
     alloc: Global,
     notes: &mut N,
     whose: &str,
+    values: Values,
     bytes: &[u8],
 ) -> Result<Payload, Stop> {
-    match decode(alloc, bytes) {
+    match decode_as(alloc, values, bytes) {
         Ok(payload) => Ok(payload),
         Err(PayloadFault::NoMemory) => Err(Stop::no_memory()),
         Err(fault) => {
@@ -88,9 +89,14 @@ fn decode_noting<N: Write>(
 }
 
 /// What a host keeps of a birth that the hexadecimal digits spell.
-fn watch_of<N: Write>(alloc: Global, notes: &mut N, digits: &str) -> Result<Watch, Stop> {
+fn watch_of<N: Write>(
+    alloc: Global,
+    notes: &mut N,
+    values: Values,
+    digits: &str,
+) -> Result<Watch, Stop> {
     let bytes = bytes_of(alloc, digits)?;
-    let payload = decode_noting(alloc, notes, " of the birth", &bytes)?;
+    let payload = decode_noting(alloc, notes, " of the birth", values, &bytes)?;
     let ready = Ready::node_birth(alloc, &payload.metrics)?;
     let mut watch = Watch::new(alloc);
     let _ = watch.consume(0, ready, 0);
@@ -118,7 +124,7 @@ fn print<W: Write>(
     Ok(())
 }
 
-/// Prints the payload that the hexadecimal digits spell. Where a birth is given, the datatypes of its metrics count, as
+/// Prints the payload that the hexadecimal digits spell, with these values. Where a birth is given, the datatypes of its metrics count, as
 /// they do at a host application.
 pub(crate) fn show<W: Write, N: Write>(
     alloc: Global,
@@ -126,12 +132,13 @@ pub(crate) fn show<W: Write, N: Write>(
     notes: &mut N,
     digits: &str,
     birth: Option<&str>,
+    values: Values,
 ) -> Result<(), Stop> {
     let bytes = bytes_of(alloc, digits)?;
-    let payload = decode_noting(alloc, notes, "", &bytes)?;
+    let payload = decode_noting(alloc, notes, "", values, &bytes)?;
     match birth {
         Some(digits) => {
-            let watch = watch_of(alloc, notes, digits)?;
+            let watch = watch_of(alloc, notes, values, digits)?;
             print(alloc, out, watch.view(), payload)
         }
         None => print(alloc, out, None, payload),

@@ -2,6 +2,7 @@
 
 use hex::encode;
 use serde_json::Value as Json;
+use spk_files::{double_json, float_json};
 use spk_payload::{Raw, Value, typed};
 use std::alloc::{AllocError, Global};
 use std::fmt;
@@ -37,6 +38,8 @@ fn typed_text(alloc: Global, value: Value) -> Result<String, AllocError> {
         Value::Flag(flag) => format!(in alloc; "{flag}"),
         Value::Words(text) => json_text(alloc, text),
         Value::Octets(bytes) => hex_text(alloc, &bytes),
+        Value::Float(bits) => float_json(alloc, bits),
+        Value::Double(bits) => double_json(alloc, bits),
     }
 }
 

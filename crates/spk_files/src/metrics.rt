@@ -2,8 +2,10 @@
 
 use crate::misfit::{Cause, Misfit};
 use crate::part::Part;
+use crate::reals::read_as;
 use crate::values::value_of;
 use spk_device::{Alias, Owner, Registry};
+use spk_payload::Values;
 use std::alloc::Global;
 
 /// The greatest number of a datatype.
@@ -39,7 +41,8 @@ fn add_metric(alloc: Global, registry: &mut Registry, part: Part<'_>) -> Result<
     let owner = owner_of(registry, part.member("device")?)?;
     let name = part.member("name")?.text()?;
     let datatype = part.member("type")?.number(0, MOST_TYPE)? as u32;
-    let value = value_of(alloc, part.member("value")?, datatype)?;
+    let read = read_as(registry.values(), datatype);
+    let value = value_of(alloc, part.member("value")?, read)?;
     match registry.add_metric(owner, name, datatype, value) {
         Ok(_alias) => Ok(()),
         Err(fault) => Err(Misfit::of_registry(part.place, fault)),
@@ -54,9 +57,25 @@ fn add_metrics(alloc: Global, registry: &mut Registry, part: Part<'_>) -> Result
     Ok(())
 }
 
-/// The devices and metrics of a node.
-pub(crate) fn registry_of(alloc: Global, part: Part<'_>) -> Result<Registry, Misfit> {
-    let mut registry = Registry::new(alloc);
+/// Which values metrics may have: all, or whole values alone; what is given where nothing is said (own rule).
+pub(crate) fn values_of(part: Part<'_>, default: Values) -> Result<Values, Misfit> {
+    let Some(part) = part.find("values") else {
+        return Ok(default);
+    };
+    match part.text()? {
+        "whole" => Ok(Values::Whole),
+        "all" => Ok(Values::All),
+        _ => Err(part.wrong(Cause::Not("\"whole\" or \"all\""))),
+    }
+}
+
+/// The devices and metrics of a node, with these values.
+pub(crate) fn registry_of(
+    alloc: Global,
+    part: Part<'_>,
+    values: Values,
+) -> Result<Registry, Misfit> {
+    let mut registry = Registry::with_values(alloc, values);
     add_devices(&mut registry, part.member("devices")?)?;
     add_metrics(alloc, &mut registry, part.member("metrics")?)?;
     Ok(registry)

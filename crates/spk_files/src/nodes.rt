@@ -3,13 +3,14 @@ ghost use Rattle.std.specs.Prelude.{◌≡◌, ◌≤◌, true, IfOk, length};
 ghost use Rattle.std.specs.String.{string_bytes};
 ghost use Rattle.spk_topics.specs.Spark.{is_name};
 
-use crate::metrics::registry_of;
+use crate::metrics::{registry_of, values_of};
 use crate::misfit::{Cause, Misfit};
 use crate::names::name_of;
 use crate::part::Part;
 use serde_json::Value as Json;
 use spk_device::Registry;
 use spk_edge::{EdgeConfig, Numbering};
+use spk_payload::Values;
 use std::alloc::Global;
 
 /// The most nodes of a file.
@@ -27,7 +28,7 @@ const NODE: [&str; 7] = [
     "numbering",
 ];
 
-const EDGE: [&str; 8] = [
+const EDGE: [&str; 9] = [
     "group",
     "node",
     "primary",
@@ -36,6 +37,7 @@ const EDGE: [&str; 8] = [
     "metrics",
     "numbering",
     "keep",
+    "values",
 ];
 
 /// A node with its devices and metrics.
@@ -78,15 +80,15 @@ fn config_of(alloc: Global, part: Part<'_>) -> Result<EdgeConfig, Misfit>
     })
 }
 
-/// A node.
-fn node_of(alloc: Global, part: Part<'_>) -> Result<Setup, Misfit> {
+/// A node, with these values.
+fn node_of(alloc: Global, part: Part<'_>, values: Values) -> Result<Setup, Misfit> {
     part.only(alloc, &NODE)?;
     let config = config_of(alloc, part)?;
-    let registry = registry_of(alloc, part)?;
+    let registry = registry_of(alloc, part, values)?;
     Ok((config, registry))
 }
 
-/// The node of an edge node's file: its numbers restart, and its keep alive is this, where nothing is said of them.
+/// The node of an edge node's file: its numbers restart, its keep alive is this, and it has all values, where nothing is said of them.
 pub(crate) fn edge_node_of(alloc: Global, part: Part<'_>, keep: u16) -> Result<Setup, Misfit>
     ensures group { IfOk result (λ r. is_name (string_bytes r.0.group) ≡ true) }
     ensures node { IfOk result (λ r. is_name (string_bytes r.0.node) ≡ true) }
@@ -102,7 +104,7 @@ pub(crate) fn edge_node_of(alloc: Global, part: Part<'_>, keep: u16) -> Result<S
         Some(keep) => keep.number(0, 65_535)? as u16,
         None => keep,
     };
-    let registry = registry_of(alloc, part)?;
+    let registry = registry_of(alloc, part, values_of(part, Values::All)?)?;
     Ok((config, registry))
 }
 
@@ -113,14 +115,18 @@ fn is_there(setups: &[Setup], config: &EdgeConfig) -> bool {
     })
 }
 
-/// The nodes of a file, 0 to 16, no two of one group and name.
-pub(crate) fn nodes_of(alloc: Global, part: Part<'_>) -> Result<Vec<Setup>, Misfit>
+/// The nodes of a file, 0 to 16, no two of one group and name, with these values.
+pub(crate) fn nodes_of(
+    alloc: Global,
+    part: Part<'_>,
+    values: Values,
+) -> Result<Vec<Setup>, Misfit>
     ensures { IfOk result (λ ns. length ns.items ≤ 16) }
 {
     let mut setups = Vec::new(alloc);
     for index in 0..part.items(MOST_NODES)?.len() {
         let node = part.item(index)?;
-        let setup = node_of(alloc, node)?;
+        let setup = node_of(alloc, node, values)?;
         if is_there(&setups, &setup.0) {
             return Err(node.wrong(Cause::Namesake));
         }

@@ -8,7 +8,7 @@ ghost use Rattle.spk_plan_rules.specs.Plan.{CanRun, are_distinct, fits};
 ghost use Rattle.spk_files.specs.Plan.{is_well_made};
 
 use crate::fault::FileFault;
-use crate::metrics::registry_of;
+use crate::metrics::{registry_of, values_of};
 use crate::misfit::{Cause, Misfit};
 use crate::names::{name_of, short_name_of};
 use crate::nodes::{MOST_KEPT, MOST_NODES};
@@ -16,6 +16,7 @@ use crate::part::Part;
 use crate::script::script_of;
 use crate::text::json_of;
 use crate::world::width_of;
+use spk_payload::Values;
 use spk_plan::{Plan, PlanNode};
 use std::alloc::Global;
 
@@ -24,20 +25,22 @@ const LEAST_RING: u64 = 4;
 /// The greatest capacity of a ring, and of the channel to the broker.
 const MOST_ROOM: u64 = 65_536;
 
-const PLAN: [&str; 7] = ["group", "host", "ring", "ingress", "wait", "width", "nodes"];
+const PLAN: [&str; 8] = [
+    "group", "host", "ring", "ingress", "wait", "width", "nodes", "values",
+];
 
 const NODE: [&str; 5] = ["node", "capacity", "devices", "metrics", "script"];
 
 /// A node.
 #[tactic(auto, using(crate::proofs::Limits::fits_both, crate::proofs::Limits::made_well))]
-fn node_of(alloc: Global, part: Part<'_>) -> Result<PlanNode, Misfit>
+fn node_of(alloc: Global, part: Part<'_>, values: Values) -> Result<PlanNode, Misfit>
     ensures fits { IfOk result (λ n. fits n ≡ true) }
     ensures made { IfOk result (λ n. is_well_made n ≡ true) }
 {
     part.only(alloc, &NODE)?;
     let node = name_of(alloc, part.member("node")?)?;
     let capacity = part.member("capacity")?.number(1, MOST_KEPT)? as usize;
-    let registry = registry_of(alloc, part)?;
+    let registry = registry_of(alloc, part, values)?;
     let script = script_of(alloc, &registry, part.member("script")?)?;
     Ok(PlanNode {
         node,
@@ -56,7 +59,7 @@ fn is_there(nodes: &[PlanNode], name: &str) -> bool
 }
 
 /// The nodes of a plan, 1 to 16, no two of one name.
-fn nodes_of(alloc: Global, part: Part<'_>) -> Result<Vec<PlanNode>, Misfit>
+fn nodes_of(alloc: Global, part: Part<'_>, values: Values) -> Result<Vec<PlanNode>, Misfit>
     ensures some { IfOk result (λ ns. 1 ≤ length ns.items) }
     ensures most { IfOk result (λ ns. length ns.items ≤ 16) }
     ensures fit { IfOk result (λ ns. list_all fits ns.items ≡ true) }
@@ -66,7 +69,7 @@ fn nodes_of(alloc: Global, part: Part<'_>) -> Result<Vec<PlanNode>, Misfit>
     let mut nodes = Vec::new(alloc);
     for index in 0..part.items(MOST_NODES)?.len() {
         let place = part.item(index)?;
-        let node = node_of(alloc, place)?;
+        let node = node_of(alloc, place, values)?;
         if is_there(&nodes, node.node.as_str()) {
             return Err(place.wrong(Cause::Namesake));
         }
@@ -93,7 +96,8 @@ pub fn plan_of(alloc: Global, text: &str) -> Result<Plan, Misfit>
     let ingress = file.member("ingress")?.number(1, MOST_ROOM)? as usize;
     let wait = file.member("wait")?.any_number()?;
     let width = width_of(file)?;
-    let nodes = nodes_of(alloc, file.member("nodes")?)?;
+    let values = values_of(file, Values::Whole)?;
+    let nodes = nodes_of(alloc, file.member("nodes")?, values)?;
     Ok(Plan {
         group,
         host,

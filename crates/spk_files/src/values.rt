@@ -2,6 +2,7 @@
 
 use crate::misfit::{Cause, Misfit};
 use crate::part::Part;
+use crate::reals::{DOUBLE, FLOAT, double_of, real_of, word_of};
 use hex::FromHexError;
 use serde_json::Value as Json;
 use spk_payload::Value;
@@ -46,6 +47,22 @@ fn octets_of(alloc: Global, part: Part<'_>) -> Result<Value, Misfit> {
     }
 }
 
+/// A number of a Float or a Double.
+fn real_in(alloc: Global, part: Part<'_>, datatype: u32) -> Result<Value, Misfit> {
+    match real_of(alloc, part.json, datatype)? {
+        Some(value) => Ok(value),
+        None => Err(part.wrong(Cause::Not("a number that a Float has"))),
+    }
+}
+
+/// A text, or the word for what is no finite number.
+fn text_of(alloc: Global, part: Part<'_>, datatype: u32) -> Result<Value, Misfit> {
+    match word_of(part.text()?, datatype) {
+        Some(value) => Ok(value),
+        None => Ok(Value::Words(part.owned_text(alloc)?)),
+    }
+}
+
 /// The value of a metric of this datatype; null is none.
 pub(crate) fn value_of(
     alloc: Global,
@@ -55,8 +72,11 @@ pub(crate) fn value_of(
     match part.json {
         Json::Null => Ok(None),
         Json::Bool(flag) => Ok(Some(Value::Flag(*flag))),
+        Json::Number(_) if matches!(datatype, FLOAT | DOUBLE) => {
+            Ok(Some(real_in(alloc, part, datatype)?))
+        }
         Json::Number(_) => Ok(Some(number_of(part, datatype)?)),
-        Json::String(_) => Ok(Some(Value::Words(part.owned_text(alloc)?))),
+        Json::String(_) => Ok(Some(text_of(alloc, part, datatype)?)),
         Json::Object(_) => Ok(Some(octets_of(alloc, part)?)),
         Json::Array(_) => Err(part.wrong(Cause::Not(VALUE))),
     }
@@ -67,6 +87,8 @@ pub(crate) fn plain_value(json: &Json, datatype: u32) -> Option<Option<Value>> {
     match json {
         Json::Null => Some(None),
         Json::Bool(flag) => Some(Some(Value::Flag(*flag))),
+        Json::Number(_) if datatype == FLOAT => None,
+        Json::Number(_) if datatype == DOUBLE => Some(Some(double_of(json)?)),
         Json::Number(_) => Some(Some(whole_number(json, datatype)?)),
         Json::String(_) | Json::Object(_) | Json::Array(_) => None,
     }

@@ -4,11 +4,13 @@ ghost use Rattle.spk_files.specs.Begun.{IsBegun};
 
 use crate::events::events_of;
 use crate::fault::FileFault;
+use crate::metrics::values_of;
 use crate::misfit::{Cause, Misfit, Place};
 use crate::nodes::{Setup, nodes_of};
 use crate::part::Part;
 use crate::text::json_of;
 use spk_host::HostConfig;
+use spk_payload::Values;
 use spk_sequence::Width;
 use spk_world::{Event, World, WorldFault};
 use std::alloc::{AllocError, Global};
@@ -20,7 +22,7 @@ const WIDTH: u64 = 64;
 /// The widest window.
 const WIDEST: u64 = 96;
 
-const WORLD: [&str; 5] = ["nodes", "hosts", "wait", "events", "width"];
+const WORLD: [&str; 6] = ["nodes", "hosts", "wait", "events", "width", "values"];
 
 /// The host of a number: `H0` and so on. Each follows the group `G`.
 fn host_of(alloc: Global, number: u64, wait: u64, width: Width) -> Result<HostConfig, AllocError> {
@@ -79,7 +81,8 @@ pub fn world_of(alloc: Global, text: &str) -> Result<(World, Vec<Event>), Misfit
     let json = json_of(alloc, text)?;
     let file = Part::file(&json);
     file.only(alloc, &WORLD)?;
-    let nodes = nodes_of(alloc, file.member("nodes")?)?;
+    let values = values_of(file, Values::Whole)?;
+    let nodes = nodes_of(alloc, file.member("nodes")?, values)?;
     let hosts = hosts_of(alloc, file)?;
     let events = events_of(alloc, &nodes, file.member("events")?)?;
     Ok((made(alloc, nodes, hosts)?, events))

@@ -1,4 +1,5 @@
 pub mod Asking
+pub mod Choices
 pub mod Devices
 pub mod Foreign
 pub mod Lists

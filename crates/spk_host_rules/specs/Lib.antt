@@ -1,5 +1,6 @@
 pub mod Asking
 pub mod Births
+pub mod Choice
 pub mod Data
 pub mod Foreign
 pub mod Order

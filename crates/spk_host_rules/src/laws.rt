@@ -1,14 +1,15 @@
 //! Laws of the definitions alone: functions that do nothing, whose contracts speak of definitions.
-ghost use Rattle.std.specs.Prelude.{◌≡◌, ◌↔◌, ℕ, true, List, ◌∷◌, map, reverse, Option};
-ghost use Rattle.spk_payload.specs.Meaning.{MetricData};
+ghost use Rattle.std.specs.Prelude.{◌≡◌, ◌↔◌, ℕ, true, List, ◌∷◌, map, reverse, Option, option_map};
+ghost use Rattle.spk_payload.specs.Meaning.{MetricData, whole_metric};
 ghost use Rattle.spk_host_rules.specs.Asking.{IsAsked};
 ghost use Rattle.spk_host_rules.specs.Births.{table_by};
+ghost use Rattle.spk_host_rules.specs.Choice.{whole_event, whole_shown, whole_view};
 ghost use Rattle.spk_host_rules.specs.Data.{Consumed, Device, Event, Message, NodeBirth, View};
 ghost use Rattle.spk_host_rules.specs.Foreign.{is_foreign};
 ghost use Rattle.spk_host_rules.specs.Order.{device_names};
 ghost use Rattle.spk_host_rules.specs.Showing.{IsShown, Shows};
 ghost use Rattle.spk_host_rules.specs.Step.{after, asked_at, devices_of, is_unknown, node_born, view_after};
-ghost use Rattle.spk_host_rules.specs.Table.{table_of};
+ghost use Rattle.spk_host_rules.specs.Table.{shown_of, table_of};
 ghost use Rattle.spk_host_rules.specs.Values.{consumed_of, last_part};
 
 /// A birth's table, made metric by metric, is what queries on its metrics say: each name once, where it first came, as
@@ -47,4 +48,15 @@ pub fn asked()
     // what the view doesn't know is what the births of this part didn't give
     ensures unknown { (events : List Event) (view : Option View) (m : Message)
         → IsShown events view → is_unknown view m ≡ is_foreign (last_part (consumed_of events)) m }
+{}
+
+/// By whole values alone (`Values::Whole`) a view shows, after any list of what was heard of a node, what the view of a host shows
+/// that reads whole values alone; and both ask for rebirths at the same events.
+pub fn choices()
+    ensures value { (datatype : Option ℕ) (m : MetricData) → whole_shown (shown_of datatype m)
+        ≡ shown_of datatype (whole_metric m) }
+    ensures view { (wait : ℕ) (events : List Event) → (after wait (map whole_event events)).view
+        ≡ option_map whole_view (after wait events).view }
+    ensures asked { (wait : ℕ) (before : List Event) (e : Event)
+        → asked_at wait (map whole_event before) (whole_event e) ≡ asked_at wait before e }
 {}

@@ -2,10 +2,11 @@
 
 ghost use Rattle.std.specs.Prelude.{◌≡◌, None, Some, option_map};
 ghost use Rattle.spk_payload.specs.View.{content_of};
+ghost use Rattle.spk_host_rules.specs.Choice.{is_asked};
 ghost use Rattle.spk_host_rules.specs.Table.{shown_with};
 ghost use Rattle.spk_host_rules.specs.View.{shown_view};
 
-use spk_payload::{Raw, Value, typed};
+use spk_payload::{Raw, Value, Values, typed};
 
 /// What is shown of a metric's value.
 #[derive(Debug, Drop, PartialEq)]
@@ -16,6 +17,18 @@ pub enum Shown {
     Typed(Value),
     /// A value that its birth's datatype doesn't read.
     Other,
+}
+
+impl Shown {
+    /// Whether it is shown where these values are asked for: by `Values::Whole` all but a float or a double (own rule).
+    pub fn is_asked(&self, values: Values) -> bool
+        ensures { result ≡ is_asked values (shown_view self.now) }
+    {
+        match (values, self) {
+            (Values::Whole, Shown::Typed(Value::Float(_) | Value::Double(_))) => false,
+            _ => true,
+        }
+    }
 }
 
 fn shown_raw(datatype: u32, raw: Raw) -> Shown

@@ -4,6 +4,8 @@
 #[cfg(test)]
 mod fields;
 #[cfg(test)]
+mod floats;
+#[cfg(test)]
 mod large;
 #[cfg(test)]
 mod payloads;

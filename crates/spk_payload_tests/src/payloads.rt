@@ -31,6 +31,8 @@ pub(crate) enum Spelled {
     Flag(bool),
     Words(&'static str),
     Octets(&'static [u8]),
+    Float(u32),
+    Double(u64),
     Other,
 }
 
@@ -74,12 +76,14 @@ fn is_spelled(raw: &Raw, want: Spelled) -> bool {
         (Raw::Flag(flag), Spelled::Flag(want)) => *flag == want,
         (Raw::Words(text), Spelled::Words(want)) => text.as_str() == want,
         (Raw::Octets(bytes), Spelled::Octets(want)) => bytes.as_slice() == want,
+        (Raw::Float(bits), Spelled::Float(want)) => *bits == want,
+        (Raw::Double(bits), Spelled::Double(want)) => *bits == want,
         (Raw::Other, Spelled::Other) => true,
         _ => false,
     }
 }
 
-fn is_value(raw: &Option<Raw>, want: Option<Spelled>) -> bool {
+pub(crate) fn is_value(raw: &Option<Raw>, want: Option<Spelled>) -> bool {
     match (raw, want) {
         (Some(raw), Some(want)) => is_spelled(raw, want),
         (None, None) => true,
@@ -127,7 +131,7 @@ pub(crate) trait Means {
 }
 
 /// The bytes of the payload. Where memory was refused the call is made again.
-fn written_again(alloc: Global, payload: &Payload) -> Result<Vec<u8>, PayloadFault> {
+pub(crate) fn written_again(alloc: Global, payload: &Payload) -> Result<Vec<u8>, PayloadFault> {
     match encode(alloc, payload) {
         Err(PayloadFault::NoMemory) => encode(alloc, payload),
         answer => answer,

@@ -12,6 +12,8 @@ enum Typed {
     Flag(bool),
     Words(&'static str),
     Octets(&'static [u8]),
+    Float(u32),
+    Double(u64),
 }
 
 /// A text. Where memory was refused it is made again.
@@ -37,6 +39,8 @@ fn raw_of(rt: &(impl Abort + AllocGlobal), spelled: Spelled) -> Raw {
         Spelled::Flag(flag) => Raw::Flag(flag),
         Spelled::Words(words) => Raw::Words(text(rt, words)),
         Spelled::Octets(bytes) => Raw::Octets(octets(rt, bytes)),
+        Spelled::Float(bits) => Raw::Float(bits),
+        Spelled::Double(bits) => Raw::Double(bits),
         Spelled::Other => Raw::Other,
     }
 }
@@ -48,11 +52,13 @@ fn value_of(rt: &(impl Abort + AllocGlobal), typed: Typed) -> Value {
         Typed::Flag(flag) => Value::Flag(flag),
         Typed::Words(words) => Value::Words(text(rt, words)),
         Typed::Octets(bytes) => Value::Octets(octets(rt, bytes)),
+        Typed::Float(bits) => Value::Float(bits),
+        Typed::Double(bits) => Value::Double(bits),
     }
 }
 
 /// A datatype, a value as it is spelled, and what it is by that type; where it is nothing it is handed back.
-static TYPED: [(u32, Spelled, Option<Typed>); 34] = [
+static TYPED: [(u32, Spelled, Option<Typed>); 43] = [
     (1, Spelled::Int(127), Some(Typed::Signed(127))),
     (1, Spelled::Int(128), Some(Typed::Signed(-128))),
     (1, Spelled::Int(255), Some(Typed::Signed(-1))),
@@ -94,6 +100,27 @@ static TYPED: [(u32, Spelled, Option<Typed>); 34] = [
         Some(Typed::Octets(b"\x00\xff")),
     ),
     (9, Spelled::Other, None),
+    (
+        9,
+        Spelled::Float(0x3f80_0000),
+        Some(Typed::Float(0x3f80_0000)),
+    ),
+    (
+        9,
+        Spelled::Float(0x7fc0_0001),
+        Some(Typed::Float(0x7fc0_0001)),
+    ),
+    (9, Spelled::Double(0x3ff0_0000_0000_0000), None),
+    (9, Spelled::Int(1), None),
+    (
+        10,
+        Spelled::Double(0x8000_0000_0000_0000),
+        Some(Typed::Double(0x8000_0000_0000_0000)),
+    ),
+    (10, Spelled::Float(0x3f80_0000), None),
+    (10, Spelled::Long(1), None),
+    (3, Spelled::Float(1), None),
+    (8, Spelled::Double(1), None),
     (0, Spelled::Int(1), None),
 ];
 
@@ -121,7 +148,7 @@ fn values_are_typed_by_the_table(rt: HostRuntime) {
 }
 
 /// A datatype, a value, and how it is spelled; where it is mistyped, nothing.
-static WRITTEN: [(u32, Typed, Option<Spelled>); 21] = [
+static WRITTEN: [(u32, Typed, Option<Spelled>); 26] = [
     (1, Typed::Signed(-1), Some(Spelled::Int(4294967295))),
     (1, Typed::Signed(-128), Some(Spelled::Int(4294967168))),
     (1, Typed::Signed(-129), None),
@@ -151,6 +178,19 @@ static WRITTEN: [(u32, Typed, Option<Spelled>); 21] = [
     (11, Typed::Unsigned(1), None),
     (9, Typed::Unsigned(1), None),
     (0, Typed::Signed(1), None),
+    (
+        9,
+        Typed::Float(0x8000_0000),
+        Some(Spelled::Float(0x8000_0000)),
+    ),
+    (9, Typed::Double(0), None),
+    (
+        10,
+        Typed::Double(0x7ff8_0000_0000_0000),
+        Some(Spelled::Double(0x7ff8_0000_0000_0000)),
+    ),
+    (10, Typed::Float(0), None),
+    (3, Typed::Float(0), None),
 ];
 
 /// The spelling of a value. Where memory was refused the call is made again.

@@ -3,6 +3,7 @@
 use hex::encode;
 use serde_json::Value as Json;
 use spk_device::{Owner, Registry};
+use spk_files::{double_json, float_json};
 use spk_payload::Value;
 use std::alloc::{AllocError, Global};
 
@@ -37,5 +38,7 @@ pub(crate) fn value_text(alloc: Global, value: &Value) -> Result<String, AllocEr
             let digits = encode(alloc, bytes.as_slice())?;
             format!(in alloc; "{{\"hex\":\"{digits}\"}}")
         }
+        Value::Float(bits) => float_json(alloc, *bits),
+        Value::Double(bits) => double_json(alloc, *bits),
     }
 }

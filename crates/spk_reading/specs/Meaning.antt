@@ -7,6 +7,7 @@ use Rattle.std.specs.Str.{bytes_eq}
 use Rattle.spk_packets.specs.Message as packet
 use Rattle.spk_packets.specs.Grammar.{Spells}
 use Rattle.spk_payload.specs.declared.fault.PayloadFault.{PayloadFault}
+use Rattle.spk_payload.specs.declared.values.Values.TheVariants as choice
 use Rattle.spk_payload.specs.Meaning.{MetricData, PayloadData}
 use Rattle.spk_payload.specs.Reading.{payload_at}
 use Rattle.spk_payload.specs.Typing.{int_or_long_in}
@@ -50,8 +51,9 @@ session_of ms = option_and_then session_in (find is_session (reverse ms))
 
 -- ---- what a payload says under a topic
 
+-- with all values: which of them are shown is asked of what is shown
 abbrev pub payload_in : List ℕ → Result PayloadData ReadFault
-payload_in bytes = readable (payload_at bytes)
+payload_in bytes = readable (payload_at choice.All bytes)
   where
     readable : Result PayloadData PayloadFault → Result PayloadData ReadFault
     readable (Ok p) = Ok p

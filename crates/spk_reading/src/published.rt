@@ -1,5 +1,6 @@
 //! What a PUBLISH says, by its topic and its payload.
 ghost use Rattle.std.specs.Prelude.{◌≡◌, string_bytes, List, ℕ, Ok};
+ghost use Rattle.spk_payload.specs.declared.values.Values.TheVariants as choice;
 ghost use Rattle.spk_payload.specs.Reading.{payload_at};
 ghost use Rattle.spk_payload.specs.View.{payload_view};
 ghost use Rattle.spk_topics.specs.Spark.{named, named_at};
@@ -10,7 +11,7 @@ ghost use Rattle.spk_reading.specs.View.{content_view, subject_view};
 use crate::fault::ReadFault;
 use crate::numbers::{sequence_number, session_number};
 use crate::said::{Content, Numbered, Subject};
-use spk_payload::{Payload, PayloadFault, decode};
+use spk_payload::{Payload, PayloadFault, Values, decode_as};
 use spk_sequence::Kind;
 use spk_topics::{Spark, TopicFault, Verb};
 use std::alloc::Global;
@@ -18,7 +19,7 @@ use std::alloc::Global;
 fn payload_in(alloc: Global, bytes: &[u8]) -> Result<Payload, ReadFault>
     ensures { Gives payload_view result (spec.payload_in bytes.now) }
 {
-    match decode(alloc, bytes) {
+    match decode_as(alloc, Values::All, bytes) {
         Ok(payload) => Ok(payload),
         Err(PayloadFault::NoMemory) => Err(ReadFault::NoMemory),
         Err(_) => Err(ReadFault::BadPayload),
@@ -99,7 +100,7 @@ fn content_with(
     payload: Payload,
     names: Spark,
 ) -> Result<Content, ReadFault>
-    ensures { (bytes : List ℕ) → payload_at bytes ≡ Ok (payload_view payload)
+    ensures { (bytes : List ℕ) → payload_at choice.All bytes ≡ Ok (payload_view payload)
         → Gives content_view result (spec.content_in topic.now bytes (named names)) }
 {
     match names {
@@ -181,7 +182,7 @@ pub(crate) fn content_at(alloc: Global, topic: &str, bytes: &[u8]) -> Result<Con
 /// What a message on a topic says, whose payload's bytes mean this payload.
 #[tactic(auto, unfolding(crate::specs::Meaning::content_at))]
 pub(crate) fn content_of(alloc: Global, topic: &str, payload: Payload) -> Result<Content, ReadFault>
-    ensures { (bytes : List ℕ) → payload_at bytes ≡ Ok (payload_view payload)
+    ensures { (bytes : List ℕ) → payload_at choice.All bytes ≡ Ok (payload_view payload)
         → Gives content_view result (spec.content_at topic.now bytes) }
 {
     let names = names_in(alloc, topic)?;

@@ -3,6 +3,7 @@ ghost use Rattle.std.specs.Prelude.{◌≡◌, ◌≢◌, ◌⊎◌, IfOk, IfErr
 ghost use Rattle.spk_packets.specs.Grammar.{Spells, begins_publish};
 ghost use Rattle.spk_packets.specs.Message.{Message, Publish};
 ghost use Rattle.spk_packets.specs.View.{publish_view, view};
+ghost use Rattle.spk_payload.specs.declared.values.Values.TheVariants as choice;
 ghost use Rattle.spk_payload.specs.Reading.{payload_at};
 ghost use Rattle.spk_payload.specs.View.{payload_view};
 ghost use Rattle.spk_reading.specs.Answer.{Gives};
@@ -128,7 +129,7 @@ impl Heard {
     /// What a PUBLISH at QoS 0 on this topic says, whose payload's bytes mean this payload: as `read` says of its bytes, without them
     /// (Sparkplug 3.0.0, chapters 4 and 6). Refused as there, but for bytes that aren't a packet, or a payload that can't be read.
     pub fn of(alloc: Global, topic: &str, payload: Payload) -> Result<Heard, ReadFault>
-        ensures { (dup retain : Bool) (bytes : List ℕ) → payload_at bytes ≡ Ok (payload_view payload)
+        ensures { (dup retain : Bool) (bytes : List ℕ) → payload_at choice.All bytes ≡ Ok (payload_view payload)
             → Gives heard_view result (heard (Publish dup 0 retain topic.now None bytes)) }
     {
         let content = content_of(alloc, topic, payload)?;

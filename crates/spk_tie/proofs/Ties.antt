@@ -8,6 +8,7 @@ use Rattle.std.proofs.lemmas.List.{reverse-append, map-append, length-map}
 use Rattle.std.proofs.lemmas.List.Folds.{find-append}
 use Rattle.std.proofs.lemmas.Option.{slice_get-map, get_or_from_slice_get}
 use Rattle.spk_payload.specs.Meaning.{MetricData, PayloadData}
+use Rattle.spk_payload.specs.declared.values.Values.TheVariants as choice
 use Rattle.spk_payload.specs.Reading.{payload_at}
 use Rattle.spk_payload.specs.Spelling as payload
 use Rattle.spk_packets.specs.Grammar.{Spells}
@@ -76,7 +77,7 @@ pub record IsTold (c : Config) (verb : Verb) (device : Option (List ℕ)) (topic
   pub topic_is : read.topic ≡ topic
   pub payload_is : read.payload ≡ q
 
-payload-in : (bytes : List ℕ) (q : PayloadData) → payload_at bytes ≡ Ok q → payload_in bytes ≡ Ok q
+payload-in : (bytes : List ℕ) (q : PayloadData) → payload_at choice.All bytes ≡ Ok q → payload_in bytes ≡ Ok q
 payload-in bytes q e = rw e refl
 
 other-in : (topic group node : List ℕ) (subject : SubjectData) (d : Draft) (number : ℕ) → number < 256
@@ -131,7 +132,7 @@ birth-in topic group node d number bd low session =
     }))) session
 
 pub told : (c : Config) (d : Draft) (topic bytes : List ℕ) (number bd : ℕ) (verb : Verb) (device : Option (List ℕ))
-    → has_number verb device ≡ true → number < 256 → payload_at bytes ≡ Ok (payload_of number d)
+    → has_number verb device ≡ true → number < 256 → payload_at choice.All bytes ≡ Ok (payload_of number d)
     → ((is_birth verb && is_none device) ≡ true → session_of d.metrics ≡ Some bd)
     → IsTold c verb device topic bytes (payload_of number d) number (kind_by (is_birth verb && is_none device) d.stamp bd)
 told c d topic bytes number bd Birth None numbered low means session = record {
@@ -273,7 +274,7 @@ alone bytes p h spelled one is = record {
 pub reads : (s : Setup) (published : List Message) (p : ℕ) (m : Message) (bytes : List ℕ) → slice_get published p ≡ Some m
     → is_numbered m.draft ≡ true → number_at s published p < 256
     → named_at (topic_of (named_by s.config m.draft)) ≡ Some (named_by s.config m.draft)
-    → payload_at (payload.spelling (payload_of (number_at s published p) m.draft)) ≡ Ok (payload_of (number_at s published p) m.draft)
+    → payload_at choice.All (payload.spelling (payload_of (number_at s published p) m.draft)) ≡ Ok (payload_of (number_at s published p) m.draft)
     → SaysSessionOnce s m → sequence.opens (outline published) p ≡ opens m.draft
     → Spells bytes (wire s.config (number_at s published p) m.draft)
     → ((q : packet.Message) → Spells bytes q → q ≡ wire s.config (number_at s published p) m.draft)
@@ -310,7 +311,7 @@ both a b p q = ap (λ x. x && b) p ∙ q
 
 pub reads-death : (s : Setup) (session time : ℕ) (dup : Bool) (qos : ℕ) (retain : Bool) (id : Option ℕ) (bytes : List ℕ)
     → named_at (death_topic s.config) ≡ Some (of_node s.config.group Death s.config.node)
-    → payload_at (payload.spelling (death_payload (session_number s session) time)) ≡ Ok (death_payload (session_number s session) time)
+    → payload_at choice.All (payload.spelling (death_payload (session_number s session) time)) ≡ Ok (death_payload (session_number s session) time)
     → IsDeathOf s session time dup qos retain id bytes
     → ((q : packet.Message) → Spells bytes q → q ≡ packet.Publish dup qos retain (death_topic s.config) id (payload.spelling (death_payload (session_number s session) time)))
     → ReadsDeath s session (ack_of qos id) bytes

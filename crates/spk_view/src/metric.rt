@@ -3,12 +3,14 @@ ghost use Rattle.std.specs.Prelude.{◌≡◌, true, Some, IfOk, string_bytes, �
 ghost use Rattle.std.specs.Option.{option_map};
 ghost use Rattle.std.specs.Str.{bytes_eq};
 ghost use Rattle.spk_payload.specs.View.{content_of, metric_view};
+ghost use Rattle.spk_payload.specs.declared.values.Values.TheVariants as choice;
+ghost use Rattle.spk_host_rules.specs.Choice.{shown_by};
 ghost use Rattle.spk_host_rules.specs.Table.{is_alias, released, row_of, shown_with};
 ghost use Rattle.spk_host_rules.specs.View.{shown_view};
 ghost use Rattle.spk_view.specs.Rebirth.{heading, heading_of, own_shown};
 
 use spk_host_rules::{Shown, shown_value};
-use spk_payload::{Metric, Raw};
+use spk_payload::{Metric, Raw, Values};
 use std::alloc::{AllocError, Global};
 use std::marker::Model;
 
@@ -19,11 +21,13 @@ pub struct MetricView {
     alias: Option<u64>,
     datatype: Option<u32>,
     shown: Shown,
+    /// What is lent in the place of a float or a double where whole values are asked for: no constant can be lent.
+    other: Shown,
 }
 
 impl Model for MetricView {
-    ghost use Rattle.std.specs.Prelude.{string_bytes};
-    ghost use Rattle.spk_host_rules.specs.Data.{Row};
+    ghost use Rattle.std.specs.Prelude.{◌≡◌, string_bytes};
+    ghost use Rattle.spk_host_rules.specs.Data.{Row, Other};
     ghost use Rattle.spk_host_rules.specs.View.{shown_view};
 
     ghost Value = { Row };
@@ -34,6 +38,8 @@ impl Model for MetricView {
       datatype = a.datatype;
       shown = shown_view a.shown;
     } };
+
+    ghost invariant = { λ a. shown_view a.other ≡ Other };
 }
 
 /// A copy of a value, if there is one.
@@ -76,11 +82,22 @@ impl MetricView {
         self.datatype
     }
 
-    /// What is shown of it.
+    /// What is shown of it, by whole values alone: a float or a double is `Shown::Other`.
     pub fn shown(&self) -> &Shown
-        ensures { shown_view result.now ≡ self.now.shown }
+        ensures { shown_view result.now ≡ shown_by choice.Whole self.now.shown }
     {
-        &self.shown
+        self.shown_by(Values::Whole)
+    }
+
+    /// What is shown of it by a choice: as `shown` says with `Values::Whole`, and with `Values::All` floats and doubles as well.
+    pub fn shown_by(&self, values: Values) -> &Shown
+        ensures { shown_view result.now ≡ shown_by values self.now.shown }
+    {
+        if self.shown.is_asked(values) {
+            &self.shown
+        } else {
+            &self.other
+        }
     }
 
     /// A metric of a birth, under its name.
@@ -99,6 +116,7 @@ impl MetricView {
             alias: metric.alias,
             datatype: metric.datatype,
             shown,
+            other: Shown::Other,
         })
     }
 

@@ -40,6 +40,8 @@ fn same_raw(raw: &Raw) -> Raw
         Raw::Int(number) => Raw::Int(*number),
         Raw::Long(number) => Raw::Long(*number),
         Raw::Flag(flag) => Raw::Flag(*flag),
+        Raw::Float(bits) => Raw::Float(*bits),
+        Raw::Double(bits) => Raw::Double(*bits),
         Raw::Words(_) | Raw::Octets(_) | Raw::Other => Raw::Other,
     }
 }

@@ -51,6 +51,14 @@ pub(crate) fn sum_value(value: &Value, digest: &mut Digest) {
             digest.number(7);
             digest.bytes(bytes.as_slice());
         }
+        Value::Float(bits) => {
+            digest.number(8);
+            digest.number(u64::from(*bits));
+        }
+        Value::Double(bits) => {
+            digest.number(9);
+            digest.number(*bits);
+        }
     }
 }
 
@@ -73,6 +81,14 @@ fn sum_raw(value: &Raw, digest: &mut Digest) {
         Raw::Octets(bytes) => {
             digest.number(6);
             digest.bytes(bytes.as_slice());
+        }
+        Raw::Float(bits) => {
+            digest.number(8);
+            digest.number(u64::from(*bits));
+        }
+        Raw::Double(bits) => {
+            digest.number(9);
+            digest.number(*bits);
         }
         Raw::Other => digest.number(7),
     }

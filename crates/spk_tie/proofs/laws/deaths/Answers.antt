@@ -1,4 +1,5 @@
 use Rattle.std.proofs.Common.{◌≡◌, false, ◌-◌, [], Some, refl, sym, subst, arith}
+use Rattle.spk_payload.specs.declared.values.Values.TheVariants as choice
 use Rattle.spk_packets.specs.Grammar.{Spells}
 use Rattle.spk_packets.specs.Message as packet
 use Rattle.spk_topics.specs.Spark.{is_name}
@@ -17,7 +18,7 @@ returns-clause-read c = λ s session time qos dup retain id bytes names moment s
     let will = c.messages.ensures.will s.config (session_number s session) time (death_payload (session_number s session) time) (omega arith) moment in
     reads-death s session time dup qos retain id bytes
     ((c.reading.ensures (death_topic s.config) (of_node s.config.group Death s.config.node)).1 (both (is_name s.config.group) (is_name s.config.node) names.group names.node, refl))
-    ((c.reading-2.ensures.meaning text (death_payload (session_number s session) time)).1 will.0)
+    ((c.reading-2.ensures.meaning choice.All text (death_payload (session_number s session) time)).1 will.0)
     spelled
     (λ q spells. sym (c.prefix_free.ensures bytes bytes [] [] sent q spelled spells refl).1)
 

@@ -1,6 +1,7 @@
 use Rattle.std.proofs.Common.{◌≡◌, List, ◌++◌, [], Some, sym, ap, subst, refl, ◌∙◌}
 use Rattle.std.specs.Prelude.{slice_get}
 use Rattle.std.proofs.lemmas.Option.{slice_get_within}
+use Rattle.spk_payload.specs.declared.values.Values.TheVariants as choice
 use Rattle.spk_payload.specs.Spelling as payload
 use Rattle.spk_topics.specs.Spark.{topic_of}
 use Rattle.spk_edge_rules.specs.Claims.{IsWhole}
@@ -23,7 +24,7 @@ returns c = λ s later is p m bytes names free there written.
     (c.published.ensures.kinds s (later ++ is) p m now)
     (c.published.ensures.numbers s (later ++ is) p)
     ((c.reading.ensures (topic_of named) named).1 (c.published.ensures.names s (later ++ is) p m names now, refl))
-    ((c.reading-2.ensures.meaning (payload.spelling (payload_of (number_at s all p) m.draft)) (payload_of (number_at s all p) m.draft)).1
+    ((c.reading-2.ensures.meaning choice.All (payload.spelling (payload_of (number_at s all p) m.draft)) (payload_of (number_at s all p) m.draft)).1
     (c.messages.ensures.means s.config (number_at s all p) m.draft bytes whole))
     (c.published.ensures.one_session s (later ++ is) p m free now)
     (c.any_list.ensures.openings s (later ++ is) p m now)

@@ -1,5 +1,6 @@
 use Rattle.std.proofs.Common.{◌≡◌, ◌∙◌, ◌⊎◌, sym, ap, subst, false, None, Ok, Result}
 use Rattle.spk_payload.specs.Meaning.{PayloadData}
+use Rattle.spk_payload.specs.declared.values.Values.TheVariants as choice
 use Rattle.spk_payload.specs.Reading.{payload_at}
 use Rattle.spk_payload.specs.Spelling as payload
 use Rattle.spk_payload.specs.View.{payload_view}
@@ -28,7 +29,7 @@ told h = Ok h
 pub returns-in-Ok-clause-says : goal.returns-in-Ok-clause-says
 returns-in-Ok-clause-says c =
     let p = payload_view c.args.self.now.payload in
-    let e : payload_at (payload.spelling p) ≡ meant p = (c.reading.ensures.meaning (payload.spelling p) p).1 (c.canonical.ensures.means p c.requires.fits) in
+    let e : payload_at choice.All (payload.spelling p) ≡ meant p = (c.reading.ensures.meaning choice.All (payload.spelling p) p).1 (c.canonical.ensures.means p c.requires.fits) in
     let h : heard (Publish false 0 false c.as_str.result.now None (payload.spelling p)) ≡ told (heard_view c.in-Ok.heard) =
     c.in-Ok.ensures false false (payload.spelling p) (e ∙ ap meant (sym c.in_ok-payload.ensures.same)) in
     record {
@@ -41,7 +42,7 @@ pub returns-in-Err-clause-fault : goal.returns-in-Err-clause-fault
 returns-in-Err-clause-fault c =
     let m = published_view c.args.self.now in
     let p = payload_view c.args.self.now.payload in
-    let e : payload_at (payload.spelling p) ≡ meant p = (c.reading.ensures.meaning (payload.spelling p) p).1 (c.canonical.ensures.means p c.requires.fits) in
+    let e : payload_at choice.All (payload.spelling p) ≡ meant p = (c.reading.ensures.meaning choice.All (payload.spelling p) p).1 (c.canonical.ensures.means p c.requires.fits) in
     let h : Fails c.in-Err.fault (heard (Publish false 0 false c.as_str.result.now None (payload.spelling p))) =
     c.in-Err.ensures false false (payload.spelling p) (e ∙ ap meant (sym c.in_ok-payload.ensures.same)) in
     subst (λ (e : WorldFault). (e ≡ NoMemory) ⊎ ((h : HostData) → IsUnsendable h m e)) (sym c.unread.ensures)
