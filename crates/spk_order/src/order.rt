@@ -3,7 +3,9 @@ ghost use Rattle.spk_sequence.specs.declared.message.Kind.{Kind};
 ghost use Rattle.spk_sequence.specs.declared.answer.Step.{Step};
 ghost use Rattle.spk_sequence.specs.declared.answer.Match.{Match};
 ghost use Rattle.spk_sequence.specs.Data.{IsWhole};
+ghost use Rattle.spk_sequence.specs.Calls.{Hand, Tick, Death};
 ghost use Rattle.spk_sequence.specs.Due.{has_come};
+ghost use Rattle.spk_sequence.specs.Losses.{Called, Reset, loss_at};
 ghost use Rattle.spk_sequence.specs.Numbers.{held_count};
 ghost use Rattle.spk_sequence.specs.Step.{is_any_held as is_any_held_in, hand, is_over, tick, match_of, death, fresh_standing};
 ghost use Rattle.spk_order.specs.Ordered.{IsKept};
@@ -11,7 +13,7 @@ ghost use Rattle.spk_order.specs.Step.{consumed_with, handed, stands_so, fresh_o
 
 use crate::slots::{empty_slots, place, settle};
 use spk_sequence::laws::numbers;
-use spk_sequence::{Gap, Kind, Match, Sequence, Step, Width};
+use spk_sequence::{Gap, Kind, Loss, Match, Sequence, Step, Width};
 use std::alloc::{AllocError, Global};
 use std::fmt;
 use std::marker::Model;
@@ -177,6 +179,35 @@ impl<T: Drop> Order<T> {
         ensures bounded { result ≤ self.now.standing.width }
     {
         Sequence::held(&self.sequence)
+    }
+
+    /// What `hand` and `pass` would lose with this message: how many held messages they would drop, with their payloads, and
+    /// how many are missing before the nearest held one (`Sequence::loss_at_hand`). Nothing changes, and no memory is taken.
+    pub fn loss_at_hand(&self, number: u8, kind: Kind, now: u64) -> Loss
+        ensures { result ≡ loss_at self.now.standing (Called (Hand number kind now)) }
+    {
+        self.sequence.loss_at_hand(number, kind, now)
+    }
+
+    /// What `tick` would lose at this moment: all that is held, if it is a gap. Nothing changes.
+    pub fn loss_at_tick(&self, now: u64) -> Loss
+        ensures { result ≡ loss_at self.now.standing (Called (Tick now)) }
+    {
+        self.sequence.loss_at_tick(now)
+    }
+
+    /// What `death` would lose with this bdSeq: all that is held, if it matches. Nothing changes.
+    pub fn loss_at_death(&self, bd: u8) -> Loss
+        ensures { result ≡ loss_at self.now.standing (Called (Death bd)) }
+    {
+        self.sequence.loss_at_death(bd)
+    }
+
+    /// What `reset` would lose: all that is held. Nothing changes.
+    pub fn loss_at_reset(&self) -> Loss
+        ensures { result ≡ loss_at self.now.standing Reset }
+    {
+        self.sequence.loss_at_reset()
     }
 
     /// How the order stands.

@@ -1,11 +1,13 @@
 pub mod Always
 pub mod Births
+pub mod ConsecutiveLemmas
 pub mod Counts
 pub mod Deaths
 pub mod Eaten
 pub mod Ends
 pub mod Exact
 pub mod FarDeaths
+pub mod FateLemmas
 pub mod Fronts
 pub mod Grows
 pub mod Headline
@@ -13,6 +15,9 @@ pub mod Held
 pub mod InLineLemmas
 pub mod KeepLemmas
 pub mod Lawful
+pub mod LossCalls
+pub mod LossLemmas
+pub mod LossRows
 pub mod Messages
 pub mod NumberLemmas
 pub mod Outcomes
@@ -25,5 +30,6 @@ pub mod Rows
 pub mod Satisfied
 pub mod Sessions
 pub mod SlotLemmas
+pub mod Tallies
 pub mod Tied
 pub mod WindowLemmas

@@ -1,10 +1,13 @@
 pub mod Calls
 pub mod Claims
+pub mod Consecutive
 pub mod Data
 pub mod Due
+pub mod Fates
 pub mod Following
 pub mod HostRecord
 pub mod InLine
+pub mod Losses
 pub mod NodeRecord
 pub mod Numbers
 pub mod Positions

@@ -29,3 +29,18 @@ pub enum Match {
 /// A held message waited too long for one before it: messages were lost.
 #[derive(Clone, Copy, Debug, PartialEq, Eq)]
 pub struct Gap;
+
+/// What was lost where held messages are dropped: at a birth that is taken, a gap, a matching death, a reset (own rule).
+#[derive(Clone, Copy, Debug, PartialEq, Eq)]
+pub struct Loss {
+    /// How many held messages are dropped.
+    pub held: u8,
+    /// How many numbers there are from the one that comes next to the nearest held one, without it: messages that
+    /// didn't come before it. 0 where no held message is dropped.
+    pub missing: u8,
+}
+
+pub(crate) const NO_LOSS: Loss = Loss {
+    held: 0,
+    missing: 0,
+};

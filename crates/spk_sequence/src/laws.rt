@@ -1,11 +1,15 @@
 //! Laws on lists of calls: functions that do nothing, whose contracts speak of definitions alone.
-ghost use Rattle.std.specs.Prelude.{◌≡◌, ℕ, ◌+◌, ◌%◌, ◌<◌, ◌≤◌, true, false, List, ◌∷◌, ◌++◌, length, Some};
+ghost use Rattle.std.specs.Prelude.{◌≡◌, ℕ, ◌+◌, ◌%◌, ◌<◌, ◌≤◌, true, false, if◌then◌else◌, List, [], ◌∷◌, ◌++◌, length, get_or, Option, Some};
+ghost use Rattle.std.specs.List.{sum, count_by};
 ghost use Rattle.spk_sequence.specs.declared.message.Kind.{Kind};
 ghost use Rattle.spk_sequence.specs.Data.{Standing, IsWhole};
-ghost use Rattle.spk_sequence.specs.Step.{is_any_held, hand, tick, death};
-ghost use Rattle.spk_sequence.specs.Calls.{Call, replies_of};
+ghost use Rattle.spk_sequence.specs.Step.{is_any_held, is_over, is_match, is_live, hand, tick, death};
+ghost use Rattle.spk_sequence.specs.Calls.{Call, Hand, Tick, Death, replies_of};
 ghost use Rattle.spk_sequence.specs.InLine.{IsInLine, replies_in_line};
-ghost use Rattle.spk_sequence.specs.Numbers.{KeepsNumbers, Remains};
+ghost use Rattle.spk_sequence.specs.Numbers.{held_count, KeepsNumbers, Remains};
+ghost use Rattle.spk_sequence.specs.Losses.{Event, Called, Reset, no_loss, at_stake, loss_at};
+ghost use Rattle.spk_sequence.specs.Fates.{AreBytes, fates, is_consumed_at, is_dropped_at, is_still_held, is_turned_away, handed_at, consumed_at, turned_away_at, lost_count, each, after_events};
+ghost use Rattle.spk_sequence.specs.Consecutive.{numbers_from, numbers_consumed, NoBirthTaken};
 ghost use Rattle.spk_sequence.specs.NodeRecord.{Setting, NodeRecord, IsNodeRecord, message_at, opens, start_of, written_number};
 ghost use Rattle.spk_sequence.specs.HostRecord.{Input, MessageComes, record_of, standing_of, done_at, consumed_of};
 ghost use Rattle.spk_sequence.specs.Window.{IsNearBirth, AllNearDeaths, AllMayCome, handed_of};
@@ -140,4 +144,91 @@ pub fn in_line()
         → is_any_held (hand s number (Kind.Birth stamp bd) now).1.held ≡ false
         → IsInLine ((number + n) % 256) stamp bd calls
         → replies_of (hand s number (Kind.Birth stamp bd) now).1 calls ≡ replies_in_line calls }
+{}
+
+/// What is lost at which call, by the answers.
+pub fn losses()
+    // at a moment and at a death all that is held, if it is a gap, and if it matches; at a reset all
+    ensures tick { (s : Standing) (now : ℕ) → IsWhole s
+        → loss_at s (Called (Tick now)) ≡ (if is_over s now then at_stake s else no_loss) }
+    ensures death { (s : Standing) (bd : ℕ) → IsWhole s
+        → loss_at s (Called (Death bd)) ≡ (if is_match s bd then at_stake s else no_loss) }
+    ensures reset { (s : Standing) → IsWhole s → loss_at s Reset ≡ at_stake s }
+
+    // with a message that is no NBIRTH all that is held, if it is a gap, and else nothing
+    ensures gap { (s : Standing) (number now : ℕ) (own : Option ℕ) → number < 256 → IsWhole s
+        → (hand s number (Kind.Other own) now).0 ≡ Step.Gap
+        → loss_at s (Called (Hand number (Kind.Other own) now)) ≡ at_stake s }
+    ensures no_gap { (s : Standing) (number now : ℕ) (own : Option ℕ) → number < 256 → IsWhole s
+        → ((hand s number (Kind.Other own) now).0 ≡ Step.Gap → ⊥)
+        → loss_at s (Called (Hand number (Kind.Other own) now)) ≡ no_loss }
+
+    // with an NBIRTH nothing, if it isn't taken, and else what was held and is neither consumed with it nor held then
+    ensures not_taken { (s : Standing) (number stamp bd now : ℕ)
+        → ((n : ℕ) → (hand s number (Kind.Birth stamp bd) now).0 ≡ Step.Consumed n → ⊥)
+        → loss_at s (Called (Hand number (Kind.Birth stamp bd) now)) ≡ no_loss }
+    ensures birth { (s : Standing) (number stamp bd now n : ℕ) → number < 256 → IsWhole s
+        → (hand s number (Kind.Birth stamp bd) now).0 ≡ Step.Consumed n
+        → held_count s.held + 1 ≡ n + (loss_at s (Called (Hand number (Kind.Birth stamp bd) now))).held
+        + held_count (hand s number (Kind.Birth stamp bd) now).1.held }
+
+    // nothing, where nothing is held
+    ensures idle { (s : Standing) (e : Event) → is_any_held s.held ≡ false → loss_at s e ≡ no_loss }
+{}
+
+/// The counts of one node, over every list of calls and resets, from any data that is whole. A message that is handed
+/// has one fate: it is consumed at an event, is still held at the end, was turned away as it came, or was held and
+/// dropped at an event. What the events answer is how many there are of each. A list stands in the order of time.
+pub fn counts()
+    // held before + handed = consumed + held after + turned away + lost
+    ensures balance { (s : Standing) (events : List Event) → IsWhole s → AreBytes events
+        → held_count s.held + sum (each handed_at s events)
+        ≡ sum (each consumed_at s events) + held_count (after_events s events).held
+        + sum (each turned_away_at s events) + lost_count s events }
+
+    // a fate for each message that was handed, and no more
+    ensures handed { (s : Standing) (events : List Event)
+        → length (fates s events) ≡ sum (each handed_at s events) }
+
+    // from data without a held message on, as many are consumed at each event as its step says
+    ensures consumed { (s : Standing) (events : List Event) (k : ℕ) → IsWhole s
+        → is_any_held s.held ≡ false → AreBytes events
+        → count_by (is_consumed_at k) (fates s events) ≡ get_or (each consumed_at s events) k 0 }
+
+    // as many are dropped at each event as its loss says
+    ensures dropped { (s : Standing) (events : List Event) (k : ℕ) → IsWhole s
+        → is_any_held s.held ≡ false → AreBytes events
+        → count_by (is_dropped_at k) (fates s events)
+        ≡ (get_or (each loss_at s events) k no_loss).held }
+
+    // as many are still held as the data after all says
+    ensures held { (s : Standing) (events : List Event) → IsWhole s
+        → is_any_held s.held ≡ false → AreBytes events
+        → count_by is_still_held (fates s events) ≡ held_count (after_events s events).held }
+
+    // as many are turned away as have such a step
+    ensures turned_away { (s : Standing) (events : List Event) → IsWhole s
+        → is_any_held s.held ≡ false → AreBytes events
+        → count_by is_turned_away (fates s events) ≡ sum (each turned_away_at s events) }
+{}
+
+/// The numbers of what is consumed, over every list of calls and resets in which no birth is taken. Gaps, matching
+/// deaths and resets may be among them: behind these nothing is consumed.
+pub fn consecutive()
+    // from a birth that is taken on they follow one another, 0 after 255, and the birth's is the first
+    ensures birth { (s : Standing) (number stamp bd now n : ℕ) (events : List Event) → number < 256
+        → IsWhole s → (hand s number (Kind.Birth stamp bd) now).0 ≡ Step.Consumed n
+        → AreBytes events → NoBirthTaken (hand s number (Kind.Birth stamp bd) now).1 events
+        → numbers_consumed s (Called (Hand number (Kind.Birth stamp bd) now) ∷ events)
+        ≡ numbers_from number
+        (n + sum (each consumed_at (hand s number (Kind.Birth stamp bd) now).1 events)) }
+
+    // so they do while the node is followed, from the number that comes next on
+    ensures live { (s : Standing) (events : List Event) → IsWhole s → AreBytes events
+        → NoBirthTaken s events → is_live s.phase ≡ true
+        → numbers_consumed s events ≡ numbers_from s.next (sum (each consumed_at s events)) }
+
+    // while it isn't, there are none
+    ensures none { (s : Standing) (events : List Event) → NoBirthTaken s events
+        → is_live s.phase ≡ false → numbers_consumed s events ≡ [] }
 {}

@@ -11,7 +11,7 @@ mod sequence;
 mod slots;
 mod width;
 
-pub use answer::{Gap, Match, Step};
+pub use answer::{Gap, Loss, Match, Step};
 pub use message::Kind;
 pub use phase::Phase;
 pub use sequence::Sequence;

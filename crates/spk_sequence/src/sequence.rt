@@ -1,10 +1,12 @@
 ghost use Rattle.std.specs.Prelude.{◌≡◌, ℕ, ◌+◌, ◌^◌, ◌<◌, ◌≤◌, ◌==◌, nat_le, is_some, if◌then◌else◌, Option, None};
 ghost use Rattle.spk_sequence.specs.Data.{Standing, IsWhole, held_at};
 ghost use Rattle.spk_sequence.specs.Due.{has_come};
+ghost use Rattle.spk_sequence.specs.Calls.{Hand, Tick, Death};
+ghost use Rattle.spk_sequence.specs.Losses.{Called, Reset, missing_in, at_stake, loss_at, no_loss};
 ghost use Rattle.spk_sequence.specs.Numbers.{held_as, held_count};
 ghost use Rattle.spk_sequence.specs.Step.{is_any_held, ahead, is_below, places_from, places_after, kept_places, run_of, after_consumed, after_stop, after_held, hand_birth, hand_other, hand_ahead, hand, is_over, tick, match_of, death, fresh_standing, next_of};
 
-use crate::answer::{Gap, Match, Step};
+use crate::answer::{Gap, Loss, Match, NO_LOSS, Step};
 use crate::message::Kind;
 use crate::phase::Phase;
 use crate::slots::Slots;
@@ -219,6 +221,94 @@ impl Sequence {
     {
         let place = self.place_of(number);
         place < self.width() && self.is_held_at(place)
+    }
+
+    /// What `hand` would lose with this message: how many held messages it would drop, and how many were missing before
+    /// the nearest held one. An NBIRTH that is taken drops those that it neither keeps nor brings out with itself; its own
+    /// number may be among those missing. Any other message drops all if it is a `Gap`. Else nothing is lost. Nothing changes.
+    pub fn loss_at_hand(&self, number: u8, kind: Kind, now: u64) -> Loss
+        ensures { result ≡ loss_at self.now (Called (Hand number kind now)) }
+    {
+        match kind {
+            _ if !self.is_any_held() => NO_LOSS,
+            Kind::Birth { stamp, bd } => self.birth_loss(number, stamp, bd, now),
+            Kind::Other { stamp } => match self.other_step(number, stamp) {
+                Step::Gap => self.at_stake(),
+                _ => NO_LOSS,
+            },
+        }
+    }
+
+    /// What `tick` would lose at this moment: all that is held, if it is a gap. Nothing changes.
+    pub fn loss_at_tick(&self, now: u64) -> Loss
+        ensures { result ≡ loss_at self.now (Called (Tick now)) }
+    {
+        self.loss_if(self.is_over(now))
+    }
+
+    /// What `death` would lose with this bdSeq: all that is held, if it matches. Nothing changes.
+    pub fn loss_at_death(&self, bd: u8) -> Loss
+        ensures { result ≡ loss_at self.now (Called (Death bd)) }
+    {
+        self.loss_if(self.phase().is_known() && self.is_session(bd))
+    }
+
+    /// What `reset` would lose: all that is held. Nothing changes.
+    pub fn loss_at_reset(&self) -> Loss
+        ensures { result ≡ loss_at self.now Reset }
+    {
+        Sequence::at_stake(self)
+    }
+
+    /// All that is held, and what is missing before the nearest held message: what would be lost if all were dropped,
+    /// as at a gap, a matching death and a `reset`.
+    pub fn at_stake(&self) -> Loss
+        ensures value { result ≡ at_stake self.now }
+        ensures whole { IsWhole self.now }
+    {
+        Loss {
+            held: self.held(),
+            missing: self.missing(),
+        }
+    }
+
+    /// All that is held, where it is dropped.
+    fn loss_if(&self, is_dropped: bool) -> Loss
+        ensures { result ≡ (if is_dropped then at_stake self.now else no_loss) }
+    {
+        if is_dropped { self.at_stake() } else { NO_LOSS }
+    }
+
+    /// How many numbers there are from the one that comes next to the nearest held one.
+    fn missing(&self) -> u8
+        ensures value { result ≡ missing_in self.now.held }
+        ensures whole { IsWhole self.now }
+    {
+        let width = self.width();
+        for place in 0..width {
+            if self.is_held_at(place) {
+                return place;
+            }
+        }
+        0
+    }
+
+    /// What `hand` would lose with an NBIRTH: what was held and is neither consumed with it nor kept.
+    fn birth_loss(&self, number: u8, stamp: u64, bd: u8, now: u64) -> Loss
+        ensures { result ≡ loss_at self.now (Called (Hand number (Kind.Birth stamp bd) now)) }
+    {
+        let mut after = self.copied();
+        let Step::Consumed(count) = after.hand_birth(number, stamp, bd, now) else {
+            return NO_LOSS;
+        };
+        let held = self.held() - (count - 1) - after.held();
+        if held == 0 {
+            return NO_LOSS;
+        }
+        Loss {
+            held,
+            missing: self.missing(),
+        }
     }
 
     /// An order that stands the same.
