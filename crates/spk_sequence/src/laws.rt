@@ -213,7 +213,7 @@ pub fn counts()
 {}
 
 /// The numbers of what is consumed, over every list of calls and resets in which no birth is taken. Gaps, matching
-/// deaths and resets may be among them: behind these nothing is consumed.
+/// deaths and resets may be among them: behind these nothing is consumed. By positions `positions` says it (`last_part`).
 pub fn consecutive()
     // from a birth that is taken on they follow one another, 0 after 255, and the birth's is the first
     ensures birth { (s : Standing) (number stamp bd now n : ℕ) (events : List Event) → number < 256
