@@ -45,6 +45,31 @@ fn metric(n: u64, is_birth: bool) -> Vec<u8> {
     out
 }
 
+/// The data of so many metrics whose values all stand in one field: 10 ints, 12 floats, 13 doubles.
+pub fn alike(metrics: u64, field: u64) -> Vec<u8> {
+    let mut out = Vec::new();
+    number(&mut out, 1, NOW);
+    for n in 0..metrics {
+        let mut one = Vec::new();
+        number(&mut one, 2, n + 1);
+        number(&mut one, 3, NOW);
+        match field {
+            12 => {
+                varint(&mut one, 12 << 3 | 5);
+                one.extend_from_slice(&(20.5 + n as f32).to_le_bytes());
+            }
+            13 => {
+                varint(&mut one, 13 << 3 | 1);
+                one.extend_from_slice(&(20.1 + n as f64).to_le_bytes());
+            }
+            _ => number(&mut one, 10, 1_000_000 + n),
+        }
+        bytes(&mut out, 2, &one);
+    }
+    number(&mut out, 3, 17);
+    out
+}
+
 /// A payload of so many metrics: of data, with aliases alone, or of a birth, with names and datatypes.
 pub fn payload(metrics: u64, is_birth: bool) -> Vec<u8> {
     let mut out = Vec::new();

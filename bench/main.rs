@@ -18,6 +18,7 @@ use std::time::Instant;
 
 extern "C" {
     fn spk_bench_payload_decode(bytes: *const u8, length: usize, rounds: u64) -> u64;
+    fn spk_bench_payload_decode_all(bytes: *const u8, length: usize, rounds: u64) -> u64;
     fn spk_bench_payload_encode(bytes: *const u8, length: usize, rounds: u64) -> u64;
     fn spk_bench_packet_decode(bytes: *const u8, length: usize, rounds: u64) -> u64;
     fn spk_bench_packet_encode(bytes: *const u8, length: usize, rounds: u64) -> u64;
@@ -58,6 +59,22 @@ fn on_bytes(body: OnBytes, bytes: &[u8]) -> Body {
 fn rust_on_bytes(body: fn(&[u8], u64) -> u64, bytes: &[u8]) -> Body {
     let bytes = bytes.to_vec();
     Box::new(move |rounds| body(&bytes, rounds))
+}
+
+fn float_rows(rows: &mut Vec<Row>) {
+    for (name, field) in [("ints", 10), ("floats", 12), ("doubles", 13)] {
+        let bytes = inputs::alike(32, field);
+        rows.push(Row {
+            name: format!("payload decode, NDATA, 32 {name} ({} bytes)", bytes.len()),
+            calls: 1,
+            export: "spk_bench_payload_decode_all",
+            ours: on_bytes(spk_bench_payload_decode_all, &bytes),
+            peers: vec![
+                ("quick-protobuf, borrows", rust_on_bytes(payload::decode, &bytes)),
+                ("protobuf C++", on_bytes(cpp_payload_decode, &bytes)),
+            ],
+        });
+    }
 }
 
 fn payload_rows(rows: &mut Vec<Row>) {
@@ -264,6 +281,7 @@ fn broker_rows(rows: &mut Vec<Row>) {
 fn rows() -> Vec<Row> {
     let mut rows = Vec::new();
     payload_rows(&mut rows);
+    float_rows(&mut rows);
     packet_rows(&mut rows);
     topic_rows(&mut rows);
     order_rows(&mut rows);
