@@ -7,21 +7,24 @@ use Rattle.std.proofs.lemmas.Option.{slice_get_within}
 use Rattle.std.proofs.lemmas.Slice.Eq.{bytes_eq-Decides}
 use Rattle.std.specs.List.{enumerate_from, position_from, filter}
 use Rattle.std.specs.Option.{option_map, option_map_or}
-use Rattle.std.proofs.lemmas.List.Elements.{All-cons, All-filter, All-head, All-map, All-nil, All-tail}
+use Rattle.std.proofs.lemmas.List.Elements.{All-append, All-cons, All-filter, All-head, All-map, All-nil, All-tail}
 use Rattle.spk_payload.specs.Meaning.{MetricData}
 use Rattle.std.specs.Prelude.{◌==◌, ◌&&◌, ◌↔◌, slice_get, is_some, All, if◌then◌else◌}
 use Rattle.std.specs.Str.{bytes_eq}
 use Rattle.spk_payload.specs.Typing.{Typed}
+use Rattle.spk_payload.specs.declared.values.Values.{Values}
+use Rattle.spk_payload.specs.declared.values.Values.TheVariants as choice
 use Rattle.spk_device.specs.declared.fault.Refusal.{Refusal}
 use Rattle.spk_device.specs.declared.fault.Refusal.TheVariants.{NoSuch}
 use Rattle.spk_device.specs.declared.owner.Owner.{Owner}
 use Rattle.spk_device.specs.declared.owner.Owner.TheVariants.{Node, Device}
-use Rattle.spk_device.specs.Book.{Book, DeviceData, GaugeData, alias_of, empty_book, owner_number, birth_of, births_of, is_owner, number_of}
+use Rattle.spk_device.specs.Book.{Book, DeviceData, GaugeData, alias_of, empty_book, fresh_book, owner_number, birth_of, births_of, is_owner, number_of}
 use Rattle.spk_device.specs.Calls.{Call, AddDevice, AddMetric, Set, Turn, after, changed, refusal, standing, standing_from, unless_refused}
 use Rattle.spk_device.specs.Lawful.{IsLawful, same_device, same_metric}
 use Rattle.spk_device.specs.Queries.{book_from, device_by, devices_from, done_from, gauge_by, last_set, last_turn, metrics_from}
 use Rattle.spk_device.specs.Step as step
-use Rattle.spk_device.proofs.LawfulLemmas.{apart-found, lawful-device, lawful-metric, lawful-set, lawful-turn, may_set, new_device, new_metric, position_from-none, values_with-set}
+use Rattle.spk_device.specs.Values.{is_written}
+use Rattle.spk_device.proofs.LawfulLemmas.{All-one, apart-found, lawful-device, lawful-metric, lawful-set, lawful-turn, may_set, new_device, new_metric, position_from-none, values_with-set}
 use Rattle.spk_device.proofs.PlaceLemmas.{enumerate_from-append}
 
 -- ---- the names that are known
@@ -136,21 +139,21 @@ pub book-step : (b : Book) (h : List Call) (call : Call) → Grounded b h → re
 book-step b h (AddDevice name) g accepted =
     let new = new_device (book_from b h) name accepted in
     let down = g.turns name false (none-number b h name new.new) in
-    ap (λ (l : List DeviceData). record { devices = l; gauges = (book_from b h).gauges })
+    ap (λ (l : List DeviceData). record { devices = l; gauges = (book_from b h).gauges; values = b.values })
     (ap (λ u. map (device_by h) (devices_from b.devices h) ++ (record { name = name; up = u }) ∷ []) (sym down)
     ∙ sym (map-append (device_by h) (devices_from b.devices h) ((record { name = name; up = false }) ∷ [])))
 book-step b h (AddMetric owner name datatype value) g accepted =
     let x : GaugeData = record { owner = owner; name = name; datatype = datatype; value = value } in
     let all : List GaugeData = metrics_from b.gauges h in
     let first = g.sets (length all + 1) value (omega arith) in
-    ap (λ (l : List GaugeData). record { devices = (book_from b h).devices; gauges = l })
+    ap (λ (l : List GaugeData). record { devices = (book_from b h).devices; gauges = l; values = b.values })
     (ap (λ v. map (gauge_by h) (enumerate_from 0 all) ++ (record { owner = owner; name = name; datatype = datatype; value = v }) ∷ []) (sym first)
     ∙ sym (ap (map (gauge_by h)) (enumerate_from-append 0 all x ∙ ap (λ n. enumerate_from 0 all ++ (n, x) ∷ []) (omega arith))
     ∙ map-append (gauge_by h) (enumerate_from 0 all) ((length all, x) ∷ [])))
 book-step b h (Set a value) g accepted =
-    ap (λ (l : List GaugeData). record { devices = (book_from b h).devices; gauges = l }) (set-gauges h a value 0 (metrics_from b.gauges h))
+    ap (λ (l : List GaugeData). record { devices = (book_from b h).devices; gauges = l; values = b.values }) (set-gauges h a value 0 (metrics_from b.gauges h))
 book-step b h (Turn name up) g accepted =
-    ap (λ (l : List DeviceData). record { devices = l; gauges = (book_from b h).gauges }) (turn-devices h name up (devices_from b.devices h))
+    ap (λ (l : List DeviceData). record { devices = l; gauges = (book_from b h).gauges; values = b.values }) (turn-devices h name up (devices_from b.devices h))
 
 -- ---- any list
 
@@ -170,8 +173,8 @@ pub record Told (b : Book) (calls : List Call) : Type 0 where
 pub told : (b : Book) (calls : List Call) → Told b calls
 told b [] = record {
   grounded = record { turns = λ name first h. refl; sets = λ alias first h. refl };
-  book = ap (λ (l : List DeviceData). record { devices = l; gauges = b.gauges }) (unturned b.devices)
-      ∙ ap (λ (l : List GaugeData). record { devices = map (device_by []) b.devices; gauges = l }) (unset 0 b.gauges);
+  book = ap (λ (l : List DeviceData). record { devices = l; gauges = b.gauges; values = b.values }) (unturned b.devices)
+      ∙ ap (λ (l : List GaugeData). record { devices = map (device_by []) b.devices; gauges = l; values = b.values }) (unset 0 b.gauges);
 }
 told b (call ∷ calls) = by (refusal (book_from b (done_from b calls)) call) refl (told b calls)
   where
@@ -233,8 +236,8 @@ lawful-changed b (Set alias value) lawful h =
     let may = may_set b alias value h in
     let same : step.values_with 0 alias value b.gauges ≡ set b.gauges (alias - 1) (record may.gauge { value = value }) =
     ap (λ a. step.values_with 0 a value b.gauges) (may.first ∙ omega arith) ∙ values_with-set 0 (alias - 1) value b.gauges may.gauge may.there in
-    subst (λ (l : List GaugeData). IsLawful (record { devices = b.devices; gauges = l })) (sym same)
-    (lawful-set b.devices b.gauges (alias - 1) may.gauge value lawful may.there may.kind)
+    subst (λ (l : List GaugeData). IsLawful (record { devices = b.devices; gauges = l; values = b.values })) (sym same)
+    (lawful-set b.values b.devices b.gauges (alias - 1) may.gauge value lawful may.there may.kind)
 lawful-changed b (Turn name up) lawful h = lawful-turn b name up lawful
 
 lawful-after : (b : Book) (call : Call) → IsLawful b → IsLawful (after b call)
@@ -248,8 +251,8 @@ pub lawful-from : (b : Book) (calls : List Call) → IsLawful b → IsLawful (st
 lawful-from b [] lawful = lawful
 lawful-from b (call ∷ calls) lawful = lawful-after (standing_from b calls) call (lawful-from b calls lawful)
 
-pub lawful-empty : IsLawful empty_book
-lawful-empty = record {
+pub lawful-fresh : (values : Values) → IsLawful (fresh_book values)
+lawful-fresh values = record {
   few_devices = omega arith;
   few_gauges = omega arith;
   apart = tt;
@@ -262,7 +265,48 @@ lawful-empty = record {
 }
 
 pub lawful-standing : (calls : List Call) → IsLawful (standing calls)
-lawful-standing calls = lawful-from empty_book calls lawful-empty
+lawful-standing calls = lawful-from empty_book calls (lawful-fresh choice.Whole)
+
+-- ---- which values there may be
+
+pub values-kept : (b : Book) (calls : List Call) → (standing_from b calls).values ≡ b.values
+values-kept b calls = ap (λ (x : Book). x.values) (told b calls).book
+
+abbrev OfKind : Values → GaugeData → Type 0
+OfKind values g = is_written values g.datatype ≡ true
+
+set-kinds : (values : Values) (n alias : ℕ) (value : Option Typed) (gs : List GaugeData) → All (OfKind values) gs
+    → All (OfKind values) (step.values_with n alias value gs)
+set-kinds values n alias value [] all = All-nil (OfKind values)
+set-kinds values n alias value (g ∷ gs) all =
+    All-cons (OfKind values) (if n + 1 == alias then record g { value = value } else g) (step.values_with (n + 1) alias value gs)
+    (by (n + 1 == alias)) (set-kinds values (n + 1) alias value gs (All-tail (OfKind values) g gs all))
+  where
+    by : (here : Bool) → OfKind values (if here then record g { value = value } else g)
+    by true = All-head (OfKind values) g gs all
+    by false = All-head (OfKind values) g gs all
+
+kinds-changed : (b : Book) (call : Call) → All (OfKind b.values) b.gauges → refusal b call ≡ None → All (OfKind b.values) (changed b call).gauges
+kinds-changed b (AddDevice name) all h = all
+kinds-changed b (AddMetric owner name datatype value) all h =
+    let g : GaugeData = record { owner = owner; name = name; datatype = datatype; value = value } in
+    All-append (OfKind b.values) b.gauges (g ∷ []) all (All-one (OfKind b.values) g (new_metric b owner name datatype value h).written)
+kinds-changed b (Set alias value) all h = set-kinds b.values 0 alias value b.gauges all
+kinds-changed b (Turn name up) all h = all
+
+kinds-after : (b : Book) (call : Call) → All (OfKind b.values) b.gauges → All (OfKind b.values) (after b call).gauges
+kinds-after b call all = by (refusal b call) refl
+  where
+    by : (r : Option Refusal) → refusal b call ≡ r → All (OfKind b.values) (unless_refused r (changed b call) b).gauges
+    by None is = kinds-changed b call all is
+    by (Some r) is = all
+
+pub kinds-from : (b : Book) (calls : List Call) → All (OfKind b.values) b.gauges → All (OfKind b.values) (standing_from b calls).gauges
+kinds-from b [] all = all
+kinds-from b (call ∷ calls) all =
+    subst (λ v. All (OfKind v) (standing_from b (call ∷ calls)).gauges) (values-kept b calls)
+    (kinds-after (standing_from b calls) call
+    (subst (λ v. All (OfKind v) (standing_from b calls).gauges) (sym (values-kept b calls)) (kinds-from b calls all)))
 
 -- ---- names in births
 

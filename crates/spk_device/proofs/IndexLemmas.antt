@@ -11,6 +11,7 @@ use Rattle.std.specs.Str.{bytes_eq}
 use Rattle.std.specs.String.{string_bytes}
 use Rattle.spk_payload.specs.Meaning.{MetricData}
 use Rattle.spk_payload.specs.Typing.{Typed, typed_view}
+use Rattle.spk_payload.specs.declared.values.Values.{Values}
 use Rattle.spk_device.specs.declared.device.Device.{Device}
 use Rattle.spk_device.specs.declared.gauge.Gauge.{Gauge}
 use Rattle.spk_device.specs.declared.owner.Owner.{Owner}
@@ -121,9 +122,9 @@ names-turned n name up (d ∷ ds) =
 
 -- ---- each change
 
-module _ (ds : List Device) (gs : List Gauge) (names own : List (List ℕ × ℕ)) (is : IsIndexedBy ds gs names own) where
+module _ (values : Values) (ds : List Device) (gs : List Gauge) (names own : List (List ℕ × ℕ)) (is : IsIndexedBy values ds gs names own) where
   -- a device is turned
-  pub turned-devices : (name : List ℕ) (up : Bool) (n : ℕ) (d new : Device) → number_of (book_by ds gs) name ≡ Some n
+  pub turned-devices : (name : List ℕ) (up : Bool) (n : ℕ) (d new : Device) → number_of (book_by values ds gs) name ≡ Some n
       → slice_get ds n ≡ Some d → new ≡ record d { up = up }
       → map device_view (set ds n new) ≡ map (step.turned name up) (map device_view ds)
   turned-devices name up n d new found there changed =
@@ -132,12 +133,12 @@ module _ (ds : List Device) (gs : List Gauge) (names own : List (List ℕ × ℕ
       ∙ ap (λ x. set (map device_view ds) n (device_view x)) changed
       ∙ sym (turned-set 0 n name up (map device_view ds) (device_view d) is.lawful.apart (found ∙ ap (λ k. Some k) (omega arith)) seen)
 
-  pub turned-indexed : (name : List ℕ) (up : Bool) (n : ℕ) (d new : Device) → number_of (book_by ds gs) name ≡ Some n
-      → slice_get ds n ≡ Some d → new ≡ record d { up = up } → IsIndexedBy (set ds n new) gs names own
+  pub turned-indexed : (name : List ℕ) (up : Bool) (n : ℕ) (d new : Device) → number_of (book_by values ds gs) name ≡ Some n
+      → slice_get ds n ≡ Some d → new ≡ record d { up = up } → IsIndexedBy values (set ds n new) gs names own
   turned-indexed name up n d new found there changed =
       let devices = turned-devices name up n d new found there changed in
       record {
-        lawful = subst (λ (l : List DeviceData). IsLawful (record { devices = l; gauges = map gauge_view gs })) (sym devices) (lawful-turn (book_by ds gs) name up is.lawful);
+        lawful = subst (λ (l : List DeviceData). IsLawful (record { devices = l; gauges = map gauge_view gs; values = values })) (sym devices) (lawful-turn (book_by values ds gs) name up is.lawful);
         numbers = is.numbers ∙ sym (ap device_names devices ∙ names-turned 0 name up (map device_view ds));
         own = is.own;
         tables = λ m x h. by m x (set-sees ds n new m x h);
@@ -159,41 +160,41 @@ module _ (ds : List Device) (gs : List Gauge) (names own : List (List ℕ × ℕ
   seen-gauge n g there = slice_get-map gauge_view gs n ∙ ap (option_map gauge_view) there
 
   pub set-book : (n alias : ℕ) (g new : Gauge) (value : Option Typed) → alias ≡ n + 1 → slice_get gs n ≡ Some g
-      → gauge_view new ≡ record (gauge_view g) { value = value } → book_by ds (set gs n new) ≡ step.with_value (book_by ds gs) alias value
+      → gauge_view new ≡ record (gauge_view g) { value = value } → book_by values ds (set gs n new) ≡ step.with_value (book_by values ds gs) alias value
   set-book n alias g new value which there changed =
       let one = set-gauges n g new value there changed in
       let all = values_with-set 0 n value (map gauge_view gs) (gauge_view g) (seen-gauge n g there) in
-      ap (λ (l : List GaugeData). record { devices = map device_view ds; gauges = l })
+      ap (λ (l : List GaugeData). record { devices = map device_view ds; gauges = l; values = values })
       (one ∙ sym all ∙ ap (λ a. step.values_with 0 a value (map gauge_view gs)) (omega arith))
 
   pub set-indexed : (n : ℕ) (g new : Gauge) (value : Option Typed) → slice_get gs n ≡ Some g
-      → gauge_view new ≡ record (gauge_view g) { value = value } → is_of g.datatype value ≡ true → IsIndexedBy ds (set gs n new) names own
+      → gauge_view new ≡ record (gauge_view g) { value = value } → is_of g.datatype value ≡ true → IsIndexedBy values ds (set gs n new) names own
   set-indexed n g new value there changed kind =
       let one = set-gauges n g new value there changed in
       let same : (owner : Owner) → metric_names owner (map gauge_view (set gs n new)) ≡ metric_names owner (map gauge_view gs) =
       λ owner. ap (metric_names owner) (one ∙ sym (values_with-set 0 n value (map gauge_view gs) (gauge_view g) (seen-gauge n g there)))
       ∙ metric_names-values (0 + n + 1) value owner (map gauge_view gs) in
       record {
-        lawful = subst (λ (l : List GaugeData). IsLawful (record { devices = map device_view ds; gauges = l })) (sym one)
-            (lawful-set (map device_view ds) (map gauge_view gs) n (gauge_view g) value is.lawful (seen-gauge n g there) kind);
+        lawful = subst (λ (l : List GaugeData). IsLawful (record { devices = map device_view ds; gauges = l; values = values })) (sym one)
+            (lawful-set values (map device_view ds) (map gauge_view gs) n (gauge_view g) value is.lawful (seen-gauge n g there) kind);
         numbers = is.numbers;
         own = is.own ∙ sym (same Node);
         tables = λ m x h. is.tables m x h ∙ sym (same (OfDevice m));
       }
 
   -- a device is added
-  pub device-new : (name : List ℕ) → NewDevice (book_by ds gs) name → number_in names name ≡ None
+  pub device-new : (name : List ℕ) → NewDevice (book_by values ds gs) name → number_in names name ≡ None
   device-new name new =
       ap (λ l. number_in l name) is.numbers ∙ number_in-devices 0 (map device_view ds) name ∙ new.new
 
-  pub device-indexed : (name : List ℕ) (d : Device) → NewDevice (book_by ds gs) name → device_view d ≡ record { name = name; up = false }
-      → d.metrics ≡ [] → IsIndexedBy (ds ++ d ∷ []) gs (names ++ (name, length ds) ∷ []) own
+  pub device-indexed : (name : List ℕ) (d : Device) → NewDevice (book_by values ds gs) name → device_view d ≡ record { name = name; up = false }
+      → d.metrics ≡ [] → IsIndexedBy values (ds ++ d ∷ []) gs (names ++ (name, length ds) ∷ []) own
   device-indexed name d new looks empty =
       let devices : map device_view (ds ++ d ∷ []) ≡ map device_view ds ++ (record { name = name; up = false }) ∷ [] =
       map-append device_view ds (d ∷ []) ∙ ap (λ x. map device_view ds ++ x ∷ []) looks in
       let size = length-map ds device_view in
       record {
-        lawful = subst (λ (l : List DeviceData). IsLawful (record { devices = l; gauges = map gauge_view gs })) (sym devices) (lawful-device (book_by ds gs) name is.lawful new);
+        lawful = subst (λ (l : List DeviceData). IsLawful (record { devices = l; gauges = map gauge_view gs; values = values })) (sym devices) (lawful-device (book_by values ds gs) name is.lawful new);
         numbers = ap (λ l. l ++ (name, length ds) ∷ []) is.numbers
             ∙ sym (ap device_names devices ∙ device_names-append (map device_view ds) (record { name = name; up = false })
             ∙ ap (λ n. device_names (map device_view ds) ++ (name, n) ∷ []) size);
@@ -212,10 +213,10 @@ module _ (ds : List Device) (gs : List Gauge) (names own : List (List ℕ × ℕ
       by m x (inr old) = is.tables m x old
 
   -- a metric is added
-  pub own-new : (name : List ℕ) → place_of (book_by ds gs) Node name ≡ None → number_in own name ≡ None
+  pub own-new : (name : List ℕ) → place_of (book_by values ds gs) Node name ≡ None → number_in own name ≡ None
   own-new name new = ap (λ l. number_in l name) is.own ∙ number_in-owned 0 Node (map gauge_view gs) name ∙ new
 
-  pub table-new : (n : ℕ) (d : Device) (name : List ℕ) → slice_get ds n ≡ Some d → place_of (book_by ds gs) (OfDevice n) name ≡ None
+  pub table-new : (n : ℕ) (d : Device) (name : List ℕ) → slice_get ds n ≡ Some d → place_of (book_by values ds gs) (OfDevice n) name ≡ None
       → number_in d.metrics name ≡ None
   table-new n d name there new =
       ap (λ l. number_in l name) (is.tables n d there) ∙ number_in-owned 0 (OfDevice n) (map gauge_view gs) name ∙ new
@@ -229,15 +230,15 @@ module _ (ds : List Device) (gs : List Gauge) (names own : List (List ℕ × ℕ
       ∙ ap (λ n. metric_names owner (map gauge_view gs) ++ (if mine then (string_bytes g.name, n) ∷ [] else [])) (length-map gs gauge_view)
 
   abbrev pub Addable : Gauge → Type 0
-  Addable g = NewMetric (book_by ds gs) g.owner (string_bytes g.name) g.datatype (option_map typed_view g.value)
+  Addable g = NewMetric (book_by values ds gs) g.owner (string_bytes g.name) g.datatype (option_map typed_view g.value)
 
-  more-lawful : (g : Gauge) → Addable g → IsLawful (record { devices = map device_view ds; gauges = map gauge_view (gs ++ g ∷ []) })
+  more-lawful : (g : Gauge) → Addable g → IsLawful (record { devices = map device_view ds; gauges = map gauge_view (gs ++ g ∷ []); values = values })
   more-lawful g new =
-      subst (λ (l : List GaugeData). IsLawful (record { devices = map device_view ds; gauges = l })) (sym (map-append gauge_view gs (g ∷ [])))
-      (lawful-metric (book_by ds gs) g.owner (string_bytes g.name) g.datatype (option_map typed_view g.value) is.lawful new)
+      subst (λ (l : List GaugeData). IsLawful (record { devices = map device_view ds; gauges = l; values = values })) (sym (map-append gauge_view gs (g ∷ [])))
+      (lawful-metric (book_by values ds gs) g.owner (string_bytes g.name) g.datatype (option_map typed_view g.value) is.lawful new)
 
   pub own-indexed : (g : Gauge) → Addable g
-      → g.owner ≡ Node → IsIndexedBy ds (gs ++ g ∷ []) names (own ++ (string_bytes g.name, length gs) ∷ [])
+      → g.owner ≡ Node → IsIndexedBy values ds (gs ++ g ∷ []) names (own ++ (string_bytes g.name, length gs) ∷ [])
   own-indexed g new mine = record {
     lawful = more-lawful g new;
     numbers = is.numbers;
@@ -257,18 +258,18 @@ module _ (ds : List Device) (gs : List Gauge) (names own : List (List ℕ × ℕ
 
   pub table-book : (n : ℕ) (d new : Device) (g : Gauge) (more : List Gauge) → slice_get ds n ≡ Some d
       → new ≡ record d { metrics = d.metrics ++ (string_bytes g.name, length gs) ∷ [] } → more ≡ gs ++ g ∷ []
-      → book_by (set ds n new) more ≡ step.with_metric (book_by ds gs) g.owner (string_bytes g.name) g.datatype (option_map typed_view g.value)
+      → book_by values (set ds n new) more ≡ step.with_metric (book_by values ds gs) g.owner (string_bytes g.name) g.datatype (option_map typed_view g.value)
   table-book n d new g more there changed is =
-      ap (λ (l : List DeviceData). record { devices = l; gauges = map gauge_view more })
+      ap (λ (l : List DeviceData). record { devices = l; gauges = map gauge_view more; values = values })
       (table-devices n d new (d.metrics ++ (string_bytes g.name, length gs) ∷ []) there changed)
-      ∙ ap (λ (l : List GaugeData). record { devices = map device_view ds; gauges = l }) (ap (map gauge_view) is ∙ map-append gauge_view gs (g ∷ []))
+      ∙ ap (λ (l : List GaugeData). record { devices = map device_view ds; gauges = l; values = values }) (ap (map gauge_view) is ∙ map-append gauge_view gs (g ∷ []))
 
   pub table-indexed : (n : ℕ) (d new : Device) (g : Gauge)
       → Addable g
       → g.owner ≡ OfDevice n → slice_get ds n ≡ Some d → new ≡ record d { metrics = d.metrics ++ (string_bytes g.name, length gs) ∷ [] }
-      → IsIndexedBy (set ds n new) (gs ++ g ∷ []) names own
+      → IsIndexedBy values (set ds n new) (gs ++ g ∷ []) names own
   table-indexed n d new g addable mine there changed = record {
-    lawful = subst (λ (l : List DeviceData). IsLawful (record { devices = l; gauges = map gauge_view (gs ++ g ∷ []) })) (sym devices) (more-lawful g addable);
+    lawful = subst (λ (l : List DeviceData). IsLawful (record { devices = l; gauges = map gauge_view (gs ++ g ∷ []); values = values })) (sym devices) (more-lawful g addable);
     numbers = is.numbers ∙ sym (ap device_names devices);
     own = is.own ∙ sym (more-names g Node false (ap (is_owner Node) mine ∙ first n) ∙ append-nil _);
     tables = λ m x h. by m x (set-sees ds n new m x h);
@@ -378,10 +379,10 @@ pub record SetsAt (b : Book) (gs : List Gauge) (alias : ℕ) (value : Option Typ
   pub first : alias ≡ (alias - 1) + 1
   pub kind : is_of now.datatype value ≡ true
 
-pub sets-at : (ds : List Device) (gs : List Gauge) (alias : ℕ) (value : Option Typed) (now : Gauge)
-    → step.set_refusal (book_by ds gs) alias value ≡ None → now ≡ get_or gs (alias - 1) now → SetsAt (book_by ds gs) gs alias value now
-sets-at ds gs alias value now h is =
-    let may = may_set (book_by ds gs) alias value h in
+pub sets-at : (values : Values) (ds : List Device) (gs : List Gauge) (alias : ℕ) (value : Option Typed) (now : Gauge)
+    → step.set_refusal (book_by values ds gs) alias value ≡ None → now ≡ get_or gs (alias - 1) now → SetsAt (book_by values ds gs) gs alias value now
+sets-at values ds gs alias value now h is =
+    let may = may_set (book_by values ds gs) alias value h in
     let low = slice_get_within (map gauge_view gs) (alias - 1) may.gauge may.there in
     let size = length-map gs gauge_view in
     let there : slice_get gs (alias - 1) ≡ Some now = slice_get_read gs (length gs) (alias - 1) now refl (omega arith) is in

@@ -11,6 +11,7 @@ use Rattle.std.specs.Option.{option_map_or}
 use Rattle.std.specs.Prelude.{◌-◌, slice_get, ◌||◌, ◌&&◌, not, nat_le, ◌==◌, is_some, All, IfSome, if◌then◌else◌}
 use Rattle.std.specs.Str.{bytes_eq}
 use Rattle.spk_payload.specs.Typing.{Typed}
+use Rattle.spk_payload.specs.declared.values.Values.{Values}
 use Rattle.spk_device.specs.declared.fault.Refusal.{Refusal}
 use Rattle.spk_device.specs.declared.fault.Refusal.TheVariants.{Duplicate, NoSuch, WrongKind, Full, BadName}
 use Rattle.spk_device.specs.declared.owner.Owner.{Owner}
@@ -85,6 +86,7 @@ new_device b name h =
 pub record NewMetric (b : Book) (owner : Owner) (name : List ℕ) (datatype : ℕ) (value : Option Typed) : Type 0 where
   pub new : place_of b owner name ≡ None
   pub there : has_owner b owner ≡ true
+  pub written : is_written b.values datatype ≡ true
   pub kind : is_of datatype value ≡ true
   pub few : length b.gauges < 10000
   pub named : step.is_empty name ≡ false
@@ -95,13 +97,14 @@ pub new_metric : (b : Book) (owner : Owner) (name : List ℕ) (datatype : ℕ) (
 new_metric b owner name datatype value h =
     let (known, rest) = passed (step.is_taken name || has_metric b owner name) Duplicate _ h in
     let (absent, rest2) = passed (not (has_owner b owner)) NoSuch _ rest in
-    let (wrong, rest3) = passed (not (is_written datatype && is_of datatype value)) WrongKind _ rest2 in
+    let (wrong, rest3) = passed (not (is_written b.values datatype && is_of datatype value)) WrongKind _ rest2 in
     let (full, rest4) = passed (nat_le 10000 (length b.gauges)) Full _ rest3 in
     let (empty, _) = passed (step.is_empty name) BadName _ rest4 in
     record {
       new = is_none (place_of b owner name) (or_false (step.is_taken name) (has_metric b owner name) known).1;
       there = not_false (has_owner b owner) absent;
-      kind = (and_true (is_written datatype) (is_of datatype value) (not_false (is_written datatype && is_of datatype value) wrong)).1;
+      written = (and_true (is_written b.values datatype) (is_of datatype value) (not_false (is_written b.values datatype && is_of datatype value) wrong)).0;
+      kind = (and_true (is_written b.values datatype) (is_of datatype value) (not_false (is_written b.values datatype && is_of datatype value) wrong)).1;
       few = grind (arith, nat_tests);
       named = empty;
       unreserved = (or_false (step.is_taken name) (has_metric b owner name) known).0;
@@ -254,7 +257,7 @@ pub All-at : {X : Type 0} (P : X → Type 0) (xs : List X) (n : ℕ) (x : X) →
 All-at P xs n x all there =
     subst P (get_or_from_slice_get xs n x x there) (all n x (slice_get_within xs n x there))
 
-All-one : {X : Type 0} (P : X → Type 0) (x : X) → P x → All P (x ∷ [])
+pub All-one : {X : Type 0} (P : X → Type 0) (x : X) → P x → All P (x ∷ [])
 All-one P x h zero d low = h
 All-one P x h (suc k) d low = absurd (omega arith)
 
@@ -329,10 +332,10 @@ lawful-turn b name up lawful =
     }
 
 -- a value of its datatype is set at a place
-pub lawful-set : (ds : List DeviceData) (gs : List GaugeData) (n : ℕ) (g : GaugeData) (value : Option Typed)
-    → IsLawful (record { devices = ds; gauges = gs }) → slice_get gs n ≡ Some g → is_of g.datatype value ≡ true
-    → IsLawful (record { devices = ds; gauges = set gs n (record g { value = value }) })
-lawful-set ds gs n g value lawful there kind = record {
+pub lawful-set : (values : Values) (ds : List DeviceData) (gs : List GaugeData) (n : ℕ) (g : GaugeData) (value : Option Typed)
+    → IsLawful (record { devices = ds; gauges = gs; values = values }) → slice_get gs n ≡ Some g → is_of g.datatype value ≡ true
+    → IsLawful (record { devices = ds; gauges = set gs n (record g { value = value }); values = values })
+lawful-set values ds gs n g value lawful there kind = record {
   few_devices = lawful.few_devices;
   few_gauges = subst (λ l. l ≤ 10000) (sym (length-set gs n (record g { value = value }))) lawful.few_gauges;
   apart = lawful.apart;

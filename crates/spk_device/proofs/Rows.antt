@@ -1,12 +1,13 @@
 -- What the definitions answer in runs that are worked out by hand. Calls stand newest first.
 use Rattle.std.specs.Prelude.{◌≡◌, true, false, List, [], ◌∷◌, Some, None, Result, Ok, Err, pos, negsuc, codes, refl}
-use Rattle.spk_payload.specs.Meaning.{Int}
-use Rattle.spk_payload.specs.Typing.{Signed, Truth}
+use Rattle.spk_payload.specs.Meaning.{Int, Float, Double}
+use Rattle.spk_payload.specs.Typing.{Signed, Truth, Binary32, Binary64}
+use Rattle.spk_payload.specs.declared.values.Values.TheVariants as choice
 use Rattle.spk_device.specs.declared.outcome.Outcome.TheVariants.{Changed, Same}
 use Rattle.spk_device.specs.declared.fault.Refusal.{Refusal}
 use Rattle.spk_device.specs.declared.fault.Refusal.TheVariants.{Duplicate, NoSuch, WrongKind, BadName}
 use Rattle.spk_device.specs.declared.owner.Owner.TheVariants.{Node, Device}
-use Rattle.spk_device.specs.Book.{Book, births_of, is_up}
+use Rattle.spk_device.specs.Book.{Book, births_of, fresh_book, is_up}
 use Rattle.spk_device.specs.Calls.{Call, AddDevice, AddMetric, Set, Turn, Reply, Done, Alias, Told, answer_of, standing, standing_from}
 use Rattle.spk_device.specs.Queries.{book_at, book_from, done, done_from}
 
@@ -84,6 +85,7 @@ abbrev handed_over : Book
 handed_over = record {
   devices = (record { name = codes "D"; up = true }) ∷ [];
   gauges = (record { owner = Device 0; name = codes "t"; datatype = 3; value = Some (Signed (pos 5)) }) ∷ [];
+  values = choice.Whole;
 }
 
 abbrev since : List Call
@@ -94,7 +96,54 @@ later = record {
   devices = (record { name = codes "D"; up = false }) ∷ [];
   gauges = (record { owner = Device 0; name = codes "t"; datatype = 3; value = Some (Signed (pos 7)) })
       ∷ (record { owner = Node; name = codes "u"; datatype = 11; value = None }) ∷ [];
+  values = choice.Whole;
 }
 
 pub from_a_first_registry : (standing_from handed_over since ≡ later) × (book_from handed_over (done_from handed_over since) ≡ later)
 from_a_first_registry = (refl, refl)
+
+-- Float and Double are taken where all values are: 1.5 is 0x3fc00000 of 32 bits, -2 is 0xc000000000000000 of 64. A zero of the other
+-- sign is another value, and a NaN (0x7fc00000) is equal to itself.
+abbrev pub floats : List Call
+floats = AddMetric Node (codes "d") 10 (Some (Binary64 13835058055282163712)) ∷ AddMetric Node (codes "f") 9 (Some (Binary32 1069547520)) ∷ []
+
+abbrev AnswersAll : List Call → Call → Result Reply Refusal → Type 0
+AnswersAll calls call answer =
+    (answer_of (standing_from (fresh_book choice.All) calls) call ≡ answer)
+    × (answer_of (book_from (fresh_book choice.All) (done_from (fresh_book choice.All) calls)) call ≡ answer)
+
+pub floats_are_taken : AnswersAll [] (AddMetric Node (codes "f") 9 (Some (Binary32 1069547520))) (Ok (Alias 1))
+    × Answers [] (AddMetric Node (codes "f") 9 (Some (Binary32 1069547520))) (Err WrongKind)
+    × Answers [] (AddMetric Node (codes "d") 10 None) (Err WrongKind)
+    × AnswersAll [] (AddMetric Node (codes "f") 9 (Some (Binary64 0))) (Err WrongKind)
+floats_are_taken = ((refl, refl), (refl, refl), (refl, refl), (refl, refl))
+
+pub floats_are_set : AnswersAll floats (Set 1 (Some (Binary32 1069547520))) (Ok (Told Same))
+    × AnswersAll floats (Set 1 (Some (Binary32 0))) (Ok (Told Changed))
+    × AnswersAll (Set 1 (Some (Binary32 0)) ∷ floats) (Set 1 (Some (Binary32 2147483648))) (Ok (Told Changed))
+    × AnswersAll (Set 1 (Some (Binary32 2143289344)) ∷ floats) (Set 1 (Some (Binary32 2143289344))) (Ok (Told Same))
+    × AnswersAll floats (Set 1 (Some (Signed (pos 1)))) (Err WrongKind)
+floats_are_set = ((refl, refl), (refl, refl), (refl, refl), (refl, refl), (refl, refl))
+
+pub floats_in_a_birth : births_of (standing_from (fresh_book choice.All) floats) Node
+    ≡ (record {
+      name = Some (codes "f");
+      alias = Some 1;
+      timestamp = None;
+      datatype = Some 9;
+      historical = None;
+      transient = None;
+      null = None;
+      value = Some (Float 1069547520);
+    })
+    ∷ (record {
+      name = Some (codes "d");
+      alias = Some 2;
+      timestamp = None;
+      datatype = Some 10;
+      historical = None;
+      transient = None;
+      null = None;
+      value = Some (Double 13835058055282163712);
+    }) ∷ []
+floats_in_a_birth = refl

@@ -5,6 +5,8 @@ use Rattle.std.specs.Option.{option_map, option_and_then}
 use Rattle.std.specs.Str.{bytes_eq}
 use Rattle.spk_payload.specs.Meaning.{MetricData}
 use Rattle.spk_payload.specs.Typing.{Typed, written_of}
+use Rattle.spk_payload.specs.declared.values.Values.{Values}
+use Rattle.spk_payload.specs.declared.values.Values.TheVariants as choice
 use Rattle.spk_device.specs.declared.owner.Owner.{Owner}
 use Rattle.spk_device.specs.declared.owner.Owner.TheVariants.{Node, Device}
 
@@ -20,14 +22,19 @@ pub record GaugeData : Type 0 where
   pub datatype : ℕ
   pub value : Option Typed
 
--- Devices and metrics in the order in which they were added. A device's number is its place, from 0. A metric's alias is
--- its place and one, from 1.
+-- Devices and metrics in the order in which they were added, and which values metrics may have. A device's number is its
+-- place, from 0. A metric's alias is its place and one, from 1.
 pub record Book : Type 0 where
   pub devices : List DeviceData
   pub gauges : List GaugeData
+  pub values : Values
 
+abbrev pub fresh_book : Values → Book
+fresh_book values = record { devices = []; gauges = []; values = values }
+
+-- with whole values alone
 abbrev pub empty_book : Book
-empty_book = record { devices = []; gauges = [] }
+empty_book = fresh_book choice.Whole
 
 -- ---- owners
 

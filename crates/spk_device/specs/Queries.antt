@@ -49,11 +49,12 @@ device_by h d = record d { up = last_turn h d.name d.up }
 abbrev pub gauge_by : List Call → ℕ × GaugeData → GaugeData
 gauge_by h e = record e.1 { value = last_set h (e.0 + 1) e.1.value }
 
--- from a first book on, and from an empty one
+-- from a first book on, and from an empty one: which values metrics may have stays as it is
 abbrev pub book_from : Book → List Call → Book
 book_from first h = record {
   devices = map (device_by h) (devices_from first.devices h);
   gauges = map (gauge_by h) (enumerate_from 0 (metrics_from first.gauges h));
+  values = first.values;
 }
 
 abbrev pub book_at : List Call → Book

@@ -37,7 +37,7 @@ abbrev pub add_metric_refusal : Book → Owner → List ℕ → ℕ → Option T
 add_metric_refusal b owner name datatype value =
     if is_taken name || has_metric b owner name then Some Duplicate
     else if not (has_owner b owner) then Some NoSuch
-    else if not (is_written datatype && is_of datatype value) then Some WrongKind
+    else if not (is_written b.values datatype && is_of datatype value) then Some WrongKind
     else if nat_le 10000 (length b.gauges) then Some Full
     else if is_empty name then Some BadName
     else None

@@ -42,7 +42,7 @@ impl Registry {
     ///
     /// Refuses, in this order: Duplicate (40) for a name that the owner has given to another metric, or that the node's own
     /// messages use (`bdSeq` and `Node Control/Rebirth`, own rule), NoSuch (41) for a device that isn't there, WrongKind (42)
-    /// for a datatype that isn't written or a value that isn't of it, Full (43) where there are 10,000, BadName (44) for an
+    /// for a datatype that isn't written (Float 9 and Double 10 are by `Values::All` alone) or a value that isn't of it, Full (43) where there are 10,000, BadName (44) for an
     /// empty name. Where it fails nothing has changed.
     pub fn add_metric(
         &mut self,
@@ -98,7 +98,7 @@ impl Registry {
             Err(Refusal::Duplicate)
         } else if self.table(owner).is_none() {
             Err(Refusal::NoSuch)
-        } else if !is_written(datatype) || !is_of(datatype, value) {
+        } else if !is_written(self.values, datatype) || !is_of(datatype, value) {
             Err(Refusal::WrongKind)
         } else if self.metric_count() >= MOST_METRICS {
             Err(Refusal::Full)

@@ -1,19 +1,21 @@
 //! Laws of the definitions alone: functions that do nothing, whose contracts speak of definitions.
-ghost use Rattle.std.specs.Prelude.{◌≡◌, ◌↔◌, ℕ, ◌+◌, List, ◌∷◌, map, true, false, Option, Some, All};
+ghost use Rattle.std.specs.Prelude.{◌≡◌, ◌↔◌, ℕ, ◌+◌, ◌&&◌, not, List, ◌∷◌, map, true, false, Option, Some, All};
 ghost use Rattle.std.specs.Bool.{Decides};
 ghost use Rattle.std.specs.Prelude.{filter, slice_get};
 ghost use Rattle.std.specs.List.{enumerate_from};
 ghost use Rattle.std.specs.Option.{option_map_or};
 ghost use Rattle.spk_payload.specs.Meaning.{Content};
 ghost use Rattle.spk_payload.specs.Typing.{Typed, written_of};
+ghost use Rattle.spk_payload.specs.declared.values.Values.{Values};
+ghost use Rattle.spk_payload.specs.declared.values.Values.TheVariants as choice;
 ghost use Rattle.spk_device.specs.declared.fault.Refusal.{Refusal};
 ghost use Rattle.spk_device.specs.declared.owner.Owner.{Owner};
-ghost use Rattle.spk_device.specs.Book.{Book, DeviceData, GaugeData, alias_of, birth_of, births_of, is_owner, number_of};
+ghost use Rattle.spk_device.specs.Book.{Book, DeviceData, GaugeData, alias_of, birth_of, births_of, fresh_book, is_owner, number_of};
 ghost use Rattle.spk_device.specs.Calls.{Call, answer_of, refusal, standing, standing_from};
 ghost use Rattle.spk_device.specs.Lawful.{IsLawful};
 ghost use Rattle.spk_device.specs.Queries.{book_at, book_from, done, done_from, gauge_by, metrics_added, metrics_from};
 ghost use Rattle.spk_device.specs.Step.{is_taken};
-ghost use Rattle.spk_device.specs.Values.{is_written, value_eq};
+ghost use Rattle.spk_device.specs.Values.{is_float, is_written, value_eq};
 
 /// For every list of calls, newest first, from an empty registry on: stepping the data gives what the queries ask of the
 /// calls that weren't refused.
@@ -80,6 +82,17 @@ pub fn from_any()
         → slice_get b.gauges n ≡ Some g
         → alias_of b g.owner g.name ≡ Some (n + 1) }
 
+    // a new one is lawful, by either choice of values
+    ensures fresh { (values : Values) → IsLawful (fresh_book values) }
+
+    // which values metrics may have stays as it was, and each metric that is added has a datatype of them: where none had Float or
+    // Double and whole values alone may be, none ever has
+    ensures values { (first : Book) (calls : List Call)
+        → (standing_from first calls).values ≡ first.values }
+    ensures kinds { (first : Book) (calls : List Call)
+        → All (λ g. is_written first.values g.datatype ≡ true) first.gauges
+        → All (λ g. is_written first.values g.datatype ≡ true) (standing_from first calls).gauges }
+
     // no birth of a lawful one has a metric whose name the node's own messages use: theirs stays the only one of its name
     ensures unreserved { (b : Book) (owner : Owner) → IsLawful b
         → All (λ m. option_map_or is_taken m.name false ≡ false) (births_of b owner) }
@@ -90,11 +103,14 @@ pub fn owners()
     ensures { (a b : Owner) → (is_owner a b ≡ true) ↔ (a ≡ b) }
 {}
 
-/// The test of values says that they are equal, and a datatype is taken exactly where it writes some value.
+/// The test of values says that they are equal, and a datatype is taken exactly where it writes some value: by whole values alone
+/// where that is neither Float nor Double.
 pub fn values()
     ensures equal { (a b : Option Typed) → Decides (value_eq a b) (a ≡ b) }
     ensures taken { (d : ℕ) (v : Typed) (c : Content) → written_of d v ≡ Some c
-        → is_written d ≡ true }
-    ensures written { (d : ℕ) → is_written d ≡ true
+        → is_written choice.All d ≡ true }
+    ensures whole { (d : ℕ)
+        → is_written choice.Whole d ≡ (is_written choice.All d && not (is_float d)) }
+    ensures written { (values : Values) (d : ℕ) → is_written values d ≡ true
         → (v : Typed) × (c : Content) × (written_of d v ≡ Some c) }
 {}

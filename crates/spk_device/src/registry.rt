@@ -9,6 +9,7 @@ use crate::device::Device;
 use crate::gauge::Gauge;
 use crate::owner::Owner;
 use spk_names::Names;
+use spk_payload::Values;
 use std::alloc::Global;
 use std::fmt;
 use std::marker::Model;
@@ -28,6 +29,8 @@ pub struct Registry {
     pub(crate) gauges: Vec<Gauge>,
     /// The places of the node's own metrics, by name.
     pub(crate) own: Names,
+    /// Which values metrics may have.
+    pub(crate) values: Values,
 }
 
 impl fmt::Debug for Registry {
@@ -49,9 +52,16 @@ impl Model for Registry {
 }
 
 impl Registry {
-    /// No devices and no metrics.
+    /// No devices and no metrics. Metrics may have whole values alone (`Values::Whole`).
     pub fn new(alloc: Global) -> Registry
         ensures { result ≡ book.empty_book }
+    {
+        Registry::with_values(alloc, Values::Whole)
+    }
+
+    /// No devices and no metrics, which may have the values of a choice: by `Values::All` floats and doubles as well.
+    pub fn with_values(alloc: Global, values: Values) -> Registry
+        ensures { result ≡ book.fresh_book values }
     {
         Registry {
             alloc,
@@ -59,7 +69,15 @@ impl Registry {
             numbers: Names::new(alloc),
             gauges: Vec::new(alloc),
             own: Names::new(alloc),
+            values,
         }
+    }
+
+    /// Which values metrics may have: what the registry was made with.
+    pub fn values(&self) -> Values
+        ensures { result ≡ self.now.values }
+    {
+        self.values
     }
 
     /// How many devices there are.

@@ -7,6 +7,8 @@ mod births;
 #[cfg(test)]
 mod devices;
 #[cfg(test)]
+mod floats;
+#[cfg(test)]
 mod names;
 #[cfg(test)]
 mod registers;

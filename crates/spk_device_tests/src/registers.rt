@@ -1,7 +1,7 @@
 //! A registry by its calls. A function that holds one is dear to prove: what the tests ask of it they ask through a trait without clauses, and
 //! the rows are walked over a type parameter.
 use spk_device::{Alias, DeviceFault, Gauge, Outcome, Owner, Refusal, Registry};
-use spk_payload::{Metric, Raw, Value};
+use spk_payload::{Metric, Raw, Value, Values};
 use std::alloc::Global;
 use std::process::Abort;
 
@@ -13,6 +13,10 @@ pub(crate) enum Given {
     Unsigned(u64),
     Flag(bool),
     Words(&'static str),
+    /// A float, by its bits.
+    Float(u32),
+    /// A double, by its bits.
+    Double(u64),
 }
 
 /// A text. Where memory was refused it is made again.
@@ -30,6 +34,8 @@ fn value_of(rt: &(impl Abort + AllocGlobal), given: Given) -> Option<Value> {
         Given::Unsigned(number) => Some(Value::Unsigned(number)),
         Given::Flag(flag) => Some(Value::Flag(flag)),
         Given::Words(words) => Some(Value::Words(text(rt, words))),
+        Given::Float(bits) => Some(Value::Float(bits)),
+        Given::Double(bits) => Some(Value::Double(bits)),
     }
 }
 
@@ -39,6 +45,8 @@ pub(crate) enum Spelled {
     Int(u32),
     Long(u64),
     Words(&'static str),
+    Float(u32),
+    Double(u64),
 }
 
 /// A metric as a birth lists it: with this name, alias, datatype and value, null where it has none, and nothing else.
@@ -54,6 +62,15 @@ pub(crate) trait Registers {
         name: &str,
         datatype: u32,
         number: Option<i64>,
+    ) -> Result<Alias, DeviceFault>;
+
+    /// A metric with a first value.
+    fn first_of(
+        &mut self,
+        owner: Owner,
+        name: &str,
+        datatype: u32,
+        value: Option<Value>,
     ) -> Result<Alias, DeviceFault>;
 
     /// What `would_set` says before a value is set.
@@ -117,6 +134,8 @@ fn is_spelled(raw: &Option<Raw>, want: Option<Spelled>) -> bool {
         (Some(Raw::Int(number)), Some(Spelled::Int(want))) => *number == want,
         (Some(Raw::Long(number)), Some(Spelled::Long(want))) => *number == want,
         (Some(Raw::Words(text)), Some(Spelled::Words(want))) => text.as_str() == want,
+        (Some(Raw::Float(bits)), Some(Spelled::Float(want))) => *bits == want,
+        (Some(Raw::Double(bits)), Some(Spelled::Double(want))) => *bits == want,
         _ => false,
     }
 }
@@ -178,6 +197,16 @@ impl Registers for Registry {
             Err(DeviceFault::NoMemory) => self.add_metric(owner, name, datatype, signed(number)),
             answer => answer,
         }
+    }
+
+    fn first_of(
+        &mut self,
+        owner: Owner,
+        name: &str,
+        datatype: u32,
+        value: Option<Value>,
+    ) -> Result<Alias, DeviceFault> {
+        self.add_metric(owner, name, datatype, value)
     }
 
     fn would(&self, alias: Alias, value: &Option<Value>) -> Result<Outcome, Refusal> {
@@ -260,6 +289,8 @@ pub(crate) enum Row {
     Device(&'static str, Option<Refusal>),
     /// A metric's owner, name, datatype and signed value.
     Metric(Owner, &'static str, u32, Option<i64>, Result<Alias, Refusal>),
+    /// A metric's owner, name, datatype and first value.
+    First(Owner, &'static str, u32, Given, Result<Alias, Refusal>),
     /// A value that is set, as `would_set` says before.
     Set(Alias, Given, Result<Outcome, Refusal>),
     /// A device of this name is turned up or down.
@@ -292,6 +323,21 @@ pub(crate) fn added(want: Result<Alias, Refusal>) -> Result<Alias, DeviceFault> 
     match want {
         Ok(alias) => Ok(alias),
         Err(refusal) => Err(DeviceFault::Refused(refusal)),
+    }
+}
+
+/// Adds a metric with a first value. Where memory was refused the call is made again.
+fn add_first<T: Registers>(
+    rt: &(impl Abort + AllocGlobal),
+    registry: &mut T,
+    owner: Owner,
+    name: &str,
+    datatype: u32,
+    given: Given,
+) -> Result<Alias, DeviceFault> {
+    match registry.first_of(owner, name, datatype, value_of(rt, given)) {
+        Err(DeviceFault::NoMemory) => registry.first_of(owner, name, datatype, value_of(rt, given)),
+        answer => answer,
     }
 }
 
@@ -329,6 +375,9 @@ fn is_answered<T: Registers>(rt: &(impl Abort + AllocGlobal), registry: &mut T, 
         Row::Metric(owner, name, datatype, number, want) => {
             registry.metric_of(owner, name, datatype, number) == added(want)
         }
+        Row::First(owner, name, datatype, given, want) => {
+            add_first(rt, registry, owner, name, datatype, given) == added(want)
+        }
         Row::Set(alias, given, want) => is_set(registry, alias, value_of(rt, given), want),
         Row::Turn(name, up, want) => registry.turn(name, up) == want,
         row => is_seen(registry, row),
@@ -352,4 +401,11 @@ fn first_wrong<T: Registers>(
 /// Whether each call of a run, in turn on an empty registry, is answered so.
 pub(crate) fn is_run(rt: &(impl Abort + AllocGlobal), rows: &[Row]) -> bool {
     first_wrong(rt, &mut Registry::new(rt.alloc()), rows).is_none()
+}
+
+/// The same on an empty registry whose metrics may have the values of a choice.
+pub(crate) fn is_run_by(rt: &(impl Abort + AllocGlobal), values: Values, rows: &[Row]) -> bool {
+    let mut registry = Registry::with_values(rt.alloc(), values);
+    let is_chosen = registry.values() == values;
+    is_chosen && first_wrong(rt, &mut registry, rows).is_none()
 }

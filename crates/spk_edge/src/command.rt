@@ -13,7 +13,7 @@ use crate::config::EdgeConfig;
 use crate::message::Write;
 use spk_device::{Alias, Owner, Registry};
 use spk_edge_rules::EdgeFault;
-use spk_payload::{Metric, PayloadFault, Raw, Value, decode, typed};
+use spk_payload::{Metric, PayloadFault, Raw, Value, Values, decode_as, typed};
 use spk_topics::{Spark, TopicFault, Verb};
 use std::alloc::{AllocError, Global};
 
@@ -235,7 +235,7 @@ pub(crate) fn orders_of(
     let Some(target) = target_of(alloc, config, topic)? else {
         return Err(EdgeFault::BadCommand);
     };
-    match decode(alloc, payload) {
+    match decode_as(alloc, Values::All, payload) {
         Ok(payload) => orders_in(alloc, registry, &target, payload.metrics),
         Err(PayloadFault::NoMemory) => Err(EdgeFault::NoMemory),
         Err(_) => Err(EdgeFault::BadCommand),

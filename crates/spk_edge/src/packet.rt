@@ -2,7 +2,7 @@
 ghost use Rattle.std.specs.Prelude.{◌≡◌, ◌⊎◌, ◌∷◌, ◌+◌, ◌-◌, ◌*◌, ◌%◌, ◌^◌, ◌<◌, ◌≤◌, ◌++◌, length, min, None, Some, IfOk, IfErr, IfSome, OnOk, true, false, if◌then◌else◌};
 ghost use Rattle.std.specs.Option.{option_map};
 ghost use Rattle.std.specs.Str.{IsUtf8};
-ghost use Rattle.spk_protobuf.specs.Spelling.{bytes_field};
+ghost use Rattle.spk_protobuf.specs.Spelling.{bytes_field, varint};
 ghost use Rattle.spk_payload.specs.Meaning.{Other};
 ghost use Rattle.spk_payload.specs.Spelling as payload;
 ghost use Rattle.spk_payload.specs.View.{content_of};
@@ -69,6 +69,14 @@ fn put_octets(out: &mut Vec<u8>, bytes: &[u8]) -> Result<(), AllocError>
     put_bytes(out, 16, bytes)
 }
 
+/// A field of wire type 1 or 5: its tag and its bytes.
+fn put_fixed(out: &mut Vec<u8>, tag: u64, bytes: &[u8]) -> Result<(), AllocError>
+    ensures { OnOk result (out.new.items ≡ out.old.items ++ varint tag ++ bytes.now) }
+{
+    put_varint(out, tag)?;
+    out.extend_from_slice(bytes)
+}
+
 fn put_raw(out: &mut Vec<u8>, raw: &Raw) -> Result<(), AllocError>
     requires { content_of raw.now ≡ Other → ⊥ }
     ensures ok { OnOk result
@@ -81,6 +89,8 @@ fn put_raw(out: &mut Vec<u8>, raw: &Raw) -> Result<(), AllocError>
         Raw::Flag(flag) => put_field(out, 14 * 8, bit(*flag)),
         Raw::Words(text) => put_text(out, text.as_str()),
         Raw::Octets(bytes) => put_octets(out, bytes),
+        Raw::Float(bits) => put_fixed(out, 12 * 8 + 5, &bits.to_le_bytes()),
+        Raw::Double(bits) => put_fixed(out, 13 * 8 + 1, &bits.to_le_bytes()),
         Raw::Other => unreachable!(),
     }
 }
@@ -134,6 +144,8 @@ fn raw_size(raw: &Raw) -> usize
         Raw::Flag(flag) => field_size(14 * 8, bit(*flag)),
         Raw::Words(text) => bytes_size(15, text.as_bytes()),
         Raw::Octets(bytes) => bytes_size(16, bytes),
+        Raw::Float(_) => varint_size(12 * 8 + 5) + 4,
+        Raw::Double(_) => varint_size(13 * 8 + 1) + 8,
         Raw::Other => 0,
     }
 }

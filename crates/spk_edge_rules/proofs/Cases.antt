@@ -1,8 +1,9 @@
 -- Single definitions, each at the cases that tell it from a near one.
 use Rattle.std.proofs.Common.{◌≡◌, ℕ, ◌-◌, ◌^◌, Bool, true, false, List, [], ◌∷◌, map, Option, Some, None, Ok, Err, refl, pos, codes}
 use Rattle.spk_packets.specs.Message as packets
-use Rattle.spk_payload.specs.Meaning.{Content, Int, Flag, MetricData}
-use Rattle.spk_payload.specs.Typing.{Signed, Truth}
+use Rattle.spk_payload.specs.Meaning.{Content, Int, Flag, Float, Double, MetricData}
+use Rattle.spk_payload.specs.Typing.{Signed, Truth, Binary32, Binary64}
+use Rattle.spk_payload.specs.declared.values.Values.TheVariants as choice
 use Rattle.spk_device.specs.Book.{Book, GaugeData}
 use Rattle.spk_device.specs.declared.owner.Owner.TheVariants.{Node, Device}
 use Rattle.spk_sequence.specs.NodeRecord.{RunsOn}
@@ -38,6 +39,7 @@ abbrev small : Book
 small = record {
   devices = (record { name = codes "D"; up = false }) ∷ [];
   gauges = (record { owner = Node; name = codes "t"; datatype = 3; value = Some (Signed (pos 7)) }) ∷ gauge_u ∷ [];
+  values = choice.Whole;
 }
 
 abbrev d_up : Book
@@ -216,3 +218,17 @@ pub publishes : (input_of hosted 5 (packets.Publish false 1 false ncmd (Some 7) 
     × (input_of hosted 5 (packets.Publish false 0 true (codes "spBv1.0/STATE/I") None []) ≡ at_moment 5 (Command (codes "spBv1.0/STATE/I") []))
     × (input_of alone 5 (packets.Publish false 0 true state_h None []) ≡ at_moment 5 (Command state_h []))
 publishes = (refl, refl, refl, refl, refl)
+
+-- a Float and a Double of the node, 1 and 2: each is written from its own field alone, and no number takes either
+abbrev floats : Book
+floats = record {
+  devices = [];
+  gauges = (record { owner = Node; name = codes "f"; datatype = 9; value = None }) ∷ (record { owner = Node; name = codes "d"; datatype = 10; value = None }) ∷ [];
+  values = choice.All;
+}
+
+pub float_writings : (order_of floats ToNode (asks None (Some 1) (Some (Float 1069547520))) ≡ Some (Writing (record { alias = 1; value = Binary32 1069547520 })))
+    × (order_of floats ToNode (asks (Some (codes "d")) None (Some (Double 13835058055282163712))) ≡ Some (Writing (record { alias = 2; value = Binary64 13835058055282163712 })))
+    × (order_of floats ToNode (asks None (Some 1) (Some (Double 0))) ≡ None) × (order_of floats ToNode (asks None (Some 2) (Some (Float 0))) ≡ None)
+    × (order_of floats ToNode (asks None (Some 1) (Some (Int 1))) ≡ None) × (order_of small ToNode (asks None (Some 1) (Some (Float 0))) ≡ None)
+float_writings = (refl, refl, refl, refl, refl, refl)

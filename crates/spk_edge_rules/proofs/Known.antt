@@ -4,7 +4,7 @@ use Rattle.std.specs.Prelude.{◌==◌}
 use Rattle.std.specs.List.{AllByRecursion, enumerate_from, filter}
 use Rattle.std.specs.Option.{option_and_then, option_map_or}
 use Rattle.spk_payload.specs.Meaning.{Content, Int, Other, MetricData}
-use Rattle.spk_payload.specs.Typing.{Typed, Signed, Unsigned, Truth, Text, Bytes, written_of, int_of_signed, is_signed_below, bits_32, long_of_signed, int_of_unsigned, long_of_unsigned, flag_of, words_of, octets_of}
+use Rattle.spk_payload.specs.Typing.{Typed, Signed, Unsigned, Truth, Text, Bytes, Binary32, Binary64, written_of, int_of_signed, is_signed_below, bits_32, long_of_signed, int_of_unsigned, long_of_unsigned, flag_of, words_of, octets_of, float_written, double_written}
 use Rattle.spk_device.specs.Book.{Book, DeviceData, GaugeData, birth_of, gauge_at, number_of, owned}
 use Rattle.spk_device.specs.Step.{set_refusal, turn_refusal}
 use Rattle.spk_device.specs.declared.owner.Owner.{Owner}
@@ -40,6 +40,8 @@ int-known half (Unsigned n) = λ e. let x : ⊥ = cc in x
 int-known half (Truth b) = λ e. let x : ⊥ = cc in x
 int-known half (Text bytes) = λ e. let x : ⊥ = cc in x
 int-known half (Bytes bytes) = λ e. let x : ⊥ = cc in x
+int-known half (Binary32 n) = λ e. let x : ⊥ = cc in x
+int-known half (Binary64 n) = λ e. let x : ⊥ = cc in x
 
 long-known : (v : Typed) → IsKnown (long_of_signed v)
 long-known (Signed z) = λ e. let x : ⊥ = cc in x
@@ -47,6 +49,8 @@ long-known (Unsigned n) = λ e. let x : ⊥ = cc in x
 long-known (Truth b) = λ e. let x : ⊥ = cc in x
 long-known (Text bytes) = λ e. let x : ⊥ = cc in x
 long-known (Bytes bytes) = λ e. let x : ⊥ = cc in x
+long-known (Binary32 n) = λ e. let x : ⊥ = cc in x
+long-known (Binary64 n) = λ e. let x : ⊥ = cc in x
 
 unsigned-known : (limit : ℕ) (v : Typed) → IsKnown (int_of_unsigned limit v)
 unsigned-known limit (Signed z) = λ e. let x : ⊥ = cc in x
@@ -54,6 +58,8 @@ unsigned-known limit (Unsigned n) = by_if IsKnown _ (Some (Int n)) None (λ b. �
 unsigned-known limit (Truth b) = λ e. let x : ⊥ = cc in x
 unsigned-known limit (Text bytes) = λ e. let x : ⊥ = cc in x
 unsigned-known limit (Bytes bytes) = λ e. let x : ⊥ = cc in x
+unsigned-known limit (Binary32 n) = λ e. let x : ⊥ = cc in x
+unsigned-known limit (Binary64 n) = λ e. let x : ⊥ = cc in x
 
 long_unsigned-known : (v : Typed) → IsKnown (long_of_unsigned v)
 long_unsigned-known (Signed z) = λ e. let x : ⊥ = cc in x
@@ -61,6 +67,8 @@ long_unsigned-known (Unsigned n) = λ e. let x : ⊥ = cc in x
 long_unsigned-known (Truth b) = λ e. let x : ⊥ = cc in x
 long_unsigned-known (Text bytes) = λ e. let x : ⊥ = cc in x
 long_unsigned-known (Bytes bytes) = λ e. let x : ⊥ = cc in x
+long_unsigned-known (Binary32 n) = λ e. let x : ⊥ = cc in x
+long_unsigned-known (Binary64 n) = λ e. let x : ⊥ = cc in x
 
 flag-known : (v : Typed) → IsKnown (flag_of v)
 flag-known (Signed z) = λ e. let x : ⊥ = cc in x
@@ -68,6 +76,8 @@ flag-known (Unsigned n) = λ e. let x : ⊥ = cc in x
 flag-known (Truth b) = λ e. let x : ⊥ = cc in x
 flag-known (Text bytes) = λ e. let x : ⊥ = cc in x
 flag-known (Bytes bytes) = λ e. let x : ⊥ = cc in x
+flag-known (Binary32 n) = λ e. let x : ⊥ = cc in x
+flag-known (Binary64 n) = λ e. let x : ⊥ = cc in x
 
 words-known : (v : Typed) → IsKnown (words_of v)
 words-known (Signed z) = λ e. let x : ⊥ = cc in x
@@ -75,6 +85,8 @@ words-known (Unsigned n) = λ e. let x : ⊥ = cc in x
 words-known (Truth b) = λ e. let x : ⊥ = cc in x
 words-known (Text bytes) = λ e. let x : ⊥ = cc in x
 words-known (Bytes bytes) = λ e. let x : ⊥ = cc in x
+words-known (Binary32 n) = λ e. let x : ⊥ = cc in x
+words-known (Binary64 n) = λ e. let x : ⊥ = cc in x
 
 octets-known : (v : Typed) → IsKnown (octets_of v)
 octets-known (Signed z) = λ e. let x : ⊥ = cc in x
@@ -82,6 +94,26 @@ octets-known (Unsigned n) = λ e. let x : ⊥ = cc in x
 octets-known (Truth b) = λ e. let x : ⊥ = cc in x
 octets-known (Text bytes) = λ e. let x : ⊥ = cc in x
 octets-known (Bytes bytes) = λ e. let x : ⊥ = cc in x
+octets-known (Binary32 n) = λ e. let x : ⊥ = cc in x
+octets-known (Binary64 n) = λ e. let x : ⊥ = cc in x
+
+float-known : (v : Typed) → IsKnown (float_written v)
+float-known (Signed z) = λ e. let x : ⊥ = cc in x
+float-known (Unsigned n) = λ e. let x : ⊥ = cc in x
+float-known (Truth b) = λ e. let x : ⊥ = cc in x
+float-known (Text bytes) = λ e. let x : ⊥ = cc in x
+float-known (Bytes bytes) = λ e. let x : ⊥ = cc in x
+float-known (Binary32 n) = λ e. let x : ⊥ = cc in x
+float-known (Binary64 n) = λ e. let x : ⊥ = cc in x
+
+double-known : (v : Typed) → IsKnown (double_written v)
+double-known (Signed z) = λ e. let x : ⊥ = cc in x
+double-known (Unsigned n) = λ e. let x : ⊥ = cc in x
+double-known (Truth b) = λ e. let x : ⊥ = cc in x
+double-known (Text bytes) = λ e. let x : ⊥ = cc in x
+double-known (Bytes bytes) = λ e. let x : ⊥ = cc in x
+double-known (Binary32 n) = λ e. let x : ⊥ = cc in x
+double-known (Binary64 n) = λ e. let x : ⊥ = cc in x
 
 either-known : (b : Bool) (x y : Option Content) → IsKnown x → IsKnown y → IsKnown (cond b x y)
 either-known true x y p q = p
@@ -129,11 +161,23 @@ from_11 d v = cond (d == 11) (flag_of v) (from_12 d v)
 known-11 : (d : ℕ) (v : Typed) → IsKnown (from_11 d v)
 known-11 d v = either-known (d == 11) (flag_of v) (from_12 d v) (flag-known v) (known-12 d v)
 
+abbrev from_10 : ℕ → Typed → Option Content
+from_10 d v = cond (d == 10) (double_written v) (from_11 d v)
+
+known-10 : (d : ℕ) (v : Typed) → IsKnown (from_10 d v)
+known-10 d v = either-known (d == 10) (double_written v) (from_11 d v) (double-known v) (known-11 d v)
+
+abbrev from_9 : ℕ → Typed → Option Content
+from_9 d v = cond (d == 9) (float_written v) (from_10 d v)
+
+known-9 : (d : ℕ) (v : Typed) → IsKnown (from_9 d v)
+known-9 d v = either-known (d == 9) (float_written v) (from_10 d v) (float-known v) (known-10 d v)
+
 abbrev from_8 : ℕ → Typed → Option Content
-from_8 d v = cond (d == 8) (long_of_unsigned v) (from_11 d v)
+from_8 d v = cond (d == 8) (long_of_unsigned v) (from_9 d v)
 
 known-8 : (d : ℕ) (v : Typed) → IsKnown (from_8 d v)
-known-8 d v = either-known (d == 8) (long_of_unsigned v) (from_11 d v) (long_unsigned-known v) (known-11 d v)
+known-8 d v = either-known (d == 8) (long_of_unsigned v) (from_9 d v) (long_unsigned-known v) (known-9 d v)
 
 abbrev from_7 : ℕ → Typed → Option Content
 from_7 d v = cond (d == 7) (int_of_unsigned (2 ^ 32) v) (from_8 d v)

@@ -1,4 +1,5 @@
 mod Rows
+mod Whole
 mod Cases
 mod Chains
 mod Numbers

@@ -57,9 +57,9 @@ pub book-step : (s : Setup) (h : List Done) (now : ℕ) (ack : Option ℕ) (act 
 book-step s h now ack Open g = refl
 book-step s h now ack Accepted g = refl
 book-step s h now ack (Change alias value) g =
-    ap (λ (l : List GaugeData). let b : Book = record { devices = (book_of s h).devices; gauges = l } in b) (set-gauges h now ack g alias value 0 s.book.gauges)
+    ap (λ (l : List GaugeData). let b : Book = record { devices = (book_of s h).devices; gauges = l; values = s.book.values } in b) (set-gauges h now ack g alias value 0 s.book.gauges)
 book-step s h now ack (Turn name up) g =
-    ap (λ (l : List DeviceData). let b : Book = record { devices = l; gauges = (book_of s h).gauges } in b) (turn-devices h now ack g name up s.book.devices)
+    ap (λ (l : List DeviceData). let b : Book = record { devices = l; gauges = (book_of s h).gauges; values = s.book.values } in b) (turn-devices h now ack g name up s.book.devices)
 book-step s h now ack (Command topic payload) g = refl
 book-step s h now ack (State payload) g = refl
 book-step s h now ack Drain g = refl
@@ -177,8 +177,8 @@ gauges-first n (g ∷ gs) = ap (λ l. g ∷ l) (gauges-first (n + 1) gs)
 
 book-first : (s : Setup) → s.book ≡ book_of s []
 book-first s =
-    ap (λ (l : List DeviceData). let b : Book = record { devices = l; gauges = s.book.gauges } in b) (devices-first s.book.devices)
-    ∙ ap (λ (l : List GaugeData). let b : Book = record { devices = map (device_by []) s.book.devices; gauges = l } in b) (gauges-first 0 s.book.gauges)
+    ap (λ (l : List DeviceData). let b : Book = record { devices = l; gauges = s.book.gauges; values = s.book.values } in b) (devices-first s.book.devices)
+    ∙ ap (λ (l : List GaugeData). let b : Book = record { devices = map (device_by []) s.book.devices; gauges = l; values = s.book.values } in b) (gauges-first 0 s.book.gauges)
 
 heard-first : (b : Bool) → None ≡ (if b then greatest_of [] else None)
 heard-first true = refl

@@ -10,7 +10,8 @@ use Rattle.serde_json.proofs.OnLiterals.{serde_json_on_literals}
 use Rattle.spk_protobuf.specs.Spelling as wire
 use Rattle.spk_protobuf.specs.Reading as fields
 use Rattle.spk_payload.specs.Reading as reading
-use Rattle.spk_payload.specs.Typing.{Signed, Truth}
+use Rattle.spk_payload.specs.Typing.{Signed, Truth, Binary32, Binary64}
+use Rattle.spk_payload.specs.declared.values.Values.TheVariants as choice
 use Rattle.spk_device.specs.Book.{Book}
 use Rattle.spk_device.specs.declared.fault.Refusal.TheVariants.{WrongKind, NoSuch}
 use Rattle.spk_store.specs.Calls.{DropFront}
@@ -34,7 +35,7 @@ spelled_answer (Ok answer) = Ok (map packet.spelling answer.packets)
 spelled_answer (Err fault) = Err fault
 
 abbrev t_book : ℕ → Book
-t_book n = record { devices = []; gauges = (record { owner = Node; name = codes "t"; datatype = 3; value = Some (Signed (pos n)) }) ∷ [] }
+t_book n = record { devices = []; gauges = (record { owner = Node; name = codes "t"; datatype = 3; value = Some (Signed (pos n)) }) ∷ []; values = choice.Whole }
 
 abbrev at_moment : ℕ → Act → Input
 at_moment now act = record { now = now; ack = None; act = act }
@@ -195,6 +196,7 @@ with_device = record alone {
     devices = (record { name = codes "D"; up = false }) ∷ [];
     gauges = (record { owner = Node; name = codes "t"; datatype = 3; value = Some (Signed (pos 7)) })
         ∷ (record { owner = Device 0; name = codes "u"; datatype = 11; value = None }) ∷ [];
+    values = choice.Whole;
   };
 }
 
@@ -264,3 +266,23 @@ first_is_lost a = (refl, refl)
 -- the acknowledgement of a STATE stands before the death that it brings
 pub acknowledges_before_the_death : (c : Config) (a : Asked) → (acked (Some 7) (leaving c a)).plain ≡ PubAck 7 ∷ (leaving c a).plain
 acknowledges_before_the_death c a = refl
+
+-- ---- a Float `f` with the value 1.5, which is 0x3fc00000 (IEEE 754 binary32) and stands with the least significant byte first. Zero of
+-- the other sign is 0x80000000, and another value than 0.
+
+abbrev floating : Setup
+floating = record alone {
+  book = record {
+    devices = [];
+    gauges = (record { owner = Node; name = codes "f"; datatype = 9; value = Some (Binary32 1069547520) }) ∷ [];
+    values = choice.All;
+  };
+}
+
+pub float_is_born_and_told : Gives floating opened (at_moment 6 Accepted) (Ok ((130 ∷ 42 ∷ 0 ∷ 1 ∷ 0 ∷ 16 ∷ 115 ∷ 112 ∷ 66 ∷ 118 ∷ 49 ∷ 46 ∷ 48 ∷ 47 ∷ 71 ∷ 47 ∷ 78 ∷ 67 ∷ 77 ∷ 68 ∷ 47 ∷ 78 ∷ 1 ∷ 0 ∷ 18 ∷ 115 ∷ 112 ∷ 66 ∷ 118 ∷ 49 ∷ 46 ∷ 48 ∷ 47 ∷ 71 ∷ 47 ∷ 68 ∷ 67 ∷ 77 ∷ 68 ∷ 47 ∷ 78 ∷ 47 ∷ 43 ∷ 1 ∷ []) ∷ (48 ∷ 85 ∷ 0 ∷ 18 ∷ 115 ∷ 112 ∷ 66 ∷ 118 ∷ 49 ∷ 46 ∷ 48 ∷ 47 ∷ 71 ∷ 47 ∷ 78 ∷ 66 ∷ 73 ∷ 82 ∷ 84 ∷ 72 ∷ 47 ∷ 78 ∷ 8 ∷ 6 ∷ 18 ∷ 13 ∷ 10 ∷ 5 ∷ 98 ∷ 100 ∷ 83 ∷ 101 ∷ 113 ∷ 24 ∷ 6 ∷ 32 ∷ 4 ∷ 88 ∷ 0 ∷ 18 ∷ 28 ∷ 10 ∷ 20 ∷ 78 ∷ 111 ∷ 100 ∷ 101 ∷ 32 ∷ 67 ∷ 111 ∷ 110 ∷ 116 ∷ 114 ∷ 111 ∷ 108 ∷ 47 ∷ 82 ∷ 101 ∷ 98 ∷ 105 ∷ 114 ∷ 116 ∷ 104 ∷ 24 ∷ 6 ∷ 32 ∷ 11 ∷ 112 ∷ 0 ∷ 18 ∷ 14 ∷ 10 ∷ 1 ∷ 102 ∷ 16 ∷ 1 ∷ 24 ∷ 6 ∷ 32 ∷ 9 ∷ 101 ∷ 0 ∷ 0 ∷ 192 ∷ 63 ∷ 24 ∷ 0 ∷ []) ∷ []))
+    × Gives floating accepted (at_moment 7 (Change 1 (Some (Binary32 1069547520)))) (Ok [])
+    × Gives floating (at_moment 7 (Change 1 (Some (Binary32 0))) ∷ accepted) (at_moment 7 (Change 1 (Some (Binary32 0)))) (Ok [])
+    × Gives floating accepted (at_moment 7 (Change 1 (Some (Binary32 2147483648)))) (Ok ((48 ∷ 34 ∷ 0 ∷ 17 ∷ 115 ∷ 112 ∷ 66 ∷ 118 ∷ 49 ∷ 46 ∷ 48 ∷ 47 ∷ 71 ∷ 47 ∷ 78 ∷ 68 ∷ 65 ∷ 84 ∷ 65 ∷ 47 ∷ 78 ∷ 8 ∷ 7 ∷ 18 ∷ 9 ∷ 16 ∷ 1 ∷ 24 ∷ 7 ∷ 101 ∷ 0 ∷ 0 ∷ 0 ∷ 128 ∷ 24 ∷ 1 ∷ []) ∷ []))
+    × Gives floating accepted (at_moment 7 (Change 1 (Some (Binary64 0)))) (Err (fault.Device WrongKind))
+unfolding packet.spelling packet.body packet.shortest packet.has_bad_text packet.has_bad_body packet.is_qos_two payload.spelling payload.metric_spelling wire.varint wire.groups_of wire.bytes_field spelled_answer
+float_is_born_and_told = ((refl, refl), (refl, refl), (refl, refl), (refl, refl), (refl, refl))

@@ -4,7 +4,8 @@ use Rattle.std.specs.List.{filter_map, list_any}
 use Rattle.std.specs.Option.{option_map, option_map_or, option_and_then}
 use Rattle.std.specs.Str.{bytes_eq}
 use Rattle.spk_payload.specs.declared.fault.PayloadFault.{PayloadFault}
-use Rattle.spk_payload.specs.Meaning.{Content, Int, Long, Flag, Words, Octets, Other, MetricData, PayloadData}
+use Rattle.spk_payload.specs.declared.values.Values.TheVariants as choice
+use Rattle.spk_payload.specs.Meaning.{Content, Int, Long, Flag, Words, Octets, Float, Double, Other, MetricData, PayloadData}
 use Rattle.spk_payload.specs.Reading.{payload_at}
 use Rattle.spk_payload.specs.Typing.{typed_of}
 use Rattle.spk_device.specs.Book.{Book, GaugeData, alias_of, gauge_at, is_owner, number_of}
@@ -64,6 +65,8 @@ flag_in (Long n) = None
 flag_in (Flag b) = Some b
 flag_in (Words bytes) = None
 flag_in (Octets bytes) = None
+flag_in (Float n) = None
+flag_in (Double n) = None
 flag_in Other = None
 
 -- the alias that the metric names: its alias where it has one, else the alias of its name
@@ -102,9 +105,10 @@ abbrev pub orders_in : Book → Target → Result PayloadData PayloadFault → O
 orders_in b target (Ok p) = orders_of b target p.metrics
 orders_in b target (Err fault) = None
 
--- the orders of a command; nothing where it isn't one of this node or can't be done whole
+-- The orders of a command; nothing where it isn't one of this node or can't be done whole. Floats and doubles are read too: a
+-- metric of another datatype takes none.
 abbrev pub command_of : Config → Book → List ℕ → List ℕ → Option (List Order)
-command_of c b topic payload = option_and_then (λ target. orders_in b target (payload_at payload)) (target_of c topic)
+command_of c b topic payload = option_and_then (λ target. orders_in b target (payload_at choice.All payload)) (target_of c topic)
 
 -- ---- what they come to
 

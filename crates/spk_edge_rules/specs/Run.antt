@@ -120,6 +120,7 @@ abbrev pub book_of : Setup → List Done → Book
 book_of s h = record {
   devices = map (device_by h) s.book.devices;
   gauges = map (gauge_by h) (enumerate_from 0 s.book.gauges);
+  values = s.book.values;
 }
 
 -- what was done to the kept changes, newest first

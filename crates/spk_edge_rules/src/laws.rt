@@ -1,7 +1,10 @@
 //! Laws on lists of inputs: functions that do nothing, whose contracts speak of definitions alone.
-ghost use Rattle.std.specs.Prelude.{◌≡◌, ℕ, ◌-◌, ◌^◌, ◌<◌, ◌≤◌, List, [], ◌∷◌, ◌++◌, filter, length, map, min, slice_get, take, Some, None, Ok, Err, IsTrue, true, false};
+ghost use Rattle.std.specs.Prelude.{◌≡◌, ℕ, ◌-◌, ◌^◌, ◌<◌, ◌≤◌, List, [], ◌∷◌, ◌++◌, filter, length, map, min, slice_get, take, Some, None, Ok, Err, All, IsTrue, true, false};
 ghost use Rattle.std.specs.List.{AllByRecursion, list_any};
+ghost use Rattle.std.specs.Option.{option_and_then};
+ghost use Rattle.spk_payload.specs.declared.values.Values.TheVariants as choice;
 ghost use Rattle.spk_payload.specs.Meaning.{MeansPayload, PayloadData};
+ghost use Rattle.spk_payload.specs.Reading.{payload_at};
 ghost use Rattle.spk_payload.specs.Spelling.{spelling};
 ghost use Rattle.spk_packets.specs.Grammar.{Spells};
 ghost use Rattle.spk_packets.specs.Message as packets;
@@ -9,13 +12,15 @@ ghost use Rattle.spk_topics.specs.Spark.{has_names, topic_of};
 ghost use Rattle.spk_topics.specs.declared.spark.Verb.TheVariants.{Data};
 ghost use Rattle.spk_sequence.specs.NodeRecord as sequence;
 ghost use Rattle.spk_store.specs.Kept as kept;
-ghost use Rattle.spk_device.specs.Book.{DeviceData};
+ghost use Rattle.spk_device.specs.Book.{Book, DeviceData};
+ghost use Rattle.spk_device.specs.Values.{is_written};
 ghost use Rattle.spk_edge_rules.specs.declared.fault.EdgeFault.{EdgeFault};
 ghost use Rattle.spk_edge_rules.specs.declared.fault.EdgeFault.TheVariants.{TooLarge};
 ghost use Rattle.spk_edge_rules.specs.declared.phase.Phase.TheVariants.{Born};
 ghost use Rattle.spk_edge_rules.specs.Answers.{Answer};
 ghost use Rattle.spk_edge_rules.specs.Births.{later_stamp, owner_is_up};
 ghost use Rattle.spk_edge_rules.specs.Claims.{AreNumbered, AreWholeBirths, HasNames, IsAlive, IsUnreserved, IsWhole, Joined, ListsWhatIs, SaysSession, SaysSessionOnce, SendsLongest, TakesSome, is_disconnect, is_numbered, link_of, numbers_at, numbers_from, payload_in, topic_in};
+ghost use Rattle.spk_edge_rules.specs.Commands.{command_of, orders_in, target_of};
 ghost use Rattle.spk_edge_rules.specs.Config.{Config, Setup};
 ghost use Rattle.spk_edge_rules.specs.History.{can_go, front_run, history};
 ghost use Rattle.spk_edge_rules.specs.Inputs.{ChangeData, Drain, Input, Open, Stop};
@@ -214,10 +219,10 @@ pub fn messages()
     // its payload means these metrics, under that number and that stamp, and nothing else
     ensures means { (c : Config) (number : ℕ) (d : Draft) (bytes : List ℕ)
         → IsWhole bytes c number d
-        → MeansPayload (spelling (payload_of number d)) (payload_of number d) }
+        → MeansPayload choice.All (spelling (payload_of number d)) (payload_of number d) }
     ensures read { (c : Config) (number : ℕ) (d : Draft) (bytes : List ℕ) (p : packets.Message)
         (q : PayloadData) → IsWhole bytes c number d → Spells bytes p
-        → MeansPayload (payload_in p) q
+        → MeansPayload choice.All (payload_in p) q
         → (topic_in p ≡ topic_of (named_by c d))
         × (q.seq ≡ Some number) × (q.timestamp ≡ Some d.stamp) × (q.metrics ≡ d.metrics) }
 
@@ -229,8 +234,8 @@ pub fn messages()
 
     // whose will is an NDEATH of the node that means the bdSeq of that session, and nothing else
     ensures will { (c : Config) (bd time : ℕ) (q : PayloadData) → bd < 256 → time < 2 ^ 63
-        → MeansPayload (will_of c bd time).message (death_payload bd time)
-        × (MeansPayload (will_of c bd time).message q → q ≡ death_payload bd time) }
+        → MeansPayload choice.All (will_of c bd time).message (death_payload bd time)
+        × (MeansPayload choice.All (will_of c bd time).message q → q ≡ death_payload bd time) }
 
     // a Stop gives the NDEATH of the session that it ends, with that session's bdSeq, and DISCONNECT; and no DISCONNECT is
     // given in any other way
@@ -254,4 +259,16 @@ pub fn messages()
     spk_payload::laws::canonical();
     spk_packets::laws::prefix_free();
     spk_topics::laws::one_topic();
+}
+
+/// Of a node whose registry has whole values alone, as `spk_device::laws::from_any` says of one by `Values::Whole`.
+pub fn whole_values()
+    // what it does of a command is the same whether floats and doubles are read or not
+    ensures { (c : Config) (b : Book) (topic payload : List ℕ)
+        → All (λ g. is_written choice.Whole g.datatype ≡ true) b.gauges
+        → command_of c b topic payload
+        ≡ option_and_then (λ target. orders_in b target (payload_at choice.Whole payload))
+        (target_of c topic) }
+{
+    spk_payload::laws::choices();
 }

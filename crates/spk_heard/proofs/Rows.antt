@@ -2,6 +2,7 @@
 -- The one in between is waited for, and all three come out in their order.
 use Rattle.std.proofs.Common.{◌≡◌, ℕ, List, [], ◌∷◌, Some, None, refl, codes}
 use Rattle.std.proofs.lemmas.Bool.{eqb-false}
+use Rattle.spk_payload.specs.declared.values.Values.TheVariants as choice
 use Rattle.spk_payload.specs.Meaning.{MetricData, Int, Long}
 use Rattle.spk_topics.specs.declared.spark.Verb.TheVariants as verb
 use Rattle.spk_sequence.specs.declared.message.Kind.TheVariants.{Birth, Other}
@@ -27,7 +28,7 @@ row numbering = record {
   seq = 255;
   bd = 7;
   stamp = None;
-  book = record { devices = []; gauges = [] };
+  book = record { devices = []; gauges = []; values = choice.Whole };
 }
 
 abbrev metric : ℕ → ℕ → MetricData

@@ -1,6 +1,7 @@
 -- Lives that are worked out by hand: a node with a metric `t`, no primary host, and numbers that restart.
 use Rattle.std.proofs.Common.{◌≡◌, ℕ, List, [], ◌∷◌, Option, Some, None, refl, sym, pos, codes, inl, inr, arith, true≢false}
 use Rattle.spk_packets.specs.Spelling as packet
+use Rattle.spk_payload.specs.declared.values.Values.TheVariants as choice
 use Rattle.spk_payload.specs.Spelling as payload
 use Rattle.spk_payload.specs.Typing.{Signed}
 use Rattle.spk_protobuf.specs.Spelling as wire
@@ -22,7 +23,7 @@ node bd stamp = record {
   seq = 0;
   bd = bd;
   stamp = stamp;
-  book = record { devices = []; gauges = (record { owner = Node; name = codes "t"; datatype = 3; value = Some (Signed (pos 7)) }) ∷ [] };
+  book = record { devices = []; gauges = (record { owner = Node; name = codes "t"; datatype = 3; value = Some (Signed (pos 7)) }) ∷ []; values = choice.Whole };
 }
 
 abbrev says : ℕ → Act → Deed

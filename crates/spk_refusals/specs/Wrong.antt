@@ -4,6 +4,7 @@ use Rattle.std.specs.Option.{option_map_or}
 use Rattle.std.specs.declared.alloc.Global.{Global}
 use Rattle.spk_payload.specs.declared.fault.PayloadFault.{PayloadFault}
 use Rattle.spk_payload.specs.declared.payload.Payload.{Payload}
+use Rattle.spk_payload.specs.declared.values.Values.TheVariants as choice
 use Rattle.spk_payload.specs.Meaning.{MetricData, PayloadData, MeansPayload}
 use Rattle.spk_payload.specs.Spelling as payload
 use Rattle.spk_packets.specs.declared.fault.PacketFault.{PacketFault}
@@ -166,7 +167,7 @@ pub record IsTurned (turn : Turn) (before : Message) (after : List ℕ) : Type 0
   pub meant : PayloadData
   pub was : before ≡ Publish dup qos retain topic id text
   pub taken : is_taken turn topic ≡ true
-  pub means : MeansPayload text meant
+  pub means : MeansPayload choice.Whole text meant
   pub fits : payload.PayloadFits (turned turn meant)
   pub writable : first_of (packet.unwritable (Publish dup qos retain topic id (payload.spelling (turned turn meant)))) ≡ None
   pub is : after ≡ packet.spelling (Publish dup qos retain topic id (payload.spelling (turned turn meant)))

@@ -2,6 +2,7 @@
 ghost use Rattle.std.specs.Prelude.{◌≡◌, ◌⊎◌, Ok, Err, IfOk, IfErr, IsTrue};
 ghost use Rattle.spk_protobuf.specs.Reading.{items_of};
 ghost use Rattle.spk_payload.specs.declared.fault.PayloadFault.{PayloadFault};
+ghost use Rattle.spk_payload.specs.declared.values.Values.TheVariants as choice;
 ghost use Rattle.spk_payload.specs.Meaning.{PayloadData, MeansPayload};
 ghost use Rattle.spk_payload.specs.Faults.{IsPayloadFault};
 ghost use Rattle.spk_payload.specs.Reading as spec;
@@ -13,9 +14,10 @@ use std::alloc::Global;
 
 /// `spk_payload::decode`.
 pub fn decode(alloc: Global, bytes: &[u8]) -> Result<Payload, PayloadFault>
-    ensures reads { Gives payload_view result (spec.payload_at bytes.now) }
-    ensures found { IfOk result (λ p. MeansPayload bytes.now (payload_view p)) }
-    ensures only { (p : PayloadData) → MeansPayload bytes.now p → Gives payload_view result (Ok p) }
+    ensures reads { Gives payload_view result (spec.payload_at choice.Whole bytes.now) }
+    ensures found { IfOk result (λ p. MeansPayload choice.Whole bytes.now (payload_view p)) }
+    ensures only { (p : PayloadData) → MeansPayload choice.Whole bytes.now p
+        → Gives payload_view result (Ok p) }
     ensures fault { IfErr result (λ f. (f ≡ PayloadFault.NoMemory) ⊎ IsPayloadFault bytes.now f) }
     ensures only_fault { (f : PayloadFault) → IsPayloadFault bytes.now f
         → Gives payload_view result (Err f) }

@@ -7,6 +7,7 @@ use Rattle.std.proofs.lemmas.Bool.{true≢false}
 use Rattle.std.proofs.lemmas.Str.{IsUtf8-from_is_utf8}
 use Rattle.spk_protobuf.specs.Reading as fields
 use Rattle.spk_protobuf.specs.Spelling as wire
+use Rattle.spk_payload.specs.declared.values.Values.TheVariants as choice
 use Rattle.spk_payload.specs.Meaning.{Flag, Int, Long}
 use Rattle.spk_payload.specs.Reading as reading
 use Rattle.spk_payload.specs.Spelling as payload
@@ -39,7 +40,7 @@ row numbering = record {
   seq = 255;
   bd = 255;
   stamp = None;
-  book = record { devices = []; gauges = (record { owner = Node; name = codes "t"; datatype = 3; value = Some (Signed (pos 7)) }) ∷ [] };
+  book = record { devices = []; gauges = (record { owner = Node; name = codes "t"; datatype = 3; value = Some (Signed (pos 7)) }) ∷ []; values = choice.Whole };
 }
 
 abbrev at_moment : ℕ → Act → Input

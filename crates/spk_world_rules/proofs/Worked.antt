@@ -6,6 +6,7 @@ use Rattle.std.specs.Str.{is_utf8, chars}
 use lib.Utf8.{encode}
 use Rattle.spk_protobuf.specs.Reading as fields
 use Rattle.spk_protobuf.specs.Spelling as wire
+use Rattle.spk_payload.specs.declared.values.Values.TheVariants as choice
 use Rattle.spk_payload.specs.Reading as reading
 use Rattle.spk_payload.specs.Spelling as payload
 use Rattle.spk_payload.specs.Typing.{Signed}
@@ -36,7 +37,7 @@ world numbering = record {
     seq = 0;
     bd = 0;
     stamp = None;
-    book = record { devices = []; gauges = (record { owner = Node; name = codes "t"; datatype = 3; value = Some (Signed (pos 7)) }) ∷ [] };
+    book = record { devices = []; gauges = (record { owner = Node; name = codes "t"; datatype = 3; value = Some (Signed (pos 7)) }) ∷ []; values = choice.Whole };
   }) ∷ [];
   hosts = (record { wait = 2000; width = 64 }) ∷ [];
 }

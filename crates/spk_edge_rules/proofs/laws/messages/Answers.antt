@@ -1,4 +1,5 @@
 use Rattle.std.proofs.Common.{◌≡◌, sym, ap, subst, refl, []}
+use Rattle.spk_payload.specs.declared.values.Values.TheVariants as choice
 use Rattle.spk_payload.specs.Meaning.{MeansPayload, PayloadData}
 use Rattle.spk_packets.specs.Message as packets
 use Rattle.spk_edge_rules.specs.Claims.{payload_in, topic_in}
@@ -16,7 +17,7 @@ returns-clause-alone c = λ config number d bytes other x y p whole spelled same
 pub returns-clause-read : goal.returns-clause-read
 returns-clause-read c = λ config number d bytes p q whole spelled means.
     let found = c.prefix_free.ensures bytes bytes [] [] (wire config number d) p whole.spelled spelled refl in
-    let here = subst (λ (p : packets.Message). MeansPayload (payload_in p) q) (sym found.1) means in
+    let here = subst (λ (p : packets.Message). MeansPayload choice.All (payload_in p) q) (sym found.1) means in
     let same : q ≡ payload_of number d = c.canonical.ensures.only (payload_of number d) q whole.fits here in (
       ap topic_in (sym found.1),
       ap (λ (q : PayloadData). q.seq) same,

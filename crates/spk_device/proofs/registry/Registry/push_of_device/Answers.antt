@@ -31,7 +31,7 @@ enter_with-requires c =
     let there : slice_get c.self.inside.devices.items c.args.number ≡ Some c.index_mut-device.result.now =
     slice_get_read c.self.inside.devices.items (length c.self.inside.devices.items) c.args.number c.index_mut-device.result.now refl low c.index_mut-device.ensures.value in
     ap (number_in c.index_mut-device.result.now.metrics) c.requires.name
-    ∙ table-new c.self.inside.devices.items c.self.inside.gauges.items c.self.inside.numbers c.self.inside.own c.self.invariant
+    ∙ table-new c.self.inside.values c.self.inside.devices.items c.self.inside.gauges.items c.self.inside.numbers c.self.inside.own c.self.invariant
     c.args.number c.index_mut-device.result.now (string_bytes g.name) there
     (ap (λ o. place_of (book_of c.self.inside) o (string_bytes g.name)) (sym c.requires.owner) ∙ new.new)
 
@@ -50,9 +50,9 @@ invariant_of-self-2 c =
     let device : Device = record { name = c.index_mut-device.result.now.name; up = c.index_mut-device.result.now.up; metrics = c.enter_with.new.names } in
     let changed : device ≡ record old { metrics = old.metrics ++ (string_bytes g.name, length c.self.inside.gauges.items) ∷ [] } =
     ap (λ (m : List (List ℕ × ℕ)). record old { metrics = m }) names in
-    subst (λ gs. IsIndexedBy (set c.self.inside.devices.items c.args.number device) gs c.self.inside.numbers c.self.inside.own)
+    subst (λ gs. IsIndexedBy c.self.inside.values (set c.self.inside.devices.items c.args.number device) gs c.self.inside.numbers c.self.inside.own)
     (sym c.in_ok-enter_with.ensures.items)
-    (table-indexed c.self.inside.devices.items c.self.inside.gauges.items c.self.inside.numbers c.self.inside.own c.self.invariant
+    (table-indexed c.self.inside.values c.self.inside.devices.items c.self.inside.gauges.items c.self.inside.numbers c.self.inside.own c.self.invariant
     c.args.number old device g new c.requires.owner there changed)
 
 pub returns-clause-done : goal.returns-clause-done
@@ -70,6 +70,6 @@ returns-clause-done c =
     let device : Device = record { name = c.index_mut-device.result.now.name; up = c.index_mut-device.result.now.up; metrics = c.enter_with.new.names } in
     let changed : device ≡ record old { metrics = old.metrics ++ (string_bytes g.name, length c.self.inside.gauges.items) ∷ [] } =
     ap (λ (m : List (List ℕ × ℕ)). record old { metrics = m }) names in
-    table-book c.self.inside.devices.items c.self.inside.gauges.items c.self.inside.numbers c.self.inside.own c.self.invariant
+    table-book c.self.inside.values c.self.inside.devices.items c.self.inside.gauges.items c.self.inside.numbers c.self.inside.own c.self.invariant
     c.args.number old device g c.enter_with.new.items.items there changed c.in_ok-enter_with.ensures.items
     ∙ ap (λ b. step.with_metric b g.owner (string_bytes g.name) g.datatype (option_map typed_view g.value)) c.self.view_is

@@ -12,13 +12,13 @@ use Rattle.spk_device.proofs.registry.Registry.put.Goals as goal
 at_alias : (c : goal.After-self-1)
     → SetsAt (book_of c.self.inside) c.self.inside.gauges.items c.args.alias (option_map typed_view c.args.value) c.index_mut.result.now
 at_alias c =
-    sets-at c.self.inside.devices.items c.self.inside.gauges.items c.args.alias (option_map typed_view c.args.value) c.index_mut.result.now
+    sets-at c.self.inside.values c.self.inside.devices.items c.self.inside.gauges.items c.args.alias (option_map typed_view c.args.value) c.index_mut.result.now
     (ap (λ b. step.set_refusal b c.args.alias (option_map typed_view c.args.value)) c.self.view_is ∙ c.requires) c.index_mut.ensures.value
 
 pub invariant_of-self : goal.invariant_of-self
 invariant_of-self c =
     let known = at_alias c in
-    set-indexed c.self.inside.devices.items c.self.inside.gauges.items c.self.inside.numbers c.self.inside.own c.self.invariant
+    set-indexed c.self.inside.values c.self.inside.devices.items c.self.inside.gauges.items c.self.inside.numbers c.self.inside.own c.self.invariant
     (c.args.alias - 1) c.index_mut.result.now c.put.new.self (option_map typed_view c.args.value) known.there c.put.ensures.data known.kind
 
 pub returns-clause-change : goal.returns-clause-change
@@ -33,6 +33,6 @@ pub returns-clause-data : goal.returns-clause-data
 returns-clause-data c =
     let known = at_alias c in
     let v = option_map typed_view c.args.value in
-    set-book c.self.inside.devices.items c.self.inside.gauges.items c.self.inside.numbers c.self.inside.own c.self.invariant
+    set-book c.self.inside.values c.self.inside.devices.items c.self.inside.gauges.items c.self.inside.numbers c.self.inside.own c.self.invariant
     (c.args.alias - 1) c.args.alias c.index_mut.result.now c.put.new.self v known.first known.there c.put.ensures.data
     ∙ ap (λ b. step.with_value b c.args.alias v) c.self.view_is

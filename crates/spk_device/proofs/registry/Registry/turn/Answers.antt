@@ -32,7 +32,7 @@ pub invariant_of-self : goal.invariant_of-self
 invariant_of-self c =
     let found : number_of (book_of c.self.inside) c.args.name.now ≡ Some c.in-Some.number =
     ap (λ b. number_of b c.args.name.now) c.self.view_is ∙ sym c.in-Some.ensures in
-    turned-indexed c.self.inside.devices.items c.self.inside.gauges.items c.self.inside.numbers c.self.inside.own c.self.invariant
+    turned-indexed c.self.inside.values c.self.inside.devices.items c.self.inside.gauges.items c.self.inside.numbers c.self.inside.own c.self.invariant
     c.args.name.now c.args.up c.in-Some.number c.index_mut.result.now c.turn.new.self found (there c) c.turn.ensures.data
 
 pub returns-in-Some-clause-change : goal.returns-in-Some-clause-change
@@ -49,7 +49,7 @@ pub returns-in-Some-clause-done : goal.returns-in-Some-clause-done
 returns-in-Some-clause-done c =
     let found : number_of (book_of c.self.inside) c.args.name.now ≡ Some c.in-Some.number =
     ap (λ b. number_of b c.args.name.now) c.self.view_is ∙ sym c.in-Some.ensures in
-    ap (λ (l : List DeviceData). record { devices = l; gauges = map gauge_view c.self.inside.gauges.items })
-    (turned-devices c.self.inside.devices.items c.self.inside.gauges.items c.self.inside.numbers c.self.inside.own c.self.invariant
+    ap (λ (l : List DeviceData). record { devices = l; gauges = map gauge_view c.self.inside.gauges.items; values = c.self.inside.values })
+    (turned-devices c.self.inside.values c.self.inside.devices.items c.self.inside.gauges.items c.self.inside.numbers c.self.inside.own c.self.invariant
     c.args.name.now c.args.up c.in-Some.number c.index_mut.result.now c.turn.new.self found (there c) c.turn.ensures.data)
     ∙ ap (λ b. step.with_turn b c.args.name.now c.args.up) c.self.view_is
