@@ -194,7 +194,9 @@ fn show<'a>(alloc: Global) -> Result<Command<'a>, AllocError> {
     let values = Arg::new(alloc, "values")
         .long("values")
         .value_name("WHICH")
-        .help("Which values are read: whole numbers, truth values, texts and bytes alone, or all, floats and doubles as well")
+        .help(
+            "Which values are read: whole numbers, truth values, texts and bytes alone, or all, floats and doubles as well",
+        )
         .value_parser(["whole", "all"].as_slice())
         .default_value("whole")
         .action(ArgAction::Set);

@@ -116,11 +116,7 @@ fn is_there(setups: &[Setup], config: &EdgeConfig) -> bool {
 }
 
 /// The nodes of a file, 0 to 16, no two of one group and name, with these values.
-pub(crate) fn nodes_of(
-    alloc: Global,
-    part: Part<'_>,
-    values: Values,
-) -> Result<Vec<Setup>, Misfit>
+pub(crate) fn nodes_of(alloc: Global, part: Part<'_>, values: Values) -> Result<Vec<Setup>, Misfit>
     ensures { IfOk result (λ ns. length ns.items ≤ 16) }
 {
     let mut setups = Vec::new(alloc);

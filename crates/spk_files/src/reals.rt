@@ -7,6 +7,7 @@ use std::alloc::{AllocError, Global};
 
 /// The datatypes Float and Double (Sparkplug 3.0.0, 6.4.16).
 pub(crate) const FLOAT: u32 = 9;
+
 pub(crate) const DOUBLE: u32 = 10;
 
 /// The words for what is no finite number (own rule).
