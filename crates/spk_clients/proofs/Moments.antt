@@ -1,9 +1,9 @@
 -- The first moment of a table's clients, and whose has come: entry by entry.
-use Rattle.std.proofs.Common.{◌≡◌, ◌⊎◌, inl, inr, ℕ, suc, ◌≤◌, min, nat_eq, if◌then◌else◌, Bool, true, false, cond, List, [], ◌∷◌, All, Option, Some, None, refl, sym, ◌∙◌, subst, arith}
-use Rattle.std.specs.Option.{option_map_or, IfSome}
+use Rattle.std.proofs.Common.{◌≡◌, ◌⊎◌, inl, inr, ℕ, suc, ◌≤◌, min, nat_eq, if◌then◌else◌, Bool, true, false, cond, List, [], ◌∷◌, All, Option, Some, None, refl, sym, ◌∙◌, ap, subst, arith}
+use Rattle.std.specs.Option.{option_map_or, IfNone, IfSome}
 use Rattle.std.specs.Map.{lookup}
 use Rattle.spk_clients.specs.declared.client.Client.{Client}
-use Rattle.spk_clients.specs.Client.{has_moment, is_due, most_number}
+use Rattle.spk_clients.specs.Client.{has_moment, is_due, is_to_shut, most_number}
 use Rattle.spk_clients.specs.Data.{IsEarly, IsSoonest}
 
 abbrev pub Entry : Type 0
@@ -113,3 +113,52 @@ who_is_due clients now (x ∷ es) found k e =
     let P : Entry → Type 0 = λ (y : Entry). clients y.0 ≡ Some y.1 in
     is_due_at clients now (is_due now x.1) x (first_due now es) k refl (head_found P x es found) e
     (λ rest. who_is_due clients now es (tail_found P x es found) k rest)
+
+-- ---- the first whose moment has come, among those so far and the rest
+
+abbrev pub or_first : Option ℕ → Option ℕ → Option ℕ
+or_first None o = o
+or_first (Some k) o = Some k
+
+pub first_kept : (now : ℕ) (e : Entry) (es : List Entry) (first all : Option ℕ) → is_due now e.1 ≡ true → or_first first (first_due now (e ∷ es)) ≡ all
+    → or_first (Some (option_map_or (λ (k : ℕ). k) first e.0)) (first_due now es) ≡ all
+first_kept now e es None all is h = sym (ap (λ (b : Bool). if b then Some e.0 else first_due now es) is) ∙ h
+first_kept now e es (Some k) all is h = h
+
+pub first_passed : (now : ℕ) (e : Entry) (es : List Entry) (first all : Option ℕ) → is_due now e.1 ≡ false → or_first first (first_due now (e ∷ es)) ≡ all
+    → or_first first (first_due now es) ≡ all
+first_passed now e es None all is h = sym (ap (λ (b : Bool). if b then Some e.0 else first_due now es) is) ∙ h
+first_passed now e es (Some k) all is h = h
+
+pub first_is : (now : ℕ) (es : List Entry) (first all : Option ℕ) → es ≡ [] → or_first first (first_due now es) ≡ all → first ≡ all
+first_is now es first all none h = or_none first ∙ sym (ap (λ xs. or_first first (first_due now xs)) none) ∙ h
+  where
+    or_none : (o : Option ℕ) → o ≡ or_first o None
+    or_none None = refl
+    or_none (Some k) = refl
+
+pub first_none : (now : ℕ) (es : List Entry) (first : Option ℕ) → first ≡ first_due now es
+    → IfNone first ((k : ℕ) → option_map_or (is_due now) (lookup (nat_eq k) es) false ≡ false)
+first_none now es None h = none_is_due now es (sym h)
+first_none now es (Some k) h = tt
+
+pub first_some : (clients : ℕ → Option Client) (now : ℕ) (es : List Entry) (first : Option ℕ) → All (λ (e : Entry). clients e.0 ≡ Some e.1) es → first ≡ first_due now es
+    → IfSome first (λ k. option_map_or (is_due now) (clients k) false ≡ true)
+first_some clients now es None found h = tt
+first_some clients now es (Some k) found h = who_is_due clients now es found k (sym h)
+
+-- ---- whose socket is to be shut
+
+abbrev pub any_to_shut : List Entry → Bool
+any_to_shut [] = false
+any_to_shut (e ∷ es) = if is_to_shut e.1 then true else any_to_shut es
+
+shut_by : (b : Bool) (rest c : Bool) (d : Client) (o : Option Client) → is_to_shut d ≡ b → (if b then true else rest) ≡ false
+    → (rest ≡ false → option_map_or is_to_shut o false ≡ false) → option_map_or is_to_shut (cond c (Some d) o) false ≡ false
+shut_by true rest c d o is e later = cc
+shut_by false rest true d o is e later = is
+shut_by false rest false d o is e later = later e
+
+pub none_to_shut : (es : List Entry) → any_to_shut es ≡ false → (k : ℕ) → option_map_or is_to_shut (lookup (nat_eq k) es) false ≡ false
+none_to_shut [] e k = refl
+none_to_shut (x ∷ es) e k = shut_by (is_to_shut x.1) (any_to_shut es) (nat_eq k x.0) x.1 (lookup (nat_eq k) es) refl e (λ rest. none_to_shut es rest k)

@@ -153,6 +153,10 @@ is_shut Open = false
 is_shut Over = false
 is_shut Done = true
 
+-- the same of a client
+abbrev pub is_to_shut : Client → Bool
+is_to_shut c = is_shut c.phase
+
 -- why its end came, where its socket is to be shut
 abbrev pub cause_done : Client → Option Cause
 cause_done c = if is_shut c.phase then Some c.cause else None

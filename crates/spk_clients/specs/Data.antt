@@ -1,5 +1,5 @@
 -- The clients of a server, by the numbers of their connections (own rules).
-use Rattle.std.specs.Prelude.{◌≡◌, ◌≢◌, ◌<◌, ◌≤◌, ◌⊎◌, ℕ, nat_eq, true, false, List, [], Option, Some, None, Result, Contains}
+use Rattle.std.specs.Prelude.{◌≡◌, ◌≢◌, ◌<◌, ◌≤◌, ◌⊎◌, ℕ, nat_eq, Bool, true, false, List, [], Option, Some, None, Result, Contains}
 use Rattle.std.specs.Option.{option_map, option_map_or, IfSome}
 use Rattle.std.specs.HashMap.{get, hash_map_len, spare}
 use Rattle.spk_session.specs.declared.answer.Sort.{Sort}
@@ -12,7 +12,7 @@ use Rattle.spk_clients.specs.declared.clients.Clients.{Clients}
 use Rattle.spk_outbox.specs.Data.{waiting}
 use Rattle.spk_packets.specs.declared.packet.Packet.{Packet}
 use Rattle.spk_packets.specs.declared.fault.PacketFault.{PacketFault}
-use Rattle.spk_clients.specs.Client.{GivesFront, IsOffered, cause_done, has_moment, is_due, is_untold, most_number}
+use Rattle.spk_clients.specs.Client.{GivesFront, IsOffered, cause_done, has_moment, is_due, is_to_shut, is_untold, most_number}
 
 abbrev pub client_at : Clients → ℕ → Option Client
 client_at cs k = get nat_eq cs.table k
@@ -35,9 +35,21 @@ AreListed cs = (k : ℕ) → IfSome (client_at cs k) (λ c. is_untold c ≡ true
 abbrev pub IsEarly : ℕ → (ℕ → Option Client) → Type 0
 IsEarly moment clients = (k : ℕ) → IfSome (clients k) (λ c. has_moment c.phase ≡ true → moment ≤ c.until)
 
+-- it is named as one whose socket is to be shut; where a name was lost all clients are looked at
+abbrev pub IsNamed : Clients → ℕ → Type 0
+IsNamed cs k = cs.unnamed ≡ false → Contains cs.done.items k
+
+-- a client's socket is to be shut, and wasn't before, only where it is said to be new
+abbrev pub IsNewToShut : Option Client → Bool → Option Client → Type 0
+IsNewToShut old is_new new = option_map_or is_to_shut new false ≡ true → option_map_or is_to_shut old false ≡ false → is_new ≡ true
+
+-- whoever's socket is to be shut is named
+abbrev pub AreNamed : Clients → Type 0
+AreNamed cs = (k : ℕ) → IfSome (client_at cs k) (λ c. is_to_shut c ≡ true → IsNamed cs k)
+
 -- what is noted of all clients is so
 abbrev pub AreNoted : Clients → Type 0
-AreNoted cs = AreListed cs × IsEarly cs.soonest (client_at cs)
+AreNoted cs = AreListed cs × IsEarly cs.soonest (client_at cs) × AreNamed cs
 
 -- it is the moment of a client, or the greatest number
 abbrev pub IsMoment : ℕ → (ℕ → Option Client) → Type 0
@@ -50,6 +62,10 @@ IsSoonest clients moment = IsEarly moment clients × IsMoment moment clients
 -- no client's moment has come
 abbrev pub NobodyIsDue : ℕ → (ℕ → Option Client) → Type 0
 NobodyIsDue now clients = (k : ℕ) → option_map_or (is_due now) (clients k) false ≡ false
+
+-- no client's socket is to be shut
+abbrev pub NobodyIsToShut : (ℕ → Option Client) → Type 0
+NobodyIsToShut clients = (k : ℕ) → option_map_or is_to_shut (clients k) false ≡ false
 
 -- the table has room for one more client
 abbrev pub HasRoom : Clients → Type 0

@@ -4,7 +4,7 @@ ghost use Rattle.spk_packets.specs.Fault.{first_of, IsNamed};
 ghost use Rattle.spk_packets.specs.Refusals.{refusals};
 ghost use Rattle.spk_packets.specs.declared.fault.PacketFault.TheVariants as PacketFault;
 ghost use Rattle.spk_packets.specs.View.{view};
-ghost use Rattle.spk_clients.specs.Client.{GivesFront, IsOffered, after_hearing, cause_done, fresh_client, given_up, has_many, has_moment, has_some, is_done, is_due, is_leaving, is_numbered, is_over, is_untold, over_until, settled, settles, sort_untold, told};
+ghost use Rattle.spk_clients.specs.Client.{GivesFront, IsOffered, after_hearing, cause_done, fresh_client, given_up, has_many, has_moment, has_some, is_done, is_due, is_leaving, is_numbered, is_over, is_to_shut, is_untold, over_until, settled, settles, sort_untold, told};
 
 use crate::cause::Cause;
 use spk_bytes::Bytes;
@@ -224,6 +224,13 @@ impl Client {
             return true;
         }
         false
+    }
+
+    /// Whether its socket is to be shut.
+    pub fn is_to_shut(&self) -> bool
+        ensures { result ≡ is_to_shut self.now }
+    {
+        self.phase == Phase::Done
     }
 
     /// Why its end came, where its socket is to be shut.

@@ -21,6 +21,10 @@ pub struct Clients {
     pub(crate) untold: VecDeque<u64>,
     /// Whose socket is to be shut, each once.
     pub(crate) done: VecDeque<u64>,
+    /// Whether somebody whose socket is to be shut may not be named, since memory was refused.
+    pub(crate) unnamed: bool,
+    /// Whose moment had come when all were looked at last, but for the first of them.
+    pub(crate) due: VecDeque<u64>,
     /// No client's moment comes before.
     pub(crate) soonest: u64,
 }
@@ -43,6 +47,8 @@ impl Clients {
             touched: VecDeque::new(alloc),
             untold: VecDeque::new(alloc),
             done: VecDeque::new(alloc),
+            unnamed: false,
+            due: VecDeque::new(alloc),
             soonest: u64::MAX,
         }
     }
@@ -72,6 +78,7 @@ impl Clients {
         self.touched.reserve(count)?;
         self.untold.reserve(count)?;
         self.done.reserve(count)?;
+        self.due.reserve(count)?;
         self.table.reserve(1)?;
         Ok(())
     }
@@ -94,8 +101,10 @@ impl Clients {
         ensures untold { self.new.untold.items ≡ self.old.untold.items }
     {
         let until = client.until;
+        let is_to_shut = client.is_to_shut();
         self.table.insert(conn, client)?;
         self.soonest = self.soonest.min(until);
+        self.unnamed |= is_to_shut;
         Ok(())
     }
 }

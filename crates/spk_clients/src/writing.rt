@@ -4,7 +4,7 @@ ghost use Rattle.std.specs.Option.{option_map, option_map_or};
 ghost use Rattle.std.specs.HashMap.{get};
 ghost use Rattle.spk_outbox.specs.Data.{waiting, rest_of_first};
 ghost use Rattle.spk_clients.specs.Client.{cut_off, untouched, written_to};
-ghost use Rattle.spk_clients.specs.Data.{AreNoted, Becomes, client_at, waiting_at};
+ghost use Rattle.spk_clients.specs.Data.{AreNoted, Becomes, IsNewToShut, client_at, waiting_at};
 
 use crate::client::Client;
 use crate::clients::Clients;
@@ -14,6 +14,7 @@ use std::collections::HashMap;
 /// So many bytes were written to a client. Whether its socket is to be shut from now on.
 fn write_at(table: &mut HashMap<u64, Client>, conn: u64, count: usize) -> bool
     ensures here { get nat_eq table.new conn ≡ option_map (written_to count) (get nat_eq table.old conn) }
+    ensures new { IsNewToShut (get nat_eq table.old conn) result (get nat_eq table.new conn) }
     ensures others { (k : ℕ) → k ≢ conn → get nat_eq table.new k ≡ get nat_eq table.old k }
 {
     match table.get_mut(&conn) {
@@ -28,6 +29,7 @@ fn write_at(table: &mut HashMap<u64, Client>, conn: u64, count: usize) -> bool
 /// A client's socket takes no more. Whether it is to be shut from now on.
 fn cut_at(table: &mut HashMap<u64, Client>, conn: u64) -> bool
     ensures here { get nat_eq table.new conn ≡ option_map cut_off (get nat_eq table.old conn) }
+    ensures new { IsNewToShut (get nat_eq table.old conn) result (get nat_eq table.new conn) }
     ensures others { (k : ℕ) → k ≢ conn → get nat_eq table.new k ≡ get nat_eq table.old k }
 {
     match table.get_mut(&conn) {
@@ -95,7 +97,7 @@ impl Clients {
         ensures untold { self.new.untold.items ≡ self.old.untold.items }
     {
         if write_at(&mut self.table, conn, count) {
-            self.done.push_back(conn)?;
+            self.name(conn)?;
         }
         Ok(())
     }
@@ -107,7 +109,7 @@ impl Clients {
         ensures untold { self.new.untold.items ≡ self.old.untold.items }
     {
         if cut_at(&mut self.table, conn) {
-            self.done.push_back(conn)?;
+            self.name(conn)?;
         }
         Ok(())
     }

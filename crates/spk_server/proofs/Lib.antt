@@ -1,5 +1,6 @@
 pub mod Allowed
 pub mod Causes
+pub mod Closing
 pub mod Counted
 pub mod Due
 pub mod Ends

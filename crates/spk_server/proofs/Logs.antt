@@ -56,7 +56,7 @@ done_log (Wrote conn count) r m rest d = (deed.Wrote conn count ∷ [], refl, (r
 done_log (Cut conn) r m rest d = (deed.Blocked conn ∷ [], refl, (refl, rest, sym d))
 done_log (NextToWrite None) r m rest d = ([], refl, sym d)
 done_log (NextToWrite (Some conn)) r m rest d = (deed.Named conn ∷ [], refl, (refl, rest, sym d))
-done_log (NextToShut None) r m rest d = ([], refl, sym d)
+done_log (NextToShut None) r m rest d = ([], refl, sym d.0)
 done_log (NextToShut (Some shut)) r m rest d = (deed.Forgot shut.0 ∷ [], refl, (refl, (rest, (d.0.0, d.0.1, d.0.2.0)), sym d.1))
 
 pub calls_log : (cs : List Call) (r s : Room) → IsRested r → AreDone r cs s → (log : List Deed) × LogOf cs log × IsRun any_deed r log s

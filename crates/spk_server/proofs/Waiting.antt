@@ -1,7 +1,6 @@
 -- Whoever waits for another stands among those who are looked at.
-use Rattle.std.proofs.Common.{◌≡◌, inl, inr, ℕ, ◌-◌, ◌==◌, nat_eq, if◌then◌else◌, Bool, true, false, ◌||◌, List, [], ◌∷◌, ◌++◌, Option, Some, None, is_some, refl, sym, ◌∙◌, ap, subst}
+use Rattle.std.proofs.Common.{◌≡◌, inl, inr, ℕ, ◌-◌, ◌==◌, if◌then◌else◌, Bool, true, false, ◌||◌, List, [], ◌∷◌, ◌++◌, Option, Some, None, is_some, refl, sym, ◌∙◌, ap, subst}
 use Rattle.std.proofs.lemmas.Bool.{eq-eqb, eqb-true, ne_eqb, or_cases, or_left, or_right}
-use Rattle.std.specs.List.{list_any}
 use Rattle.std.specs.Option.{option_map, option_map_or}
 use Rattle.spk_session.specs.declared.answer.Sort.{Sort}
 use Rattle.spk_session.specs.declared.answer.Sort.TheVariants as sort
@@ -15,10 +14,10 @@ use Rattle.spk_outbox.specs.Step.{written}
 use Rattle.spk_broker_rules.specs.Plan.{Event}
 use Rattle.spk_broker_rules.specs.Plan as event
 use Rattle.spk_broker.specs.Sent.{Sent}
-use Rattle.spk_server.specs.Data.{Deed, InHand, Offer, Room, Slow, Timed, Joined, Fed, Skipped, Took, Came, Broke, Left, Ticked, Handed, Shut, Told, Cut, Tried, Waited, Freed, Dropped, Wrote, Blocked, Named, Forgot}
+use Rattle.spk_server.specs.Data.{Deed, InHand, Room, Slow, Timed, Joined, Fed, Skipped, Took, Came, Broke, Left, Ticked, Handed, Shut, Told, Cut, Tried, Waited, Freed, Dropped, Wrote, Blocked, Named, Forgot}
 use Rattle.spk_server.specs.Step.{after, awaits, behind, called_on, came, cause_why, change, changed, freed_from, grace, is_among, is_slow, later, offered, placed, quiet, set_free, slow_of, tried, tried_at}
 use Rattle.spk_server.specs.Log.{IsRun, May}
-use Rattle.spk_server.proofs.Lives.{called_keeps, came_keeps, either, pick}
+use Rattle.spk_server.proofs.Lives.{called_keeps, came_keeps, either}
 use Rattle.spk_server.proofs.Looking.{called_held, came_held, freed_held}
 
 -- each who waits is among these

@@ -1,5 +1,5 @@
 -- The calls of a server (own rules): what each did, as a run of deeds, and lists of calls.
-use Rattle.std.specs.Prelude.{◌≡◌, ◌⊎◌, ℕ, ◌+◌, ◌<◌, true, false, List, [], ◌∷◌, ◌++◌, Option, Some, None}
+use Rattle.std.specs.Prelude.{◌≡◌, ◌⊎◌, ℕ, ◌+◌, ◌<◌, nat_lt, Bool, true, false, List, [], ◌∷◌, ◌++◌, Option, Some, None}
 use Rattle.std.specs.List.{list_all}
 use Rattle.spk_packets.specs.Fault.{first_of}
 use Rattle.spk_packets.specs.Refusals.{refusals}
@@ -10,7 +10,7 @@ use Rattle.spk_clients.specs.declared.cause.Cause.{Cause}
 use Rattle.spk_clients.specs.declared.client.Client.{Client}
 use Rattle.spk_clients.specs.declared.client.Phase.TheVariants.{Done}
 use Rattle.spk_clients.specs.Client.{is_over}
-use Rattle.spk_clients.specs.Data.{NobodyIsDue}
+use Rattle.spk_clients.specs.Data.{NobodyIsDue, NobodyIsToShut}
 use Rattle.spk_server.specs.Data.{Deed, Room, Want}
 use Rattle.spk_server.specs.Data as deed
 use Rattle.spk_server.specs.Step.{after, second}
@@ -69,6 +69,10 @@ pub record WasEnded (conn : ℕ) (r s : Room) : Type 0 where
 abbrev pub IsTold : Room → Type 0
 IsTold r = r.now < r.ticked + second
 
+-- the same, as an answer
+abbrev pub is_told : Room → Bool
+is_told r = nat_lt r.now (r.ticked + second)
+
 abbrev pub IsDone : Call → Room → Room → Type 0
 IsDone (Accepted conn now) r s =
     (is_full r.broker ≡ false) × (conn ≡ r.broker.given + 1) × (s ≡ after (deed.Joined conn) (timed now r))
@@ -82,7 +86,7 @@ IsDone (Wrote conn count) r s = s ≡ after (deed.Wrote conn count) r
 IsDone (Cut conn) r s = s ≡ after (deed.Blocked conn) r
 IsDone (NextToWrite None) r s = s ≡ r
 IsDone (NextToWrite (Some conn)) r s = s ≡ after (deed.Named conn) r
-IsDone (NextToShut None) r s = s ≡ r
+IsDone (NextToShut None) r s = (s ≡ r) × NobodyIsToShut r.clients
 IsDone (NextToShut (Some shut)) r s = HasClient (λ c. (c.phase ≡ Done) × (c.cause ≡ shut.1)) shut.0 r × (s ≡ after (deed.Forgot shut.0) r)
 
 -- a new server
@@ -104,6 +108,11 @@ fresh_room = record {
 abbrev pub AreDone : Room → List Call → Room → Type 0
 AreDone r [] s = r ≡ s
 AreDone r (c ∷ cs) s = (m : Room) × IsDone c r m × IsRested m × AreDone m cs s
+
+-- these are shut, by one call after the other, until nobody is to be shut
+abbrev pub shut_calls : List (ℕ × Cause) → List Call
+shut_calls [] = NextToShut None ∷ []
+shut_calls (x ∷ xs) = NextToShut (Some x) ∷ shut_calls xs
 
 -- ---- the deeds of a call
 

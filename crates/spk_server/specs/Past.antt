@@ -120,7 +120,7 @@ abbrev pub drops : Deed → Bool
 drops (Handed o Refused) = true
 drops _ = false
 
--- a publisher is made to wait for another client
+-- a publisher is made to wait for a client, itself among these
 abbrev pub stalls_at : Room → Deed → Bool
 stalls_at r Tried = option_map_or (λ s. is_slow s r) r.slow false
 stalls_at r _ = false

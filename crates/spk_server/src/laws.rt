@@ -1,6 +1,6 @@
 //! What holds of each list of calls, and of each run of deeds.
 
-ghost use Rattle.std.specs.Prelude.{◌≡◌, ◌<◌, ◌++◌, [], List, Some, ℕ, min, not, true, false};
+ghost use Rattle.std.specs.Prelude.{◌≡◌, ◌<◌, ◌≤◌, ◌++◌, [], List, Some, None, ℕ, min, not, true, false, Contains};
 ghost use Rattle.std.specs.List.{list_all};
 ghost use Rattle.std.specs.Option.{IfSome};
 ghost use Rattle.spk_packets.specs.Message.{Message};
@@ -8,16 +8,16 @@ ghost use Rattle.spk_packets.specs.Stream as stream;
 ghost use Rattle.spk_outbox.specs.Calls as outbox;
 ghost use Rattle.spk_outbox.specs.Data.{fresh_outbox, waiting};
 ghost use Rattle.spk_clients.specs.declared.cause.Cause.{Cause};
-ghost use Rattle.spk_clients.specs.Client.{most_number};
-ghost use Rattle.spk_clients.specs.Data.{IsSettled};
+ghost use Rattle.spk_clients.specs.Client.{is_done, is_over, most_number};
+ghost use Rattle.spk_clients.specs.Data.{IsSettled, NobodyIsDue};
 ghost use Rattle.spk_clients.specs.declared.client.Client.{Client};
 ghost use Rattle.spk_server.specs.declared.server.Server.{Server};
 ghost use Rattle.spk_server.specs.Data.{Deed, Room};
-ghost use Rattle.spk_server.specs.Calls.{AreDone, Call, LogOf, fresh_room};
+ghost use Rattle.spk_server.specs.Calls.{AreDone, Call, LogOf, fresh_room, shut_calls};
 ghost use Rattle.spk_server.specs.Log.{IsRested, IsRun, any_deed, is_open};
 ghost use Rattle.spk_server.specs.Past.{IsEndedBy, drops, handed_of, hears, hears_publish, how_many, joins, outbox_of, sends_from, sends_publish, stalls_from, stream_of};
 ghost use Rattle.spk_server.specs.Rooms.{IsCalm, due_of, room_of};
-ghost use Rattle.spk_server.specs.Step.{awaits, is_among};
+ghost use Rattle.spk_server.specs.Step.{awaits, grace, is_among, later};
 
 /// Whatever calls were done, one after the other, from a new server on: there is one run of deeds that is all that they did, call by
 /// call, and it leads to what the server holds.
@@ -78,6 +78,21 @@ pub fn first_cause_stays()
     ensures { (log : List Deed) (r s : Room) (k : ℕ) (why : Cause) → IsRun any_deed r log s
         → list_all (λ d. not (joins k d)) log ≡ true
         → IfSome (r.clients k) (IsEndedBy why) → IfSome (s.clients k) (IsEndedBy why) }
+{}
+
+/// A client whose end came is shut by the next calls of `next_to_shut`, until it answers None: it is among the answers, with the cause of
+/// its end, and isn't here any more. So it is once nothing waits for it or its socket takes no more; and where its end had come five
+/// seconds ago and `moment` was called, so that nobody's moment has come, whatever waits.
+pub fn who_is_closed_is_shut()
+    ensures done { (log : List Deed) (r s : Room) (k : ℕ) (c : Client) (shut : List (ℕ × Cause))
+        → IsRun any_deed fresh_room log r → r.clients k ≡ Some c → is_over c ≡ true → is_done c ≡ true
+        → AreDone r (shut_calls shut) s → Contains shut (k, c.cause) × (s.clients k ≡ None) }
+    ensures late { (before behind : List Deed) (q r s : Room) (k : ℕ) (c : Client)
+        (shut : List (ℕ × Cause)) → IsRun any_deed fresh_room before q
+        → IfSome (q.clients k) (λ b. is_over b ≡ true) → IsRun any_deed q behind r
+        → list_all (λ d. not (joins k d)) behind ≡ true → r.clients k ≡ Some c
+        → NobodyIsDue r.now r.clients → later grace q.now ≤ r.now
+        → AreDone r (shut_calls shut) s → Contains shut (k, c.cause) × (s.clients k ≡ None) }
 {}
 
 /// Before the moment that `due` says nothing is to be done: nobody's moment has come, whoever waits for another waits still, and the

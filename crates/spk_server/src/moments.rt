@@ -1,11 +1,11 @@
 //! What time brings.
-ghost use Rattle.std.specs.Prelude.{◌≡◌, [], Option, OnOk, Ok, false, true};
+ghost use Rattle.std.specs.Prelude.{◌≡◌, [], Option, IfOk, IfNone, IfSome, OnOk, Ok, false, true};
 ghost use Rattle.spk_clients.specs.Client.{is_due};
 ghost use Rattle.spk_clients.specs.Data.{IsSettled, NobodyIsDue, client_at};
 ghost use Rattle.std.specs.Option.{option_map_or};
 ghost use Rattle.spk_server.specs.Step.{is_quiet};
 ghost use Rattle.spk_server.specs.Data.{Slow};
-ghost use Rattle.spk_server.specs.Calls.{IsDone, IsTold};
+ghost use Rattle.spk_server.specs.Calls.{IsDone, IsTold, is_told};
 ghost use Rattle.spk_server.specs.Calls as call;
 ghost use Rattle.spk_server.specs.Log.{HasClient, Reaches, calls, follows};
 ghost use Rattle.spk_server.specs.Rooms.{amid, due_of, room_of};
@@ -63,7 +63,7 @@ impl Server {
         Ok(())
     }
 
-    /// Calls those whose moment has come, until nobody's has.
+    /// Calls those whose moment has come, until nobody's has. All are looked at once to name them, and once behind the last of them.
     fn call_all(&mut self) -> Result<(), ServerFault>
         ensures calls { OnOk result (IsSettled self.old.clients
             → Reaches calls (room_of self.old) (room_of self.new)) }
@@ -87,15 +87,24 @@ impl Server {
         self.clients.note_soonest();
     }
 
-    /// Calls the next one whose moment has come. Whether there was one: where there is none, nothing changes.
+    /// The next one whose moment has come.
+    fn next_due(&mut self) -> Option<Conn>
+        ensures due { IfSome result (λ k. HasClient (λ c. is_due self.new.now c ≡ true) k (room_of self.new)) }
+        ensures none { IfNone result (NobodyIsDue self.new.now (client_at self.new.clients)) }
+        ensures same { room_of self.new ≡ room_of self.old }
+        ensures settled { IsSettled self.old.clients → IsSettled self.new.clients }
+    {
+        self.clients.next_due(self.now)
+    }
+
+    /// Calls the next one whose moment has come. Whether there was one: where there is none, nobody is called.
     fn call_next(&mut self) -> Result<bool, ServerFault>
         ensures calls { OnOk result (IsSettled self.old.clients
             → Reaches calls (room_of self.old) (room_of self.new)) }
-        ensures none { result ≡ Ok false
-            → (self.new ≡ self.old) × NobodyIsDue self.old.now (client_at self.old.clients) }
+        ensures none { result ≡ Ok false → NobodyIsDue self.new.now (client_at self.new.clients) }
         ensures settled { OnOk result (IsSettled self.old.clients → IsSettled self.new.clients) }
     {
-        let Some(conn) = self.clients.next_due(self.now) else {
+        let Some(conn) = self.next_due() else {
             return Ok(false);
         };
         self.call(conn)?;
@@ -117,32 +126,39 @@ impl Server {
         Ok(())
     }
 
-    /// Tells the broker of the time, once a second. Whether it knows it.
-    fn tick_due(&mut self) -> Result<bool, ServerFault>
+    /// Tells the broker of the time, once a second.
+    fn tick_due(&mut self) -> Result<(), ServerFault>
         ensures calls { OnOk result (IsSettled self.old.clients
             → Reaches calls (room_of self.old) (room_of self.new)) }
-        ensures told { result ≡ Ok true → IsSettled self.old.clients → IsTold (room_of self.new) }
         ensures settled { OnOk result (IsSettled self.old.clients → IsSettled self.new.clients) }
     {
-        if self.now < self.ticked.saturating_add(TICK) {
-            return Ok(true);
+        if self.is_told() {
+            return Ok(());
         }
-        let told = self.tick()?;
-        Ok(told)
+        self.tick()?;
+        Ok(())
     }
 
-    /// Time has passed: it is to be called when `due` says, and may be called at any time. Behind it nobody's moment has come. Whether
-    /// the broker was told of the time within the last second: where memory was refused it is told at the next call.
+    /// Whether the broker was told of the time within the last second.
+    fn is_told(&self) -> bool
+        ensures { result ≡ is_told (room_of self.entry.now) }
+    {
+        self.now.saturating_sub(self.ticked) < TICK
+    }
+
+    /// Time has passed: it is to be called when `due` says, and may be called at any time. Behind it nobody's moment has come. Exactly
+    /// whether the broker was told of the time within the last second: where memory was refused it is told at the next call.
     pub fn moment(&mut self, now: u64) -> Result<bool, ServerFault>
         ensures done { OnOk result (IsSettled self.old.clients
             → IsDone (call.Moment now) (room_of self.old) (room_of self.new)) }
         ensures told { result ≡ Ok true → IsSettled self.old.clients → IsTold (room_of self.new) }
+        ensures exact { IfOk result (λ told. told ≡ is_told (room_of self.new)) }
         ensures settled { OnOk result (IsSettled self.old.clients → IsSettled self.new.clients) }
     {
         self.at(now);
-        let told = self.tick_due()?;
+        self.tick_due()?;
         self.call_due()?;
-        Ok(told)
+        Ok(self.is_told())
     }
 
     /// When `moment` and `go_on` are to be called next, if no socket does anything: a second behind the last tick, or at the first

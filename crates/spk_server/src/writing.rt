@@ -1,6 +1,6 @@
 //! What is to be written, and whose sockets are to be shut.
 
-ghost use Rattle.std.specs.Prelude.{◌≡◌, ◌++◌, ◌∷◌, [], ◌-◌, OnOk, length, take, IfSome, IfNone};
+ghost use Rattle.std.specs.Prelude.{◌≡◌, ◌++◌, ◌∷◌, [], ◌-◌, OnOk, length, take, IfSome, IfNone, Some};
 ghost use Rattle.spk_outbox.specs.Data.{rest_of_first};
 ghost use Rattle.spk_clients.specs.Data.{IsSettled, client_at, waiting_at};
 ghost use Rattle.spk_server.specs.Calls.{IsDone};
@@ -62,9 +62,13 @@ impl Server {
         Ok(())
     }
 
-    /// The next client whose socket is to be shut, and why its end came. It is forgotten.
+    /// The next client whose socket is to be shut, and why its end came. It is forgotten. None exactly where no client's is.
     pub fn next_to_shut(&mut self) -> Option<(Conn, Cause)>
-        ensures done { IsDone (call.NextToShut result) (room_of self.old) (room_of self.new) }
+        ensures done { IsSettled self.old.clients
+            → IsDone (call.NextToShut result) (room_of self.old) (room_of self.new) }
+        ensures some { IfSome result
+            (λ shut. IsDone (call.NextToShut (Some shut)) (room_of self.old) (room_of self.new)) }
+        ensures none { IfNone result (room_of self.new ≡ room_of self.old) }
         ensures settled { IsSettled self.old.clients → IsSettled self.new.clients }
     {
         self.clients.next_to_shut()

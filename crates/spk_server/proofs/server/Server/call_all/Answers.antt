@@ -1,6 +1,4 @@
-use Rattle.std.proofs.Common.{Ok, ap, sym, subst}
-use Rattle.spk_clients.specs.Data.{NobodyIsDue, client_at}
-use Rattle.spk_server.specs.declared.server.Server.{Server}
+use Rattle.std.proofs.Common.{Ok, ap, sym}
 use Rattle.spk_server.specs.Log.{calls}
 use Rattle.spk_server.specs.Rooms.{room_of}
 use Rattle.spk_server.proofs.Runs.{and_then, at_end, stays}
@@ -22,6 +20,5 @@ returns-then-not-branch-clause-calls c settled =
 
 pub returns-then-not-branch-clause-nobody : goal.returns-then-not-branch-clause-nobody
 returns-then-not-branch-clause-nobody c =
-    let none = c.in_ok-call_next.ensures.none (ap Ok c.if-not-branch.true) in
     nobody_same (room_of c.call_next.new.self) (room_of c.note_soonest.new.self) (sym c.note_soonest.ensures.same)
-    (subst (λ (s : Server). NobodyIsDue s.now (client_at s.clients)) (sym none.0) none.1)
+    (c.in_ok-call_next.ensures.none (ap Ok c.if-not-branch.true))

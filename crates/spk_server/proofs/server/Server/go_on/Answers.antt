@@ -1,4 +1,4 @@
-use Rattle.std.proofs.Common.{◌≡◌, ◌<◌, ◌≤◌, ◌+◌, ℕ, refl, sym, subst, ap, [], arith, length}
+use Rattle.std.proofs.Common.{◌≡◌, ◌<◌, refl, sym, subst, [], arith, length}
 use Rattle.spk_clients.specs.Data.{IsSettled}
 use Rattle.spk_server.specs.Log.{LooksAt}
 use Rattle.spk_server.specs.Rooms.{room_of}

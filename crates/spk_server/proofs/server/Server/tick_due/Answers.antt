@@ -5,4 +5,4 @@ use Rattle.spk_server.proofs.Runs.{wider}
 use Rattle.spk_server.proofs.server.Server.tick_due.Goals as goal
 
 pub returns-clause-calls : goal.returns-clause-calls
-returns-clause-calls c settled = wider follows calls follows_calls _ _ (c.in_ok-told.ensures.ticks settled None)
+returns-clause-calls c settled = wider follows calls follows_calls _ _ (c.in_ok-tick.ensures.ticks settled None)
