@@ -9,3 +9,4 @@ pub mod Kept
 pub mod Mapped
 pub mod Parts
 pub mod Requests
+pub mod Unlost

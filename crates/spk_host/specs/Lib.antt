@@ -2,6 +2,7 @@ pub mod Data
 pub mod Idle
 pub mod Index
 pub mod Inputs
+pub mod Losses
 pub mod Nodes
 pub mod Requests
 pub mod Step

@@ -4,8 +4,10 @@ ghost use Rattle.std.specs.List.{find};
 ghost use Rattle.std.specs.Option.{option_copied, option_map};
 ghost use Rattle.spk_reading.specs.Data.{HeardData};
 ghost use Rattle.spk_reading.specs.Meaning.{IsReadFault, Says};
-ghost use Rattle.spk_reading.specs.View.{content_view, heard_view};
+ghost use Rattle.spk_reading.specs.View.{content_view, heard_view, numbered_view};
 ghost use Rattle.spk_reading.specs.declared.fault.ReadFault.{ReadFault};
+ghost use Rattle.spk_sequence.specs.Calls.{Hand, Death};
+ghost use Rattle.spk_sequence.specs.Losses.{Called};
 ghost use Rattle.spk_host_session.specs.Answer.{Gives, spelled};
 ghost use Rattle.spk_host_session.specs.Data.{is_good};
 ghost use Rattle.spk_host_session.specs.Packets.{IsPacket};
@@ -13,6 +15,7 @@ ghost use Rattle.spk_host_session.specs.Step as session;
 ghost use Rattle.spk_host_session.specs.View.{config_view};
 ghost use Rattle.spk_host.specs.Data as plain;
 ghost use Rattle.spk_host.specs.Inputs as calls;
+ghost use Rattle.spk_host.specs.Losses.{losing, node_loss, packet_loss};
 ghost use Rattle.spk_host.specs.Nodes.{is_of, node_or};
 ghost use Rattle.spk_host.specs.Step as step;
 ghost use Rattle.spk_host.specs.View.{AreWhole, fault_of, out_view};
@@ -22,8 +25,8 @@ use crate::messages::acknowledged;
 use crate::nodes::Nodes;
 use crate::out::Out;
 use spk_host_session::{HostConfig, HostFault, HostSession};
-use spk_reading::{Content, Heard, ReadFault, read};
-use spk_sequence::Phase;
+use spk_reading::{Content, Heard, Numbered, ReadFault, read};
+use spk_sequence::{Loss, Phase};
 use spk_view::NodeView;
 use std::alloc::{AllocError, Global};
 use std::fmt;
@@ -51,6 +54,12 @@ impl Model for Host {
 
     ghost view = { λ h. record { session = h.session; nodes = h.nodes } };
 }
+
+/// Nothing is lost.
+const NO_LOSS: Loss = Loss {
+    held: 0,
+    missing: 0,
+};
 
 /// A fault in reading.
 fn fault_of(fault: ReadFault) -> HostFault
@@ -347,5 +356,53 @@ impl Host {
             ≡ (node_or (step.fresh self.now) self.now.nodes group.now node.now).watch.view }
     {
         self.node(group, node)?.kept().view()
+    }
+
+    /// What a message of a node would lose.
+    fn loss_of_message(&self, message: &Numbered, now: u64) -> Loss
+        ensures { let m = numbered_view message.now in
+            result ≡ node_loss self.now.nodes m.group m.node (Called (Hand m.number m.kind now)) }
+    {
+        match self.node(message.group.as_str(), message.node.as_str()) {
+            Some(entry) => entry.kept().loss_at_hand(message, now),
+            None => NO_LOSS,
+        }
+    }
+
+    /// What an NDEATH of a node would lose.
+    fn loss_of_death(&self, group: &str, node: &str, bd: u8) -> Loss
+        ensures { result ≡ node_loss self.now.nodes group.now node.now (Called (Death bd)) }
+    {
+        match self.node(group, node) {
+            Some(entry) => entry.kept().loss_at_death(bd),
+            None => NO_LOSS,
+        }
+    }
+
+    /// What `heard`, and `packet` of bytes that say this, would lose within a session of what is held of its node (`spk_sequence`): how
+    /// many messages that came before are dropped, and how many are missing before the nearest of them. A message and an NDEATH may
+    /// lose some, and nothing else, nor one of a node that was never heard. Nothing changes, and no memory is taken.
+    pub fn loss_at(&self, heard: &Heard, now: u64) -> Loss
+        ensures { result ≡ packet_loss self.now.nodes (heard_view heard.now) now }
+    {
+        match heard {
+            Heard::Published {
+                content: Content::Message(message),
+                ..
+            } => self.loss_of_message(message, now),
+            Heard::Published {
+                content: Content::Death { group, node, bd },
+                ..
+            } => self.loss_of_death(group.as_str(), node.as_str(), *bd),
+            _ => NO_LOSS,
+        }
+    }
+
+    /// The nodes to be asked what a moment loses of what is held of them (`HostNode::loss_at_tick`): any other loses nothing. Nothing
+    /// changes, and no memory is taken.
+    pub fn losing(&self, now: u64) -> &[Entry]
+        ensures { losing now result.now ≡ losing now self.now.nodes }
+    {
+        self.nodes.losing(now)
     }
 }

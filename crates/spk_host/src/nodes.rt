@@ -8,6 +8,7 @@ ghost use Rattle.spk_host.specs.Data.{Entry};
 ghost use Rattle.spk_host.specs.Idle.{AreStillUntil, IsStillUntil};
 ghost use Rattle.spk_host.specs.Index.{place_in};
 ghost use Rattle.spk_host.specs.Inputs.{is_same};
+ghost use Rattle.spk_host.specs.Losses.{losing};
 ghost use Rattle.spk_host.specs.Nodes as spec;
 ghost use Rattle.spk_host.specs.Step as step;
 ghost use Rattle.spk_host.specs.View.{AreWhole, out_view};
@@ -175,6 +176,16 @@ impl Nodes {
             return ask_at(alloc, &[], now);
         }
         ask_at(alloc, &self.entries, now)
+    }
+
+    /// The nodes to be asked what a moment loses: any other loses nothing.
+    pub(crate) fn losing(&self, now: u64) -> &[Entry]
+        ensures { losing now result.now ≡ losing now self.now }
+    {
+        if self.due > now {
+            return &[];
+        }
+        &self.entries
     }
 
     /// A moment, at each node.

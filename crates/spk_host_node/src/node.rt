@@ -2,7 +2,9 @@
 ghost use Rattle.std.specs.Prelude.{◌≡◌, ◌+◌, ◌^◌, ◌<◌, ◌≤◌, ◌∷◌, [], true, false, ℕ, map, length, IfOk, OnOk, OnErr, is_some, if◌then◌else◌};
 ghost use Rattle.std.specs.Option.{option_map};
 ghost use Rattle.spk_reading.specs.View.{numbered_view};
+ghost use Rattle.spk_sequence.specs.Calls.{Hand, Tick, Death};
 ghost use Rattle.spk_sequence.specs.Due.{has_come};
+ghost use Rattle.spk_sequence.specs.Losses.{Called, Reset, loss_at};
 ghost use Rattle.spk_sequence.specs.Step as sequence;
 ghost use Rattle.spk_host_rules.specs.Data.{Gap};
 ghost use Rattle.spk_host_rules.specs.Step as rules;
@@ -19,7 +21,7 @@ use crate::kept::Kept;
 use crate::plain::{is_plain, show_plain};
 use spk_order::Order;
 use spk_reading::{Numbered, Subject};
-use spk_sequence::{Match, Phase, Step, Width};
+use spk_sequence::{Loss, Match, Phase, Step, Width};
 use spk_view::{NodeView, Watch};
 use std::alloc::{AllocError, Global};
 use std::fmt;
@@ -342,5 +344,35 @@ impl HostNode {
     {
         self.order.reset();
         self.watch.over();
+    }
+
+    /// What `hand` of this message would lose of what is held: how many messages that came before it, and how many are missing before
+    /// the nearest of them. Nothing changes, and no memory is taken.
+    pub fn loss_at_hand(&self, message: &Numbered, now: u64) -> Loss
+        ensures { result ≡ loss_at self.now.order.standing
+            (Called (Hand message.now.number message.now.kind now)) }
+    {
+        self.order.loss_at_hand(message.number, message.kind, now)
+    }
+
+    /// What `tick` would lose of what is held. Nothing changes, and no memory is taken.
+    pub fn loss_at_tick(&self, now: u64) -> Loss
+        ensures { result ≡ loss_at self.now.order.standing (Called (Tick now)) }
+    {
+        self.order.loss_at_tick(now)
+    }
+
+    /// What `death` with this bdSeq would lose of what is held. Nothing changes, and no memory is taken.
+    pub fn loss_at_death(&self, bd: u8) -> Loss
+        ensures { result ≡ loss_at self.now.order.standing (Called (Death bd)) }
+    {
+        self.order.loss_at_death(bd)
+    }
+
+    /// What `over` would lose of what is held. Nothing changes, and no memory is taken.
+    pub fn loss_at_over(&self) -> Loss
+        ensures { result ≡ loss_at self.now.order.standing Reset }
+    {
+        self.order.loss_at_reset()
     }
 }
