@@ -1,5 +1,6 @@
 pub mod Along
 pub mod Joins
+pub mod Losing
 pub mod Opening
 pub mod Reading
 pub mod Runs

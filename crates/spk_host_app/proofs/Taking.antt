@@ -15,7 +15,7 @@ use Rattle.spk_host_app.specs.Data as word
 use Rattle.spk_host_app.specs.Data.{Whole, Unsent, Lost, Began, Connected, Read, Told, Denied, Unsubscribed, Ticked, Pinged, Stopped, GaveUp, Wrote, Over, Printed}
 use Rattle.spk_host_app.specs.Log.{DoesOne, IsAnswered, IsFate, IsGivenUp, IsTakenUp, IsTold, Reaches, takes, takes_packet}
 use Rattle.spk_host_app.specs.Meant.{IsRefused, id_in, refuses, topic_in}
-use Rattle.spk_host_app.specs.Step.{answered, first_of_heard, ends_heard, is_full, is_within, join, out_words, put_words, taken}
+use Rattle.spk_host_app.specs.Step.{answered, first_of_heard, ends_heard, lost_by, is_full, is_within, join, out_words, put_words, taken}
 use Rattle.spk_host_app.proofs.Runs.{at_end, one, stays}
 
 -- ---- what came to the host
@@ -46,15 +46,15 @@ abbrev pub taken_with : App → ℕ → HostData → Bool → App
 taken_with a size k over = record a { host = k; connection = record a.connection { unread = drop size a.connection.unread }; closing = a.closing || over }
 
 pub told_by : (a x b : App) (size : ℕ) (h : HeardData) (now : ℕ) (ws : List Word) (o : OutData) (k : HostData) (over : Bool)
-    → ws ≡ first_of_heard h → is_within a ≡ true → given (packet_out a.host h now) ≡ given o → k ≡ host_with a.host (host.Heard h now) → over ≡ ends_heard h
+    → ws ≡ first_of_heard h ++ lost_by a.host.nodes h now → is_within a ≡ true → given (packet_out a.host h now) ≡ given o → k ≡ host_with a.host (host.Heard h now) → over ≡ ends_heard h
     → x ≡ taken_with a size k over → IsAnswered (ws ++ out_words o) (join o.packets) x b → IsTold size h now a b
 told_by a x b size h now ws o k over first within out kept ends is (fate, here, e) = (
   fate,
   fate_same fate a x (ap (λ y. y.connection.link) is) here,
   within,
   e ∙ ap (λ w. answered fate (w ++ out_words o) (join o.packets) x) first
-      ∙ ap (λ q. answered fate (first_of_heard h ++ out_words q) (join q.packets) x) (sym (same_out _ _ out))
-      ∙ ap (answered fate (first_of_heard h ++ out_words (packet_out a.host h now)) (join (packet_out a.host h now).packets))
+      ∙ ap (λ q. answered fate ((first_of_heard h ++ lost_by a.host.nodes h now) ++ out_words q) (join q.packets) x) (sym (same_out _ _ out))
+      ∙ ap (answered fate ((first_of_heard h ++ lost_by a.host.nodes h now) ++ out_words (packet_out a.host h now)) (join (packet_out a.host h now).packets))
       (is ∙ ap (λ q. taken_with a size q over) kept ∙ ap (taken_with a size (host_with a.host (host.Heard h now))) ends),
 )
 

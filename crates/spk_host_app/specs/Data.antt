@@ -1,6 +1,7 @@
 -- The plain data of a host application's program, without its socket (own rules); and what a deed of it is. Moments are in milliseconds.
 use Rattle.std.specs.Prelude.{ℕ, Bool, List, Option}
 use Rattle.spk_packets.specs.Message.{Message}
+use Rattle.spk_sequence.specs.declared.answer.Loss.{Loss}
 use Rattle.spk_sequence.specs.declared.answer.Step.{Step}
 use Rattle.spk_topics.specs.Spark.{Named}
 use Rattle.spk_reading.specs.Data.{HeardData, NumberedData}
@@ -22,6 +23,8 @@ pub data Word : Type 0 where
   Became : (step : Step) → Word
   -- an NDEATH of this node came
   Died : (group node : List ℕ) → Word
+  -- messages that were held of this node are dropped
+  Dropped : (group node : List ℕ) (loss : Loss) → Word
   -- a rebirth was asked for, by this topic
   Asked : (topic : Named) → Word
   -- a message on this topic was refused

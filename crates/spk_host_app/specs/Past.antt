@@ -102,7 +102,7 @@ said_of h begun (GaveUp fault) = []
 said_of h begun (Wrote bytes now) = []
 said_of h begun (Printed w) = []
 
--- all that was said, in order: what the host consumed, what became of messages, its requests, deaths, refusals, and ends
+-- all that was said, in order: what is lost, what the host consumed, what became of messages, its requests, deaths, refusals, and ends
 abbrev pub said_in : Config → List Deed → List Word
 said_in config [] = []
 said_in config (d ∷ ds) = said_in config ds ++ said_of (host_after config (calls_in ds)) (has_begun ds) d

@@ -4,12 +4,16 @@ use Rattle.spk_link.specs.Step.{due_at}
 use Rattle.spk_link.specs.declared.stand.Due.{Due}
 use Rattle.spk_link.specs.declared.stand.Due.TheVariants as due
 use Rattle.spk_packets.specs.Message.{Message}
+use Rattle.spk_sequence.specs.declared.answer.Loss.{Loss}
+use Rattle.spk_sequence.specs.Calls.{Tick}
+use Rattle.spk_sequence.specs.Losses.{Called}
 use Rattle.spk_reading.specs.Data as said
 use Rattle.spk_reading.specs.Data.{HeardData}
 use Rattle.spk_host_session.specs.Step as session
-use Rattle.spk_host.specs.Data.{HostData, OutData}
+use Rattle.spk_host.specs.Data.{Entry, HostData, OutData}
 use Rattle.spk_host.specs.Inputs as host
 use Rattle.spk_host.specs.Inputs.{host_with, new_host}
+use Rattle.spk_host.specs.Losses.{content_loss, entry_loss, is_lost, losing}
 use Rattle.spk_host.specs.Step.{acks, nothing, packet_out, said_by, sends, spelled, tick_out}
 use Rattle.spk_host_session.specs.Data.{Config}
 use Rattle.spk_login.specs.Bytes.{login_bytes}
@@ -58,12 +62,43 @@ first_words (host.Stopped now) = []
 first_words host.Ended = []
 first_words (host.Renewed now) = []
 
+-- what is said of a loss of a node: nothing, where none is lost
+abbrev pub lost_word : (group node : List ℕ) → Loss → List Word
+lost_word group node loss = if is_lost loss then word.Dropped group node loss ∷ [] else []
+
+-- what is said of a packet behind these: what a message or an NDEATH loses of what is held of its node
+abbrev pub lost_by_content : List Entry → said.ContentData → ℕ → List Word
+lost_by_content nodes (said.Message m) now = lost_word m.group m.node (content_loss nodes (said.Message m) now)
+lost_by_content nodes (said.Death group node bd) now = lost_word group node (content_loss nodes (said.Death group node bd) now)
+lost_by_content nodes said.Nothing now = []
+
+abbrev pub lost_by : List Entry → HeardData → ℕ → List Word
+lost_by nodes (said.Published ack content) now = lost_by_content nodes content now
+lost_by nodes (said.Answered code) now = []
+lost_by nodes said.Granted now = []
+lost_by nodes said.Other now = []
+
+-- what is said first of a moment: each node that loses some at it, in their order
+abbrev pub losing_word : ℕ → Entry → Word
+losing_word now e = word.Dropped e.group e.node (entry_loss (Called (Tick now)) e)
+
+abbrev pub lost_at : ℕ → List Entry → List Word
+lost_at now nodes = map (losing_word now) (losing now nodes)
+
+abbrev pub lost_words : HostData → host.Call → List Word
+lost_words h (host.Heard heard now) = lost_by h.nodes heard now
+lost_words h (host.Ticked now) = lost_at now h.nodes
+lost_words h (host.Connected now) = []
+lost_words h (host.Stopped now) = []
+lost_words h host.Ended = []
+lost_words h (host.Renewed now) = []
+
 abbrev pub out_words : OutData → List Word
 out_words o = map word.Consumed o.consumed ++ (map word.Became o.steps ++ map word.Asked o.rebirths)
 
 -- all that is said of a call of the host
 abbrev pub words_of : HostData → host.Call → List Word
-words_of h call = first_words call ++ out_words (answer h call)
+words_of h call = (first_words call ++ lost_words h call) ++ out_words (answer h call)
 
 -- with the user name and the password, where there are any
 abbrev pub with_login : Option LoginData → List ℕ → List ℕ

@@ -15,6 +15,7 @@ abbrev pub word : Said → plain.Word
 word (said.Consumed message) = plain.Consumed (numbered_view message)
 word (said.Step step) = plain.Became step
 word (said.Death group node) = plain.Died (string_bytes group) (string_bytes node)
+word (said.Lost group node loss) = plain.Dropped (string_bytes group) (string_bytes node) loss
 word (said.Asked topic) = plain.Asked (named topic)
 word (said.Refused fault topic) = plain.Refused fault (string_bytes topic)
 word (said.TurnedAway code) = plain.TurnedAway code

@@ -19,7 +19,7 @@ ghost use Rattle.spk_host_app.specs.View.{word};
 
 use crate::app::HostApp;
 use crate::fault::HostAppFault;
-use crate::joining::{answers, first_words};
+use crate::joining::{answers, words_before};
 use crate::meant::{Meant, meaning_of};
 use crate::said::Said;
 use spk_connection::ConnectionFault;
@@ -115,7 +115,7 @@ impl HostApp {
             ⊎ IsGivenUp self.old self.new) }
         ensures err { OnErr result (self.new.closing ≡ true) }
     {
-        let Ok(first) = first_words(self.alloc, &heard) else {
+        let Ok(first) = words_before(self.alloc, &self.host, &heard, now) else {
             return Err(self.give_up(HostAppFault::NoMemory));
         };
         let over = ends(&heard);

@@ -4,13 +4,13 @@ ghost use Rattle.spk_topics.specs.Spark.{named};
 ghost use Rattle.spk_reading.specs.View.{heard_view, numbered_view};
 ghost use Rattle.spk_host.specs.View.{out_view};
 ghost use Rattle.spk_host_app.specs.Data as plain;
-ghost use Rattle.spk_host_app.specs.Step.{first_of_heard, join, out_words};
+ghost use Rattle.spk_host_app.specs.Step.{first_of_heard, join, lost_at, lost_by, lost_word, out_words};
 ghost use Rattle.spk_host_app.specs.View.{word};
 
 use crate::said::Said;
-use spk_host::{Out, Taken};
+use spk_host::{Entry, Host, Out, Taken};
 use spk_reading::{Content, Heard};
-use spk_sequence::Step;
+use spk_sequence::{Loss, Step};
 use spk_topics::Spark;
 use std::alloc::{AllocError, Global};
 
@@ -26,7 +26,7 @@ pub(crate) fn joined(alloc: Global, packets: Vec<Vec<u8>>) -> Result<Vec<u8>, Al
 }
 
 /// What is said of a packet before what the host answers.
-pub(crate) fn first_words(alloc: Global, heard: &Heard) -> Result<Vec<Said>, AllocError>
+fn first_words(alloc: Global, heard: &Heard) -> Result<Vec<Said>, AllocError>
     ensures { IfOk result (λ v. map word v.items ≡ first_of_heard (heard_view heard.now)) }
 {
     let mut words = Vec::new(alloc);
@@ -40,6 +40,88 @@ pub(crate) fn first_words(alloc: Global, heard: &Heard) -> Result<Vec<Said>, All
         })?,
         Heard::Answered(code) if *code != 0 => words.push(Said::TurnedAway(*code))?,
         _ => {}
+    }
+    Ok(words)
+}
+
+/// What is lost of a node is said, behind other words.
+fn say_loss(
+    alloc: Global,
+    words: &mut Vec<Said>,
+    group: &str,
+    node: &str,
+    loss: Loss,
+) -> Result<(), AllocError>
+    ensures { OnOk result (map word words.new.items
+        ≡ map word words.old.items ++ lost_word group.now node.now loss) }
+{
+    if loss.held > 0 {
+        words.push(Said::Lost {
+            group: String::from_str(alloc, group)?,
+            node: String::from_str(alloc, node)?,
+            loss,
+        })?;
+    }
+    Ok(())
+}
+
+/// What a packet loses is said, behind other words.
+fn say_lost(
+    alloc: Global,
+    words: &mut Vec<Said>,
+    host: &Host,
+    heard: &Heard,
+    now: u64,
+) -> Result<(), AllocError>
+    ensures { OnOk result (map word words.new.items
+        ≡ map word words.old.items ++ lost_by host.now.nodes (heard_view heard.now) now) }
+{
+    let loss = host.loss_at(heard, now);
+    match heard {
+        Heard::Published {
+            content: Content::Message(message),
+            ..
+        } => {
+            say_loss(
+                alloc,
+                words,
+                message.group.as_str(),
+                message.node.as_str(),
+                loss,
+            )
+        }
+        Heard::Published {
+            content: Content::Death { group, node, .. },
+            ..
+        } => say_loss(alloc, words, group.as_str(), node.as_str(), loss),
+        _ => Ok(()),
+    }
+}
+
+/// What is said of a packet, and what it loses, before what the host answers.
+pub(crate) fn words_before(
+    alloc: Global,
+    host: &Host,
+    heard: &Heard,
+    now: u64,
+) -> Result<Vec<Said>, AllocError>
+    ensures { IfOk result (λ v. map word v.items
+        ≡ first_of_heard (heard_view heard.now)
+        ++ lost_by host.now.nodes (heard_view heard.now) now) }
+{
+    let mut words = first_words(alloc, heard)?;
+    say_lost(alloc, &mut words, host, heard, now)?;
+    Ok(words)
+}
+
+/// What these nodes lose at a moment is said.
+pub(crate) fn lost_words(alloc: Global, nodes: &[Entry], now: u64) -> Result<Vec<Said>, AllocError>
+    ensures { IfOk result (λ v. map word v.items ≡ lost_at now nodes.now) }
+{
+    let mut words = Vec::new(alloc);
+    for entry in nodes {
+        let loss = entry.kept().loss_at_tick(now);
+        say_loss(alloc, &mut words, entry.group(), entry.node(), loss)?;
     }
     Ok(words)
 }

@@ -42,7 +42,7 @@ pub fn any_list()
         (a : App) → IsRun any_deed (fresh_app config keep spread login) ds a
         → a.connection.link ≡ link.after keep spread (conn.of_link (events_in config login ds)) }
 
-    // what was printed and what waits are together what was said, in order: deaths, what the host consumed, what became of messages, its requests,
+    // what was printed and what waits are together what was said, in order: deaths, what is lost, what the host consumed, what became of messages, its requests,
     // refusals, and the ends of connections
     ensures said { (config : Config) (keep spread : ℕ) (login : Option LoginData) (ds : List Deed)
         (a : App) → IsRun any_deed (fresh_app config keep spread login) ds a

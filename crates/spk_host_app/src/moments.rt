@@ -8,7 +8,7 @@ ghost use Rattle.spk_host_app.specs.View.{word};
 
 use crate::app::HostApp;
 use crate::fault::HostAppFault;
-use crate::joining::joined;
+use crate::joining::{joined, lost_words};
 use crate::said::Said;
 use spk_host::{HostFault, Out};
 use spk_link::Due;
@@ -98,15 +98,18 @@ impl HostApp {
         if self.closing || self.is_full() || !self.connection.is_open() {
             return Ok(());
         }
+        let Ok(first) = lost_words(self.alloc, self.host.losing(now), now) else {
+            return Err(self.give_up(HostAppFault::NoMemory));
+        };
         match self.host.tick(now) {
-            Ok(out) => self.hand(Vec::new(self.alloc), out),
+            Ok(out) => self.hand(first, out),
             Err(HostFault::WrongPhase) => Ok(()),
             Err(_) => Err(self.give_up(HostAppFault::NoMemory)),
         }
     }
 
     /// A moment: PINGREQ waits to be written where it is due, and the moment comes to the host, within a session and while fewer than 1,024 words wait
-    /// to be printed: its gaps and its rebirth requests are said, and the requests wait to be written. Where the connection is to be closed, nothing
+    /// to be printed: what is lost, its gaps and its rebirth requests are said, and the requests wait to be written. Where the connection is to be closed, nothing
     /// is done. Fails with NoMemory (1), and then the connection is to be closed.
     pub fn moment(&mut self, now: u64) -> Result<(), HostAppFault>
         ensures done { OnOk result (self.new ≡ ticked now (pinged now self.old)) }

@@ -3,7 +3,9 @@
 use crate::fault::{ProgramFault, told};
 use crate::known::{Nodes, Stand, stand_of};
 use crate::notes::write_note;
-use crate::printing::{Cause, write_asked, write_death, write_message, write_refused, write_stand};
+use crate::printing::{
+    Cause, write_asked, write_death, write_lost, write_message, write_refused, write_stand,
+};
 use spk_host_app::{HostApp, HostAppFault, Said};
 use spk_link::Due;
 use spk_network::{App, NetworkFault, Note};
@@ -279,6 +281,16 @@ impl<O: Write + Drop, N: Write + Drop> HostProgram<O, N> {
             Said::Consumed(message) => self.consumed(message, now),
             Said::Step(step) => self.stepped(*step, now),
             Said::Death { group, node } => self.died(group.as_str(), node.as_str(), now),
+            Said::Lost { group, node, loss } => {
+                write_lost(
+                    self.alloc,
+                    &mut self.out,
+                    group.as_str(),
+                    node.as_str(),
+                    *loss,
+                    now,
+                )
+            }
             Said::Asked(topic) => self.asked(topic, now),
             Said::Refused { fault, topic } => {
                 self.counts.refused = self.counts.refused.saturating_add(1);

@@ -5,6 +5,7 @@ use crate::texts::{json_text, value_text};
 use spk_host::{DeviceView, HostFault, MetricView, NodeView};
 use spk_payload::{Metric, Raw, typed};
 use spk_reading::{Numbered, Subject};
+use spk_sequence::Loss;
 use std::alloc::Global;
 use std::fmt;
 use std::io::{self, ErrorKind, Write};
@@ -106,6 +107,20 @@ pub(crate) fn write_death<W: Write>(
 ) -> io::Result<()> {
     write_names(alloc, out, group, node, None)?;
     writeln!(out, ",\"message\":\"NDEATH\",\"at\":{now}}}")
+}
+
+/// Messages of a node that were held are dropped: so many, and so many hadn't come before the nearest of them.
+pub(crate) fn write_lost<W: Write>(
+    alloc: Global,
+    out: &mut W,
+    group: &str,
+    node: &str,
+    loss: Loss,
+    now: u64,
+) -> io::Result<()> {
+    write_names(alloc, out, group, node, None)?;
+    let Loss { held, missing } = loss;
+    writeln!(out, ",\"lost\":{held},\"missing\":{missing},\"at\":{now}}}")
 }
 
 /// A rebirth was asked for.
