@@ -4,6 +4,7 @@ use serde_json::Value as Json;
 use spk_floats::{double_in, double_text, float_in, float_text};
 use spk_payload::{Value, Values};
 use std::alloc::{AllocError, Global};
+use std::num::f64_to_bits_with_nan;
 
 /// The datatypes Float and Double (Sparkplug 3.0.0, 6.4.16).
 pub(crate) const FLOAT: u32 = 9;
@@ -23,7 +24,10 @@ pub(crate) fn read_as(values: Values, datatype: u32) -> u32 {
 
 /// The nearest Double of a number.
 pub(crate) fn double_of(json: &Json) -> Option<Value> {
-    json.as_f64().map(|number| Value::Double(number.to_bits()))
+    match json.as_f64() {
+        Some(number) => Some(Value::Double(f64_to_bits_with_nan(number))),
+        None => None,
+    }
 }
 
 /// The nearest Float of a number, where there is a finite one. A number that isn't whole is read as the nearest Double first, and
