@@ -16,8 +16,6 @@ mod limits;
 #[cfg(test)]
 mod page;
 #[cfg(test)]
-mod ports;
-#[cfg(test)]
 mod pressure;
 #[cfg(test)]
 mod serve;

@@ -6,8 +6,6 @@ mod command;
 #[cfg(test)]
 mod datatype;
 #[cfg(test)]
-mod floats;
-#[cfg(test)]
 mod history;
 #[cfg(test)]
 mod host;

@@ -293,7 +293,7 @@ pub(crate) type Row = (u64, Call, Wanted);
 pub(crate) const CONNECT: &str =
     "103400044d515454040e003c0003472f4e001273704276312e302f472f4e44454154482f4e000f0805120b0a05626453657120045800";
 
-pub(crate) const SUBSCRIBE: &str =
+const SUBSCRIBE: &str =
     "822a0001001073704276312e302f472f4e434d442f4e01001273704276312e302f472f44434d442f4e2f2b01";
 
 pub(crate) const NBIRTH: &str =
@@ -351,8 +351,7 @@ static DEVICE: [Row; 10] = [
     (12, Call::Stop, Err(EdgeFault::WrongPhase)),
 ];
 
-/// Whether the digits spell these packets.
-pub(crate) fn are_spelled(packets: &[Vec<u8>], wanted: &[&str]) -> bool {
+fn are_spelled(packets: &[Vec<u8>], wanted: &[&str]) -> bool {
     for (bytes, digits) in packets.iter().zip(wanted) {
         if !is_spelled(bytes, digits) {
             return false;
