@@ -22,3 +22,5 @@ mod Reborn
 mod Flushed
 mod Fronts
 mod Filled
+mod Severals
+mod Sets

@@ -189,6 +189,7 @@ book-is : (c : Config) (k : ℕ) (a : rule.Asked) (now : ℕ) (act : inputs.Act)
     → setting_book a.book s ≡ step.book_after a.book act
 book-is c k a now (inputs.Change alias value) s g ok set =
     set ∙ ap (λ r. unless_refused r (with_value a.book alias value) a.book) (accepted a.book (set_refusal a.book alias value) _ g ok)
+book-is c k a now (inputs.Changes changes) s g ok set = set
 book-is c k a now inputs.Open s g ok set = set
 book-is c k a now inputs.Accepted s g ok set = set
 book-is c k a now (inputs.Turn name up) s g ok set =

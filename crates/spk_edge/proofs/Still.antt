@@ -115,6 +115,7 @@ still-silent c k a now inputs.TurnedAway g still ok =
 still-silent c k a now inputs.Pass g still ok = from-ok (rule.nothing a) g ok (refl, refl)
 still-silent c k a now inputs.Open g still ok = absurd (true≢false (sym still))
 still-silent c k a now inputs.Accepted g still ok = absurd (true≢false (sym still))
+still-silent c k a now (inputs.Changes changes) g still ok = absurd (true≢false (sym still))
 still-silent c k a now (inputs.Turn name up) g still ok = absurd (true≢false (sym still))
 still-silent c k a now (inputs.Command topic payload) g still ok = absurd (true≢false (sym still))
 still-silent c k a now (inputs.State payload) g still ok = absurd (true≢false (sym still))

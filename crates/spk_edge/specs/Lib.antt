@@ -6,6 +6,7 @@ pub mod Ordered
 pub mod Along
 pub mod Calls
 pub mod Changing
+pub mod Several
 pub mod Saying
 pub mod Rows
 pub mod History

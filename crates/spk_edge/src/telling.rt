@@ -48,7 +48,7 @@ impl EdgeNode {
     }
 
     /// The value is set, and nothing else changes.
-    fn put_value(&mut self, alias: Alias, value: Option<Value>)
+    pub(crate) fn put_value(&mut self, alias: Alias, value: Option<Value>)
         ensures { self.new ≡ done.with_book self.old
             (patch.setting_book self.old.standing.asked.book (Setting.Value alias value)) }
     {
@@ -64,7 +64,7 @@ impl EdgeNode {
     }
 
     /// A change is kept.
-    fn keep_one(&mut self, change: Change)
+    pub(crate) fn keep_one(&mut self, change: Change)
         ensures { self.new ≡ done.with_store self.old
             (after_push self.old.standing.asked.store (change_view change)) }
     {

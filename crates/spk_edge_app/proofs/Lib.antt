@@ -4,3 +4,4 @@ pub mod Nodes
 pub mod Queues
 pub mod Records
 pub mod Runs
+pub mod Severals

@@ -6,11 +6,14 @@ use Rattle.spk_connection.specs.Data.{Connection}
 use Rattle.spk_connection.specs.Run as event
 use Rattle.spk_connection.specs.Step.{after_wrote}
 use Rattle.spk_edge_rules.specs.Inputs.{Input}
+use Rattle.spk_edge_rules.specs.Rules.{is_born}
+use Rattle.spk_edge_rules.specs.Several.{single}
+use Rattle.spk_payload.specs.Typing.{Typed}
 use Rattle.spk_record.specs.declared.record.Record.{Record}
-use Rattle.spk_edge_app.specs.Calls.{EndsBy, HearsAll, IsDrained, IsEnded, IsHeldUp, IsPinged, IsTold, IsUnread, WasRead, fed, is_same, saved_where, wrote_where}
+use Rattle.spk_edge_app.specs.Calls.{AreTold, EndsBy, HearsAll, IsDrained, IsEnded, IsHeldUp, IsPinged, IsTold, IsToldAll, IsUnread, WasRead, fed, is_same, saved_where, wrote_where}
 use Rattle.spk_edge_app.specs.Data as deed
 use Rattle.spk_edge_app.specs.Data.{App, Deed}
-use Rattle.spk_edge_app.specs.Lists.{AreDone, Call, HeldUp, IsDone, Kept, Moment, NextWrite, Opened, Over, Reaches, Read, Stopped, Told, Unlogged, Unread, Wrote}
+use Rattle.spk_edge_app.specs.Lists.{AreDone, Call, HeldUp, IsDone, Kept, Moment, NextWrite, Opened, Over, Reaches, Read, Stopped, Told, ToldAll, Unlogged, Unread, Wrote}
 use Rattle.spk_edge_app.specs.Step.{IsStep, wanted_by, with_connection}
 use Rattle.spk_edge_app.specs.declared.fault.EdgeAppFault.{EdgeAppFault}
 use Rattle.spk_edge_app.proofs.Runs.{joined}
@@ -26,6 +29,17 @@ and_then a m b x y = (y.0 ++ x.0, joined x.0 y.0 a m b x.1 y.1)
 
 told : (a : App) (i : Input) (b : App) → IsTold a i b → Reaches a b
 told a i b t = one (deed.Told i t.out t.sent) a b t.step
+
+told_each : (a : App) (now : ℕ) (changes : List (ℕ × Option Typed)) (b : App) → AreTold a now changes b → Reaches a b
+told_each a now [] b is = stays a b is
+told_each a now (x ∷ xs) b (m, first, rest) = and_then a m b (told a (single now x) m first) (told_each m now xs b rest)
+
+told_all : (a : App) (now : ℕ) (changes : List (ℕ × Option Typed)) (b : App) → IsToldAll a now changes b → Reaches a b
+told_all a now changes b t = by (is_born a.node.standing.asked.phase) refl
+  where
+    by : (born : Bool) → is_born a.node.standing.asked.phase ≡ born → Reaches a b
+    by true born = told a _ b (t.born born)
+    by false waits = told_each a now changes b (t.each waits)
 
 ends : (a : App) (now : ℕ) (b : App) (e : EdgeAppFault) → EndsBy a now b e → Reaches a b
 ends a now b e (inl x) = one (deed.GaveUp now) a b x.step
@@ -110,6 +124,7 @@ call_reaches k (Unlogged now e) a b x = one (deed.Opened now x.out _ false) a b 
 call_reaches k (Read piece now) a b x = reads a piece now b x
 call_reaches k (Unread piece now e) a b x = unread a piece now b e x
 call_reaches k (Told i) a b x = told a i b x
+call_reaches k (ToldAll now changes) a b x = told_all a now changes b x
 call_reaches k (Moment now) a b x = and_then a x.between b (pings a now x.between x.pinged) (drains x.between now b x.drained)
 call_reaches k (HeldUp now e) a b x = held_up a now b e x
 call_reaches k (Stopped now) a b x = and_then a x.between b (ended a now x.between x.ended) (one deed.Stopped x.between b x.stopped)

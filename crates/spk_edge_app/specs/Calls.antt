@@ -1,12 +1,15 @@
 -- What each call of an edge node's program did, as deeds, and what it is refused for. Moments are in milliseconds.
-use Rattle.std.specs.Prelude.{◌≡◌, ◌≢◌, ◌⊎◌, ℕ, ◌==◌, nat_le, nat_lt, Bool, true, false, ◌&&◌, not, List, [], length, Option, Some, None, is_none, Err, if◌then◌else◌, min}
+use Rattle.std.specs.Prelude.{◌≡◌, ◌≢◌, ◌⊎◌, ℕ, ◌==◌, nat_le, nat_lt, Bool, true, false, ◌&&◌, not, List, [], ◌∷◌, length, Option, Some, None, is_none, Err, if◌then◌else◌, min}
 use Rattle.std.specs.List.{AllByRecursion}
 use Rattle.spk_connection.specs.Step as connection
 use Rattle.spk_connection.specs.Step.{after_read, after_wrote, is_open}
 use Rattle.spk_connection.specs.declared.fault.ConnectionFault.{ConnectionFault}
 use Rattle.spk_edge.specs.Patch.{IsRefusal, plain_input}
 use Rattle.spk_edge.specs.declared.message.Out.{Out}
-use Rattle.spk_edge_rules.specs.Inputs.{Drain, Input, Open, Stop}
+use Rattle.spk_edge.specs.Several.{IsRefused, place_at}
+use Rattle.spk_edge_rules.specs.Inputs.{Changes, Drain, Input, Open, Stop}
+use Rattle.spk_edge_rules.specs.Rules as rules
+use Rattle.spk_edge_rules.specs.Several.{single}
 use Rattle.spk_edge_rules.specs.Step.{answer_at}
 use Rattle.spk_edge_rules.specs.declared.fault.EdgeFault.{EdgeFault}
 use Rattle.spk_edge_rules.specs.declared.phase.Phase.{Phase}
@@ -21,11 +24,13 @@ use Rattle.spk_packets.specs.Message.{Message}
 use Rattle.spk_packets.specs.Refusals.{refusals}
 use Rattle.spk_packets.specs.declared.fault.PacketFault.{PacketFault}
 use Rattle.spk_packets.specs.declared.fault.PacketFault.TheVariants.{More}
+use Rattle.spk_payload.specs.Typing.{Typed}
 use Rattle.spk_record.specs.declared.record.Record.{Record}
 use Rattle.spk_edge_app.specs.Data.{App, Answered, Asked, Coming, Deed, Dropped, GaveUp, Handed, Heard, LoginData, Opened, Over, Read, Refused, Saved, Told, Wrote}
 use Rattle.spk_edge_app.specs.Data as deed
 use Rattle.spk_edge_app.specs.Fault as faults
 use Rattle.spk_edge_app.specs.Step.{IsRun, IsStep, bytes_in, wanted_by, with_connection}
+use Rattle.spk_edge_app.specs.declared.fault.ChangesRefused.{ChangesRefused}
 use Rattle.spk_edge_app.specs.declared.fault.EdgeAppFault.{EdgeAppFault}
 use Rattle.spk_edge_app.specs.declared.fault.EdgeAppFault.TheVariants as fault
 
@@ -107,6 +112,23 @@ pub record IsUntold (a : App) (i : Input) (e : EdgeAppFault) : Type 0 where
   pub fault : EdgeFault
   pub refused : IsRefusal a.node i fault
   pub is : e ≡ faults.edge_fault fault
+
+-- each of several changes was told by itself, one after the other
+abbrev pub AreTold : App → ℕ → List (ℕ × Option Typed) → App → Type 0
+AreTold a now [] b = b ≡ a
+AreTold a now (x ∷ xs) b = (m : App) × IsTold a (single now x) m × AreTold m now xs b
+
+-- several changes were told: a Born node as one input, any other one each by itself
+pub record IsToldAll (a : App) (now : ℕ) (changes : List (ℕ × Option Typed)) (b : App) : Type 0 where
+  pub born : rules.is_born a.node.standing.asked.phase ≡ true → IsTold a (plain_input now (Changes changes)) b
+  pub each : rules.is_born a.node.standing.asked.phase ≡ false → AreTold a now changes b
+
+-- the node refuses them with this, at this place
+pub record IsUntoldAll (a : App) (now : ℕ) (changes : List (ℕ × Option Typed)) (e : ChangesRefused) : Type 0 where
+  pub fault : EdgeFault
+  pub refused : IsRefused a.node now changes fault
+  pub is : e.fault ≡ faults.edge_fault fault
+  pub place : e.place ≡ place_at a.node.standing.asked.book now changes
 
 -- ---- read
 

@@ -31,6 +31,7 @@ edge_fault edge.BadConfig = Edge edge.BadConfig
 edge_fault edge.TooLarge = Edge edge.TooLarge
 edge_fault (edge.Device refusal) = Edge (edge.Device refusal)
 edge_fault (edge.State fault) = Edge (edge.State fault)
+edge_fault edge.TwoOwners = Edge edge.TwoOwners
 
 abbrev pub login_fault : LoginFault → EdgeAppFault
 login_fault login.NoMemory = NoMemory

@@ -1,8 +1,9 @@
 -- Lists of calls of an edge node's program, newest first. A call that was refused and changed nothing isn't in the list.
-use Rattle.std.specs.Prelude.{◌≡◌, ℕ, List, [], ◌∷◌}
+use Rattle.std.specs.Prelude.{◌≡◌, ℕ, List, [], ◌∷◌, Option}
+use Rattle.spk_payload.specs.Typing.{Typed}
 use Rattle.spk_edge_rules.specs.Inputs.{Input}
 use Rattle.spk_record.specs.declared.record.Record.{Record}
-use Rattle.spk_edge_app.specs.Calls.{IsHeldUp, IsMoment, IsOpened, IsStopped, IsTold, IsUnlogged, IsUnread, WasRead, saved_where, wrote_where}
+use Rattle.spk_edge_app.specs.Calls.{IsHeldUp, IsMoment, IsOpened, IsStopped, IsTold, IsToldAll, IsUnlogged, IsUnread, WasRead, saved_where, wrote_where}
 use Rattle.spk_edge_app.specs.Data as deed
 use Rattle.spk_edge_app.specs.Data.{App, Deed}
 use Rattle.spk_edge_app.specs.Step.{IsRun, IsStep}
@@ -17,6 +18,8 @@ pub data Call : Type 0 where
   Unread : (piece : List ℕ) (now : ℕ) (e : EdgeAppFault) → Call
   -- `change`, `device`
   Told : (input : Input) → Call
+  -- `changes`
+  ToldAll : (now : ℕ) (changes : List (ℕ × Option Typed)) → Call
   Moment : (now : ℕ) → Call
   HeldUp : (now : ℕ) (e : EdgeAppFault) → Call
   Stopped : (now : ℕ) → Call
@@ -32,6 +35,7 @@ IsDone a (Unlogged now e) b = IsUnlogged a now b e
 IsDone a (Read piece now) b = WasRead a piece now b
 IsDone a (Unread piece now e) b = IsUnread a piece now b e
 IsDone a (Told input) b = IsTold a input b
+IsDone a (ToldAll now changes) b = IsToldAll a now changes b
 IsDone a (Moment now) b = IsMoment a now b
 IsDone a (HeldUp now e) b = IsHeldUp a now b e
 IsDone a (Stopped now) b = IsStopped a now b

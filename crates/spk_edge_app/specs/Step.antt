@@ -167,6 +167,7 @@ connected now a = record a { connection = after_opened a.connection now; closing
 -- what the program itself tells the node: no packet, and no session
 abbrev pub is_own : inputs.Act → Bool
 is_own (inputs.Change alias value) = true
+is_own (inputs.Changes changes) = true
 is_own (inputs.Turn name up) = true
 is_own inputs.Drain = true
 is_own inputs.Stop = true

@@ -38,6 +38,14 @@ pub enum EdgeAppFault {
     Packet(PacketFault),
 }
 
+/// Why several changes were refused, none of which was done, and the place of the first one that is refused, from 0, where one is.
+#[derive(Clone, Copy, Debug, PartialEq, Eq, Error)]
+#[error("{fault}")]
+pub struct ChangesRefused {
+    pub fault: EdgeAppFault,
+    pub place: Option<usize>,
+}
+
 impl EdgeAppFault {
     /// The number that users and other programs know the fault by.
     pub fn number(self) -> u32

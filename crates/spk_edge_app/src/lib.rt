@@ -14,6 +14,6 @@ mod telling;
 mod writes;
 
 pub use app::EdgeApp;
-pub use fault::EdgeAppFault;
+pub use fault::{ChangesRefused, EdgeAppFault};
 pub use login::Login;
 pub use spk_link::Due;

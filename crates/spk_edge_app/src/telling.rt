@@ -1,13 +1,15 @@
 //! What the program itself tells the node.
-ghost use Rattle.std.specs.Prelude.{◌≡◌, ◌⊎◌, IfErr, OnErr, OnOk};
+ghost use Rattle.std.specs.Prelude.{◌≡◌, ◌⊎◌, [], IfErr, OnErr, OnOk, true, false};
 ghost use Rattle.std.specs.Option.{option_map};
 ghost use Rattle.spk_payload.specs.Typing.{typed_view};
 ghost use Rattle.spk_edge.specs.Patch.{plain_input};
 ghost use Rattle.spk_edge_rules.specs.Inputs as inputs;
-ghost use Rattle.spk_edge_app.specs.Calls.{IsEnded, IsStopped, IsTold, IsUntold};
+ghost use Rattle.spk_edge_rules.specs.Rules.{is_born};
+ghost use Rattle.spk_edge.specs.Several.{pairs};
+ghost use Rattle.spk_edge_app.specs.Calls.{IsEnded, IsStopped, IsTold, IsToldAll, IsUntold, IsUntoldAll};
 
 use crate::app::EdgeApp;
-use crate::fault::EdgeAppFault;
+use crate::fault::{ChangesRefused, EdgeAppFault};
 use spk_edge::Phase;
 use spk_payload::Value;
 
@@ -28,6 +30,44 @@ impl EdgeApp {
         let out = self.node.change(now, alias, value)?;
         self.answer(out, now);
         Ok(())
+    }
+
+    /// Whether the node is told something: by no change it is where it is Born alone.
+    fn is_told_something(&self, changes: &[(u64, Option<Value>)]) -> bool
+        ensures some { result ≡ false → pairs changes.now ≡ [] }
+        ensures waits { result ≡ false → is_born self.now.node.standing.asked.phase ≡ false }
+        ensures each { result ≡ true → is_born self.now.node.standing.asked.phase ≡ false
+            → pairs changes.now ≡ [] → ⊥ }
+    {
+        match self.node.phase() {
+            Phase::Born => true,
+            Phase::Idle | Phase::Connecting | Phase::Waiting => !changes.is_empty(),
+        }
+    }
+
+    /// Several metrics of one owner have values: one message says them, or they are kept one by one (`EdgeNode::changes`). What the
+    /// node refuses changes nothing, and comes with the place of the first one that is refused, where one is.
+    pub fn changes(
+        &mut self,
+        now: u64,
+        changes: &[(u64, Option<Value>)],
+    ) -> Result<(), ChangesRefused>
+        ensures told { OnOk result (IsToldAll self.old now (pairs changes.now) self.new) }
+        ensures refused { IfErr result (IsUntoldAll self.old now (pairs changes.now)) }
+        ensures err { OnErr result (self.new ≡ self.old) }
+    {
+        match self.node.changes(now, changes) {
+            Ok(out) => {
+                if self.is_told_something(changes) {
+                    self.answer(out, now);
+                }
+                Ok(())
+            }
+            Err(refused) => Err(ChangesRefused {
+                fault: refused.fault.into(),
+                place: refused.place,
+            }),
+        }
     }
 
     /// A device, by its name, is up or down (`EdgeNode::device`). What the node refuses changes nothing.

@@ -5,7 +5,7 @@ use Rattle.spk_packets.specs.Spelling.{spelling}
 use Rattle.spk_edge_rules.specs.declared.fault.EdgeFault.{EdgeFault}
 use Rattle.spk_edge_rules.specs.Answers.{Answer}
 use Rattle.spk_edge_rules.specs.Config.{Setup}
-use Rattle.spk_edge_rules.specs.Inputs.{Act, Open, Accepted, Change, Turn, Command, State, Drain, Stop, Cut, TurnedAway, Pass, Input}
+use Rattle.spk_edge_rules.specs.Inputs.{Act, Open, Accepted, Change, Changes, Turn, Command, State, Drain, Stop, Cut, TurnedAway, Pass, Input}
 use Rattle.spk_edge_rules.specs.Run.{right_at, run_of}
 use Rattle.spk_ingress.specs.Passes.{frames_put}
 use Rattle.spk_ingress.specs.declared.channel.PutPass.{PutPass}
@@ -16,6 +16,7 @@ abbrev pub is_cut : Act → Bool
 is_cut Open = false
 is_cut Accepted = false
 is_cut (Change alias value) = false
+is_cut (Changes changes) = false
 is_cut (Turn name up) = false
 is_cut (Command topic payload) = false
 is_cut (State payload) = false

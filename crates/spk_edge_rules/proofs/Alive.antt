@@ -8,7 +8,8 @@ use Rattle.std.proofs.lemmas.Bool.{true≢false, and_parts}
 use Rattle.std.proofs.lemmas.List.{append-nil}
 use Rattle.std.proofs.lemmas.Slice.Eq.{bytes_eq-Decides}
 use Rattle.spk_device.specs.Book.{Book, DeviceData, device_at, is_up, number_of}
-use Rattle.spk_device.specs.Step.{set_refusal, turn_refusal, turned}
+use Rattle.spk_payload.specs.Typing.{Typed}
+use Rattle.spk_device.specs.Step.{set_refusal, turn_refusal, turned, with_value}
 use Rattle.spk_device.specs.Values.{flag_eq}
 use Rattle.spk_device.specs.declared.owner.Owner.{Owner}
 use Rattle.spk_device.specs.declared.owner.Owner.TheVariants.{Node, Device}
@@ -23,14 +24,14 @@ use Rattle.spk_edge_rules.specs.Claims.{AreNumbered, IsAlive, is_birth_of, is_de
 use Rattle.spk_edge_rules.specs.Commands.{Order, command_of, wants_rebirth, writes_in}
 use Rattle.spk_edge_rules.specs.Config.{Config, Setup}
 use Rattle.spk_edge_rules.specs.History.{front_going}
-use Rattle.spk_edge_rules.specs.Inputs.{Act, Open, Accepted, Change, Turn, Command, State, Drain, Stop, Cut, TurnedAway, Pass, Input, ChangeData}
+use Rattle.spk_edge_rules.specs.Inputs.{Act, Open, Accepted, Change, Changes, Turn, Command, State, Drain, Stop, Cut, TurnedAway, Pass, Input, ChangeData}
 use Rattle.spk_edge_rules.specs.Messages.{Draft, is_birth, opens}
 use Rattle.spk_edge_rules.specs.Rules as rule
 use Rattle.spk_edge_rules.specs.Rules.{Given, acked, acts, born, changing, commanded, draining, heard_in, hearing, is_born, is_connecting, is_so_already, is_waiting, joining, leaving, nothing, opening, rules, telling, turning}
 use Rattle.spk_edge_rules.specs.Run.{Done, Message, asked_of, births_in, book_of, device_by, next_number, opened, phase_of, published, run_of, with_posts}
 use Rattle.spk_edge_rules.specs.Step.{book_after, is_open}
 use Rattle.spk_edge_rules.proofs.Chains.{births-snoc}
-use Rattle.spk_edge_rules.proofs.Courses.{Gives, by_if, refused-gives, rules-taken}
+use Rattle.spk_edge_rules.proofs.Courses.{by_if, faulted-gives, Gives, refused-gives, rules-taken, saying-gives}
 use Rattle.spk_edge_rules.proofs.Moments.{book-step}
 use Rattle.spk_edge_rules.proofs.Numbers.{post, posted-cons, with_post}
 use Rattle.spk_edge_rules.proofs.Records.{AllRight, Runs, runs-all, told-all}
@@ -133,6 +134,17 @@ owner-any b (Device n) name up e = by (device_at b n) refl up e
     by : (o : Option DeviceData) → device_at b n ≡ o → option_map_or (λ (d : DeviceData). d.up) o false ≡ true → option_map (λ (d : DeviceData). d.name) o ≡ Some name → AnyUp b.devices name
     by None there up e = absurd (true≢false (sym up))
     by (Some d) there up e = let same : d.name ≡ name = cc in subst (AnyUp b.devices) same (up-at b.devices n d there up)
+
+-- values that are set leave devices as they are
+set-devices : (b : Book) (changes : List (ℕ × Option Typed)) → (rule.with_values b changes).devices ≡ b.devices
+set-devices b [] = refl
+set-devices b (x ∷ xs) = set-devices (with_value b x.0 x.1) xs
+
+set-up : (b : Book) (changes : List (ℕ × Option Typed)) (name : List ℕ) → AnyUp (rule.with_values b changes).devices name → AnyUp b.devices name
+set-up b changes name up = subst (λ (ds : List DeviceData). AnyUp ds name) (set-devices b changes) up
+
+up-set : (b : Book) (changes : List (ℕ × Option Typed)) (name : List ℕ) → AnyUp b.devices name → AnyUp (rule.with_values b changes).devices name
+up-set b changes name up = subst (λ (ds : List DeviceData). AnyUp ds name) (sym (set-devices b changes)) up
 
 -- ---- what each act does
 
@@ -335,6 +347,12 @@ acts-lives c k a now (Change alias value) fit =
     (λ name up. inl (up, refl)) (λ name was. data-returns a.book name was))
     (λ b. Silent refl (λ k. (k, refl, (λ name up. up), (λ numbered name up. up)))))
     (λ e. Silent refl (λ b. (b, refl, (λ name up. up), (λ numbered name up. up)))))
+acts-lives c k a now (Changes changes) fit =
+    faulted-gives (Lives a (Changes changes)) (rule.changes_fault a.book changes) (rule.several a now changes)
+    (λ accepted. saying-gives (Lives a (Changes changes)) a now (rule.owner_of a.book changes) (rule.others_in a.book changes)
+    (Silent refl (λ b. (b, refl, (λ name up. set-up a.book changes name up), (λ numbered name up. up-set a.book changes name up))))
+    (λ ys owner_up. Single _ refl refl fit refl (λ name of_it other_verb. owner-any a.book (rule.owner_of a.book changes) name owner_up of_it)
+    (λ name up. inl (set-up a.book changes name up, refl)) (λ name was. up-set a.book changes name (data-returns a.book name was))))
 acts-lives c k a now (Turn name up) fit =
     refused-gives (Lives a (Turn name up)) (turn_refusal a.book name) (turning a now name up)
     (λ accepted. by_if (Lives a (Turn name up)) (not (is_so_already a.book name up) && is_born a.phase) _ (nothing a)

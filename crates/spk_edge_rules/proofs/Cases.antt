@@ -5,6 +5,7 @@ use Rattle.spk_payload.specs.Meaning.{Content, Int, Flag, Float, Double, MetricD
 use Rattle.spk_payload.specs.Typing.{Signed, Truth, Binary32, Binary64}
 use Rattle.spk_payload.specs.declared.values.Values.TheVariants as choice
 use Rattle.spk_device.specs.Book.{Book, GaugeData}
+use Rattle.spk_device.specs.declared.fault.Refusal.TheVariants.{NoSuch}
 use Rattle.spk_device.specs.declared.owner.Owner.TheVariants.{Node, Device}
 use Rattle.spk_sequence.specs.NodeRecord.{RunsOn}
 use Rattle.spk_state.specs.declared.primary.Heard.TheVariants.{Online, Offline, Ignored}
@@ -18,8 +19,8 @@ use Rattle.spk_edge_rules.specs.Arriving.{input_of}
 use Rattle.spk_edge_rules.specs.Births.{birth_stamp, births_at, data_metric, later_stamp}
 use Rattle.spk_edge_rules.specs.Commands.{Rebirth, ToDevice, ToNode, Writing, alias_in, content_in, is_control, order_of, orders_of, owned_gauge, target_in, target_owner, wants_rebirth, writes_in}
 use Rattle.spk_edge_rules.specs.Config.{Config}
-use Rattle.spk_edge_rules.specs.Inputs.{Act, Input, Open, Accepted, Change, Turn, Command, State, Drain, Stop, Cut, TurnedAway, Pass, WriteData}
-use Rattle.spk_edge_rules.specs.Rules.{Asked, changing, fits, hearing, leaving, nothing, obeying, rules, stating, telling, turned_away, turning}
+use Rattle.spk_edge_rules.specs.Inputs.{Act, Input, Open, Accepted, Change, Changes, Turn, Command, State, Drain, Stop, Cut, TurnedAway, Pass, WriteData}
+use Rattle.spk_edge_rules.specs.Rules.{Asked, changing, fits, hearing, leaving, nothing, obeying, others_in, refused_first, rules, stating, telling, turned_away, turning}
 
 abbrev at_moment : ℕ → Act → Input
 at_moment now act = record { now = now; ack = None; act = act }
@@ -51,11 +52,11 @@ abbrev taken : Act → List Bool
 taken act = map (λ p. fits p act) (Idle ∷ Connecting ∷ Waiting ∷ Born ∷ [])
 
 pub phases : (taken Open ≡ true ∷ false ∷ false ∷ false ∷ []) × (taken Accepted ≡ false ∷ true ∷ false ∷ false ∷ [])
-    × (taken (Change 1 None) ≡ true ∷ true ∷ true ∷ true ∷ []) × (taken (Turn [] true) ≡ true ∷ true ∷ true ∷ true ∷ [])
+    × (taken (Change 1 None) ≡ true ∷ true ∷ true ∷ true ∷ []) × (taken (Changes []) ≡ false ∷ false ∷ false ∷ true ∷ []) × (taken (Turn [] true) ≡ true ∷ true ∷ true ∷ true ∷ [])
     × (taken (Command [] []) ≡ false ∷ false ∷ true ∷ true ∷ []) × (taken (State []) ≡ false ∷ false ∷ true ∷ true ∷ [])
     × (taken Drain ≡ false ∷ false ∷ false ∷ true ∷ []) × (taken Stop ≡ false ∷ false ∷ true ∷ true ∷ [])
     × (taken Cut ≡ true ∷ true ∷ true ∷ true ∷ []) × (taken TurnedAway ≡ true ∷ true ∷ true ∷ true ∷ []) × (taken Pass ≡ true ∷ true ∷ true ∷ true ∷ [])
-phases = (refl, refl, refl, refl, refl, refl, refl, refl, refl, refl, refl)
+phases = (refl, refl, refl, refl, refl, refl, refl, refl, refl, refl, refl, refl)
 
 abbrev in_phase : Phase → Asked → Asked
 in_phase p a = record a { phase = p }
@@ -125,6 +126,17 @@ pub quiet_changes : (a : Asked) → (changing (record a { phase = Born; book = s
     × (changing (record a { phase = Born; book = small }) 5 1 None ≡ telling (record a { phase = Born; book = small }) 5 1 None)
     × (changing (record a { phase = Idle; book = d_up }) 5 2 (Some (Truth true)) ≡ telling (record a { phase = Idle; book = d_up }) 5 2 (Some (Truth true)))
 quiet_changes a = (refl, refl, refl, refl)
+
+-- the place of the first one that is refused
+pub first_refused : (refused_first small ((1, None) ∷ (3, None) ∷ (2, None) ∷ []) ≡ Some (1, fault.Device NoSuch))
+    × (refused_first small ((1, None) ∷ (1, None) ∷ (2, None) ∷ (3, None) ∷ []) ≡ Some (2, fault.TwoOwners))
+    × (refused_first small ((3, None) ∷ (2, None) ∷ []) ≡ Some (0, fault.Device NoSuch))
+    × (refused_first small ((2, None) ∷ (2, Some (Truth true)) ∷ []) ≡ None) × (refused_first small [] ≡ None)
+first_refused = (refl, refl, refl, refl, refl)
+
+-- what is equal to the value by then is left out; an alias may stand again
+pub left_out : others_in small ((1, Some (Signed (pos 7))) ∷ (1, None) ∷ (1, None) ∷ (1, Some (Signed (pos 7))) ∷ []) ≡ (1, None) ∷ (1, Some (Signed (pos 7))) ∷ []
+left_out = refl
 
 pub quiet_turns : (a : Asked) → (turning (record a { phase = Born; book = small }) 5 (codes "D") false ≡ nothing (record a { phase = Born; book = small }))
     × (turning (record a { phase = Waiting; book = small }) 5 (codes "D") true ≡ nothing (record a { phase = Waiting; book = small }))

@@ -2,8 +2,10 @@
 use Rattle.std.proofs.Common.{◌≡◌, ℕ, zero, suc, ◌≤◌, ◌^◌, Bool, true, false, not, ◌&&◌, cond, List, [], ◌∷◌, length, Option, Some, None, is_some, Result, Ok, Err, refl, sym, ◌∙◌, subst, arith, nat_lt}
 use Rattle.std.proofs.lemmas.Bool.{true≢false, and_parts}
 use Rattle.std.proofs.lemmas.List.Sums.{prefix_len-le-length}
+use Rattle.spk_payload.specs.Typing.{Typed}
 use Rattle.spk_device.specs.Step.{set_refusal, turn_refusal}
 use Rattle.spk_device.specs.declared.fault.Refusal.{Refusal}
+use Rattle.spk_device.specs.declared.owner.Owner.{Owner}
 use Rattle.spk_store.specs.Calls.{Call, Push, DropFront}
 use Rattle.spk_state.specs.Step.{heard_as}
 use Rattle.spk_state.specs.Text.{state_at}
@@ -19,10 +21,10 @@ use Rattle.spk_edge_rules.specs.Claims.{Link, Closed, Asked, Joined, accepted_by
 use Rattle.spk_edge_rules.specs.Commands.{Order, command_of, wants_rebirth, writes_in}
 use Rattle.spk_edge_rules.specs.Config.{Config}
 use Rattle.spk_edge_rules.specs.History.{can_go, front_going, front_run, have_one_owner, longest}
-use Rattle.spk_edge_rules.specs.Inputs.{Act, Open, Accepted, Change, Turn, Command, State, Drain, Stop, Cut, TurnedAway, Pass, Input, ChangeData}
+use Rattle.spk_edge_rules.specs.Inputs.{Act, Open, Accepted, Change, Changes, Turn, Command, State, Drain, Stop, Cut, TurnedAway, Pass, Input, ChangeData}
 use Rattle.spk_edge_rules.specs.Messages.{Draft, opens}
 use Rattle.spk_edge_rules.specs.Rules as rule
-use Rattle.spk_edge_rules.specs.Rules.{Given, acked, acts, changing, commanded, draining, fits, heard_in, hearing, is_born, is_connecting, is_idle, is_joined, is_timely, is_waiting, joining, leaving, nothing, obeying, on_ok, opening, refused_or, rules, stating, telling, timely, turned_away, turning, born}
+use Rattle.spk_edge_rules.specs.Rules.{Given, acked, acts, changes_draft, changing, commanded, draining, faulted_or, fits, heard_in, hearing, is_born, is_connecting, is_idle, is_joined, is_timely, is_waiting, joining, leaving, nothing, obeying, on_ok, opening, others_in, refused_or, rules, saying, several, stating, telling, timely, turned_away, turning, born}
 use Rattle.spk_edge_rules.specs.Step.{is_open}
 
 -- ---- pushing a fact through tests
@@ -38,6 +40,17 @@ Gives P (Err f) = Unit {0}
 pub refused-gives : (P : Given → Type 0) (r : Option Refusal) (g : Given) → (r ≡ None → P g) → Gives P (refused_or r g)
 refused-gives P None g p = p refl
 refused-gives P (Some r) g p = tt
+
+pub faulted-gives : (P : Given → Type 0) (o : Option EdgeFault) (g : Given) → (o ≡ None → P g) → Gives P (faulted_or o g)
+faulted-gives P None g p = p refl
+faulted-gives P (Some f) g p = tt
+
+-- a fact of several changes: where they say nothing, and where they say something of an owner that is up
+pub saying-gives : (P : Given → Type 0) (a : rule.Asked) (now : ℕ) (owner : Owner) (xs : List (ℕ × Option Typed)) → P (nothing a)
+    → ((ys : List (ℕ × Option Typed)) → owner_is_up a.book owner ≡ true → P (record (nothing a) { drafts = changes_draft a.book owner (later_stamp a.stamp now) ys ∷ [] }))
+    → P (saying a now owner xs)
+saying-gives P a now owner [] none some = none
+saying-gives P a now owner (x ∷ xs) none some = by_if P (owner_is_up a.book owner) _ _ (λ up. some (x ∷ xs) up) (λ down. none)
 
 -- ---- taken
 
@@ -139,6 +152,10 @@ acts-course c k a now (Change alias value) fit =
     (λ accepted. by_if (Course a now (Change alias value)) (not (rule.is_same_value a.book alias value) && owner_is_up a.book (owner_at a.book alias)) (telling a now alias value) (nothing a)
     (λ e. by_if (Course a now (Change alias value)) (is_born a.phase) _ _ (λ b. One _ refl refl refl b b refl) (λ b. Quiet refl (λ k. (k, refl))))
     (λ e. quiet a now (Change alias value) refl))
+acts-course c k a now (Changes changes) fit =
+    faulted-gives (Course a now (Changes changes)) (rule.changes_fault a.book changes) (several a now changes)
+    (λ accepted. saying-gives (Course a now (Changes changes)) a now (rule.owner_of a.book changes) (others_in a.book changes)
+    (quiet a now (Changes changes) refl) (λ ys up. One _ refl refl refl fit fit refl))
 acts-course c k a now (Turn name up) fit =
     refused-gives (Course a now (Turn name up)) (turn_refusal a.book name) (turning a now name up)
     (λ accepted. by_if (Course a now (Turn name up)) (not (rule.is_so_already a.book name up) && is_born a.phase) _ (nothing a)
@@ -213,6 +230,9 @@ acts-link c k a now (Change alias value) fit =
     refused-gives (Links a (Change alias value)) (set_refusal a.book alias value) (changing a now alias value)
     (λ accepted. by_if (Links a (Change alias value)) (not (rule.is_same_value a.book alias value) && owner_is_up a.book (owner_at a.book alias)) (telling a now alias value) (nothing a)
     (λ e. by_if (Links a (Change alias value)) (is_born a.phase) _ _ (λ b. refl) (λ b. refl)) (λ e. refl))
+acts-link c k a now (Changes changes) fit =
+    faulted-gives (Links a (Changes changes)) (rule.changes_fault a.book changes) (several a now changes)
+    (λ accepted. saying-gives (Links a (Changes changes)) a now (rule.owner_of a.book changes) (others_in a.book changes) refl (λ ys up. refl))
 acts-link c k a now (Turn name up) fit =
     refused-gives (Links a (Turn name up)) (turn_refusal a.book name) (turning a now name up)
     (λ accepted. by_if (Links a (Turn name up)) (not (rule.is_so_already a.book name up) && is_born a.phase) _ (nothing a) (λ e. refl) (λ e. refl))
@@ -276,6 +296,9 @@ acts-keeps c k a now (Change alias value) =
     refused-gives (Keeps a) (set_refusal a.book alias value) (changing a now alias value)
     (λ accepted. by_if (Keeps a) (not (rule.is_same_value a.book alias value) && owner_is_up a.book (owner_at a.book alias)) (telling a now alias value) (nothing a)
     (λ e. by_if (Keeps a) (is_born a.phase) _ _ (λ b. tt) (λ b. tt)) (λ e. tt))
+acts-keeps c k a now (Changes changes) =
+    faulted-gives (Keeps a) (rule.changes_fault a.book changes) (several a now changes)
+    (λ accepted. saying-gives (Keeps a) a now (rule.owner_of a.book changes) (others_in a.book changes) tt (λ ys up. tt))
 acts-keeps c k a now (Turn name up) =
     refused-gives (Keeps a) (turn_refusal a.book name) (turning a now name up)
     (λ accepted. by_if (Keeps a) (not (rule.is_so_already a.book name up) && is_born a.phase) _ (nothing a) (λ e. tt) (λ e. tt))

@@ -20,13 +20,13 @@ use Rattle.spk_edge_rules.specs.Claims.{is_disconnect}
 use Rattle.spk_edge_rules.specs.Commands.{Order, command_of, wants_rebirth, writes_in}
 use Rattle.spk_edge_rules.specs.Config.{Config, Setup}
 use Rattle.spk_edge_rules.specs.History.{front_going}
-use Rattle.spk_edge_rules.specs.Inputs.{Act, Open, Accepted, Change, Turn, Command, State, Drain, Stop, Cut, TurnedAway, Pass, Input, ChangeData}
+use Rattle.spk_edge_rules.specs.Inputs.{Act, Open, Accepted, Change, Changes, Turn, Command, State, Drain, Stop, Cut, TurnedAway, Pass, Input, ChangeData}
 use Rattle.spk_edge_rules.specs.Messages.{Draft}
 use Rattle.spk_edge_rules.specs.Packets.{farewell}
 use Rattle.spk_edge_rules.specs.Rules as rule
 use Rattle.spk_edge_rules.specs.Rules.{Given, acked, acts, born, changing, commanded, draining, heard_in, hearing, is_born, is_connecting, is_so_already, is_waiting, joining, leaving, nothing, on_ok, rules, telling, turning}
 use Rattle.spk_edge_rules.specs.Run.{Done, Message, asked_of, next_number, opened, opened_at, packets_of, right_at, run_of, session_number, wires_at}
-use Rattle.spk_edge_rules.proofs.Courses.{Gives, by_if, refused-gives, rules-taken}
+use Rattle.spk_edge_rules.proofs.Courses.{by_if, faulted-gives, Gives, refused-gives, rules-taken, saying-gives}
 use Rattle.spk_edge_rules.proofs.Records.{right-given}
 
 -- packets that end with the farewell of the session, and no message; or no DISCONNECT
@@ -61,6 +61,9 @@ acts-leave c k a now (Change alias value) =
     refused-gives (Leaves c a) (set_refusal a.book alias value) (changing a now alias value)
     (λ accepted. by_if (Leaves c a) (not (rule.is_same_value a.book alias value) && owner_is_up a.book (owner_at a.book alias)) (telling a now alias value) (nothing a)
     (λ e. by_if (Leaves c a) (is_born a.phase) _ _ (λ b. inr refl) (λ b. inr refl)) (λ e. inr refl))
+acts-leave c k a now (Changes changes) =
+    faulted-gives (Leaves c a) (rule.changes_fault a.book changes) (rule.several a now changes)
+    (λ accepted. saying-gives (Leaves c a) a now (rule.owner_of a.book changes) (rule.others_in a.book changes) (inr refl) (λ ys up. inr refl))
 acts-leave c k a now (Turn name up) =
     refused-gives (Leaves c a) (turn_refusal a.book name) (turning a now name up)
     (λ accepted. by_if (Leaves c a) (not (is_so_already a.book name up) && is_born a.phase) _ (nothing a) (λ e. inr refl) (λ e. inr refl))

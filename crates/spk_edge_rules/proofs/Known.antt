@@ -15,15 +15,15 @@ use Rattle.spk_state.specs.declared.primary.Heard.{Heard}
 use Rattle.spk_state.specs.declared.primary.Heard.TheVariants.{Online, Offline, Ignored}
 use Rattle.spk_state.specs.declared.state.State as read
 use Rattle.spk_edge_rules.specs.declared.phase.Phase.TheVariants.{Idle}
-use Rattle.spk_edge_rules.specs.Births.{births_at, birth_stamp, device_birth, kept_metric, later_stamp, own_metrics, owner_at, owner_is_up, stamped, turn_draft}
+use Rattle.spk_edge_rules.specs.Births.{births_at, birth_stamp, data_metric, device_birth, kept_metric, later_stamp, own_metrics, owner_at, owner_is_up, stamped, turn_draft}
 use Rattle.spk_edge_rules.specs.Commands.{Order, command_of, wants_rebirth, writes_in}
 use Rattle.spk_edge_rules.specs.Config.{Config}
 use Rattle.spk_edge_rules.specs.History.{front_going}
-use Rattle.spk_edge_rules.specs.Inputs.{Act, Open, Accepted, Change, Turn, Command, State, Drain, Stop, Cut, TurnedAway, Pass, ChangeData}
+use Rattle.spk_edge_rules.specs.Inputs.{Act, Open, Accepted, Change, Changes, Turn, Command, State, Drain, Stop, Cut, TurnedAway, Pass, ChangeData}
 use Rattle.spk_edge_rules.specs.Messages.{Draft}
 use Rattle.spk_edge_rules.specs.Rules as rule
 use Rattle.spk_edge_rules.specs.Rules.{Given, acts, born, changing, commanded, draining, heard_in, hearing, is_born, is_connecting, is_waiting, joining, leaving, nothing, telling, turning}
-use Rattle.spk_edge_rules.proofs.Courses.{Gives, by_if, refused-gives}
+use Rattle.spk_edge_rules.proofs.Courses.{by_if, faulted-gives, Gives, refused-gives, saying-gives}
 
 abbrev pub IsKnown : Option Content → Type 0
 IsKnown o = o ≡ Some Other → ⊥
@@ -258,6 +258,10 @@ kept-known : (b : Book) (changes : List ChangeData) → AreKnown (map (kept_metr
 kept-known b [] = tt
 kept-known b (c ∷ cs) = (maybe-known (option_map_or (λ g. g.datatype) (gauge_at b c.alias) 0) c.value, kept-known b cs)
 
+changes-known : (b : Book) (stamp : ℕ) (xs : List (ℕ × Option Typed)) → AreKnown (map (λ (x : ℕ × Option Typed). data_metric b x.0 stamp None x.1) xs)
+changes-known b stamp [] = tt
+changes-known b stamp (x ∷ xs) = (maybe-known (option_map_or (λ g. g.datatype) (gauge_at b x.0) 0) x.1, changes-known b stamp xs)
+
 -- ---- each act
 
 abbrev Knows : Given → Type 0
@@ -291,6 +295,9 @@ acts-known c k a now (Change alias value) =
     refused-gives Knows (set_refusal a.book alias value) (changing a now alias value)
     (λ accepted. by_if Knows (not (rule.is_same_value a.book alias value) && owner_is_up a.book (owner_at a.book alias)) (telling a now alias value) (nothing a)
     (λ e. by_if Knows (is_born a.phase) _ _ (λ b. ((maybe-known (option_map_or (λ g. g.datatype) (gauge_at a.book alias) 0) value, tt), tt)) (λ b. tt)) (λ e. tt))
+acts-known c k a now (Changes changes) =
+    faulted-gives (Knows) (rule.changes_fault a.book changes) (rule.several a now changes)
+    (λ accepted. saying-gives (Knows) a now (rule.owner_of a.book changes) (rule.others_in a.book changes) tt (λ ys up. (changes-known a.book (later_stamp a.stamp now) ys, tt)))
 acts-known c k a now (Turn name up) =
     refused-gives Knows (turn_refusal a.book name) (turning a now name up)
     (λ accepted. by_if Knows (not (rule.is_so_already a.book name up) && is_born a.phase) _ (nothing a)

@@ -7,6 +7,7 @@ use Rattle.std.proofs.lemmas.Bool.{eqb-true}
 use Rattle.std.proofs.lemmas.List.{append-nil, length-map, length-take, map-append}
 use Rattle.std.proofs.lemmas.List.Elements.{filter-append}
 use Rattle.std.proofs.lemmas.Grind.{flat_map-append}
+use Rattle.spk_payload.specs.Typing.{Typed}
 use Rattle.spk_payload.specs.Meaning.{MetricData}
 use Rattle.spk_device.specs.Book.{Book, DeviceData, GaugeData, birth_of, gauge_at, number_of, owned, owner_number}
 use Rattle.spk_device.specs.Step.{set_refusal, turn_refusal}
@@ -21,17 +22,17 @@ use Rattle.spk_store.specs.Calls.{Call, Push, DropFront}
 use Rattle.spk_store.specs.Kept as kept
 use Rattle.spk_topics.specs.declared.spark.Verb.TheVariants.{Data}
 use Rattle.spk_edge_rules.specs.declared.phase.Phase.TheVariants.{Idle}
-use Rattle.spk_edge_rules.specs.Births.{births_at, birth_stamp, device_birth, device_of, kept_metric, later_stamp, own_metrics, owner_at, owner_is_up, stamped, turn_draft}
+use Rattle.spk_edge_rules.specs.Births.{data_metric, births_at, birth_stamp, device_birth, device_of, kept_metric, later_stamp, own_metrics, owner_at, owner_is_up, stamped, turn_draft}
 use Rattle.spk_edge_rules.specs.Commands.{Order, command_of, wants_rebirth, writes_in}
 use Rattle.spk_edge_rules.specs.Config.{Config, Setup}
 use Rattle.spk_edge_rules.specs.History.{can_go, front_going, front_run, have_one_owner, history}
-use Rattle.spk_edge_rules.specs.Inputs.{Act, Open, Accepted, Change, Turn, Command, State, Drain, Stop, Cut, TurnedAway, Pass, ChangeData, Input}
+use Rattle.spk_edge_rules.specs.Inputs.{Act, Open, Accepted, Change, Changes, Turn, Command, State, Drain, Stop, Cut, TurnedAway, Pass, ChangeData, Input}
 use Rattle.spk_edge_rules.specs.Later.{all_historical, historical_in, is_historical, said_later}
 use Rattle.spk_edge_rules.specs.Messages.{Draft, opens}
 use Rattle.spk_edge_rules.specs.Rules as rule
 use Rattle.spk_edge_rules.specs.Rules.{Given, acked, acts, born, changing, commanded, draining, heard_in, hearing, is_born, is_connecting, is_waiting, joining, leaving, nothing, rules, telling, turning}
 use Rattle.spk_edge_rules.specs.Run.{Done, Message, asked_of, births_in, book_of, calls_of, device_by, gauge_by, next_number, opened, posts, published, run_of, with_call}
-use Rattle.spk_edge_rules.proofs.Courses.{Gives, by_if, longest-few, refused-gives, rules-taken}
+use Rattle.spk_edge_rules.proofs.Courses.{by_if, faulted-gives, Gives, longest-few, refused-gives, rules-taken, saying-gives}
 use Rattle.spk_edge_rules.proofs.Records.{AllRight, told-all}
 
 -- ---- messages without historical metrics
@@ -61,6 +62,10 @@ turn-plain b stamp name true = by (number_of b name)
     by None = refl
     by (Some n) = own-plain b stamp (Device n)
 
+changes-plain : (b : Book) (stamp : ℕ) (xs : List (ℕ × Option Typed)) → filter is_historical (map (λ (x : ℕ × Option Typed). data_metric b x.0 stamp None x.1) xs) ≡ []
+changes-plain b stamp [] = refl
+changes-plain b stamp (x ∷ xs) = changes-plain b stamp xs
+
 -- ---- what an act gives of the kept changes
 
 -- the changes that a call to the store lets go as sent
@@ -78,7 +83,7 @@ none-lost : (items : List ChangeData) (n : ℕ) → gone_by items (Some (DropFro
 none-lost items n = refl
 
 -- owners of one number are one
-same-owner : (x y : Owner) → owner_number x ≡ owner_number y → x ≡ y
+pub same-owner : (x y : Owner) → owner_number x ≡ owner_number y → x ≡ y
 same-owner Node Node e = refl
 same-owner Node (Device n) e = absurd (omega (arith, e))
 same-owner (Device m) Node e = absurd (omega (arith, e))
@@ -140,6 +145,9 @@ acts-say c k a now (Change alias value) =
     refused-gives (Says a) (set_refusal a.book alias value) (changing a now alias value)
     (λ accepted. by_if (Says a) (not (rule.is_same_value a.book alias value) && owner_is_up a.book (owner_at a.book alias)) (telling a now alias value) (nothing a)
     (λ e. by_if (Says a) (is_born a.phase) _ _ (λ b. Plain (refl, tt) refl) (λ b. Plain tt refl)) (λ e. Plain tt refl))
+acts-say c k a now (Changes changes) =
+    faulted-gives (Says a) (rule.changes_fault a.book changes) (rule.several a now changes)
+    (λ accepted. saying-gives (Says a) a now (rule.owner_of a.book changes) (rule.others_in a.book changes) (Plain tt refl) (λ ys up. Plain (changes-plain a.book (later_stamp a.stamp now) ys, tt) refl))
 acts-say c k a now (Turn name up) =
     refused-gives (Says a) (turn_refusal a.book name) (turning a now name up)
     (λ accepted. by_if (Says a) (not (rule.is_so_already a.book name up) && is_born a.phase) _ (nothing a)

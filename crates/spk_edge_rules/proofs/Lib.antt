@@ -15,3 +15,4 @@ mod Alive
 mod Farewells
 mod Drains
 mod Later
+pub mod Several

@@ -17,9 +17,9 @@ use Rattle.spk_state.specs.Step.{after_heard}
 use Rattle.spk_state.specs.Text.{state_at}
 use Rattle.spk_state.specs.declared.state.State as read
 use Rattle.spk_edge_rules.specs.Config.{Config, Setup}
-use Rattle.spk_edge_rules.specs.Inputs.{Act, Open, Accepted, Change, Turn, Command, State, Drain, Stop, Cut, TurnedAway, Pass, Input, ChangeData}
+use Rattle.spk_edge_rules.specs.Inputs.{Act, Open, Accepted, Change, Changes, Turn, Command, State, Drain, Stop, Cut, TurnedAway, Pass, Input, ChangeData}
 use Rattle.spk_edge_rules.specs.Messages.{Draft, opens}
-use Rattle.spk_edge_rules.specs.Rules.{Asked, Given}
+use Rattle.spk_edge_rules.specs.Rules.{Asked, Given, with_values}
 use Rattle.spk_edge_rules.specs.Step.{asked_after, book_after, fresh_standing, heard_after, heard_by, is_open, stamp_after, store_after}
 use Rattle.spk_edge_rules.specs.Run.{Done, Message, asked_of, book_of, calls_of, device_by, gauge_by, greater, greatest_of, heard_of, kept_of, last_set, last_turn, opened, posts, births_in, published, session_number, stamp_of, with_call}
 use Rattle.spk_edge_rules.proofs.Courses.{KeepsLaw}
@@ -41,6 +41,18 @@ set-gauges h now ack given alias value n (g ∷ gs) = one (n + 1 == alias) (set-
     one true rest = ap (λ l. (record g { value = value }) ∷ l) rest
     one false rest = ap (λ l. gauge_by h (n, g) ∷ l) rest
 
+set-one : (s : Setup) (h : List Done) (now : ℕ) (ack : Option ℕ) (alias : ℕ) (value : Option Typed) (g : Given)
+    → book_after (book_of s h) (Change alias value) ≡ book_of s (done_of now ack (Change alias value) g ∷ h)
+set-one s h now ack alias value g =
+    ap (λ (l : List GaugeData). let b : Book = record { devices = (book_of s h).devices; gauges = l; values = s.book.values } in b) (set-gauges h now ack g alias value 0 s.book.gauges)
+
+-- of several that are set each is the last one set, where no later one has its alias
+set-all : (s : Setup) (h : List Done) (now : ℕ) (ack : Option ℕ) (g : Given) (changes : List (ℕ × Option Typed))
+    → with_values (book_of s h) changes ≡ book_of s (done_of now ack (Changes changes) g ∷ h)
+set-all s h now ack g [] = refl
+set-all s h now ack g (x ∷ xs) =
+    ap (λ (b : Book). with_values b xs) (set-one s h now ack x.0 x.1 g) ∙ set-all s (done_of now ack (Change x.0 x.1) g ∷ h) now ack g xs
+
 -- a turn is the last turn
 turn-devices : (h : List Done) (now : ℕ) (ack : Option ℕ) (given : Given) (name : List ℕ) (up : Bool) (ds : List DeviceData)
     → map (device.turned name up) (map (device_by h) ds) ≡ map (device_by (done_of now ack (Turn name up) given ∷ h)) ds
@@ -56,8 +68,8 @@ turn-devices h now ack given name up (d ∷ ds) = one (bytes_eq name d.name) (tu
 pub book-step : (s : Setup) (h : List Done) (now : ℕ) (ack : Option ℕ) (act : Act) (g : Given) → book_after (book_of s h) act ≡ book_of s (done_of now ack act g ∷ h)
 book-step s h now ack Open g = refl
 book-step s h now ack Accepted g = refl
-book-step s h now ack (Change alias value) g =
-    ap (λ (l : List GaugeData). let b : Book = record { devices = (book_of s h).devices; gauges = l; values = s.book.values } in b) (set-gauges h now ack g alias value 0 s.book.gauges)
+book-step s h now ack (Change alias value) g = set-one s h now ack alias value g
+book-step s h now ack (Changes changes) g = set-all s h now ack g changes
 book-step s h now ack (Turn name up) g =
     ap (λ (l : List DeviceData). let b : Book = record { devices = l; gauges = (book_of s h).gauges; values = s.book.values } in b) (turn-devices h now ack g name up s.book.devices)
 book-step s h now ack (Command topic payload) g = refl
@@ -121,6 +133,7 @@ heard-step : (c : Config) (h : List Done) (now : ℕ) (ack : Option ℕ) (act : 
 heard-step c h now ack Open g = refl
 heard-step c h now ack Accepted g = refl
 heard-step c h now ack (Change alias value) g = refl
+heard-step c h now ack (Changes changes) g = refl
 heard-step c h now ack (Turn name up) g = refl
 heard-step c h now ack (Command topic payload) g = refl
 heard-step c h now ack (State payload) g = heard-state c.primary (greatest_of h) (state_at payload)

@@ -29,12 +29,12 @@ use Rattle.spk_edge_rules.specs.Claims.{HasNames, IsUnreserved, SaysSessionOnce,
 use Rattle.spk_edge_rules.specs.Commands.{Order, command_of, wants_rebirth, writes_in}
 use Rattle.spk_edge_rules.specs.Config.{Config, Setup}
 use Rattle.spk_edge_rules.specs.History.{front_going}
-use Rattle.spk_edge_rules.specs.Inputs.{Act, Open, Accepted, Change, Turn, Command, State, Drain, Stop, Cut, TurnedAway, Pass, Input, ChangeData}
+use Rattle.spk_edge_rules.specs.Inputs.{Act, Open, Accepted, Change, Changes, Turn, Command, State, Drain, Stop, Cut, TurnedAway, Pass, Input, ChangeData}
 use Rattle.spk_edge_rules.specs.Messages.{Draft, named_by, opens, spark_of}
 use Rattle.spk_edge_rules.specs.Rules as rule
 use Rattle.spk_edge_rules.specs.Rules.{Given, acked, acts, born, changing, commanded, draining, heard_in, hearing, is_born, is_connecting, is_waiting, joining, leaving, nothing, rules, telling, turning}
 use Rattle.spk_edge_rules.specs.Run.{Done, Message, asked_of, births_in, book_of, device_by, gauge_by, next_number, opened, opened_at, posts, published, right_at, run_of, with_done}
-use Rattle.spk_edge_rules.proofs.Courses.{Gives, by_if, refused-gives, rules-lawful, rules-taken}
+use Rattle.spk_edge_rules.proofs.Courses.{by_if, faulted-gives, Gives, refused-gives, rules-lawful, rules-taken, saying-gives}
 use Rattle.spk_edge_rules.proofs.Numbers.{numbers-right}
 use Rattle.spk_edge_rules.specs.Step.{standing_of}
 use Rattle.spk_edge_rules.proofs.Records.{AllRight, posted-of, right-given, runs-all, told-all}
@@ -222,6 +222,9 @@ acts-fine c k a now (Change alias value) =
     refused-gives (Fine c a) (set_refusal a.book alias value) (changing a now alias value)
     (λ accepted. by_if (Fine c a) (not (rule.is_same_value a.book alias value) && owner_is_up a.book (owner_at a.book alias)) (telling a now alias value) (nothing a)
     (λ e. by_if (Fine c a) (is_born a.phase) _ _ (λ b. (fine-data c a.book (owner_at a.book alias) _ _, tt)) (λ b. tt)) (λ e. tt))
+acts-fine c k a now (Changes changes) =
+    faulted-gives (Fine c a) (rule.changes_fault a.book changes) (rule.several a now changes)
+    (λ accepted. saying-gives (Fine c a) a now (rule.owner_of a.book changes) (rule.others_in a.book changes) tt (λ ys up. (fine-data c a.book (rule.owner_of a.book changes) _ _, tt)))
 acts-fine c k a now (Turn name up) =
     refused-gives (Fine c a) (turn_refusal a.book name) (turning a now name up)
     (λ accepted. by_if (Fine c a) (not (rule.is_so_already a.book name up) && is_born a.phase) _ (nothing a)

@@ -17,7 +17,7 @@ use Rattle.spk_edge_rules.specs.Writable.{is_writable}
 use Rattle.spk_edge_rules.specs.Births.{birth_stamp, data_draft, device_birth, later_stamp, node_birth}
 use Rattle.spk_edge_rules.specs.Claims.{Link, Closed, SaysSession, link_by, link_of}
 use Rattle.spk_edge_rules.specs.Config.{Config, Setup}
-use Rattle.spk_edge_rules.specs.Inputs.{Act, Open, Accepted, Change, Turn, Command, State, Drain, Stop, Cut, TurnedAway, Pass, Input}
+use Rattle.spk_edge_rules.specs.Inputs.{Act, Open, Accepted, Change, Changes, Turn, Command, State, Drain, Stop, Cut, TurnedAway, Pass, Input}
 use Rattle.spk_edge_rules.specs.Messages.{Draft, opens}
 use Rattle.spk_edge_rules.specs.Packets.{session_metric}
 use Rattle.spk_edge_rules.specs.Rules as rule
@@ -182,6 +182,7 @@ closed-stays : (act : Act) → is_open act ≡ false → link_by act Closed ≡ 
 closed-stays Open e = absurd (true≢false e)
 closed-stays Accepted e = refl
 closed-stays (Change alias value) e = refl
+closed-stays (Changes changes) e = refl
 closed-stays (Turn name up) e = refl
 closed-stays (Command topic payload) e = refl
 closed-stays (State payload) e = refl
@@ -304,6 +305,7 @@ same-acts : (c : Config) (m n : ℕ) (a : rule.Asked) (now : ℕ) (act : Act) �
 same-acts c m n a now Open fit same = refl
 same-acts c m n a now Accepted fit same = refl
 same-acts c m n a now (Change alias value) fit same = refl
+same-acts c m n a now (Changes changes) fit same = refl
 same-acts c m n a now (Turn name up) fit same = refl
 same-acts c m n a now (Command topic payload) fit same = refl
 same-acts c m n a now (State payload) fit same = refl

@@ -1,5 +1,5 @@
 -- What the definitions give in runs that are worked out by hand, byte by byte.
-use Rattle.std.proofs.Common.{◌≡◌, ℕ, Bool, true, false, List, [], ◌∷◌, ◌^◌, map, replicate, Some, None, Result, Ok, Err, refl, pos, codes}
+use Rattle.std.proofs.Common.{◌≡◌, ℕ, Bool, true, false, List, [], ◌∷◌, ◌^◌, map, replicate, Option, Some, None, Result, Ok, Err, refl, pos, codes}
 use Rattle.spk_packets.specs.Message.{PubAck}
 use Rattle.spk_packets.specs.Spelling as packet
 use Rattle.spk_payload.specs.Spelling as payload
@@ -10,7 +10,7 @@ use Rattle.serde_json.proofs.OnLiterals.{serde_json_on_literals}
 use Rattle.spk_protobuf.specs.Spelling as wire
 use Rattle.spk_protobuf.specs.Reading as fields
 use Rattle.spk_payload.specs.Reading as reading
-use Rattle.spk_payload.specs.Typing.{Signed, Truth, Binary32, Binary64}
+use Rattle.spk_payload.specs.Typing.{Typed, Signed, Truth, Binary32, Binary64}
 use Rattle.spk_payload.specs.declared.values.Values.TheVariants as choice
 use Rattle.spk_device.specs.Book.{Book}
 use Rattle.spk_device.specs.declared.fault.Refusal.TheVariants.{WrongKind, NoSuch}
@@ -23,7 +23,7 @@ use Rattle.spk_edge_rules.specs.declared.fault.EdgeFault.TheVariants as fault
 use Rattle.spk_edge_rules.specs.Answers.{Answer}
 use Rattle.spk_edge_rules.specs.Config.{Config, Setup}
 use Rattle.spk_edge_rules.specs.History.{front_run, longest}
-use Rattle.spk_edge_rules.specs.Inputs.{Input, Act, ChangeData, Open, Accepted, Change, Turn, Command, State, Drain, Stop, Cut}
+use Rattle.spk_edge_rules.specs.Inputs.{Input, Act, ChangeData, Open, Accepted, Change, Changes, Turn, Command, State, Drain, Stop, Cut}
 use Rattle.spk_edge_rules.specs.Rules.{Asked, acked, draining, leaving}
 use Rattle.spk_edge_rules.specs.Step.{answer_at, record_at, standing_of}
 use Rattle.spk_edge_rules.specs.Run.{kept_of, record_of, right_at, run_of}
@@ -217,6 +217,42 @@ pub down_device_is_silent : Gives with_device accepted (at_moment 7 (Change 2 (S
     × Gives with_device accepted (at_moment 7 (Change 3 None)) (Err (fault.Device NoSuch))
 unfolding packet.spelling packet.body packet.shortest packet.has_bad_text packet.has_bad_body packet.is_qos_two payload.spelling payload.metric_spelling wire.varint wire.groups_of wire.bytes_field spelled_answer
 down_device_is_silent = ((refl, refl), (refl, refl), (refl, refl))
+
+-- ---- several changes at once: 8, the same again, null, 9; one message says three of them, and the next one counts on from it
+
+abbrev int_to : ℕ → ℕ → ℕ × Option Typed
+int_to alias n = (alias, Some (Signed (pos n)))
+
+abbrev at_once : ℕ → List (ℕ × Option Typed) → Input
+at_once now changes = at_moment now (Changes changes)
+
+abbrev four : List (ℕ × Option Typed)
+four = int_to 1 8 ∷ int_to 1 8 ∷ (1, None) ∷ int_to 1 9 ∷ []
+
+pub several_in_one_message : Gives alone accepted (at_once 7 four) (Ok ((48 ∷ 47 ∷ 0 ∷ 17 ∷ 115 ∷ 112 ∷ 66 ∷ 118 ∷ 49 ∷ 46 ∷ 48 ∷ 47 ∷ 71 ∷ 47 ∷ 78 ∷ 68 ∷ 65 ∷ 84 ∷ 65 ∷ 47 ∷ 78 ∷ 8 ∷ 7 ∷ 18 ∷ 6 ∷ 16 ∷ 1 ∷ 24 ∷ 7 ∷ 80 ∷ 8 ∷ 18 ∷ 6 ∷ 16 ∷ 1 ∷ 24 ∷ 7 ∷ 56 ∷ 1 ∷ 18 ∷ 6 ∷ 16 ∷ 1 ∷ 24 ∷ 7 ∷ 80 ∷ 9 ∷ 24 ∷ 1 ∷ []) ∷ []))
+    × Gives alone (at_once 7 four ∷ accepted) (at_once 8 (int_to 1 9 ∷ int_to 1 9 ∷ [])) (Ok [])
+    × Gives alone accepted (at_once 7 []) (Ok [])
+    × (record_at alone.config (standing_of alone (at_once 7 four ∷ accepted)) ≡ record { seq = 2; bd = 1; stamp = Some 7 })
+    × (record_of alone (run_of alone (at_once 7 four ∷ accepted)) ≡ record { seq = 2; bd = 1; stamp = Some 7 })
+unfolding packet.spelling packet.body packet.shortest packet.has_bad_text packet.has_bad_body packet.is_qos_two payload.spelling payload.metric_spelling wire.varint wire.groups_of wire.bytes_field spelled_answer
+several_in_one_message = ((refl, refl), (refl, refl), (refl, refl), refl, refl)
+
+-- one that is refused refuses all, and its number isn't used; the first one refused says why
+pub one_refused_refuses_all : Gives with_device accepted (at_once 7 (int_to 1 8 ∷ (1, Some (Truth true)) ∷ (3, None) ∷ [])) (Err (fault.Device WrongKind))
+    × Gives with_device accepted (at_once 7 (int_to 1 8 ∷ (3, None) ∷ (1, Some (Truth true)) ∷ [])) (Err (fault.Device NoSuch))
+    × Gives with_device accepted (at_once 7 (int_to 1 8 ∷ (2, None) ∷ (3, None) ∷ [])) (Err fault.TwoOwners)
+    × Gives with_device accepted (at_once 7 (int_to 1 8 ∷ int_to 2 8 ∷ [])) (Err (fault.Device WrongKind))
+    × Gives with_device opened (at_once 7 (int_to 1 8 ∷ [])) (Err fault.WrongPhase)
+    × (record_at with_device.config (standing_of with_device (at_once 7 (int_to 1 8 ∷ (3, None) ∷ []) ∷ accepted)) ≡ record { seq = 1; bd = 1; stamp = Some 6 })
+unfolding packet.spelling packet.body packet.shortest packet.has_bad_text packet.has_bad_body packet.is_qos_two payload.spelling payload.metric_spelling wire.varint wire.groups_of wire.bytes_field spelled_answer
+one_refused_refuses_all = ((refl, refl), (refl, refl), (refl, refl), (refl, refl), (refl, refl), refl)
+
+-- of a device that is down they only set values: behind its birth, which says the value, an equal one is silent
+pub several_of_a_device : Gives with_device accepted (at_once 7 ((2, Some (Truth true)) ∷ [])) (Ok [])
+    × Gives with_device (turn 7 true ∷ at_once 7 ((2, Some (Truth true)) ∷ []) ∷ accepted) (at_once 8 ((2, Some (Truth true)) ∷ [])) (Ok [])
+    × Gives with_device (turn 7 true ∷ accepted) (at_once 8 ((2, None) ∷ (2, Some (Truth true)) ∷ [])) (Ok ((48 ∷ 33 ∷ 0 ∷ 19 ∷ 115 ∷ 112 ∷ 66 ∷ 118 ∷ 49 ∷ 46 ∷ 48 ∷ 47 ∷ 71 ∷ 47 ∷ 68 ∷ 68 ∷ 65 ∷ 84 ∷ 65 ∷ 47 ∷ 78 ∷ 47 ∷ 68 ∷ 8 ∷ 8 ∷ 18 ∷ 6 ∷ 16 ∷ 2 ∷ 24 ∷ 8 ∷ 112 ∷ 1 ∷ 24 ∷ 2 ∷ []) ∷ []))
+unfolding packet.spelling packet.body packet.shortest packet.has_bad_text packet.has_bad_body packet.is_qos_two payload.spelling payload.metric_spelling wire.varint wire.groups_of wire.bytes_field spelled_answer
+several_of_a_device = ((refl, refl), (refl, refl), (refl, refl))
 
 -- ---- ends: the death at QoS 1 with identifier 2 and the moment of the opening, and DISCONNECT
 

@@ -22,11 +22,11 @@ use Rattle.spk_edge_rules.specs.Claims.{AreWholeBirths, Joined, IsDeviceBirth, L
 use Rattle.spk_edge_rules.specs.Commands.{Order, command_of, wants_rebirth, writes_in}
 use Rattle.spk_edge_rules.specs.Config.{Config}
 use Rattle.spk_edge_rules.specs.History.{front_going}
-use Rattle.spk_edge_rules.specs.Inputs.{Act, Open, Accepted, Change, Turn, Command, State, Drain, Stop, Cut, TurnedAway, Pass, Input, ChangeData}
+use Rattle.spk_edge_rules.specs.Inputs.{Act, Open, Accepted, Change, Changes, Turn, Command, State, Drain, Stop, Cut, TurnedAway, Pass, Input, ChangeData}
 use Rattle.spk_edge_rules.specs.Messages.{Draft, opens}
 use Rattle.spk_edge_rules.specs.Rules as rule
 use Rattle.spk_edge_rules.specs.Rules.{Given, acked, acts, born, changing, commanded, draining, heard_in, hearing, is_born, is_connecting, is_waiting, joining, leaving, nothing, rules, telling, turning}
-use Rattle.spk_edge_rules.proofs.Courses.{Births, Course, Gives, One, Quiet, by_if, link_in, refused-gives, rules-taken}
+use Rattle.spk_edge_rules.proofs.Courses.{Births, by_if, Course, faulted-gives, Gives, link_in, One, Quiet, refused-gives, rules-taken, saying-gives}
 
 -- ---- births
 
@@ -142,6 +142,9 @@ acts-lists c k a now (Change alias value) =
     refused-gives (Lists a) (set_refusal a.book alias value) (changing a now alias value)
     (λ accepted. by_if (Lists a) (not (rule.is_same_value a.book alias value) && owner_is_up a.book (owner_at a.book alias)) (telling a now alias value) (nothing a)
     (λ e. by_if (Lists a) (is_born a.phase) _ _ (λ b. ((λ birth. no_birth birth), tt)) (λ b. tt)) (λ e. tt))
+acts-lists c k a now (Changes changes) =
+    faulted-gives (Lists a) (rule.changes_fault a.book changes) (rule.several a now changes)
+    (λ accepted. saying-gives (Lists a) a now (rule.owner_of a.book changes) (rule.others_in a.book changes) tt (λ ys up. ((λ birth. no_birth birth), tt)))
 acts-lists c k a now (Turn name up) =
     refused-gives (Lists a) (turn_refusal a.book name) (turning a now name up)
     (λ accepted. by_if (Lists a) (not (rule.is_so_already a.book name up) && is_born a.phase) _ (nothing a)

@@ -21,7 +21,7 @@ use Rattle.spk_topics.specs.declared.spark.Verb.TheVariants as verb
 use Rattle.spk_edge_rules.specs.Births.{births_at, own_metrics, rebirth_metric}
 use Rattle.spk_edge_rules.specs.Config.{Config, Setup}
 use Rattle.spk_edge_rules.specs.History.{can_go, front_run, history, most}
-use Rattle.spk_edge_rules.specs.Inputs.{Act, ChangeData, Open, Accepted, Change, Turn, Command, State, Drain, Stop, Cut, TurnedAway, Pass}
+use Rattle.spk_edge_rules.specs.Inputs.{Act, ChangeData, Open, Accepted, Change, Changes, Turn, Command, State, Drain, Stop, Cut, TurnedAway, Pass}
 use Rattle.spk_edge_rules.specs.Messages.{Draft, is_birth, opens, payload_of, wire}
 use Rattle.spk_edge_rules.specs.Packets.{session_metric}
 use Rattle.spk_edge_rules.specs.Rules.{Given}
@@ -149,6 +149,7 @@ abbrev pub link_by : Act → Link → Link
 link_by Open link = Asked
 link_by Accepted link = accepted_by link
 link_by (Change alias value) link = link
+link_by (Changes changes) link = link
 link_by (Turn name up) link = link
 link_by (Command topic payload) link = link
 link_by (State payload) link = link

@@ -1,7 +1,7 @@
 -- The numbers of the faults.
 use Rattle.std.specs.Prelude.{ℕ}
 use Rattle.spk_edge_rules.specs.declared.fault.EdgeFault.{EdgeFault}
-use Rattle.spk_edge_rules.specs.declared.fault.EdgeFault.TheVariants.{NoMemory, WrongPhase, ClockEnd, BadCommand, BadConfig, TooLarge, Device, State}
+use Rattle.spk_edge_rules.specs.declared.fault.EdgeFault.TheVariants.{NoMemory, WrongPhase, ClockEnd, BadCommand, BadConfig, TooLarge, Device, State, TwoOwners}
 
 abbrev pub number_of : EdgeFault → ℕ
 number_of NoMemory = 1
@@ -12,3 +12,4 @@ number_of BadConfig = 63
 number_of TooLarge = 64
 number_of (Device refusal) = 65
 number_of (State fault) = 66
+number_of TwoOwners = 119

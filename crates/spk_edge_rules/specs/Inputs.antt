@@ -10,6 +10,8 @@ pub data Act : Type 0 where
   Accepted : Act
   -- a metric, by its alias, has a value
   Change : (alias : ℕ) (value : Option Typed) → Act
+  -- several metrics of one owner, by their aliases, have values
+  Changes : (changes : List (ℕ × Option Typed)) → Act
   -- a device, by its name, is up or down
   Turn : (name : List ℕ) (up : Bool) → Act
   -- a message on a topic of commands: its topic and its payload

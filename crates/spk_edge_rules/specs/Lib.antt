@@ -12,5 +12,6 @@ pub mod Answers
 pub mod Step
 pub mod Run
 pub mod Later
+pub mod Several
 pub mod Claims
 pub mod Fault

@@ -1,15 +1,16 @@
 -- What an edge node does at an input (Sparkplug 3.0.0, chapters 5 and 6; the phases, the stamps and what is kept are own
 -- rules), from what may be asked of it before and the sequence number that comes next.
-use Rattle.std.specs.Prelude.{ℕ, ◌^◌, Bool, true, false, not, ◌&&◌, List, [], ◌∷◌, Option, Some, None, Result, Ok, Err, is_some, nat_lt, if◌then◌else◌}
+use Rattle.std.specs.Prelude.{ℕ, ◌+◌, ◌^◌, Bool, true, false, not, ◌&&◌, List, [], ◌∷◌, map, Option, Some, None, Result, Ok, Err, is_some, nat_lt, if◌then◌else◌}
 use Rattle.std.specs.List.{list_all}
-use Rattle.std.specs.Option.{option_map_or}
+use Rattle.std.specs.Option.{option_map, option_map_or}
 use Rattle.spk_payload.specs.Typing.{Typed}
 use Rattle.spk_packets.specs.Message.{Message, PubAck}
-use Rattle.spk_device.specs.Book.{Book, gauge_at, is_up}
-use Rattle.spk_device.specs.Step.{set_refusal, turn_refusal}
+use Rattle.spk_device.specs.Book.{Book, gauge_at, is_owner, is_up}
+use Rattle.spk_device.specs.Step.{set_refusal, turn_refusal, with_value}
 use Rattle.spk_device.specs.Values.{flag_eq, value_eq}
 use Rattle.spk_device.specs.declared.fault.Refusal.{Refusal}
 use Rattle.spk_device.specs.declared.owner.Owner.{Owner}
+use Rattle.spk_device.specs.declared.owner.Owner.TheVariants.{Node}
 use Rattle.spk_store.specs.Data.{Kept}
 use Rattle.spk_store.specs.Calls.{Call, Push, DropFront}
 use Rattle.spk_state.specs.Step.{heard_as}
@@ -26,7 +27,7 @@ use Rattle.spk_edge_rules.specs.Births.{births_at, birth_stamp, data_draft, data
 use Rattle.spk_edge_rules.specs.Commands.{Order, command_of, writes_in, wants_rebirth}
 use Rattle.spk_edge_rules.specs.Config.{Config}
 use Rattle.spk_edge_rules.specs.History.{front_going, front_run, history}
-use Rattle.spk_edge_rules.specs.Inputs.{Act, Open, Accepted, Change, Turn, Command, State, Drain, Stop, Cut, TurnedAway, Pass, Input, ChangeData, WriteData}
+use Rattle.spk_edge_rules.specs.Inputs.{Act, Open, Accepted, Change, Changes, Turn, Command, State, Drain, Stop, Cut, TurnedAway, Pass, Input, ChangeData, WriteData}
 use Rattle.spk_edge_rules.specs.Messages.{Draft}
 use Rattle.spk_edge_rules.specs.Packets.{connect_of, subscribe_of, farewell}
 
@@ -93,6 +94,7 @@ abbrev pub fits : Phase → Act → Bool
 fits phase Open = is_idle phase
 fits phase Accepted = is_connecting phase
 fits phase (Change alias value) = true
+fits phase (Changes changes) = is_born phase
 fits phase (Turn name up) = true
 fits phase (Command topic payload) = is_joined phase
 fits phase (State payload) = is_joined phase
@@ -147,6 +149,62 @@ telling a now alias value =
 abbrev pub changing : Asked → ℕ → ℕ → Option Typed → Given
 changing a now alias value =
     if not (is_same_value a.book alias value) && owner_is_up a.book (owner_at a.book alias) then telling a now alias value else nothing a
+
+-- ---- several changes of one owner, in one message (own rule)
+
+-- the registry behind them, each set after the one before it
+abbrev pub with_values : Book → List (ℕ × Option Typed) → Book
+with_values b [] = b
+with_values b (x ∷ xs) = with_values (with_value b x.0 x.1) xs
+
+-- those that set something: one that is equal to the value present by then is left out
+abbrev pub others_in : Book → List (ℕ × Option Typed) → List (ℕ × Option Typed)
+others_in b [] = []
+others_in b (x ∷ xs) =
+    let rest = others_in (with_value b x.0 x.1) xs in
+    if is_same_value b x.0 x.1 then rest else x ∷ rest
+
+-- their owner: that of the first one
+abbrev pub owner_of : Book → List (ℕ × Option Typed) → Owner
+owner_of b [] = Node
+owner_of b (x ∷ xs) = owner_at b x.0
+
+-- what one of them is refused with: what the registry refuses, then another owner
+abbrev pub change_fault : Book → Owner → ℕ × Option Typed → Option EdgeFault
+change_fault b owner x =
+    option_map_or (λ r. Some (fault.Device r)) (set_refusal b x.0 x.1)
+    (if is_owner owner (owner_at b x.0) then None else Some fault.TwoOwners)
+
+-- the first one that is refused: its place, from n on, and with what
+abbrev pub first_fault : Book → Owner → ℕ → List (ℕ × Option Typed) → Option (ℕ × EdgeFault)
+first_fault b owner n [] = None
+first_fault b owner n (x ∷ xs) = option_map_or (λ f. Some (n, f)) (change_fault b owner x) (first_fault b owner (n + 1) xs)
+
+-- and so of the whole list, by places from 0
+abbrev pub refused_first : Book → List (ℕ × Option Typed) → Option (ℕ × EdgeFault)
+refused_first b changes = first_fault b (owner_of b changes) 0 changes
+
+abbrev pub changes_fault : Book → List (ℕ × Option Typed) → Option EdgeFault
+changes_fault b changes = option_map (λ e. e.1) (refused_first b changes)
+
+abbrev pub faulted_or : Option EdgeFault → Given → Result Given EdgeFault
+faulted_or (Some f) g = Err f
+faulted_or None g = Ok g
+
+-- the message of changes of an owner, with a metric for each
+abbrev pub changes_draft : Book → Owner → ℕ → List (ℕ × Option Typed) → Draft
+changes_draft b owner stamp changes = data_draft b owner stamp (map (λ x. data_metric b x.0 stamp None x.1) changes)
+
+-- one message of those that set something; nothing where none do
+abbrev pub saying : Asked → ℕ → Owner → List (ℕ × Option Typed) → Given
+saying a now owner [] = nothing a
+saying a now owner (x ∷ xs) =
+    if owner_is_up a.book owner
+    then record (nothing a) { drafts = changes_draft a.book owner (later_stamp a.stamp now) (x ∷ xs) ∷ [] }
+    else nothing a
+
+abbrev pub several : Asked → ℕ → List (ℕ × Option Typed) → Given
+several a now changes = saying a now (owner_of a.book changes) (others_in a.book changes)
 
 abbrev pub is_so_already : Book → List ℕ → Bool → Bool
 is_so_already b name up = option_map_or (λ was. flag_eq was up) (is_up b name) false
@@ -208,6 +266,7 @@ abbrev pub acts : Config → ℕ → Asked → ℕ → Act → Result Given Edge
 acts c number a now Open = Ok (opening c a now)
 acts c number a now Accepted = Ok (accepting c a now)
 acts c number a now (Change alias value) = refused_or (set_refusal a.book alias value) (changing a now alias value)
+acts c number a now (Changes changes) = faulted_or (changes_fault a.book changes) (several a now changes)
 acts c number a now (Turn name up) = refused_or (turn_refusal a.book name) (turning a now name up)
 acts c number a now (Command topic payload) = commanded a now (command_of c a.book topic payload)
 acts c number a now (State payload) = stating c a now payload

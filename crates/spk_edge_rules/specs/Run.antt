@@ -19,7 +19,7 @@ use Rattle.spk_edge_rules.specs.declared.phase.Phase.TheVariants.{Idle}
 use Rattle.spk_edge_rules.specs.Answers.{Answer, checked}
 use Rattle.spk_edge_rules.specs.Births.{data_draft, later_stamp}
 use Rattle.spk_edge_rules.specs.Config.{Config, Setup}
-use Rattle.spk_edge_rules.specs.Inputs.{Act, Change, Turn, State, Input, ChangeData}
+use Rattle.spk_edge_rules.specs.Inputs.{Act, Change, Changes, Turn, State, Input, ChangeData}
 use Rattle.spk_edge_rules.specs.Messages.{Draft, opens, wire}
 use Rattle.spk_edge_rules.specs.Rules.{Asked, Given, on_ok, rules}
 use Rattle.spk_edge_rules.specs.Step.{Record, is_open, seq_kept}
@@ -91,9 +91,15 @@ session_number s session = (s.bd + session) % 256
 
 -- ---- registry, kept changes, STATE
 
+-- the last value of an alias in a list of changes, or else the one before
+abbrev pub last_in : List (ℕ × Option Typed) → ℕ → Option Typed → Option Typed
+last_in [] alias before = before
+last_in (x ∷ xs) alias before = last_in xs alias (if alias == x.0 then x.1 else before)
+
 -- the value last set at an alias, or else the one that was there
 abbrev pub set_by : Act → ℕ → Option Typed → Option Typed
 set_by (Change a value) alias before = if alias == a then value else before
+set_by (Changes changes) alias before = last_in changes alias before
 set_by _ alias before = before
 
 abbrev pub last_set : List Done → ℕ → Option Typed → Option Typed

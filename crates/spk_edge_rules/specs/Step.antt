@@ -15,9 +15,9 @@ use Rattle.spk_edge_rules.specs.declared.fault.EdgeFault.{EdgeFault}
 use Rattle.spk_edge_rules.specs.declared.phase.Phase.TheVariants.{Idle}
 use Rattle.spk_edge_rules.specs.Answers.{Answer, checked}
 use Rattle.spk_edge_rules.specs.Config.{Config, Setup}
-use Rattle.spk_edge_rules.specs.Inputs.{Act, Open, Accepted, Change, Turn, Command, State, Drain, Stop, Cut, TurnedAway, Pass, Input, ChangeData}
+use Rattle.spk_edge_rules.specs.Inputs.{Act, Open, Accepted, Change, Changes, Turn, Command, State, Drain, Stop, Cut, TurnedAway, Pass, Input, ChangeData}
 use Rattle.spk_edge_rules.specs.Messages.{Draft, opens, wire}
-use Rattle.spk_edge_rules.specs.Rules.{Asked, Given, on_ok, rules}
+use Rattle.spk_edge_rules.specs.Rules.{Asked, Given, on_ok, rules, with_values}
 
 -- what the rules look at, and the sequence number that comes next
 pub record Standing : Type 0 where
@@ -52,6 +52,7 @@ abbrev pub book_after : Book → Act → Book
 book_after b Open = b
 book_after b Accepted = b
 book_after b (Change alias value) = with_value b alias value
+book_after b (Changes changes) = with_values b changes
 book_after b (Turn name up) = with_turn b name up
 book_after b (Command topic payload) = b
 book_after b (State payload) = b
@@ -74,6 +75,7 @@ abbrev pub heard_after : Config → Option ℕ → Act → Option ℕ
 heard_after c heard Open = heard
 heard_after c heard Accepted = heard
 heard_after c heard (Change alias value) = heard
+heard_after c heard (Changes changes) = heard
 heard_after c heard (Turn name up) = heard
 heard_after c heard (Command topic payload) = heard
 heard_after c heard (State payload) = heard_by c.primary heard (state_at payload)
@@ -87,6 +89,7 @@ abbrev pub is_open : Act → Bool
 is_open Open = true
 is_open Accepted = false
 is_open (Change alias value) = false
+is_open (Changes changes) = false
 is_open (Turn name up) = false
 is_open (Command topic payload) = false
 is_open (State payload) = false

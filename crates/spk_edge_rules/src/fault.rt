@@ -34,6 +34,9 @@ pub enum EdgeFault {
     /// A STATE that can't be read.
     #[error("State")]
     State(StateFault),
+    /// Changes that are told at once and aren't of one owner.
+    #[error("TwoOwners")]
+    TwoOwners,
 }
 
 impl EdgeFault {
@@ -50,6 +53,7 @@ impl EdgeFault {
             EdgeFault::TooLarge => 64,
             EdgeFault::Device(_) => 65,
             EdgeFault::State(_) => 66,
+            EdgeFault::TwoOwners => 119,
         }
     }
 }

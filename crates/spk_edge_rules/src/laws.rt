@@ -1,11 +1,12 @@
 //! Laws on lists of inputs: functions that do nothing, whose contracts speak of definitions alone.
-ghost use Rattle.std.specs.Prelude.{◌≡◌, ℕ, ◌-◌, ◌^◌, ◌<◌, ◌≤◌, List, [], ◌∷◌, ◌++◌, filter, length, map, min, slice_get, take, Some, None, Ok, Err, All, IsTrue, true, false};
+ghost use Rattle.std.specs.Prelude.{◌≡◌, ◌⊎◌, ℕ, ◌-◌, ◌^◌, ◌<◌, ◌≤◌, List, [], ◌∷◌, ◌++◌, filter, length, map, min, slice_get, take, Option, Some, None, Ok, Err, All, IsTrue, true, false};
 ghost use Rattle.std.specs.List.{AllByRecursion, list_any};
 ghost use Rattle.std.specs.Option.{option_and_then};
 ghost use Rattle.spk_payload.specs.declared.values.Values.TheVariants as choice;
 ghost use Rattle.spk_payload.specs.Meaning.{MeansPayload, PayloadData};
 ghost use Rattle.spk_payload.specs.Reading.{payload_at};
 ghost use Rattle.spk_payload.specs.Spelling.{spelling};
+ghost use Rattle.spk_payload.specs.Typing.{Typed};
 ghost use Rattle.spk_packets.specs.Grammar.{Spells};
 ghost use Rattle.spk_packets.specs.Message as packets;
 ghost use Rattle.spk_topics.specs.Spark.{has_names, topic_of};
@@ -23,12 +24,14 @@ ghost use Rattle.spk_edge_rules.specs.Claims.{AreNumbered, AreWholeBirths, HasNa
 ghost use Rattle.spk_edge_rules.specs.Commands.{command_of, orders_in, target_of};
 ghost use Rattle.spk_edge_rules.specs.Config.{Config, Setup};
 ghost use Rattle.spk_edge_rules.specs.History.{can_go, front_run, history};
-ghost use Rattle.spk_edge_rules.specs.Inputs.{ChangeData, Drain, Input, Open, Stop};
+ghost use Rattle.spk_edge_rules.specs.Inputs.{ChangeData, Changes, Drain, Input, Open, Stop};
 ghost use Rattle.spk_edge_rules.specs.Later.{all_historical, historical_in, said_later};
 ghost use Rattle.spk_edge_rules.specs.Messages.{Draft, is_birth, named_by, opens, payload_of, wire};
 ghost use Rattle.spk_edge_rules.specs.Packets.{connect_of, death_payload, farewell, will_of};
 ghost use Rattle.spk_edge_rules.specs.Run.{Message, asked_of, births_in, book_of, calls_of, kept_of, next_number, number_at, opened, opened_at, outline, phase_of, published, record_of, right_at, run_of, session_number, stamp_of};
-ghost use Rattle.spk_edge_rules.specs.Step.{Standing, answer_at, record_at, standing_of};
+ghost use Rattle.spk_edge_rules.specs.Rules.{Asked, Given, rules};
+ghost use Rattle.spk_edge_rules.specs.Several.{AreTaken, book_behind, messages_of, told_in};
+ghost use Rattle.spk_edge_rules.specs.Step.{Standing, answer_at, book_after, record_at, standing_of};
 
 /// For every node and every list of inputs, newest first, whatever the node begins with.
 pub fn any_list()
@@ -207,6 +210,32 @@ pub fn history()
     ensures data { (s : Setup) (is : List Input) (p : ℕ) (m : Message)
         → slice_get (published (run_of s is)) p ≡ Some m → 0 < length (historical_in m.draft)
         → m.draft.verb ≡ Data }
+{}
+
+/// Of several changes at once, whatever the rules look at: they come to what they come to one after the other.
+pub fn several()
+    // none of them would be refused alone, each behind those before it
+    ensures taken { (c : Config) (number : ℕ) (a : Asked) (now : ℕ) (ack : Option ℕ)
+        (changes : List (ℕ × Option Typed)) (g : Given)
+        → rules c number a (record { now = now; ack = ack; act = Changes changes }) ≡ Ok g
+        → AreTaken c a now changes }
+
+    // they give one message at most
+    ensures one { (c : Config) (number : ℕ) (a : Asked) (now : ℕ) (ack : Option ℕ)
+        (changes : List (ℕ × Option Typed)) (g : Given)
+        → rules c number a (record { now = now; ack = ack; act = Changes changes }) ≡ Ok g
+        → (g.drafts ≡ []) ⊎ ((d : Draft) × (g.drafts ≡ d ∷ [])) }
+
+    // whose metrics are, in order, those that each of them would have in a message of its own, of the same owner and with the
+    // same stamp
+    ensures metrics { (c : Config) (number : ℕ) (a : Asked) (now : ℕ) (ack : Option ℕ)
+        (changes : List (ℕ × Option Typed)) (g : Given)
+        → rules c number a (record { now = now; ack = ack; act = Changes changes }) ≡ Ok g
+        → told_in g.drafts ≡ told_in (messages_of c a now changes) }
+
+    // and the registry behind them is the one behind the last of these
+    ensures values { (c : Config) (a : Asked) (now : ℕ) (changes : List (ℕ × Option Typed))
+        → book_after a.book (Changes changes) ≡ book_behind c a now changes }
 {}
 
 /// Of each message's bytes: whoever reads them by the grammar reads that message and nothing else.

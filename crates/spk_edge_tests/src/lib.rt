@@ -6,6 +6,8 @@ mod command;
 #[cfg(test)]
 mod datatype;
 #[cfg(test)]
+mod floats;
+#[cfg(test)]
 mod history;
 #[cfg(test)]
 mod host;
@@ -17,6 +19,8 @@ mod packet;
 mod refusal;
 #[cfg(test)]
 mod run;
+#[cfg(test)]
+mod several;
 #[cfg(test)]
 mod twin;
 #[cfg(test)]

@@ -2,7 +2,8 @@
 use crate::which::Test;
 use spk_device::{Alias, DeviceFault, Owner, Refusal, Registry};
 use spk_edge::{
-    Act, EdgeConfig, EdgeFault, EdgeNode, Input, Numbering, Out, Phase, Plan, Published, Record,
+    Act, ChangesFault, EdgeConfig, EdgeFault, EdgeNode, Input, Numbering, Out, Phase, Plan,
+    Published, Record,
 };
 use spk_packets::Packet;
 use spk_payload::Value;
@@ -189,6 +190,14 @@ pub(crate) trait Plays {
         value: &Option<Value>,
     ) -> Result<Out, EdgeFault>;
 
+    fn tell_changes(
+        &mut self,
+        now: u64,
+        changes: &[(Alias, Option<Value>)],
+    ) -> Result<Out, ChangesFault>;
+
+    fn kept_count(&self) -> usize;
+
     fn tell_plan(&mut self, now: u64, act: Act<'_>) -> Result<Out, EdgeFault>;
 
     fn taken(&mut self, plan: Plan) -> Vec<Published>;
@@ -239,6 +248,18 @@ impl Plays for EdgeNode {
         value: &Option<Value>,
     ) -> Result<Out, EdgeFault> {
         self.change(now, alias, value)
+    }
+
+    fn tell_changes(
+        &mut self,
+        now: u64,
+        changes: &[(Alias, Option<Value>)],
+    ) -> Result<Out, ChangesFault> {
+        self.changes(now, changes)
+    }
+
+    fn kept_count(&self) -> usize {
+        self.kept()
     }
 
     fn tell_plan(&mut self, now: u64, act: Act<'_>) -> Result<Out, EdgeFault> {
@@ -293,7 +314,7 @@ pub(crate) type Row = (u64, Call, Wanted);
 pub(crate) const CONNECT: &str =
     "103400044d515454040e003c0003472f4e001273704276312e302f472f4e44454154482f4e000f0805120b0a05626453657120045800";
 
-const SUBSCRIBE: &str =
+pub(crate) const SUBSCRIBE: &str =
     "822a0001001073704276312e302f472f4e434d442f4e01001273704276312e302f472f44434d442f4e2f2b01";
 
 pub(crate) const NBIRTH: &str =
@@ -351,7 +372,8 @@ static DEVICE: [Row; 10] = [
     (12, Call::Stop, Err(EdgeFault::WrongPhase)),
 ];
 
-fn are_spelled(packets: &[Vec<u8>], wanted: &[&str]) -> bool {
+/// Whether the digits spell these packets.
+pub(crate) fn are_spelled(packets: &[Vec<u8>], wanted: &[&str]) -> bool {
     for (bytes, digits) in packets.iter().zip(wanted) {
         if !is_spelled(bytes, digits) {
             return false;

@@ -1,5 +1,5 @@
 //! The tests that play on a node. Each is a word that `play_on` takes, so that one function alone holds a node.
-use crate::{command, host, node, packet, refusal, run, twin};
+use crate::{command, host, node, packet, refusal, run, several, twin};
 use node::Plays;
 use spk_edge::Numbering;
 use std::process::Abort;
@@ -29,6 +29,7 @@ pub(crate) enum Test<'a> {
     Keeps4096,
     Commands,
     LongRun,
+    Several,
 }
 
 impl<'a> Test<'a> {
@@ -57,6 +58,7 @@ impl<'a> Test<'a> {
             Test::Keeps4096 => run::keeps_the_last_4096(rt, node),
             Test::Commands => command::does_commands(rt, node),
             Test::LongRun => twin::plays_long(rt, node),
+            Test::Several => several::says_several_at_once(rt, node),
         }
     }
 }

@@ -18,7 +18,7 @@ use Rattle.spk_edge_rules.specs.Births.{birth_stamp, owner_at, owner_is_up}
 use Rattle.spk_edge_rules.specs.Commands.{Order, command_of, wants_rebirth, writes_in}
 use Rattle.spk_edge_rules.specs.Config.{Config, Setup}
 use Rattle.spk_edge_rules.specs.History.{front_going}
-use Rattle.spk_edge_rules.specs.Inputs.{Act, Open, Accepted, Change, Turn, Command, State, Drain, Stop, Cut, TurnedAway, Pass, Input, ChangeData}
+use Rattle.spk_edge_rules.specs.Inputs.{Act, Open, Accepted, Change, Changes, Turn, Command, State, Drain, Stop, Cut, TurnedAway, Pass, Input, ChangeData}
 use Rattle.spk_edge_rules.specs.Messages.{Draft, opens}
 use Rattle.spk_edge_rules.specs.Rules as rule
 use Rattle.spk_edge_rules.specs.Rules.{Given, is_born, is_connecting, is_waiting, on_ok, rules}
@@ -76,6 +76,14 @@ changed : (a : rule.Asked) (now alias : ℕ) (value : Option Typed) → Fits a n
 changed a now alias value =
     either a now (not (rule.is_same_value a.book alias value) && owner_is_up a.book (owner_at a.book alias)) (rule.telling a now alias value) (rule.nothing a) (told a now alias value) (quiet a now (rule.nothing a) refl)
 
+faulted_or : (a : rule.Asked) (now : ℕ) (o : Option EdgeFault) (g : Given) → Fits a now g → FitsIn a now (rule.faulted_or o g)
+faulted_or a now (Some f) g x = tt
+faulted_or a now None g x = x
+
+said : (a : rule.Asked) (now : ℕ) (owner : Owner) (changes : List (ℕ × Option Typed)) → Fits a now (rule.saying a now owner changes)
+said a now owner [] = quiet a now (rule.nothing a) refl
+said a now owner (x ∷ xs) = either a now (owner_is_up a.book owner) _ (rule.nothing a) (other a now _ _ refl refl) (quiet a now (rule.nothing a) refl)
+
 obeyed : (a : rule.Asked) (now : ℕ) (orders : List Order) → Fits a now (rule.obeying a now orders)
 obeyed a now orders =
     let g : Given = record (rule.nothing a) { writes = writes_in orders } in
@@ -107,6 +115,7 @@ acted : (c : Config) (number : ℕ) (a : rule.Asked) (now : ℕ) (act : Act) →
 acted c number a now Open = quiet a now (rule.opening c a now) refl
 acted c number a now Accepted = either a now (is_some c.primary) (rule.joining c a) _ (quiet a now (rule.joining c a) refl) (births a now (rule.joining c a))
 acted c number a now (Change alias value) = refused_or a now (set_refusal a.book alias value) (rule.changing a now alias value) (changed a now alias value)
+acted c number a now (Changes changes) = faulted_or a now (rule.changes_fault a.book changes) (rule.several a now changes) (said a now (rule.owner_of a.book changes) (rule.others_in a.book changes))
 acted c number a now (Turn name up) = refused_or a now (turn_refusal a.book name) (rule.turning a now name up) (turned a now name up)
 acted c number a now (Command topic payload) = commanded a now (command_of c a.book topic payload)
 acted c number a now (State payload) = chosen a now (is_some c.primary) (rule.heard_in c a now (state_at payload)) (Ok (rule.nothing a)) (heard_in c a now (state_at payload)) (quiet a now (rule.nothing a) refl)

@@ -9,7 +9,7 @@ use Rattle.spk_edge_rules.specs.Answers.{Answer}
 use Rattle.spk_edge_rules.specs.Births.{birth_stamp}
 use Rattle.spk_edge_rules.specs.Claims.{Link, Closed, Asked, Joined, link_by, link_of}
 use Rattle.spk_edge_rules.specs.Config.{Setup}
-use Rattle.spk_edge_rules.specs.Inputs.{Act, Open, Accepted, Change, Turn, Command, State, Drain, Stop, Cut, TurnedAway, Pass, Input}
+use Rattle.spk_edge_rules.specs.Inputs.{Act, Open, Accepted, Change, Changes, Turn, Command, State, Drain, Stop, Cut, TurnedAway, Pass, Input}
 use Rattle.spk_edge_rules.specs.Messages.{Draft, opens}
 use Rattle.spk_edge_rules.specs.Run.{Done, Message, births_in, opened, outline, posts, published, right_at, run_of, stamp_of, with_done}
 use Rattle.spk_edge_rules.specs.Step.{is_open}
@@ -72,6 +72,7 @@ linked false Accepted Closed n some open_ = absurd (open_ refl)
 linked false Accepted Asked n some open_ = some (λ e. let x : ⊥ = cc in x)
 linked false Accepted Joined n some open_ = some (λ e. let x : ⊥ = cc in x)
 linked false (Change alias value) link n some open_ = some open_
+linked false (Changes changes) link n some open_ = some open_
 linked false (Turn name up) link n some open_ = some open_
 linked false (Command topic payload) link n some open_ = some open_
 linked false (State payload) link n some open_ = some open_

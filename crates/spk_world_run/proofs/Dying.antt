@@ -15,7 +15,7 @@ use Rattle.spk_edge_rules.specs.declared.fault.EdgeFault.TheVariants as fault
 use Rattle.spk_edge_rules.specs.Answers.{Answer, checked}
 use Rattle.spk_edge_rules.specs.Writable.{is_writable}
 use Rattle.spk_edge_rules.specs.Config.{Setup}
-use Rattle.spk_edge_rules.specs.Inputs.{Act, Open, Accepted, Change, Turn, Command, State, Drain, Stop, Cut, TurnedAway, Pass, Input}
+use Rattle.spk_edge_rules.specs.Inputs.{Act, Open, Accepted, Change, Changes, Turn, Command, State, Drain, Stop, Cut, TurnedAway, Pass, Input}
 use Rattle.spk_edge_rules.specs.Packets.{client_of, connect_of, death_payload, death_topic, will_of}
 use Rattle.spk_edge_rules.specs.Rules.{Given, on_ok, rules}
 use Rattle.spk_edge_rules.specs.Run.{asked_of, next_number, opened, packets_of, right_at, run_of, session_number}
@@ -102,6 +102,7 @@ is-open : (a : Act) → is_open a ≡ true → a ≡ Open
 is-open Open e = refl
 is-open Accepted e = absurd (true≢false (sym e))
 is-open (Change alias value) e = absurd (true≢false (sym e))
+is-open (Changes changes) e = absurd (true≢false (sym e))
 is-open (Turn name up) e = absurd (true≢false (sym e))
 is-open (Command topic payload) e = absurd (true≢false (sym e))
 is-open (State payload) e = absurd (true≢false (sym e))
