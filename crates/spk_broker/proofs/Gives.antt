@@ -1,23 +1,29 @@
 -- A SUBSCRIBE: the grants, SUBACK, and then the offers.
-use Rattle.std.proofs.Common.{◌≡◌, ℕ, ◌<◌, ◌≤◌, List, [], ◌∷◌, ◌++◌, length, length-set, get_or, get_or-set_same, set, refl, sym, ap, subst, ◌∙◌, Option, Some, None}
+use Rattle.std.proofs.Common.{◌≡◌, ℕ, ◌<◌, ◌≤◌, Bool, ◌||◌, cond, List, [], ◌∷◌, ◌++◌, map, length, length-set, get_or, get_or-set_same, set, refl, sym, ap, subst, ◌∙◌, Option, Some, None, Global, is_some}
 use Rattle.std.proofs.lemmas.List.{map-append}
-use Rattle.std.specs.List.{flat_map, fold, position}
+use Rattle.std.specs.List.{flat_map, fold, list_any, position}
 use Rattle.std.specs.Option.{IfSome}
 use Rattle.indexmap.specs.IndexMap.{spare}
 use Rattle.spk_packets.specs.Message.{SubAck}
+use Rattle.spk_topics.specs.Text.{filter_refusal}
 use Rattle.spk_broker_rules.specs.Data as plain
 use Rattle.spk_broker_rules.specs.Lawful.{Rises}
-use Rattle.spk_broker_rules.specs.Plan.{Give}
-use Rattle.spk_broker_rules.specs.Step.{Turn, act, give_at, offer, other_grants, seat_at, sits, swap, with_seats}
-use Rattle.spk_broker_rules.specs.Words.{codes_of, granted_of, offers_to, option_list, with_entry}
+use Rattle.spk_broker_rules.specs.Plan.{Give, Route, Seen, shut, subscribe}
+use Rattle.spk_broker_rules.specs.Step.{Turn, act, acts, give_at, heavy_at, heavy_in, offer, other_grants, retained_with, seat_at, sits, swap, with_seats}
+use Rattle.spk_broker_rules.specs.Words.{codes_of, granted_of, is_heavy, offers_to, option_list, with_entry}
 use Rattle.spk_broker_rules.proofs.Places.{lawful-found}
 use Rattle.spk_broker.specs.Asking.{passes, seat_here, seats_now}
 use Rattle.spk_broker.specs.Both.{Both}
 use Rattle.spk_broker.specs.Drafts.{Drafted, draft_view}
+use Rattle.spk_broker.specs.Endings.{Leads}
+use Rattle.spk_broker.specs.Granting.{Grown, granting_view, grown_by}
 use Rattle.spk_broker.specs.Offering.{IsOf, Offering}
+use Rattle.spk_broker.specs.Parts.{grant_view, retained_view}
 use Rattle.spk_broker.specs.Sent.{outgoing}
 use Rattle.spk_broker.specs.View.{Stands, desk_now, with_keeps}
 use Rattle.spk_broker.specs.declared.desk.Desk.{Desk}
+use Rattle.spk_broker.specs.declared.ending.Ending.{Ending}
+use Rattle.spk_broker.specs.declared.granting.Granting.{Granting}
 use Rattle.spk_broker.specs.declared.out.Draft.{Draft}
 use Rattle.spk_broker.proofs.Alive.{found-alive}
 use Rattle.spk_broker.proofs.Places.{swap-at}
@@ -68,6 +74,24 @@ pub gives : (conn id : ℕ) (entries : List (List ℕ × ℕ)) (t : Turn) (seat 
     (flat_map (offers_to t.broker.retained) (granted_of (other_grants seat t.broker.seats) seat.grants entries))
     ≡ act (Give conn id entries) t
 gives conn id entries t seat e = ap (λ o. give_at o conn id entries t) (sym e)
+
+-- what was weighed is what the rules ask
+pub heavy-is : (d : Desk) (x : Draft) (t : Turn) (conn : ℕ) (entries : List (List ℕ × ℕ)) (seat : plain.Seat) (g : Granting) → (draft_view x).keeps ≡ [] → Stands d x t
+    → seat_at conn t.broker.seats ≡ Some seat → granting_view g ≡ grown_by (other_grants seat t.broker.seats) seat.grants entries
+    → is_heavy (map (retained_view {A = Global}) d.retained.entries) (map grant_view g.given.items) ≡ heavy_in conn entries t.broker
+heavy-is d x t conn entries seat g keeps s sitting grown =
+    ap (λ r. is_heavy r (map grant_view g.given.items))
+    (ap (fold retained_with (map (retained_view {A = Global}) d.retained.entries)) (sym keeps) ∙ ap (λ (b : plain.Broker). b.retained) s.broker)
+    ∙ ap (λ (y : Grown). is_heavy t.broker.retained y.given) grown ∙ ap (λ o. heavy_at o entries t.broker) (sym sitting)
+
+-- whether it has a bad filter, and whether it asks for too much
+pub subscribe-leads : (d : Desk) (x : Draft) (e : Ending) (seen : Seen) (conn id : ℕ) (entries : List (List ℕ × ℕ)) (t : Turn) (bad heavy : Bool)
+    → list_any (λ (r : List ℕ × ℕ). is_some (filter_refusal r.0)) entries ≡ bad → seen.heavy ≡ heavy
+    → Leads d x e (acts (cond (bad || heavy) (shut conn) (Give conn id entries ∷ Route ∷ [])) t) → Leads d x e (acts (subscribe seen conn id entries) t)
+subscribe-leads d x e seen conn id entries t bad heavy is too done =
+    subst (λ u. Leads d x e u)
+    (ap (λ b. acts (cond (b || heavy) (shut conn) (Give conn id entries ∷ Route ∷ [])) t) (sym is)
+    ∙ ap (λ b. acts (cond (list_any (λ (r : List ℕ × ℕ). is_some (filter_refusal r.0)) entries || b) (shut conn) (Give conn id entries ∷ Route ∷ [])) t) (sym too)) done
 
 pub gives-none : (conn id : ℕ) (entries : List (List ℕ × ℕ)) (t : Turn) → seat_at conn t.broker.seats ≡ None → t ≡ act (Give conn id entries) t
 gives-none conn id entries t e = ap (λ o. give_at o conn id entries t) (sym e)

@@ -41,4 +41,5 @@ pub mod Stayers
 pub mod Touched
 pub mod Visits
 pub mod Walks
+pub mod Weights
 pub mod Wholes

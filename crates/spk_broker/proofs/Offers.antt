@@ -194,14 +194,19 @@ offers-step key t g es i =
 pub offering-along : (d : Desk) (x : Draft) (place key : ℕ) (t u : Turn) → Offering d x place key t → t ≡ u → Offering d x place key u
 offering-along d x place key t u o e = subst (Offering d x place key) e o
 
+-- one grant more
+pub grants-more : (es : List (List ℕ × plain.Stored)) (gs : List Grant) (i : ℕ) (x d : Grant) → i < length gs → x ≡ get_or gs i d
+    → flat_map (offers_to es) (map grant_view (take i gs)) ++ offers_to es (grant_view x) ≡ flat_map (offers_to es) (map grant_view (take (i + 1) gs))
+grants-more es gs i x d lt is = sym (
+    ap (λ l. flat_map (offers_to es) (map grant_view l)) (take_more gs i d lt)
+    ∙ ap (flat_map (offers_to es)) (map-append grant_view (take i gs) (get_or gs i d ∷ []))
+    ∙ flat_map-append (offers_to es) (map grant_view (take i gs)) (grant_view (get_or gs i d) ∷ [])
+    ∙ ap (λ ps. flat_map (offers_to es) (map grant_view (take i gs)) ++ ps) (append-nil (offers_to es (grant_view (get_or gs i d))) ∙ ap (λ (y : Grant). offers_to es (grant_view y)) (sym is))
+    )
+
 pub grants-step : (key : ℕ) (t : Turn) (es : List (List ℕ × plain.Stored)) (gs : List Grant) (i : ℕ) (x d : Grant) → i < length gs → x ≡ get_or gs i d
     → fold (offer key) (fold (offer key) t (flat_map (offers_to es) (map grant_view (take i gs)))) (offers_to es (grant_view x))
     ≡ fold (offer key) t (flat_map (offers_to es) (map grant_view (take (i + 1) gs)))
 grants-step key t es gs i x d lt is =
     sym (fold-append (offer key) t (flat_map (offers_to es) (map grant_view (take i gs))) (offers_to es (grant_view x)))
-    ∙ ap (fold (offer key) t) (sym (
-    ap (λ l. flat_map (offers_to es) (map grant_view l)) (take_more gs i d lt)
-    ∙ ap (flat_map (offers_to es)) (map-append grant_view (take i gs) (get_or gs i d ∷ []))
-    ∙ flat_map-append (offers_to es) (map grant_view (take i gs)) (grant_view (get_or gs i d) ∷ [])
-    ∙ ap (λ ps. flat_map (offers_to es) (map grant_view (take i gs)) ++ ps) (append-nil (offers_to es (grant_view (get_or gs i d))) ∙ ap (λ (y : Grant). offers_to es (grant_view y)) (sym is))
-    ))
+    ∙ ap (fold (offer key) t) (grants-more es gs i x d lt is)

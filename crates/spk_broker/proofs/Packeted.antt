@@ -18,7 +18,7 @@ use Rattle.spk_broker.specs.View.{Stands}
 
 -- which acts are planned, by whether it can't be written and whether its connection joined
 abbrev chosen : Bool → Bool → Seen → ℕ → Message → List Act
-chosen bad joined seen conn p = cond bad (shut conn) (cond joined (next_packet conn p) (first_packet seen conn p))
+chosen bad joined seen conn p = cond bad (shut conn) (cond joined (next_packet seen conn p) (first_packet seen conn p))
 
 turned : (o : Option PacketFault) (b : Bool) → is_none o ≡ b → is_some o ≡ cond b false true
 turned None b e = ap (λ x. cond x false true) e

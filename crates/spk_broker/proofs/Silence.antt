@@ -361,19 +361,19 @@ may-publish : (R : ℕ → Type 0) (conn : ℕ) (id : Option ℕ) (post : Post) 
 may-publish R conn None post = (tt, (tt, tt))
 may-publish R conn (Some id) post = (tt, (tt, (tt, tt)))
 
-may-next : (R : ℕ → Type 0) (conn : ℕ) (p : Message) → AllMay R (next_packet conn p)
-may-next R conn (Connect name clean alive will) = may-shut R conn
-may-next R conn (ConnAck present code) = may-shut R conn
-may-next R conn (Publish dup qos retain topic id payload) =
+may-next : (R : ℕ → Type 0) (s : Seen) (conn : ℕ) (p : Message) → AllMay R (next_packet s conn p)
+may-next R s conn (Connect name clean alive will) = may-shut R conn
+may-next R s conn (ConnAck present code) = may-shut R conn
+may-next R s conn (Publish dup qos retain topic id payload) =
     may-if R (is_some (topic_refusal topic)) (shut conn) _ (may-shut R conn) (may-publish R conn id (record { topic = topic; payload = payload; qos = qos; retain = retain }))
-may-next R conn (PubAck id) = (tt, tt)
-may-next R conn (Subscribe id entries) = may-if R _ (shut conn) (Give conn id entries ∷ Route ∷ []) (may-shut R conn) (tt, (tt, tt))
-may-next R conn (SubAck id codes) = may-shut R conn
-may-next R conn (Unsubscribe id filters) = may-if R (has_bad_filter filters) (shut conn) (Take conn filters ∷ Say conn (UnsubAck id) ∷ []) (may-shut R conn) (tt, (tt, tt))
-may-next R conn (UnsubAck id) = may-shut R conn
-may-next R conn PingReq = (tt, tt)
-may-next R conn PingResp = may-shut R conn
-may-next R conn Disconnect = (tt, tt)
+may-next R s conn (PubAck id) = (tt, tt)
+may-next R s conn (Subscribe id entries) = may-if R _ (shut conn) (Give conn id entries ∷ Route ∷ []) (may-shut R conn) (tt, (tt, tt))
+may-next R s conn (SubAck id codes) = may-shut R conn
+may-next R s conn (Unsubscribe id filters) = may-if R (has_bad_filter filters) (shut conn) (Take conn filters ∷ Say conn (UnsubAck id) ∷ []) (may-shut R conn) (tt, (tt, tt))
+may-next R s conn (UnsubAck id) = may-shut R conn
+may-next R s conn PingReq = (tt, tt)
+may-next R s conn PingResp = may-shut R conn
+may-next R s conn Disconnect = (tt, tt)
 
 may-ends : (R : ℕ → Type 0) (conns : List ℕ) → AllMay R (flat_map (λ conn. Leave conn true ∷ Tell conn ∷ []) conns ++ Route ∷ [])
 may-ends R [] = (tt, tt)
@@ -392,7 +392,7 @@ may-plan : (s : Seen) (e : Event) → AllMay (Comes e) (plan s e)
 may-plan s (Open moment) = (tt, tt)
 may-plan s (Packet conn p moment) =
     let R = Comes (Packet conn p moment) in
-    may-if R (is_some (first_of (unwritable p))) (shut conn) _ (may-shut R conn) (may-if R s.joined (next_packet conn p) _ (may-next R conn p) (may-first R s conn p refl))
+    may-if R (is_some (first_of (unwritable p))) (shut conn) _ (may-shut R conn) (may-if R s.joined (next_packet s conn p) _ (may-next R s conn p) (may-first R s conn p refl))
 may-plan s (Fault conn f moment) =
     let R = Comes (Fault conn f moment) in may-if R (is_bad_level f && not s.joined) (turn_away conn 1) (shut conn) (may-away R conn 1) (may-shut R conn)
 may-plan s (Closed conn moment) = (tt, (tt, tt))

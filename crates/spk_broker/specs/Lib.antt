@@ -27,3 +27,4 @@ pub mod Sizes
 pub mod Tables
 pub mod Touched
 pub mod View
+pub mod Weighing

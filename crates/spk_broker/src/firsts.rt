@@ -2,9 +2,9 @@
 ghost use Rattle.std.specs.Prelude.{◌≡◌, ◌∷◌, [], None, Some, is_some, IfOk};
 ghost use Rattle.spk_packets.specs.View.{view};
 ghost use Rattle.spk_broker_rules.specs.Lawful.{IsLawful};
-ghost use Rattle.spk_broker_rules.specs.Plan.{Seen, client_in, first_packet, next_packet, packet as packet_acts};
+ghost use Rattle.spk_broker_rules.specs.Plan.{Seen, client_in, entries_in, first_packet, next_packet, packet as packet_acts};
 ghost use Rattle.spk_broker_rules.specs.Plan.{Packet as PacketEvent};
-ghost use Rattle.spk_broker_rules.specs.Step.{Turn, acts, older_in, seat_at, welcome_in};
+ghost use Rattle.spk_broker_rules.specs.Step.{Turn, acts, heavy_in, older_in, seat_at, welcome_in};
 ghost use Rattle.spk_broker.specs.Asking.{place_in};
 ghost use Rattle.spk_broker.specs.Drafts.{draft_view};
 ghost use Rattle.spk_broker.specs.Endings.{IsReady, Leads};
@@ -79,8 +79,10 @@ impl Desk {
         requires index { IsIndex tree.now (desk_now self.old).seats }
         requires order { AreInOrder tree.now self.old.seats.items }
         requires keeps { (draft_view draft.old).keeps ≡ [] }
-        ensures done { IfOk result (λ e. (t : Turn) → Stands self.old draft.old t
-            → Leads self.new draft.new e (acts (next_packet conn (view packet.now)) t)) }
+        ensures done { IfOk result (λ e. (seen : Seen) (t : Turn)
+            → seen.heavy ≡ heavy_in conn (entries_in (view packet.now)) t.broker
+            → Stands self.old draft.old t
+            → Leads self.new draft.new e (acts (next_packet seen conn (view packet.now)) t)) }
         ensures ready { IfOk result (λ e. IsReady e self.new) }
         ensures same { desk_was self.new ≡ desk_was self.old }
     {
@@ -129,6 +131,7 @@ impl Desk {
             → seen.joined ≡ is_some (seat_at conn t.broker.seats)
             → seen.older ≡ older_in (client_in (view packet.now)) t.broker.seats
             → seen.welcome ≡ welcome_in (client_in (view packet.now)) t.broker.seats
+            → seen.heavy ≡ heavy_in conn (entries_in (view packet.now)) t.broker
             → Stands self.old draft.old t
             → Leads self.new draft.new e (acts (packet_acts seen conn (view packet.now)) t)) }
         ensures ready { IfOk result (λ e. IsReady e self.new) }

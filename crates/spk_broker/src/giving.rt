@@ -1,12 +1,13 @@
 //! SUBSCRIBE (sections 3.8 and 3.9).
-ghost use Rattle.std.specs.Prelude.{ℕ, ◌≡◌, ◌∷◌, [], List, IfOk, OnOk, Some, is_some, map};
-ghost use Rattle.std.specs.List.{list_any};
+ghost use Rattle.std.specs.Prelude.{ℕ, ◌≡◌, ◌∷◌, [], List, IfOk, OnOk, Some, is_some, length, map, true};
+ghost use Rattle.std.specs.List.{list_all, list_any};
+ghost use Rattle.spk_packets.specs.Grammar.{is_grant};
 ghost use Rattle.spk_packets.specs.Message.{SubAck, Subscribe};
 ghost use Rattle.spk_packets.specs.View.{request_view};
 ghost use Rattle.spk_topics.specs.Text.{filter_refusal};
 ghost use Rattle.spk_broker_rules.specs.Data as plain;
-ghost use Rattle.spk_broker_rules.specs.Plan.{Give, subscribe};
-ghost use Rattle.spk_broker_rules.specs.Step.{Turn, act, acts, other_grants, seat_at};
+ghost use Rattle.spk_broker_rules.specs.Plan.{Give, Seen, subscribe};
+ghost use Rattle.spk_broker_rules.specs.Step.{Turn, act, acts, heavy_in, other_grants, seat_at};
 ghost use Rattle.spk_broker.specs.Asking.{place_in};
 ghost use Rattle.spk_broker.specs.Drafts.{draft_view};
 ghost use Rattle.spk_broker.specs.Endings.{IsReady, Leads};
@@ -15,6 +16,7 @@ ghost use Rattle.spk_broker.specs.Granting.{granting_view, grown_by};
 ghost use Rattle.spk_broker.specs.Sendable.{IsWritable};
 ghost use Rattle.spk_broker.specs.Touched.{OnlyAt};
 ghost use Rattle.spk_broker.specs.View.{Stands, desk_was};
+ghost use Rattle.spk_broker.specs.declared.out.Draft.{Draft};
 
 use crate::counting::granted;
 use crate::desk::Desk;
@@ -22,6 +24,7 @@ use crate::ending::Ending;
 use crate::granting::Granting;
 use crate::out::{Conn, Draft};
 use crate::subscribing::is_bad_filter;
+use crate::weighing::is_heavy;
 use spk_packets::{Packet, Request};
 use std::alloc::AllocError;
 
@@ -74,30 +77,28 @@ impl Desk {
         Ok(())
     }
 
-    /// The session of the connection at a place gets grants.
-    fn give(
-        &mut self,
-        draft: &mut Draft,
+    /// What a SUBSCRIBE makes of the grants of the session of the connection at a place.
+    fn granted_at(
+        &self,
         conn: Conn,
         place: usize,
-        id: u16,
         entries: &[Request],
-    ) -> Result<(), AllocError>
-        requires writable { IsWritable (Subscribe id (map request_view entries.now)) }
+    ) -> Result<Granting, AllocError>
         requires filters { AreFilters (map request_view entries.now) }
-        requires place { place_in conn self.old.seats.items ≡ Some place }
-        requires keeps { (draft_view draft.old).keeps ≡ [] }
-        ensures done { OnOk result ((t : Turn) → Stands self.old draft.old t
-            → Stands self.new draft.new (act (Give conn id (map request_view entries.now)) t)) }
-        ensures only { OnOk result (OnlyAt (place ∷ []) self.old → OnlyAt (place ∷ []) self.new) }
-        ensures same { desk_was self.new ≡ desk_was self.old }
+        requires place { place_in conn self.now.seats.items ≡ Some place }
+        ensures codes { IfOk result (λ g. length g.codes.items ≡ length entries.now) }
+        ensures granted { IfOk result (λ g. list_all is_grant g.codes.items ≡ true) }
+        ensures view { IfOk result (λ g. (x : Draft) (t : Turn) → Stands self.now x t
+            → (seat : plain.Seat) × (seat_at conn t.broker.seats ≡ Some seat)
+            × (granting_view g ≡ grown_by (other_grants seat t.broker.seats) seat.grants
+            (map request_view entries.now))) }
     {
         let granting = granted(self.alloc, &self.seats, place, entries)?;
-        self.give_at(draft, conn, place, id, granting)?;
-        Ok(())
+        Ok(granting)
     }
 
-    /// A SUBSCRIBE of the connection at a place; a text that is no topic filter closes the connection.
+    /// A SUBSCRIBE of the connection at a place. A text that is no topic filter closes the connection, and so do entries that are
+    /// given more than 64 MB of retained messages together (own rule): then none of it is made.
     pub(crate) fn subscribe(
         &mut self,
         draft: &mut Draft,
@@ -110,9 +111,11 @@ impl Desk {
         requires place { place_in conn self.old.seats.items ≡ Some place }
         requires only { OnlyAt (place ∷ []) self.old }
         requires keeps { (draft_view draft.old).keeps ≡ [] }
-        ensures done { IfOk result (λ e. (t : Turn) → Stands self.old draft.old t
+        ensures done { IfOk result (λ e. (seen : Seen) (t : Turn)
+            → seen.heavy ≡ heavy_in conn (map request_view entries.now) t.broker
+            → Stands self.old draft.old t
             → Leads self.new draft.new e
-            (acts (subscribe conn id (map request_view entries.now)) t)) }
+            (acts (subscribe seen conn id (map request_view entries.now)) t)) }
         ensures ready { IfOk result (λ e. IsReady e self.new) }
         ensures same { desk_was self.new ≡ desk_was self.old }
     {
@@ -120,7 +123,12 @@ impl Desk {
             let ending = self.shut_at(draft, &None, conn, Some(place))?;
             return Ok(ending);
         }
-        self.give(draft, conn, place, id, entries)?;
+        let granting = self.granted_at(conn, place, entries)?;
+        if is_heavy(&self.retained, &granting.given) {
+            let ending = self.shut_at(draft, &None, conn, Some(place))?;
+            return Ok(ending);
+        }
+        self.give_at(draft, conn, place, id, granting)?;
         let ending = self.route_near(draft, &None, Some(place))?;
         Ok(ending)
     }

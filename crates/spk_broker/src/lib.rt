@@ -42,6 +42,7 @@ mod settling;
 mod sizing;
 mod subscribing;
 mod turning;
+mod weighing;
 
 pub use broker::Broker;
 pub use fault::BrokerFault;

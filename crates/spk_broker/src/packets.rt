@@ -2,8 +2,8 @@
 ghost use Rattle.std.specs.Prelude.{◌≡◌, ◌==◌, ◌∷◌, IfOk, IfSome, OnOk, Some, true, false, is_some, []};
 ghost use Rattle.spk_packets.specs.View.{view};
 ghost use Rattle.spk_topics.specs.Text.{topic_refusal};
-ghost use Rattle.spk_broker_rules.specs.Plan.{next_packet, publish, puback};
-ghost use Rattle.spk_broker_rules.specs.Step.{Turn, acts};
+ghost use Rattle.spk_broker_rules.specs.Plan.{Seen, entries_in, next_packet, publish, puback};
+ghost use Rattle.spk_broker_rules.specs.Step.{Turn, acts, heavy_in};
 ghost use Rattle.spk_broker.specs.Asking.{place_in};
 ghost use Rattle.spk_broker.specs.Drafts.{draft_view};
 ghost use Rattle.spk_broker.specs.Endings.{IsReady, Leads};
@@ -91,8 +91,10 @@ impl Desk {
         requires empty { (draft_view draft.old).keeps ≡ [] }
         requires place { place_in conn self.old.seats.items ≡ Some place }
         requires only { OnlyAt (place ∷ []) self.old }
-        ensures done { IfOk result (λ e. (t : Turn) → Stands self.old draft.old t
-            → Leads self.new draft.new e (acts (next_packet conn (view packet.now)) t)) }
+        ensures done { IfOk result (λ e. (seen : Seen) (t : Turn)
+            → seen.heavy ≡ heavy_in conn (entries_in (view packet.now)) t.broker
+            → Stands self.old draft.old t
+            → Leads self.new draft.new e (acts (next_packet seen conn (view packet.now)) t)) }
         ensures ready { IfOk result (λ e. IsReady e self.new) }
         ensures same { desk_was self.new ≡ desk_was self.old }
     {

@@ -61,7 +61,7 @@ fn offered(
 }
 
 /// The place of the retained message on a topic; a filter without wildcards is offered that one alone.
-fn place_on(retained: &IndexMap<String, Stored>, topic: &str) -> Option<usize>
+pub(crate) fn place_on(retained: &IndexMap<String, Stored>, topic: &str) -> Option<usize>
     ensures { (qos : ℕ) → is_plain topic.now ≡ true
         → offers_in result (map retained_view retained.now.entries) (topic.now, qos)
         ≡ offers_to (map retained_view retained.now.entries) (topic.now, qos) }

@@ -6,8 +6,8 @@ use Rattle.std.proofs.lemmas.Bool.Decides.{eqb_tells}
 use Rattle.spk_broker_rules.specs.Data.{Post}
 use Rattle.spk_broker_rules.specs.Words.{option_list, granted_of, offers_to}
 use Rattle.spk_broker_rules.specs.Plan.{Act, Opens, At, Hear, Drop, Say, Leave, Tell, Queue, Route, Forget, Accept, Give, Take, Ack}
-use Rattle.spk_broker_rules.specs.Past.{Past, OfSession, Made, Joined, Granted, TakenBack, Acked, Joining, deeds, made, sessions, here, routed, kept, grants, retained, session_at, sits_at, is_of}
-use Rattle.spk_broker_rules.specs.Story.{Story, note, session_facts, told_one, Routes, nothing_waits, goes_on, will_of, leaving, told_leave, is_away, told_forget, away_for, told_take_up, gift, stands, told_offer, told_offer_at, other_pairs, granting, told_give, taking_back, told_take, told_ack, Tells, TellsAll}
+use Rattle.spk_broker_rules.specs.Past.{Past, OfSession, Made, Joined, Granted, TakenBack, Acked, Joining, deeds, made, sessions, here, routed, kept, grants, retained, session_at, sits_at, is_of, other_pairs}
+use Rattle.spk_broker_rules.specs.Story.{Story, note, session_facts, told_one, Routes, nothing_waits, goes_on, will_of, leaving, told_leave, is_away, told_forget, away_for, told_take_up, gift, stands, told_offer, told_offer_at, granting, told_give, taking_back, told_take, told_ack, Tells, TellsAll}
 use Rattle.spk_broker_limits.specs.Wills.{count}
 use Rattle.spk_broker_limits.proofs.Summing.{Told, same, none_some, yes_no, times, found_times, passes}
 use Rattle.spk_broker_limits.proofs.Facts.{count_append, worth, standing, Tidy, Keeps, kept_joined, plain_sum, plain_grown, over_grown, left_grown, left_over, given_grown, made_sum, made_tidy, made_once, joined_sum, joined_tidy, kept_fact, deed_at, all_facts, all_freed, round}

@@ -17,3 +17,4 @@ mod Fates
 mod Numbers
 mod Rows
 mod Alone
+mod Giving

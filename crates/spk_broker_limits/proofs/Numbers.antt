@@ -201,8 +201,8 @@ ack_step b conn id moment w j =
     were : (change : List ℕ → List ℕ) → option_map (ids_of change) (seat_at conn (noted b (Packet conn (PubAck id) moment)).broker.seats) ≡ option_map (ids_of change) (seat_at conn b.seats)
     were change = heard conn (line_heard conn _) (heard_conn conn _) change b.seats
 
-    plan_is : (s : Seen) (k : Bool) → k ≡ true → cond (is_some (first_of (unwritable (PubAck id)))) (shut conn) (cond k (next_packet conn (PubAck id)) (first_packet s conn (PubAck id))) ≡ Ack conn id ∷ []
-    plan_is s k e = ap (λ x. cond x (shut conn) (cond k (next_packet conn (PubAck id)) (first_packet s conn (PubAck id)))) w ∙ ap (λ x. cond x (next_packet conn (PubAck id)) (first_packet s conn (PubAck id))) e
+    plan_is : (s : Seen) (k : Bool) → k ≡ true → cond (is_some (first_of (unwritable (PubAck id)))) (shut conn) (cond k (next_packet s conn (PubAck id)) (first_packet s conn (PubAck id))) ≡ Ack conn id ∷ []
+    plan_is s k e = ap (λ x. cond x (shut conn) (cond k (next_packet s conn (PubAck id)) (first_packet s conn (PubAck id)))) w ∙ ap (λ x. cond x (next_packet s conn (PubAck id)) (first_packet s conn (PubAck id))) e
 
 acked_both : (id : ℕ) (o : Option Seat) → option_map (acked_ids id) (option_map (ids_of (λ used. used)) o) ≡ option_map (ids_of (without id)) o
 acked_both id None = refl

@@ -1,5 +1,5 @@
 -- What each event keeps of the client ids of sessions, and of how many are kept.
-use Rattle.std.proofs.Common.{◌≡◌, ℕ, suc, ◌+◌, ◌≤◌, ◌==◌, Bool, true, false, not, ◌&&◌, cond, List, [], ◌∷◌, ◌++◌, map, length, refl, sym, ap, ◌∙◌, subst, arith, Option, Some, None, is_some}
+use Rattle.std.proofs.Common.{◌≡◌, ℕ, suc, ◌+◌, ◌≤◌, ◌==◌, Bool, true, false, not, ◌&&◌, ◌||◌, cond, List, [], ◌∷◌, ◌++◌, map, length, refl, sym, ap, ◌∙◌, subst, arith, Option, Some, None, is_some}
 use Rattle.std.specs.List.{filter, find, list_any}
 use Rattle.std.specs.Option.{option_map, option_map_or}
 use Rattle.spk_packets.specs.Fault.{first_of}
@@ -77,22 +77,22 @@ publish_others : (conn : ℕ) (id : Option ℕ) (post : Post) → AreOthers (pub
 publish_others conn None post = (tt, (tt, tt))
 publish_others conn (Some id) post = (tt, (tt, (tt, tt)))
 
-next_others : (conn : ℕ) (p : Message) → AreOthers (next_packet conn p)
-next_others conn (Connect client clean alive will) = shut_others conn
-next_others conn (ConnAck present code) = shut_others conn
-next_others conn (Publish dup qos retain topic id payload) =
+next_others : (s : Seen) (conn : ℕ) (p : Message) → AreOthers (next_packet s conn p)
+next_others s conn (Connect client clean alive will) = shut_others conn
+next_others s conn (ConnAck present code) = shut_others conn
+next_others s conn (Publish dup qos retain topic id payload) =
     let post : Post = record { topic = topic; payload = payload; qos = qos; retain = retain } in
     by_test (is_some (topic_refusal topic)) (shut conn) (puback conn id ++ Queue post ∷ Route ∷ []) (shut_others conn) (publish_others conn id post)
-next_others conn (PubAck id) = (tt, tt)
-next_others conn (Subscribe id entries) =
-    by_test (list_any (λ e. is_some (filter_refusal e.0)) entries) (shut conn) (Give conn id entries ∷ Route ∷ []) (shut_others conn) (two (Give conn id entries) Route tt tt)
-next_others conn (SubAck id codes) = shut_others conn
-next_others conn (Unsubscribe id filters) =
+next_others s conn (PubAck id) = (tt, tt)
+next_others s conn (Subscribe id entries) =
+    by_test (list_any (λ e. is_some (filter_refusal e.0)) entries || s.heavy) (shut conn) (Give conn id entries ∷ Route ∷ []) (shut_others conn) (two (Give conn id entries) Route tt tt)
+next_others s conn (SubAck id codes) = shut_others conn
+next_others s conn (Unsubscribe id filters) =
     by_test (has_bad_filter filters) (shut conn) (Take conn filters ∷ Say conn (UnsubAck id) ∷ []) (shut_others conn) (two (Take conn filters) (Say conn (UnsubAck id)) tt tt)
-next_others conn (UnsubAck id) = shut_others conn
-next_others conn PingReq = (tt, tt)
-next_others conn PingResp = shut_others conn
-next_others conn Disconnect = (tt, tt)
+next_others s conn (UnsubAck id) = shut_others conn
+next_others s conn PingReq = (tt, tt)
+next_others s conn PingResp = shut_others conn
+next_others s conn Disconnect = (tt, tt)
 
 tick_others : (silent : List ℕ) → AreOthers (tick silent)
 tick_others [] = (tt, tt)
@@ -185,9 +185,9 @@ planned b (Packet conn p moment) once held single = by (is_some (first_of (unwri
     s : Seen
     s = seen (noted b (Packet conn p moment)).broker (Packet conn p moment)
 
-    by : (x y : Bool) → IsSingle (acts (cond x (shut conn) (cond y (next_packet conn p) (first_packet (seen (noted b (Packet conn p moment)).broker (Packet conn p moment)) conn p))) (noted b (Packet conn p moment))).broker
+    by : (x y : Bool) → IsSingle (acts (cond x (shut conn) (cond y (next_packet (seen (noted b (Packet conn p moment)).broker (Packet conn p moment)) conn p) (first_packet (seen (noted b (Packet conn p moment)).broker (Packet conn p moment)) conn p))) (noted b (Packet conn p moment))).broker
     by true y = kept_by_all (shut conn) (shut_others conn) t held single
-    by false true = kept_by_all (next_packet conn p) (next_others conn p) t held single
+    by false true = kept_by_all (next_packet s conn p) (next_others s conn p) t held single
     by false false = first_packet_single s conn p t
         (λ client clean alive will is. connected s conn client clean alive will t
         (ap (λ m. older_in (client_in m) t.broker.seats) is) (ap (λ m. welcome_in (client_in m) t.broker.seats) is) once held single) held single

@@ -1,5 +1,5 @@
 -- What each event brings, and what it discards, of messages that are to be routed.
-use Rattle.std.proofs.Common.{◌≡◌, ◌⊎◌, inl, inr, ℕ, ◌+◌, ◌==◌, Bool, true, false, not, ◌&&◌, cond, List, [], ◌∷◌, ◌++◌, refl, sym, ap, ◌∙◌, subst, arith, Option, Some, None}
+use Rattle.std.proofs.Common.{◌≡◌, ◌⊎◌, inl, inr, ℕ, ◌+◌, ◌==◌, Bool, true, false, not, ◌&&◌, ◌||◌, cond, List, [], ◌∷◌, ◌++◌, refl, sym, ap, ◌∙◌, subst, arith, Option, Some, None}
 use Rattle.std.specs.List.{find, list_any, flat_map}
 use Rattle.std.specs.Option.{option_map, is_some}
 use Rattle.std.proofs.lemmas.Bool.Decides.{eqb_tells}
@@ -155,10 +155,10 @@ gives_up q g conn PingReq = 0
 gives_up q g conn PingResp = 0
 gives_up q g conn Disconnect = worth_at q g (session_at g conn)
 
-next_run : (q : Post → Bool) (M : Joining → Type 0) (g : Past) (conn : ℕ) (p : Message) (u : Story) → TellsAll (next_packet conn p) (story_at g) u → Tidy g → Run q M g (message_of p) (gives_up q g conn p) u
-next_run q M g conn (Connect client clean alive will) u d tidy = shut_run q M g conn u d tidy
-next_run q M g conn (ConnAck present code) u d tidy = shut_run q M g conn u d tidy
-next_run q M g conn (Publish dup qos retain topic id payload) u d tidy = by (is_some (topic_refusal topic)) d
+next_run : (q : Post → Bool) (M : Joining → Type 0) (g : Past) (s : Seen) (conn : ℕ) (p : Message) (u : Story) → TellsAll (next_packet s conn p) (story_at g) u → Tidy g → Run q M g (message_of p) (gives_up q g conn p) u
+next_run q M g s conn (Connect client clean alive will) u d tidy = shut_run q M g conn u d tidy
+next_run q M g s conn (ConnAck present code) u d tidy = shut_run q M g conn u d tidy
+next_run q M g s conn (Publish dup qos retain topic id payload) u d tidy = by (is_some (topic_refusal topic)) d
   where
     post : Post
     post = record { topic = topic; payload = payload; qos = qos; retain = retain }
@@ -167,22 +167,22 @@ next_run q M g conn (Publish dup qos retain topic id payload) u d tidy = by (is_
         → Run q M g (cond b [] (record { topic = topic; payload = payload; qos = qos; retain = retain } ∷ [])) 0 u
     by true d = shut_run q M g conn u d tidy
     by false d = publish_run q M g conn id (record { topic = topic; payload = payload; qos = qos; retain = retain }) u d tidy
-next_run q M g conn (PubAck id) u d tidy = still_run q M g (Ack conn id ∷ []) (tt, tt) (tt, tt) u d tidy
-next_run q M g conn (Subscribe id entries) u d tidy = by (list_any (λ e. is_some (filter_refusal e.0)) entries) d
+next_run q M g s conn (PubAck id) u d tidy = still_run q M g (Ack conn id ∷ []) (tt, tt) (tt, tt) u d tidy
+next_run q M g s conn (Subscribe id entries) u d tidy = by (list_any (λ e. is_some (filter_refusal e.0)) entries || s.heavy) d
   where
     by : (b : Bool) → TellsAll (cond b (shut conn) (Give conn id entries ∷ Route ∷ [])) (story_at g) u → Run q M g [] 0 u
     by true d = shut_run q M g conn u d tidy
     by false d = routed_run q M g (Give conn id entries ∷ []) (tt, tt) u d tidy
-next_run q M g conn (SubAck id codes) u d tidy = shut_run q M g conn u d tidy
-next_run q M g conn (Unsubscribe id filters) u d tidy = by (has_bad_filter filters) d
+next_run q M g s conn (SubAck id codes) u d tidy = shut_run q M g conn u d tidy
+next_run q M g s conn (Unsubscribe id filters) u d tidy = by (has_bad_filter filters) d
   where
     by : (b : Bool) → TellsAll (cond b (shut conn) (Take conn filters ∷ Say conn (UnsubAck id) ∷ [])) (story_at g) u → Run q M g [] 0 u
     by true d = shut_run q M g conn u d tidy
     by false d = still_run q M g (Take conn filters ∷ Say conn (UnsubAck id) ∷ []) (tt, (tt, tt)) (tt, (tt, tt)) u d tidy
-next_run q M g conn (UnsubAck id) u d tidy = shut_run q M g conn u d tidy
-next_run q M g conn PingReq u d tidy = still_run q M g (Say conn PingResp ∷ []) (tt, tt) (tt, tt) u d tidy
-next_run q M g conn PingResp u d tidy = shut_run q M g conn u d tidy
-next_run q M g conn Disconnect u (v, e, f) tidy =
+next_run q M g s conn (UnsubAck id) u d tidy = shut_run q M g conn u d tidy
+next_run q M g s conn PingReq u d tidy = still_run q M g (Say conn PingResp ∷ []) (tt, tt) (tt, tt) u d tidy
+next_run q M g s conn PingResp u d tidy = shut_run q M g conn u d tidy
+next_run q M g s conn Disconnect u (v, e, f) tidy =
     let l : Less q (Old g None) (worth_at q g (session_at g conn)) (story_at g) v = subst (Less q (Old g None) (worth_at q g (session_at g conn)) (story_at g)) (sym e)
     (discarded q (Old g None) conn (story_at g) (session_at g conn) refl refl tidy (starts g None)) in
     let sum_ : (count q (routed v.past) + (count q v.waiting + standing q v.past)) + worth_at q g (session_at g conn) ≡ count q (routed g) + (0 + standing q g) = l.sum_ in
@@ -316,12 +316,12 @@ brought_by g conn p = cond (is_some (first_of (unwritable p))) [] (cond (is_some
 packet_run : (q : Post → Bool) (M : Joining → Type 0) (g : Past) (s : Seen) (conn : ℕ) (p : Message) (u : Story) → ((client : List ℕ) (clean : Bool) (alive : ℕ) (will : Option WillData) → p ≡ Connect client clean alive will → M (joining conn alive (option_map will_post will))) → s.joined ≡ is_some (session_at g conn) → TellsAll (packet s conn p) (story_at g) u → Tidy g
     → Run q M g (brought_by g conn p) (gives_up q g conn p) u
 packet_run q M g s conn p u says is d tidy = by (is_some (first_of (unwritable p))) refl (is_some (session_at g conn)) refl
-    (subst (λ b. TellsAll (cond (is_some (first_of (unwritable p))) (shut conn) (cond b (next_packet conn p) (first_packet s conn p))) (story_at g) u) is d)
+    (subst (λ b. TellsAll (cond (is_some (first_of (unwritable p))) (shut conn) (cond b (next_packet s conn p) (first_packet s conn p))) (story_at g) u) is d)
   where
-    by : (a : Bool) → is_some (first_of (unwritable p)) ≡ a → (b : Bool) → is_some (session_at g conn) ≡ b → TellsAll (cond a (shut conn) (cond b (next_packet conn p) (first_packet s conn p))) (story_at g) u
+    by : (a : Bool) → is_some (first_of (unwritable p)) ≡ a → (b : Bool) → is_some (session_at g conn) ≡ b → TellsAll (cond a (shut conn) (cond b (next_packet s conn p) (first_packet s conn p))) (story_at g) u
         → Run q M g (cond a [] (cond b (message_of p) [])) (gives_up q g conn p) u
     by true e b f d = subst (λ n. Run q M g [] n u) (sym (unwritten_up q g conn p e)) (shut_run q M g conn u d tidy)
-    by false e true f d = next_run q M g conn p u d tidy
+    by false e true f d = next_run q M g s conn p u d tidy
     by false e false f d = subst (λ n. Run q M g [] n u) (sym (nothing_up q g conn p f)) (first_run q M g s conn p u says f d tidy)
 
 all_fair : (silent : List ℕ) → AllFair (flat_map (λ conn. Leave conn true ∷ Tell conn ∷ []) silent)

@@ -29,11 +29,11 @@ pub record IsIn (K : ℕ → Type 0) (t : Turn) : Type 0 where
 
 -- ---- lists
 
-join : {X : Type 0} (P : X → Type 0) (xs ys : List X) → Every P xs → Every P ys → Every P (xs ++ ys)
+pub join : {X : Type 0} (P : X → Type 0) (xs ys : List X) → Every P xs → Every P ys → Every P (xs ++ ys)
 join P [] ys a b = b
 join P (x ∷ xs) ys a b = (a.0, join P xs ys a.1 b)
 
-flat : {X Y : Type 0} (Q : X → Type 0) (P : Y → Type 0) (f : X → List Y) → ((x : X) → Q x → Every P (f x)) → (xs : List X) → Every Q xs → Every P (flat_map f xs)
+pub flat : {X Y : Type 0} (Q : X → Type 0) (P : Y → Type 0) (f : X → List Y) → ((x : X) → Q x → Every P (f x)) → (xs : List X) → Every Q xs → Every P (flat_map f xs)
 flat Q P f g [] a = tt
 flat Q P f g (x ∷ xs) a = join P (f x) (flat_map f xs) (g x a.0) (flat Q P f g xs a.1)
 
@@ -65,7 +65,7 @@ found_guest P p (h ∷ hs) g a e = by (p h) e (λ f. found_guest P p hs g a.1 f)
 
 -- ---- sessions
 
-swapped : (K : ℕ → Type 0) (key : ℕ) (new ss : List Seat) → Every (λ (s : Seat). OnLine K s.here) new → Every (λ (s : Seat). OnLine K s.here) ss → Every (λ (s : Seat). OnLine K s.here) (swap key new ss)
+pub swapped : (K : ℕ → Type 0) (key : ℕ) (new ss : List Seat) → Every (λ (s : Seat). OnLine K s.here) new → Every (λ (s : Seat). OnLine K s.here) ss → Every (λ (s : Seat). OnLine K s.here) (swap key new ss)
 swapped K key new ss n a = flat (λ (s : Seat). OnLine K s.here) (λ (s : Seat). OnLine K s.here) (λ (s : Seat). cond (s.key == key) new (s ∷ [])) (λ s p. by (s.key == key) s p) ss a
   where
     by : (b : Bool) (s : Seat) → OnLine K s.here → Every (λ (u : Seat). OnLine K u.here) (cond b new (s ∷ []))
@@ -96,7 +96,7 @@ closes_hand K (suc q) m s p = by (has_room s.used)
     by true = tt
     by false = closed_it K s.here p
 
-left_hand : (K : ℕ → Type 0) (q : ℕ) (m : Post) (s : Seat) → OnLine K s.here → Every (λ (u : Seat). OnLine K u.here) (hand_at q m s).left
+pub left_hand : (K : ℕ → Type 0) (q : ℕ) (m : Post) (s : Seat) → OnLine K s.here → Every (λ (u : Seat). OnLine K u.here) (hand_at q m s).left
 left_hand K zero m s p = (p, tt)
 left_hand K (suc q) m s p = by (has_room s.used)
   where
@@ -104,7 +104,7 @@ left_hand K (suc q) m s p = by (has_room s.used)
     by true = (p, tt)
     by false = tt
 
-sends_serve : (K : ℕ → Type 0) (m : Post) (s : Seat) → OnLine K s.here → Every (λ (x : Send). K x.conn) (serve m s).sends
+pub sends_serve : (K : ℕ → Type 0) (m : Post) (s : Seat) → OnLine K s.here → Every (λ (x : Send). K x.conn) (serve m s).sends
 sends_serve K m s p = by (level m.qos (best m.topic s.grants))
   where
     by : (o : Option ℕ) → Every (λ (x : Send). K x.conn) (serve_at o m s).sends
@@ -118,7 +118,7 @@ closes_serve K m s p = by (level m.qos (best m.topic s.grants))
     by None = tt
     by (Some q) = closes_hand K q (sent_as m q false) s p
 
-left_serve : (K : ℕ → Type 0) (m : Post) (s : Seat) → OnLine K s.here → Every (λ (u : Seat). OnLine K u.here) (serve m s).left
+pub left_serve : (K : ℕ → Type 0) (m : Post) (s : Seat) → OnLine K s.here → Every (λ (u : Seat). OnLine K u.here) (serve m s).left
 left_serve K m s p = by (level m.qos (best m.topic s.grants))
   where
     by : (o : Option ℕ) → Every (λ (u : Seat). OnLine K u.here) (serve_at o m s).left

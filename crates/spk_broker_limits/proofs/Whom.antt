@@ -110,22 +110,22 @@ publish_fits : (K : ℕ → Type 0) (conn : ℕ) (id : Option ℕ) (post : Post)
 publish_fits K conn None post k = (tt, (tt, tt))
 publish_fits K conn (Some id) post k = (k, (tt, (tt, tt)))
 
-next_fits : (K : ℕ → Type 0) (conn : ℕ) (p : Message) → K conn → AllFit K (next_packet conn p)
-next_fits K conn (Connect client clean alive will) k = shut_fits K conn k
-next_fits K conn (ConnAck present code) k = shut_fits K conn k
-next_fits K conn (Publish dup qos retain topic id payload) k =
+next_fits : (K : ℕ → Type 0) (s : Seen) (conn : ℕ) (p : Message) → K conn → AllFit K (next_packet s conn p)
+next_fits K s conn (Connect client clean alive will) k = shut_fits K conn k
+next_fits K s conn (ConnAck present code) k = shut_fits K conn k
+next_fits K s conn (Publish dup qos retain topic id payload) k =
     let post : Post = record { topic = topic; payload = payload; qos = qos; retain = retain } in
     by_test K (is_some (topic_refusal topic)) (shut conn) (puback conn id ++ Queue post ∷ Route ∷ []) (shut_fits K conn k) (publish_fits K conn id post k)
-next_fits K conn (PubAck id) k = (tt, tt)
-next_fits K conn (Subscribe id entries) k =
-    by_test K (list_any (λ e. is_some (filter_refusal e.0)) entries) (shut conn) (Give conn id entries ∷ Route ∷ []) (shut_fits K conn k) (tt, (tt, tt))
-next_fits K conn (SubAck id codes) k = shut_fits K conn k
-next_fits K conn (Unsubscribe id filters) k =
+next_fits K s conn (PubAck id) k = (tt, tt)
+next_fits K s conn (Subscribe id entries) k =
+    by_test K (list_any (λ e. is_some (filter_refusal e.0)) entries || s.heavy) (shut conn) (Give conn id entries ∷ Route ∷ []) (shut_fits K conn k) (tt, (tt, tt))
+next_fits K s conn (SubAck id codes) k = shut_fits K conn k
+next_fits K s conn (Unsubscribe id filters) k =
     by_test K (has_bad_filter filters) (shut conn) (Take conn filters ∷ Say conn (UnsubAck id) ∷ []) (shut_fits K conn k) (tt, (k, tt))
-next_fits K conn (UnsubAck id) k = shut_fits K conn k
-next_fits K conn PingReq k = (k, tt)
-next_fits K conn PingResp k = shut_fits K conn k
-next_fits K conn Disconnect k = (tt, tt)
+next_fits K s conn (UnsubAck id) k = shut_fits K conn k
+next_fits K s conn PingReq k = (k, tt)
+next_fits K s conn PingResp k = shut_fits K conn k
+next_fits K s conn Disconnect k = (tt, tt)
 
 take_fits : (K : ℕ → Type 0) (older : Option ℕ) → AllFit K (take_over older)
 take_fits K None = tt
@@ -198,8 +198,8 @@ planned : (b : Broker) (conn : ℕ) (p : Message) (moment : ℕ) → knows b con
     → AllFit (λ c. knows b c ≡ true) (packet (seen (noted b (Packet conn p moment)).broker (Packet conn p moment)) conn p)
 planned b conn p moment k h =
     let s : Seen = seen (noted b (Packet conn p moment)).broker (Packet conn p moment) in
-    by_test (λ c. knows b c ≡ true) (is_some (first_of (unwritable p))) (shut conn) (cond s.joined (next_packet conn p) (first_packet s conn p)) (shut_fits (λ c. knows b c ≡ true) conn k)
-    (by_test (λ c. knows b c ≡ true) s.joined (next_packet conn p) (first_packet s conn p) (next_fits (λ c. knows b c ≡ true) conn p k)
+    by_test (λ c. knows b c ≡ true) (is_some (first_of (unwritable p))) (shut conn) (cond s.joined (next_packet s conn p) (first_packet s conn p)) (shut_fits (λ c. knows b c ≡ true) conn k)
+    (by_test (λ c. knows b c ≡ true) s.joined (next_packet s conn p) (first_packet s conn p) (next_fits (λ c. knows b c ≡ true) s conn p k)
     (first_fits (λ c. knows b c ≡ true) s conn p k (older_fits (λ c. knows b c ≡ true) (client_in p) (noted b (Packet conn p moment)).broker.seats h.lines)))
 
 pub stays_in : (b : Broker) (e : Event) → IsOfKnown b e → Every (λ (s : Send). knows b s.conn ≡ true) (step b e).sends × Every (λ c. knows b c ≡ true) (step b e).closes

@@ -1,3 +1,4 @@
+pub mod Giving
 pub mod Identifiers
 pub mod Limits
 pub mod Wills

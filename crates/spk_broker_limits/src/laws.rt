@@ -1,9 +1,9 @@
 //! Laws of the definitions alone: functions that do nothing, whose contracts speak of definitions.
 ghost use Rattle.std.specs.Prelude.{◌≡◌, ◌+◌, ◌≤◌, ℕ, suc, Bool, List, [], ◌∷◌, ◌++◌, Option, Some, is_some, true, false, length};
-ghost use Rattle.std.specs.List.{AllByRecursion};
+ghost use Rattle.std.specs.List.{AllByRecursion, list_any};
 ghost use Rattle.std.specs.Option.{option_map};
 ghost use Rattle.spk_packets.specs.Fault.{first_of};
-ghost use Rattle.spk_packets.specs.Message.{Connect, Disconnect, PubAck, WillData};
+ghost use Rattle.spk_packets.specs.Message.{Connect, Disconnect, PubAck, Subscribe, WillData};
 ghost use Rattle.spk_packets.specs.Spelling.{is_empty, unwritable};
 ghost use Rattle.spk_session.specs.PacketIds.{next_id};
 ghost use Rattle.spk_session.specs.Step.{has_room};
@@ -12,11 +12,13 @@ ghost use Rattle.spk_broker_rules.specs.Knowing.{IsWelcomed};
 ghost use Rattle.spk_broker_rules.specs.Lawful.{IsLawful};
 ghost use Rattle.spk_broker_rules.specs.Listening.{is_joined};
 ghost use Rattle.spk_broker_rules.specs.Past.{Past, retained, routed};
-ghost use Rattle.spk_broker_rules.specs.Plan.{Event, Packet};
-ghost use Rattle.spk_broker_rules.specs.Step.{Turn, after, all_grants, conn_at, knows, route, route_one, serve, step};
+ghost use Rattle.spk_broker_rules.specs.Plan.{Event, Give, Packet, Route, shut};
+ghost use Rattle.spk_broker_rules.specs.Step.{Turn, acts, after, all_grants, conn_at, heavy_in, knows, noted, route, route_one, serve, step};
 ghost use Rattle.spk_broker_rules.specs.Table.{has};
 ghost use Rattle.spk_broker_rules.specs.Telling.{Leads, Telling, may_be};
 ghost use Rattle.spk_broker_rules.specs.Words.{best, level, numbered_packet, option_list, sent_as, to_line, will_post};
+ghost use Rattle.spk_topics.specs.Text.{filter_refusal};
+ghost use Rattle.spk_broker_limits.specs.Giving.{GetsNothing, published_to};
 ghost use Rattle.spk_broker_limits.specs.Identifiers.{GoesOn, HasIds, HasNext, acked_ids, ids_in};
 ghost use Rattle.spk_broker_limits.specs.Limits.{IsBounded, IsFull, IsOfKnown, IsWithin, KeepsItsCopies, Singles, in_its_place, kept_count};
 ghost use Rattle.spk_broker_limits.specs.Wills.{all_lost, all_taken, count, disconnects, is_its_end, lost, messages, of_conn, taken, will_in, without_will};
@@ -75,6 +77,32 @@ pub fn identifiers()
 pub fn grants()
     ensures { (limit : ℕ) (es : List Event) → all_grants (after limit es).seats ≤ 10000 }
 {}
+
+/// What a SUBSCRIBE is given of retained messages is bounded (own rule): an event sends no more of it than 64 MB, for every limit of drops and every list
+/// of events, newest first.
+pub fn giving()
+    // the PUBLISH packets that it sends to its connection take at most so many bytes together
+    ensures bounded { (limit : ℕ) (es : List Event) (conn id moment : ℕ) (entries : List (List ℕ × ℕ))
+        → published_to conn (step (after limit es) (Packet conn (Subscribe id entries) moment)).sends ≤ 67108864 }
+
+    // a SUBSCRIBE of a connection whose CONNECT was accepted, which can be written, whose filters are such and whose entries weigh no more, is
+    // granted, answered and given its retained messages
+    ensures within { (b : Broker) (conn id moment : ℕ) (entries : List (List ℕ × ℕ)) → is_joined b conn ≡ true
+        → is_some (first_of (unwritable (Subscribe id entries))) ≡ false
+        → list_any (λ (e : List ℕ × ℕ). is_some (filter_refusal e.0)) entries ≡ false → heavy_in conn entries b ≡ false
+        → step b (Packet conn (Subscribe id entries) moment)
+        ≡ acts (Give conn id entries ∷ Route ∷ []) (noted b (Packet conn (Subscribe id entries) moment)) }
+
+    // where they weigh more its connection is closed, whose will is routed, and is sent nothing
+    ensures beyond { (b : Broker) (conn id moment : ℕ) (entries : List (List ℕ × ℕ)) → heavy_in conn entries b ≡ true
+        → step b (Packet conn (Subscribe id entries) moment)
+        ≡ acts (shut conn) (noted b (Packet conn (Subscribe id entries) moment)) }
+    ensures nothing { (b : Broker) (conn id moment : ℕ) (entries : List (List ℕ × ℕ)) → IsLawful b
+        → heavy_in conn entries b ≡ true → GetsNothing conn (step b (Packet conn (Subscribe id entries) moment)).sends }
+{
+    laws::any_list();
+    laws::routing();
+}
 
 /// For every limit of drops and every list of events no two sessions have one client id, but for the empty one (MQTT 3.1.1, 3.1.3.1), and at most
 /// 1,000 are kept.

@@ -29,7 +29,7 @@ first-shut v c Disconnect e = refl
 abbrev Closes : ℕ → Turn → Type 0
 Closes c t = list_any (λ d. eqb d c) t.closes ≡ true
 
-closes : (t : Turn) (v : Seen) (u j : Bool) (c : ℕ) (p : Message) → j ≡ false → is_connect p ≡ false → Closes c (acts (cond u (shut c) (cond j (next_packet c p) (first_packet v c p))) t)
+closes : (t : Turn) (v : Seen) (u j : Bool) (c : ℕ) (p : Message) → j ≡ false → is_connect p ≡ false → Closes c (acts (cond u (shut c) (cond j (next_packet v c p) (first_packet v c p))) t)
 closes t v true j c p e other = told-shut c (λ g. true) c t (eqb-self c)
 closes t v false true c p e other = absurd (yes_no e)
 closes t v false false c p e other = subst (λ xs. Closes c (acts xs t)) (sym (first-shut v c p other)) (told-shut c (λ g. true) c t (eqb-self c))

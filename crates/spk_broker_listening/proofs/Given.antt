@@ -2,7 +2,7 @@
 use Rattle.std.proofs.Common.{◌≡◌, ◌≢◌, ◌⊎◌, inl, inr, ℕ, zero, suc, ◌+◌, min, max, Bool, true, false, ◌&&◌, ◌||◌, cond, eqb, List, [], ◌∷◌, ◌++◌, map, length, append_assoc, refl, sym, ◌∙◌, ap, subst, Option, Some, None, is_some}
 use Rattle.std.specs.List.{fold, list_any, flat_map}
 use Rattle.std.specs.Str.{bytes_eq}
-use Rattle.std.proofs.lemmas.Bool.{or_left, or_right}
+use Rattle.std.proofs.lemmas.Bool.{or_from, or_left, or_right}
 use Rattle.std.proofs.lemmas.List.Folds.{list_any-append}
 use Rattle.std.proofs.lemmas.Slice.Eq.{bytes_eq-Decides}
 use Rattle.spk_packets.specs.Fault.{first_of}
@@ -15,10 +15,10 @@ use Rattle.spk_broker_rules.specs.Listening.{is_closed_in, is_joined}
 use Rattle.spk_broker_rules.specs.Table.{Table, has, put, replaced}
 use Rattle.spk_broker_rules.specs.Words.{codes_of, granted_of, is_granted, offers_to, with_entry}
 use Rattle.spk_broker_rules.specs.Plan.{Packet, Act, Give, Route, shut, before}
-use Rattle.spk_broker_rules.specs.Step.{Turn, acts, begun, give_at, hand, noted, offer, offer_at, other_grants, route, route_one, route_some, seat_at, serve, sits, step, swap, with_key}
+use Rattle.spk_broker_rules.specs.Step.{Turn, acts, begun, give_at, hand, heavy_in, noted, offer, offer_at, other_grants, route, route_one, route_some, seat_at, serve, sits, step, swap, with_key}
 use Rattle.spk_broker_rules.proofs.Lists.{eqb-self, found-passes}
 use Rattle.spk_broker_rules.proofs.Places.{lawful-acts, lawful-found}
-use Rattle.spk_broker_rules.proofs.Publishing.{joined-heard}
+use Rattle.spk_broker_rules.proofs.Publishing.{heavy-heard, joined-heard}
 use Rattle.spk_broker_listening.specs.Granted.{Grants, IsAnswered, holds}
 use Rattle.spk_broker_listening.proofs.Fine.{yes_no, no_yes, any-new, fine-offers, fine-route, told-shut}
 
@@ -218,14 +218,14 @@ pub granted : (b : Broker) (conn id moment : ℕ) (entries : List (List ℕ × �
 unfolding step
 granted b conn id moment entries codes f l a g =
     granted-at (noted b (Packet conn (Subscribe id entries) moment)) (is_some (first_of (unwritable (Subscribe id entries))))
-    (is_some (seat_at conn (noted b (Packet conn (Subscribe id entries) moment)).broker.seats)) (list_any (λ (e : List ℕ × ℕ). is_some (filter_refusal e.0)) entries)
+    (is_some (seat_at conn (noted b (Packet conn (Subscribe id entries) moment)).broker.seats)) (list_any (λ (e : List ℕ × ℕ). is_some (filter_refusal e.0)) entries || heavy_in conn entries (noted b (Packet conn (Subscribe id entries) moment)).broker)
     conn id entries codes f (lawful-acts (before (Packet conn (Subscribe id entries) moment)) (begun b) l) refl refl a g
 
 pub answered : (b : Broker) (conn id moment : ℕ) (entries : List (List ℕ × ℕ)) → is_joined b conn ≡ true → is_some (first_of (unwritable (Subscribe id entries))) ≡ false
-    → list_any (λ (e : List ℕ × ℕ). is_some (filter_refusal e.0)) entries ≡ false
+    → list_any (λ (e : List ℕ × ℕ). is_some (filter_refusal e.0)) entries ≡ false → heavy_in conn entries b ≡ false
     → (codes : List ℕ) × (length codes ≡ length entries) × IsAnswered b (Packet conn (Subscribe id entries) moment) conn id codes
 unfolding step
-answered b conn id moment entries j a d =
+answered b conn id moment entries j a d light =
     answered-at (noted b (Packet conn (Subscribe id entries) moment)) (is_some (first_of (unwritable (Subscribe id entries))))
-    (is_some (seat_at conn (noted b (Packet conn (Subscribe id entries) moment)).broker.seats)) (list_any (λ (e : List ℕ × ℕ). is_some (filter_refusal e.0)) entries)
-    conn id entries refl refl a (joined-heard conn (max b.clock moment) b.seats ∙ j) d
+    (is_some (seat_at conn (noted b (Packet conn (Subscribe id entries) moment)).broker.seats)) (list_any (λ (e : List ℕ × ℕ). is_some (filter_refusal e.0)) entries || heavy_in conn entries (noted b (Packet conn (Subscribe id entries) moment)).broker)
+    conn id entries refl refl a (joined-heard conn (max b.clock moment) b.seats ∙ j) (or_from _ _ d (heavy-heard b conn moment (Subscribe id entries) entries ∙ light))

@@ -1,9 +1,9 @@
 -- Where there is room for all of its filters, a SUBSCRIBE gets each.
-use Rattle.std.proofs.Common.{◌≡◌, ◌≢◌, inl, inr, ℕ, zero, suc, ◌+◌, ◌≤◌, ◌<◌, min, max, nat_lt, Bool, true, false, cond, List, [], ◌∷◌, ◌++◌, map, length, refl, ◌∙◌, subst, arith, Option, Some, None, is_some}
+use Rattle.std.proofs.Common.{◌≡◌, ◌≢◌, inl, inr, ℕ, zero, suc, ◌+◌, ◌≤◌, ◌<◌, min, max, nat_lt, Bool, true, false, ◌||◌, cond, List, [], ◌∷◌, ◌++◌, map, length, refl, ◌∙◌, subst, arith, Option, Some, None, is_some}
 use Rattle.std.specs.List.{find, list_any, flat_map}
 use Rattle.std.specs.Option.{option_map}
 use Rattle.std.specs.Str.{bytes_eq}
-use Rattle.std.proofs.lemmas.Bool.{lt-ltb, or_cases, or_right}
+use Rattle.std.proofs.lemmas.Bool.{lt-ltb, or_cases, or_from, or_right}
 use Rattle.std.proofs.lemmas.List.{length-append, length-map}
 use Rattle.std.proofs.lemmas.Slice.Eq.{bytes_eq-Decides}
 use Rattle.spk_packets.specs.Fault.{first_of}
@@ -15,8 +15,8 @@ use Rattle.spk_broker_rules.specs.Listening.{is_joined}
 use Rattle.spk_broker_rules.specs.Table.{Table, has, put, replaced}
 use Rattle.spk_broker_rules.specs.Words.{codes_of, is_granted, with_entry}
 use Rattle.spk_broker_rules.specs.Plan.{Packet}
-use Rattle.spk_broker_rules.specs.Step.{Turn, acts, all_grants, give_at, line_heard, noted, other_grants, route, seat_at, sits, step}
-use Rattle.spk_broker_rules.proofs.Publishing.{joined-heard}
+use Rattle.spk_broker_rules.specs.Step.{Turn, acts, all_grants, give_at, heavy_in, line_heard, noted, other_grants, route, seat_at, sits, step}
+use Rattle.spk_broker_rules.proofs.Publishing.{heavy-heard, joined-heard}
 use Rattle.spk_broker_listening.specs.Granted.{Grants, IsAnswered, asks_for}
 use Rattle.spk_broker_listening.proofs.Fine.{yes_no, no_yes}
 use Rattle.spk_broker_listening.proofs.Given.{Answer, answers, asks}
@@ -114,11 +114,11 @@ room-at t false true false conn id entries none e a d f room = by (seat_at conn 
         )
 
 pub roomy : (b : Broker) (conn id moment : ℕ) (entries : List (List ℕ × ℕ)) → is_joined b conn ≡ true → is_some (first_of (unwritable (Subscribe id entries))) ≡ false
-    → list_any (λ (e : List ℕ × ℕ). is_some (filter_refusal e.0)) entries ≡ false → all_grants b.seats + length entries ≤ 10000
+    → list_any (λ (e : List ℕ × ℕ). is_some (filter_refusal e.0)) entries ≡ false → heavy_in conn entries b ≡ false → all_grants b.seats + length entries ≤ 10000
     → (codes : List ℕ) × IsAnswered b (Packet conn (Subscribe id entries) moment) conn id codes × ((f : List ℕ) → asks_for f entries ≡ true → Grants f entries codes)
 unfolding step
-roomy b conn id moment entries j a d room =
+roomy b conn id moment entries j a d light room =
     room-at (noted b (Packet conn (Subscribe id entries) moment)) (is_some (first_of (unwritable (Subscribe id entries))))
-    (is_some (seat_at conn (noted b (Packet conn (Subscribe id entries) moment)).broker.seats)) (list_any (λ (e : List ℕ × ℕ). is_some (filter_refusal e.0)) entries)
-    conn id entries refl refl a (joined-heard conn (max b.clock moment) b.seats ∙ j) d
+    (is_some (seat_at conn (noted b (Packet conn (Subscribe id entries) moment)).broker.seats)) (list_any (λ (e : List ℕ × ℕ). is_some (filter_refusal e.0)) entries || heavy_in conn entries (noted b (Packet conn (Subscribe id entries) moment)).broker)
+    conn id entries refl refl a (joined-heard conn (max b.clock moment) b.seats ∙ j) (or_from _ _ d (heavy-heard b conn moment (Subscribe id entries) entries ∙ light))
     (let same = heard-total (line_heard conn (max b.clock moment)) b.seats in omega (arith, same, room))

@@ -10,7 +10,7 @@ ghost use Rattle.spk_broker_rules.specs.Data.{Broker};
 ghost use Rattle.spk_broker_rules.specs.Lawful.{IsLawful};
 ghost use Rattle.spk_broker_rules.specs.Listening.{is_closed_in, is_joined, lets_go, listens};
 ghost use Rattle.spk_broker_rules.specs.Plan.{Event, Packet};
-ghost use Rattle.spk_broker_rules.specs.Step.{after, all_grants, step};
+ghost use Rattle.spk_broker_rules.specs.Step.{after, all_grants, heavy_in, step};
 ghost use Rattle.spk_broker_listening.specs.Granted.{Grants, IsAnswered, Lasts, asks_for, holds, is_connect, takes_off};
 
 use spk_broker_rules::laws;
@@ -18,11 +18,12 @@ use spk_broker_rules::laws;
 /// A SUBSCRIBE whose filter is granted makes its connection listen to each topic that the filter matches, until an UNSUBSCRIBE that names the
 /// filter, or the connection's end (MQTT 3.1.1, 3.8 to 3.10).
 pub fn subscribed()
-    // a SUBSCRIBE of a connection whose CONNECT was accepted, which can be written and whose filters are such, is answered by SUBACK
-    // before all else, with a code for each filter
+    // a SUBSCRIBE of a connection whose CONNECT was accepted, which can be written, whose filters are such, and whose entries are given at
+    // most 64 MB of retained messages together, is answered by SUBACK before all else, with a code for each filter
     ensures answered { (b : Broker) (conn id moment : ℕ) (entries : List (List ℕ × ℕ))
         → is_joined b conn ≡ true → is_some (first_of (unwritable (Subscribe id entries))) ≡ false
         → list_any (λ (e : List ℕ × ℕ). is_some (filter_refusal e.0)) entries ≡ false
+        → heavy_in conn entries b ≡ false
         → (codes : List ℕ) × (length codes ≡ length entries)
         × IsAnswered b (Packet conn (Subscribe id entries) moment) conn id codes }
 
@@ -30,6 +31,7 @@ pub fn subscribed()
     ensures room { (b : Broker) (conn id moment : ℕ) (entries : List (List ℕ × ℕ))
         → is_joined b conn ≡ true → is_some (first_of (unwritable (Subscribe id entries))) ≡ false
         → list_any (λ (e : List ℕ × ℕ). is_some (filter_refusal e.0)) entries ≡ false
+        → heavy_in conn entries b ≡ false
         → all_grants b.seats + length entries ≤ 10000
         → (codes : List ℕ) × IsAnswered b (Packet conn (Subscribe id entries) moment) conn id codes
         × ((filter : List ℕ) → asks_for filter entries ≡ true → Grants filter entries codes) }

@@ -7,13 +7,13 @@ use Rattle.std.proofs.lemmas.List.{length-map}
 use Rattle.spk_session.specs.Step.{is_spent}
 use Rattle.spk_broker_rules.specs.Data.{Line, Guest, Seat}
 use Rattle.spk_packets.specs.Spelling.{is_empty}
-use Rattle.spk_broker_rules.specs.Words.{is_silent, most_kept}
-use Rattle.spk_broker_rules.specs.Plan.{Event, Seen, conn_of, client_of}
-use Rattle.spk_broker_rules.specs.Step.{seat_at, conn_at, older_in, welcome_in, is_kept_of, drops_in, silent_at, seen}
-use Rattle.spk_broker_rules.specs.Past.{Past, Joining, conn_deeds, deeds, clock, heard, drops, client, kept, here, guests, sessions, conn_here, session_at, is_of, older_of, is_welcome, joined_drops, drops_of, silent_of, seen_in, guest_of, line_of, seat_of, broker_of}
+use Rattle.spk_broker_rules.specs.Words.{granted_of, is_heavy, is_silent, most_kept}
+use Rattle.spk_broker_rules.specs.Plan.{Event, Seen, conn_of, client_of, entries_of}
+use Rattle.spk_broker_rules.specs.Step.{seat_at, conn_at, older_in, welcome_in, is_kept_of, drops_in, silent_at, heavy_at, heavy_in, seen}
+use Rattle.spk_broker_rules.specs.Past.{Past, Joining, conn_deeds, deeds, clock, heard, drops, client, kept, here, grants, guests, sessions, retained, conn_here, session_at, is_of, older_of, is_welcome, joined_drops, drops_of, silent_of, other_pairs, heavy_for, heavy_of, seen_in, guest_of, line_of, seat_of, broker_of}
 use Rattle.spk_broker_rules.proofs.Lists.{find-map, any-map, filter-map, flat_map-map}
 use Rattle.spk_broker_rules.proofs.Seats.{seat_at-same, guest-same, has_line}
-use Rattle.spk_broker_rules.proofs.Gifts.{conn-same}
+use Rattle.spk_broker_rules.proofs.Gifts.{conn-same, others-same}
 
 some-map : {X Y : Type 0} (f : X → Y) (o : Option X) → is_some (option_map f o) ≡ is_some o
 some-map f None = refl
@@ -67,16 +67,24 @@ silent-same h = sym (flat_map-map (seat_of h) (silent_at (clock h)) (silent_of h
     each : (s : ℕ) → silent_at (clock h) (seat_of h s) ≡ silent_of h s
     each s = line (here (deeds h s))
 
-abbrev seen_from : Bool → Option ℕ → Bool → Bool → List ℕ → Seen
-seen_from j o w s q = record { joined = j; older = o; welcome = w; spent = s; silent = q }
+heavy-same : (limit : ℕ) (h : Past) (conn : ℕ) (entries : List (List ℕ × ℕ)) → heavy_of h conn entries ≡ heavy_in conn entries (broker_of limit h)
+heavy-same limit h conn entries = by (session_at h conn) ∙ ap (λ o. heavy_at o entries (broker_of limit h)) (sym (seat_at-same h conn))
+  where
+    by : (o : Option ℕ) → heavy_for h o entries ≡ heavy_at (option_map (seat_of h) o) entries (broker_of limit h)
+    by None = refl
+    by (Some s) = ap (λ n. is_heavy (retained h) (granted_of n (grants (deeds h s)) entries)) (sym (others-same h s))
+
+abbrev seen_from : Bool → Option ℕ → Bool → Bool → List ℕ → Bool → Seen
+seen_from j o w s q x = record { joined = j; older = o; welcome = w; spent = s; silent = q; heavy = x }
 
 pub seen-same : (limit : ℕ) (h : Past) (e : Event) → seen_in limit h e ≡ seen (broker_of limit h) e
 seen-same limit h e =
-    ap (λ x. seen_from x (older_of h (client_of e)) (is_welcome h (client_of e)) (is_spent limit (drops_of h (conn_of e))) (flat_map (silent_of h) (sessions h))) (joined-same h (conn_of e))
-    ∙ ap (λ x. seen_from b.joined x (is_welcome h (client_of e)) (is_spent limit (drops_of h (conn_of e))) (flat_map (silent_of h) (sessions h))) (older-same h (client_of e))
-    ∙ ap (λ x. seen_from b.joined b.older x (is_spent limit (drops_of h (conn_of e))) (flat_map (silent_of h) (sessions h))) (welcome-same h (client_of e))
-    ∙ ap (λ x. seen_from b.joined b.older b.welcome (is_spent limit x) (flat_map (silent_of h) (sessions h))) (drops-same limit h (conn_of e))
-    ∙ ap (seen_from b.joined b.older b.welcome b.spent) (silent-same h)
+    ap (λ x. seen_from x (older_of h (client_of e)) (is_welcome h (client_of e)) (is_spent limit (drops_of h (conn_of e))) (flat_map (silent_of h) (sessions h)) (heavy_of h (conn_of e) (entries_of e))) (joined-same h (conn_of e))
+    ∙ ap (λ x. seen_from b.joined x (is_welcome h (client_of e)) (is_spent limit (drops_of h (conn_of e))) (flat_map (silent_of h) (sessions h)) (heavy_of h (conn_of e) (entries_of e))) (older-same h (client_of e))
+    ∙ ap (λ x. seen_from b.joined b.older x (is_spent limit (drops_of h (conn_of e))) (flat_map (silent_of h) (sessions h)) (heavy_of h (conn_of e) (entries_of e))) (welcome-same h (client_of e))
+    ∙ ap (λ x. seen_from b.joined b.older b.welcome (is_spent limit x) (flat_map (silent_of h) (sessions h)) (heavy_of h (conn_of e) (entries_of e))) (drops-same limit h (conn_of e))
+    ∙ ap (λ x. seen_from b.joined b.older b.welcome b.spent x (heavy_of h (conn_of e) (entries_of e))) (silent-same h)
+    ∙ ap (seen_from b.joined b.older b.welcome b.spent b.silent) (heavy-same limit h (conn_of e) (entries_of e))
   where
     b : Seen
     b = seen (broker_of limit h) e

@@ -382,19 +382,19 @@ module _ (F : List ℕ → Type 0) (T : List ℕ → List ℕ → Type 0) where
   fits-first v d PingResp h = fits-shut d
   fits-first v d Disconnect h = fits-shut d
 
-  fits-next : (d : ℕ) (p : Message) → FiltersIn F p → Says T p → Fitting (next_packet d p)
-  fits-next d (Connect name clean alive will) f h = fits-shut d
-  fits-next d (ConnAck present code) f h = fits-shut d
-  fits-next d (Publish dup qos retain topic None payload) f h = fits-cond _ (shut d) (Queue (record { topic = topic; payload = payload; qos = qos; retain = retain }) ∷ Route ∷ []) (fits-shut d) (record { each = (h, (tt, tt)) })
-  fits-next d (Publish dup qos retain topic (Some id) payload) f h = fits-cond _ (shut d) (Say d (PubAck id) ∷ Queue (record { topic = topic; payload = payload; qos = qos; retain = retain }) ∷ Route ∷ []) (fits-shut d) (record { each = (tt, (h, (tt, tt))) })
-  fits-next d (PubAck id) f h = record { each = (tt, tt) }
-  fits-next d (Subscribe id entries) f h = fits-cond _ (shut d) (Give d id entries ∷ Route ∷ []) (fits-shut d) (record { each = (f, (tt, tt)) })
-  fits-next d (SubAck id codes) f h = fits-shut d
-  fits-next d (Unsubscribe id filters) f h = fits-cond _ (shut d) (Take d filters ∷ Say d (UnsubAck id) ∷ []) (fits-shut d) (record { each = (tt, (tt, tt)) })
-  fits-next d (UnsubAck id) f h = fits-shut d
-  fits-next d PingReq f h = record { each = (tt, tt) }
-  fits-next d PingResp f h = fits-shut d
-  fits-next d Disconnect f h = record { each = (tt, tt) }
+  fits-next : (v : Seen) (d : ℕ) (p : Message) → FiltersIn F p → Says T p → Fitting (next_packet v d p)
+  fits-next v d (Connect name clean alive will) f h = fits-shut d
+  fits-next v d (ConnAck present code) f h = fits-shut d
+  fits-next v d (Publish dup qos retain topic None payload) f h = fits-cond _ (shut d) (Queue (record { topic = topic; payload = payload; qos = qos; retain = retain }) ∷ Route ∷ []) (fits-shut d) (record { each = (h, (tt, tt)) })
+  fits-next v d (Publish dup qos retain topic (Some id) payload) f h = fits-cond _ (shut d) (Say d (PubAck id) ∷ Queue (record { topic = topic; payload = payload; qos = qos; retain = retain }) ∷ Route ∷ []) (fits-shut d) (record { each = (tt, (h, (tt, tt))) })
+  fits-next v d (PubAck id) f h = record { each = (tt, tt) }
+  fits-next v d (Subscribe id entries) f h = fits-cond _ (shut d) (Give d id entries ∷ Route ∷ []) (fits-shut d) (record { each = (f, (tt, tt)) })
+  fits-next v d (SubAck id codes) f h = fits-shut d
+  fits-next v d (Unsubscribe id filters) f h = fits-cond _ (shut d) (Take d filters ∷ Say d (UnsubAck id) ∷ []) (fits-shut d) (record { each = (tt, (tt, tt)) })
+  fits-next v d (UnsubAck id) f h = fits-shut d
+  fits-next v d PingReq f h = record { each = (tt, tt) }
+  fits-next v d PingResp f h = fits-shut d
+  fits-next v d Disconnect f h = record { each = (tt, tt) }
 
   fits-tick : (silent : List ℕ) → Fitting (tick silent)
   fits-tick [] = record { each = (tt, tt) }
@@ -402,7 +402,7 @@ module _ (F : List ℕ → Type 0) (T : List ℕ → List ℕ → Type 0) where
 
   fits-plan : (v : Seen) (e : Event) → Brings (FiltersIn F) e → Brings (Says T) e → Fitting (plan v e)
   fits-plan v (Open moment) f h = record { each = (tt, tt) }
-  fits-plan v (Packet d p moment) f h = fits-cond _ _ _ (fits-shut d) (fits-cond _ _ _ (fits-next d p f h) (fits-first v d p h))
+  fits-plan v (Packet d p moment) f h = fits-cond _ _ _ (fits-shut d) (fits-cond _ _ _ (fits-next v d p f h) (fits-first v d p h))
   fits-plan v (Fault d f moment) g h = fits-cond _ _ _ (fits-away d 1) (fits-shut d)
   fits-plan v (Closed d moment) f h = record { each = (tt, (tt, tt)) }
   fits-plan v (Tick moment) f h = fits-tick v.silent

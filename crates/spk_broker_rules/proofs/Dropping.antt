@@ -91,21 +91,21 @@ rules-first v d PingReq = rules-shut d
 rules-first v d PingResp = rules-shut d
 rules-first v d Disconnect = rules-shut d
 
-rules-next : (d : ℕ) (p : Message) → AreRules (next_packet d p)
-rules-next d (Connect name clean alive will) = rules-shut d
-rules-next d (ConnAck present code) = rules-shut d
-rules-next d (Publish dup qos retain topic None payload) =
+rules-next : (v : Seen) (d : ℕ) (p : Message) → AreRules (next_packet v d p)
+rules-next v d (Connect name clean alive will) = rules-shut d
+rules-next v d (ConnAck present code) = rules-shut d
+rules-next v d (Publish dup qos retain topic None payload) =
     rules-cond _ (shut d) (Queue (record { topic = topic; payload = payload; qos = qos; retain = retain }) ∷ Route ∷ []) (rules-shut d) (record { each = (tt, (tt, tt)) })
-rules-next d (Publish dup qos retain topic (Some id) payload) =
+rules-next v d (Publish dup qos retain topic (Some id) payload) =
     rules-cond _ (shut d) (Say d (PubAck id) ∷ Queue (record { topic = topic; payload = payload; qos = qos; retain = retain }) ∷ Route ∷ []) (rules-shut d) (record { each = (tt, (tt, (tt, tt))) })
-rules-next d (PubAck id) = record { each = (tt, tt) }
-rules-next d (Subscribe id entries) = rules-cond _ (shut d) (Give d id entries ∷ Route ∷ []) (rules-shut d) (record { each = (tt, (tt, tt)) })
-rules-next d (SubAck id codes) = rules-shut d
-rules-next d (Unsubscribe id filters) = rules-cond _ (shut d) (Take d filters ∷ Say d (UnsubAck id) ∷ []) (rules-shut d) (record { each = (tt, (tt, tt)) })
-rules-next d (UnsubAck id) = rules-shut d
-rules-next d PingReq = record { each = (tt, tt) }
-rules-next d PingResp = rules-shut d
-rules-next d Disconnect = record { each = (tt, tt) }
+rules-next v d (PubAck id) = record { each = (tt, tt) }
+rules-next v d (Subscribe id entries) = rules-cond _ (shut d) (Give d id entries ∷ Route ∷ []) (rules-shut d) (record { each = (tt, (tt, tt)) })
+rules-next v d (SubAck id codes) = rules-shut d
+rules-next v d (Unsubscribe id filters) = rules-cond _ (shut d) (Take d filters ∷ Say d (UnsubAck id) ∷ []) (rules-shut d) (record { each = (tt, (tt, tt)) })
+rules-next v d (UnsubAck id) = rules-shut d
+rules-next v d PingReq = record { each = (tt, tt) }
+rules-next v d PingResp = rules-shut d
+rules-next v d Disconnect = record { each = (tt, tt) }
 
 rules-tick : (silent : List ℕ) → AreRules (tick silent)
 rules-tick [] = record { each = (tt, tt) }
@@ -113,7 +113,7 @@ rules-tick (x ∷ xs) = record { each = (tt, (tt, (rules-tick xs).each)) }
 
 rules-plan : (v : Seen) (e : Event) → is_opening e ≡ false → AreRules (plan v e)
 rules-plan v (Open moment) o = absurd (true≢false o)
-rules-plan v (Packet d p moment) o = rules-cond _ _ _ (rules-shut d) (rules-cond _ _ _ (rules-next d p) (rules-first v d p))
+rules-plan v (Packet d p moment) o = rules-cond _ _ _ (rules-shut d) (rules-cond _ _ _ (rules-next v d p) (rules-first v d p))
 rules-plan v (Fault d f moment) o = rules-cond _ _ _ (rules-away d 1) (rules-shut d)
 rules-plan v (Closed d moment) o = record { each = (tt, (tt, tt)) }
 rules-plan v (Tick moment) o = rules-tick v.silent

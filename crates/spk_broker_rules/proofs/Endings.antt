@@ -346,21 +346,21 @@ module _ (c : ℕ) where
   orderly-first v d PingResp = orderly-shut d
   orderly-first v d Disconnect = orderly-shut d
 
-  orderly-next : (d : ℕ) (p : Message) → Orderly (next_packet d p)
-  orderly-next d (Connect name clean alive will) = orderly-shut d
-  orderly-next d (ConnAck present code) = orderly-shut d
-  orderly-next d (Publish dup qos retain topic None payload) =
+  orderly-next : (v : Seen) (d : ℕ) (p : Message) → Orderly (next_packet v d p)
+  orderly-next v d (Connect name clean alive will) = orderly-shut d
+  orderly-next v d (ConnAck present code) = orderly-shut d
+  orderly-next v d (Publish dup qos retain topic None payload) =
       orderly-cond _ (shut d) (Queue (record { topic = topic; payload = payload; qos = qos; retain = retain }) ∷ Route ∷ []) (orderly-shut d) (inr (tt, (tt, tt)))
-  orderly-next d (Publish dup qos retain topic (Some id) payload) =
+  orderly-next v d (Publish dup qos retain topic (Some id) payload) =
       orderly-cond _ (shut d) (Say d (PubAck id) ∷ Queue (record { topic = topic; payload = payload; qos = qos; retain = retain }) ∷ Route ∷ []) (orderly-shut d) (inr (tt, (tt, (tt, tt))))
-  orderly-next d (PubAck id) = inr (tt, tt)
-  orderly-next d (Subscribe id entries) = orderly-cond _ (shut d) (Give d id entries ∷ Route ∷ []) (orderly-shut d) (inr (tt, (tt, tt)))
-  orderly-next d (SubAck id codes) = orderly-shut d
-  orderly-next d (Unsubscribe id filters) = orderly-cond _ (shut d) (Take d filters ∷ Say d (UnsubAck id) ∷ []) (orderly-shut d) (inr (tt, (tt, tt)))
-  orderly-next d (UnsubAck id) = orderly-shut d
-  orderly-next d PingReq = inr (tt, tt)
-  orderly-next d PingResp = orderly-shut d
-  orderly-next d Disconnect = inr (tt, tt)
+  orderly-next v d (PubAck id) = inr (tt, tt)
+  orderly-next v d (Subscribe id entries) = orderly-cond _ (shut d) (Give d id entries ∷ Route ∷ []) (orderly-shut d) (inr (tt, (tt, tt)))
+  orderly-next v d (SubAck id codes) = orderly-shut d
+  orderly-next v d (Unsubscribe id filters) = orderly-cond _ (shut d) (Take d filters ∷ Say d (UnsubAck id) ∷ []) (orderly-shut d) (inr (tt, (tt, tt)))
+  orderly-next v d (UnsubAck id) = orderly-shut d
+  orderly-next v d PingReq = inr (tt, tt)
+  orderly-next v d PingResp = orderly-shut d
+  orderly-next v d Disconnect = inr (tt, tt)
 
   abbrev ends : List ℕ → List Act
   ends silent = flat_map (λ d. Leave d true ∷ Tell d ∷ []) silent
@@ -416,7 +416,7 @@ module _ (c : ℕ) where
 
   orderly-plan : (v : Seen) (e : Event) → is_opening e ≡ false → tally (λ d. eqb d c) v.silent ≤ 1 → Orderly (plan v e)
   orderly-plan v (Open moment) o h = absurd (true≢false o)
-  orderly-plan v (Packet d p moment) o h = orderly-cond _ _ _ (orderly-shut d) (orderly-cond _ _ _ (orderly-next d p) (orderly-first v d p))
+  orderly-plan v (Packet d p moment) o h = orderly-cond _ _ _ (orderly-shut d) (orderly-cond _ _ _ (orderly-next v d p) (orderly-first v d p))
   orderly-plan v (Fault d f moment) o h = orderly-cond _ _ _ (orderly-away d 1) (orderly-shut d)
   orderly-plan v (Closed d moment) o h = inr (tt, (tt, tt))
   orderly-plan v (Tick moment) o h = orderly-tick v.silent h

@@ -10,8 +10,8 @@ use Rattle.spk_broker_rules.specs.Data.{Post, Line, Guest, Seat, Stored, Broker}
 use Rattle.spk_broker_rules.specs.Table.{Table, put}
 use Rattle.spk_broker_rules.specs.Words.{best, level, sent_as, plain_packet, numbered_packet, to_line, option_list, granted_of, codes_of, with_entry, is_granted, granted, offers_to}
 use Rattle.spk_broker_rules.specs.Step.{Turn, Served, stays, bursts, numbered, hand_at, hand, serve_at, serve, conn_at, swap, seat_at, other_grants, give_with, give_at, take_at, offer, offer_at}
-use Rattle.spk_broker_rules.specs.Past.{Past, OfSession, ConnDeed, heard, drops, Deed, Made, Joined, Left, Over, Granted, TakenBack, Numbered, Acked, Joining, deeds, clock, given, made, kept, here, grants, used, copies, last_id, guests, sessions, routed, retained, retained_notes, table, session_at, conn_here, guest_of, line_of, seat_with, seat_of, broker_of}
-use Rattle.spk_broker_rules.specs.Story.{Story, Share, ends_at, numbers, given_at, gift, share_at, share, session_facts, told_offer_at, told_offer, other_pairs, granting, told_give_with, told_give, taking_back, told_take}
+use Rattle.spk_broker_rules.specs.Past.{Past, OfSession, ConnDeed, heard, drops, Deed, Made, Joined, Left, Over, Granted, TakenBack, Numbered, Acked, Joining, deeds, clock, given, made, kept, here, grants, used, copies, last_id, guests, sessions, routed, retained, retained_notes, table, session_at, conn_here, guest_of, line_of, seat_with, seat_of, broker_of, other_pairs}
+use Rattle.spk_broker_rules.specs.Story.{Story, Share, ends_at, numbers, given_at, gift, share_at, share, session_facts, told_offer_at, told_offer, granting, told_give_with, told_give, taking_back, told_take}
 use Rattle.spk_broker_rules.proofs.Lists.{eqb-is, find-map, map-same, flat_map-map, found-passes, all-append}
 use Rattle.spk_broker_rules.proofs.Seats.{deeds-selves, deeds-others, conns-same, seat-from, swapped, dropped, seat_at-same, has_line, numbered-seat, copy_of, puts, granted-self, taken-self}
 use Rattle.spk_broker_rules.proofs.Turns.{turn_of}
@@ -295,7 +295,7 @@ puts-same others (e ∷ es) g = by (is_granted others g e) (puts-same others es)
     by true rest = rest (put (granted e).0 (granted e).1 g)
     by false rest = rest g
 
-others-same : (h : Past) (s : ℕ) → other_grants (seat_of h s) (map (seat_of h) (sessions h)) ≡ other_pairs h s
+pub others-same : (h : Past) (s : ℕ) → other_grants (seat_of h s) (map (seat_of h) (sessions h)) ≡ other_pairs h s
 others-same h s = ap (λ xs. length xs - length (grants (deeds h s))) (flat_map-map (seat_of h) (λ (x : Seat). x.grants) (λ t. grants (deeds h t)) (λ t. refl) (sessions h))
 
 gave_with : (limit others s conn id : ℕ) (entries : List (List ℕ × ℕ)) (t : Story)

@@ -10,9 +10,9 @@ use Rattle.spk_broker_rules.specs.Lawful.{IsLow, IsLawful}
 use Rattle.spk_broker_rules.specs.Words.{best, level, sent_as, option_list, granted_of, offers_to, most_open, last_number}
 use Rattle.spk_broker_rules.specs.Plan.{Event, Act, Opens, At, Hear, Drop, Say, Leave, Tell, Queue, Route, Forget, Accept, Give, Take, Ack, before, plan}
 use Rattle.spk_broker_rules.specs.Step.{act, is_guest, knows, is_full, after}
-use Rattle.spk_broker_rules.specs.Past.{Past, OfConn, OfSession, Opened, Deed, Made, Joined, Left, Over, Granted, TakenBack, Numbered, Acked, Joining, deeds, clock, is_of, given, made, kept, here, grants, used, last_id, guests, sessions, open_conns, retained, conn_here, sits_at, session_at, is_open, may_open, seen_in, guest_of, line_of, seat_of, broker_of}
+use Rattle.spk_broker_rules.specs.Past.{Past, OfConn, OfSession, Opened, Deed, Made, Joined, Left, Over, Granted, TakenBack, Numbered, Acked, Joining, deeds, clock, is_of, given, made, kept, here, grants, used, last_id, guests, sessions, open_conns, retained, conn_here, sits_at, session_at, is_open, may_open, seen_in, guest_of, line_of, seat_of, broker_of, other_pairs}
 use Rattle.spk_broker_rules.specs.Story as story
-use Rattle.spk_broker_rules.specs.Story.{Story, Share, note, session_facts, leaving, ends_at, numbers, given_at, gift, share_at, share, Routes, nothing_waits, goes_on, told_one, told_leave, told_forget, told_take_up, told_accept, told_offer_at, told_offer, told_give_with, told_give, told_take, told_ack, granting, taking_back, other_pairs, Tells, TellsAll}
+use Rattle.spk_broker_rules.specs.Story.{Story, Share, note, session_facts, leaving, ends_at, numbers, given_at, gift, share_at, share, Routes, nothing_waits, goes_on, told_one, told_leave, told_forget, told_take_up, told_accept, told_offer_at, told_offer, told_give_with, told_give, told_take, told_ack, granting, taking_back, Tells, TellsAll}
 use Rattle.spk_broker_rules.specs.Telling.{Leads, story_at}
 use Rattle.spk_broker_rules.proofs.Lists.{eqb-flip, eqb-is, eqb-self, any-map, flat_map-same, flat_map-append, found-passes, all-also, all-map}
 use Rattle.spk_broker_rules.proofs.Seats.{deeds-self, deeds-other, seat_at-same}

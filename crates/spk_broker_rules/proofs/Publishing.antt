@@ -1,14 +1,15 @@
 -- A plain publish: QoS 0, without RETAIN.
-use Rattle.std.proofs.Common.{◌≡◌, ℕ, max, min, Bool, true, false, cond, eqb, List, [], ◌∷◌, ◌++◌, map, refl, ◌∙◌, ap, ap₂, arith, Option, Some, None}
+use Rattle.std.proofs.Common.{◌≡◌, ℕ, ◌-◌, max, min, Bool, true, false, cond, eqb, List, [], ◌∷◌, ◌++◌, map, length, refl, ◌∙◌, ap, ap₂, arith, Option, Some, None}
 use Rattle.std.specs.List.{flat_map}
 use Rattle.std.specs.Option.{option_map, option_map_or, is_some}
 use Rattle.spk_packets.specs.Fault.{first_of}
+use Rattle.spk_packets.specs.Message.{Message}
 use Rattle.spk_packets.specs.Spelling.{unwritable}
 use Rattle.spk_topics.specs.Text.{topic_refusal}
 use Rattle.spk_broker_rules.specs.Data.{Post, Line, Seat, Broker, Send}
-use Rattle.spk_broker_rules.specs.Words.{best, level, to_line}
+use Rattle.spk_broker_rules.specs.Words.{best, granted_of, is_heavy, level, to_line}
 use Rattle.spk_broker_rules.specs.Plan.{Event, Packet, Act, Queue, Route, shut}
-use Rattle.spk_broker_rules.specs.Step.{Turn, acts, noted, step, route, route_one, serve, serve_at, conn_at, seat_at, sits, line_heard}
+use Rattle.spk_broker_rules.specs.Step.{Turn, acts, noted, step, route, route_one, serve, serve_at, conn_at, seat_at, sits, line_heard, all_grants, heavy_at, heavy_in}
 use Rattle.spk_broker_rules.specs.Listening.{is_joined, is_listening, plain_publish, IsPlain, given_to}
 use Rattle.spk_broker_rules.proofs.Lists.{find-map, flat_map-map, flat_map-same}
 use Rattle.spk_broker_rules.proofs.Routing.{route-done, route-next}
@@ -111,6 +112,21 @@ joined-heard conn clock ss = ap is_some (find-map (heard_seat conn clock) (sits 
     by : (o : Option Seat) → is_some (option_map (heard_seat conn clock) o) ≡ is_some o
     by None = refl
     by (Some s) = refl
+
+-- what a SUBSCRIBE is given is not of when it was heard
+pub heavy-heard : (b : Broker) (conn moment : ℕ) (p : Message) (entries : List (List ℕ × ℕ)) → heavy_in conn entries (noted b (Packet conn p moment)).broker ≡ heavy_in conn entries b
+heavy-heard b conn moment p entries =
+    ap (λ o. heavy_at o entries (noted b (Packet conn p moment)).broker) (find-map (heard_seat conn k) (sits conn) (sits conn) (sits-heard conn k conn) b.seats) ∙ by (seat_at conn b.seats)
+  where
+    k : ℕ
+    k = max b.clock moment
+
+    all : all_grants (map (heard_seat conn k) b.seats) ≡ all_grants b.seats
+    all = ap length (flat_map-map (heard_seat conn k) (λ (s : Seat). s.grants) (λ (s : Seat). s.grants) (λ s. refl) b.seats)
+
+    by : (o : Option Seat) → heavy_at (option_map (heard_seat conn k) o) entries (noted b (Packet conn p moment)).broker ≡ heavy_at o entries b
+    by None = refl
+    by (Some s) = ap (λ n. is_heavy b.retained (granted_of (n - length s.grants) s.grants entries)) all
 
 plain-plan : (unwritten joined bad : Bool) (conn : ℕ) (post : Post) (first : List Act) → unwritten ≡ false → joined ≡ true → bad ≡ false
     → cond unwritten (shut conn) (cond joined (cond bad (shut conn) (Queue post ∷ Route ∷ [])) first) ≡ Queue post ∷ Route ∷ []

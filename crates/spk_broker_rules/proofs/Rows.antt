@@ -1,16 +1,17 @@
 -- The rules at worked lists of events, named by what they show.
 use Rattle.std.proofs.Common.{◌≡◌, ℕ, ◌++◌, Bool, true, false, List, [], ◌∷◌, refl, Option, Some, None, replicate}
 use Rattle.std.specs.Prelude.{codes}
-use Rattle.std.specs.List.{range_with_len, fold}
+use Rattle.std.specs.List.{flat_map, range_with_len, fold}
 use Rattle.spk_packets.specs.declared.fault.PacketFault.TheVariants as fault
 use Rattle.spk_packets.specs.Message.{Message, Connect, ConnAck, Publish, PubAck, Subscribe, SubAck, Unsubscribe, UnsubAck, PingReq, PingResp, Disconnect}
 use Rattle.spk_packets.specs.Spelling.{has_bad_text, has_bad_body, is_qos_two, spelling, body, shortest}
 use Rattle.spk_session.specs.PacketIds.{next_id, ids_after}
 use Rattle.spk_session.specs.declared.answer.Sort.TheVariants as sort
-use Rattle.spk_broker_rules.specs.Data.{Post, Seat, Broker, Send, fresh_broker}
-use Rattle.spk_broker_rules.specs.Plan.{Event, Open, Packet, Fault, Closed, Tick, Refused, Seen, Forget, Accept, connect, turn_away, shut, next_packet}
+use Rattle.spk_broker_rules.specs.Data.{Post, Seat, Stored, Broker, Send, fresh_broker}
+use Rattle.spk_broker_rules.specs.Plan.{Event, Open, Packet, Fault, Closed, Tick, Refused, Seen, Forget, Accept, Give, Route, connect, turn_away, shut, next_packet}
 use Rattle.spk_broker_rules.specs.Past.{counts}
-use Rattle.spk_broker_rules.specs.Words.{codes_of, with_entry, last_number}
+use Rattle.spk_broker_rules.specs.Table.{Table}
+use Rattle.spk_broker_rules.specs.Words.{codes_of, offers_to, weight, weight_of, with_entry, last_number}
 use Rattle.spk_broker_rules.specs.Step.{step, route, route_some, hand, is_full, welcome_in}
 
 -- what each of these events sends and closes
@@ -53,6 +54,10 @@ plain topic payload = Publish false 0 false topic None payload
 
 abbrev kept_as : List ℕ → List ℕ → Message
 kept_as topic payload = Publish false 0 true topic None payload
+
+-- what the rules may ask where little is the case
+abbrev asked : Option ℕ → Bool → Seen
+asked older welcome = record { joined = false; older = older; welcome = welcome; spent = false; silent = []; heavy = false }
 
 -- opened, and its CONNECT accepted
 abbrev comes : ℕ → Message → List Event
@@ -246,7 +251,7 @@ unfolding step route route_some has_bad_text has_bad_body is_qos_two spelling bo
 a_will_of_qos_2_closes = refl
 
 -- CONNACK, SUBACK, UNSUBACK, PINGRESP
-what_only_a_broker_sends_closes : next_packet 1 (ConnAck false 0) ∷ next_packet 1 (SubAck 1 (0 ∷ [])) ∷ next_packet 1 (UnsubAck 1) ∷ next_packet 1 PingResp ∷ [] ≡ replicate 4 (shut 1)
+what_only_a_broker_sends_closes : next_packet (asked None true) 1 (ConnAck false 0) ∷ next_packet (asked None true) 1 (SubAck 1 (0 ∷ [])) ∷ next_packet (asked None true) 1 (UnsubAck 1) ∷ next_packet (asked None true) 1 PingResp ∷ [] ≡ replicate 4 (shut 1)
 what_only_a_broker_sends_closes = refl
 
 -- the first doesn't
@@ -481,10 +486,18 @@ a_further_topic_does_not_count = refl
 the_10000th_topic_counts : counts (replicate 9999 (codes "b")) full_post ≡ true
 the_10000th_topic_counts = refl
 
--- a CONNECT is judged in order: an empty client id, the will's topic, the number of kept sessions
-abbrev asked : Option ℕ → Bool → Seen
-asked older welcome = record { joined = false; older = older; welcome = welcome; spent = false; silent = [] }
+-- topic, payload, and 9: as many as fixed header, topic length and identifier take at most
+a_message_of_five_bytes_weighs_14 : weight (record { topic = codes "ab"; payload = codes "xyz"; qos = 1; retain = true }) ≡ 14
+a_message_of_five_bytes_weighs_14 = refl
 
+abbrev two_kept : Table Stored
+two_kept = (codes "a", record { payload = codes "x"; qos = 1 }) ∷ (codes "b", record { payload = codes "yy"; qos = 0 }) ∷ []
+
+-- 11 for the one, 11 and 12 for both, and the one that is named again
+each_entry_weighs_by_itself : weight_of (flat_map (offers_to two_kept) ((codes "a", 0) ∷ (codes "+", 1) ∷ (codes "c", 1) ∷ (codes "a", 0) ∷ [])) ≡ 45
+each_entry_weighs_by_itself = refl
+
+-- a CONNECT is judged in order: an empty client id, the will's topic, the number of kept sessions
 no_room_for_a_kept_session_is_code_3 : connect (asked (Some 7) false) 9 (codes "x") false 0 None ≡ turn_away 9 3
 no_room_for_a_kept_session_is_code_3 = refl
 
@@ -496,3 +509,10 @@ an_empty_client_is_judged_first = refl
 
 a_bad_will_topic_is_judged_before_the_room : connect (asked (Some 7) false) 9 (codes "x") false 0 (Some (record { topic = codes "+"; message = []; qos = 0; retain = false })) ≡ shut 9
 a_bad_will_topic_is_judged_before_the_room = refl
+
+-- a SUBSCRIBE whose entries are given too much closes, and nothing of it is given; a filter that is none closes too
+too_much_closes : next_packet (record (asked None true) { heavy = true }) 1 (Subscribe 7 ((codes "a", 0) ∷ [])) ≡ shut 1
+too_much_closes = refl
+
+what_is_not_too_much_is_given : next_packet (asked None true) 1 (Subscribe 7 ((codes "a", 0) ∷ [])) ≡ Give 1 7 ((codes "a", 0) ∷ []) ∷ Route ∷ []
+what_is_not_too_much_is_given = refl

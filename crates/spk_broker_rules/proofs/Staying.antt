@@ -497,24 +497,24 @@ module _ (c : ℕ) (L : Table ℕ → Bool) (mono : (f : List ℕ) (q : ℕ) (g 
   only true e = e
   only false e = e
 
-  good-next : (d : ℕ) (p : Message) → (eqb d c && is_disconnect p) ≡ false
-      → ((eqb d c && is_unsubscribe p) ≡ false) ⊎ Keeps → Good (next_packet d p)
+  good-next : (v : Seen) (d : ℕ) (p : Message) → (eqb d c && is_disconnect p) ≡ false
+      → ((eqb d c && is_unsubscribe p) ≡ false) ⊎ Keeps → Good (next_packet v d p)
   unfolding Keeps
-  good-next d (Connect name clean alive will) e f = good-shut d
-  good-next d (ConnAck present code) e f = good-shut d
-  good-next d (Publish dup qos retain topic None payload) e f =
+  good-next v d (Connect name clean alive will) e f = good-shut d
+  good-next v d (ConnAck present code) e f = good-shut d
+  good-next v d (Publish dup qos retain topic None payload) e f =
       good-cond _ (shut d) (Queue (record { topic = topic; payload = payload; qos = qos; retain = retain }) ∷ Route ∷ []) (good-shut d) (inr (tt, (tt, tt)))
-  good-next d (Publish dup qos retain topic (Some id) payload) e f =
+  good-next v d (Publish dup qos retain topic (Some id) payload) e f =
       good-cond _ (shut d) (Say d (PubAck id) ∷ Queue (record { topic = topic; payload = payload; qos = qos; retain = retain }) ∷ Route ∷ []) (good-shut d) (inr (tt, (tt, (tt, tt))))
-  good-next d (PubAck id) e f = inr (tt, tt)
-  good-next d (Subscribe id entries) e f = good-cond _ (shut d) (Give d id entries ∷ Route ∷ []) (good-shut d) (inr (tt, (tt, tt)))
-  good-next d (SubAck id codes) e f = good-shut d
-  good-next d (Unsubscribe id filters) e (inl f) = good-cond _ (shut d) (Take d filters ∷ Say d (UnsubAck id) ∷ []) (good-shut d) (inr (inl (only (eqb d c) f), (tt, tt)))
-  good-next d (Unsubscribe id filters) e (inr k) = good-cond _ (shut d) (Take d filters ∷ Say d (UnsubAck id) ∷ []) (good-shut d) (inr (inr k, (tt, tt)))
-  good-next d (UnsubAck id) e f = good-shut d
-  good-next d PingReq e f = inr (tt, tt)
-  good-next d PingResp e f = good-shut d
-  good-next d Disconnect e f = inr (only (eqb d c) e, tt)
+  good-next v d (PubAck id) e f = inr (tt, tt)
+  good-next v d (Subscribe id entries) e f = good-cond _ (shut d) (Give d id entries ∷ Route ∷ []) (good-shut d) (inr (tt, (tt, tt)))
+  good-next v d (SubAck id codes) e f = good-shut d
+  good-next v d (Unsubscribe id filters) e (inl f) = good-cond _ (shut d) (Take d filters ∷ Say d (UnsubAck id) ∷ []) (good-shut d) (inr (inl (only (eqb d c) f), (tt, tt)))
+  good-next v d (Unsubscribe id filters) e (inr k) = good-cond _ (shut d) (Take d filters ∷ Say d (UnsubAck id) ∷ []) (good-shut d) (inr (inr k, (tt, tt)))
+  good-next v d (UnsubAck id) e f = good-shut d
+  good-next v d PingReq e f = inr (tt, tt)
+  good-next v d PingResp e f = good-shut d
+  good-next v d Disconnect e f = inr (only (eqb d c) e, tt)
 
   good-tick : (silent : List ℕ) → Good (tick silent)
   good-tick [] = inr (tt, tt)
@@ -526,7 +526,7 @@ module _ (c : ℕ) (L : Table ℕ → Bool) (mono : (f : List ℕ) (q : ℕ) (g 
 
   good-plan : (v : Seen) (e : Event) → lets_go c e ≡ false → (takes_back c e ≡ false) ⊎ Keeps → Good (plan v e)
   good-plan v (Open moment) a b = inr (tt, tt)
-  good-plan v (Packet d p moment) a b = good-cond _ _ _ (good-shut d) (good-cond _ _ _ (good-next d p a b) (good-first v d p))
+  good-plan v (Packet d p moment) a b = good-cond _ _ _ (good-shut d) (good-cond _ _ _ (good-next v d p a b) (good-first v d p))
   good-plan v (Fault d f moment) a b = good-cond _ _ _ (good-away d 1) (good-shut d)
   good-plan v (Closed d moment) a b = inr (a, (tt, tt))
   good-plan v (Tick moment) a b = good-tick v.silent

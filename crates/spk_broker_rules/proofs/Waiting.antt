@@ -232,21 +232,21 @@ module _ (c : ℕ) (g : Guest) where
   far-first v d PingResp o e = far-shut d e
   far-first v d Disconnect o e = far-shut d e
 
-  far-next : (d : ℕ) (p : Message) → eqb d c ≡ false → AllFar (next_packet d p)
-  far-next d (Connect name clean alive will) e = far-shut d e
-  far-next d (ConnAck present code) e = far-shut d e
-  far-next d (Publish dup qos retain topic None payload) e =
+  far-next : (v : Seen) (d : ℕ) (p : Message) → eqb d c ≡ false → AllFar (next_packet v d p)
+  far-next v d (Connect name clean alive will) e = far-shut d e
+  far-next v d (ConnAck present code) e = far-shut d e
+  far-next v d (Publish dup qos retain topic None payload) e =
       far-cond _ (shut d) (Queue (record { topic = topic; payload = payload; qos = qos; retain = retain }) ∷ Route ∷ []) (far-shut d e) (record { each = (tt, (tt, tt)) })
-  far-next d (Publish dup qos retain topic (Some id) payload) e =
+  far-next v d (Publish dup qos retain topic (Some id) payload) e =
       far-cond _ (shut d) (Say d (PubAck id) ∷ Queue (record { topic = topic; payload = payload; qos = qos; retain = retain }) ∷ Route ∷ []) (far-shut d e) (record { each = (tt, (tt, (tt, tt))) })
-  far-next d (PubAck id) e = record { each = (tt, tt) }
-  far-next d (Subscribe id entries) e = far-cond _ (shut d) (Give d id entries ∷ Route ∷ []) (far-shut d e) (record { each = (tt, (tt, tt)) })
-  far-next d (SubAck id codes) e = far-shut d e
-  far-next d (Unsubscribe id filters) e = far-cond _ (shut d) (Take d filters ∷ Say d (UnsubAck id) ∷ []) (far-shut d e) (record { each = (tt, (tt, tt)) })
-  far-next d (UnsubAck id) e = far-shut d e
-  far-next d PingReq e = record { each = (tt, tt) }
-  far-next d PingResp e = far-shut d e
-  far-next d Disconnect e = record { each = (e, tt) }
+  far-next v d (PubAck id) e = record { each = (tt, tt) }
+  far-next v d (Subscribe id entries) e = far-cond _ (shut d) (Give d id entries ∷ Route ∷ []) (far-shut d e) (record { each = (tt, (tt, tt)) })
+  far-next v d (SubAck id codes) e = far-shut d e
+  far-next v d (Unsubscribe id filters) e = far-cond _ (shut d) (Take d filters ∷ Say d (UnsubAck id) ∷ []) (far-shut d e) (record { each = (tt, (tt, tt)) })
+  far-next v d (UnsubAck id) e = far-shut d e
+  far-next v d PingReq e = record { each = (tt, tt) }
+  far-next v d PingResp e = far-shut d e
+  far-next v d Disconnect e = record { each = (e, tt) }
 
   far-tick : (silent : List ℕ) → AllByRecursion (λ d. eqb d c ≡ false) silent → AllFar (tick silent)
   far-tick [] h = record { each = (tt, tt) }
@@ -254,7 +254,7 @@ module _ (c : ℕ) (g : Guest) where
 
   far-plan : (v : Seen) (e : Event) → speaks_of c e ≡ false → IsOther v.older → AllByRecursion (λ d. eqb d c ≡ false) v.silent → AllFar (plan v e)
   far-plan v (Open moment) e o h = record { each = (tt, tt) }
-  far-plan v (Packet d p moment) e o h = far-cond _ _ _ (far-shut d e) (far-cond _ _ _ (far-next d p e) (far-first v d p o e))
+  far-plan v (Packet d p moment) e o h = far-cond _ _ _ (far-shut d e) (far-cond _ _ _ (far-next v d p e) (far-first v d p o e))
   far-plan v (Fault d f moment) e o h = far-cond _ _ _ (far-away d 1 e) (far-shut d e)
   far-plan v (Closed d moment) e o h = record { each = (e, (tt, tt)) }
   far-plan v (Tick moment) e o h = far-tick v.silent h
@@ -443,8 +443,8 @@ pub first-step : (b : Broker) (c : ℕ) (g : Guest) (p : Message) (moment : ℕ)
     → (is_joined (step b (Packet c p moment)).broker c ≡ true) ⊎ (is_closed_in c (step b (Packet c p moment)) ≡ true)
 unfolding step
 first-step b c g p moment l w =
-    (ended-cond c h (is_some (first_of (unwritable p))) (shut c) (cond v.joined (next_packet c p) (first_packet v c p)) t (ended-shut c h t)
-    (subst (λ k. Ended c h (cond k (next_packet c p) (first_packet v c p)) t) (sym (unseated (sits c) t.broker.seats (no-seat c h t.broker (lawful.apart c) there)))
+    (ended-cond c h (is_some (first_of (unwritable p))) (shut c) (cond v.joined (next_packet v c p) (first_packet v c p)) t (ended-shut c h t)
+    (subst (λ k. Ended c h (cond k (next_packet v c p) (first_packet v c p)) t) (sym (unseated (sits c) t.broker.seats (no-seat c h t.broker (lawful.apart c) there)))
     (ended-first c h v p t (other-older c h (client_in p) t.broker (empty-at c h t.broker (lawful.apart c) there)) (ordered t.broker lawful) there))).ends
   where
     t : Turn
@@ -504,7 +504,7 @@ unfolding step
 accepted-step b c g name clean alive will moment l w x =
     subst (λ k. is_joined (acts k t).broker c ≡ true)
     (sym (taken-plan (is_some (first_of (unwritable (Connect name clean alive will)))) (is_some (seat_at c t.broker.seats)) (is_empty name && not clean) (has_bad_topic will) (not clean && not (welcome_in name t.broker.seats))
-    (shut c) (next_packet c (Connect name clean alive will)) (turn_away c 2) (shut c) (turn_away c 3) (join (older_in name t.broker.seats) c name clean alive (option_map will_post will))
+    (shut c) (next_packet (seen t.broker (Packet c (Connect name clean alive will) moment)) c (Connect name clean alive will)) (turn_away c 2) (shut c) (turn_away c 3) (join (older_in name t.broker.seats) c name clean alive (option_map will_post will))
     x.writable (unseated (sits c) t.broker.seats (no-seat c h t.broker (lawful.apart c) there)) x.named x.topic (ap (λ k. not clean && not k) (welcome-heard name (line_heard c (max b.clock moment)) b.seats) ∙ x.welcome)))
     (joins c h (older_in name t.broker.seats) name clean alive (option_map will_post will) t (other-older c h name t.broker (empty-at c h t.broker (lawful.apart c) there)) (ordered t.broker lawful) there)
   where

@@ -1,6 +1,6 @@
 -- What has happened to a broker, as a list of facts, newest first; and what follows from it, as questions to the whole list.
 -- No table is kept here.
-use Rattle.std.specs.Prelude.{ℕ, ◌+◌, max, ◌==◌, nat_lt, nat_le, Bool, true, false, not, ◌&&◌, ◌||◌, List, [], ◌∷◌, ◌++◌, map, length, Option, Some, None, is_some, if◌then◌else◌}
+use Rattle.std.specs.Prelude.{ℕ, ◌+◌, ◌-◌, max, ◌==◌, nat_lt, nat_le, Bool, true, false, not, ◌&&◌, ◌||◌, List, [], ◌∷◌, ◌++◌, map, length, Option, Some, None, is_some, if◌then◌else◌}
 use Rattle.std.specs.List.{filter, find, list_any, flat_map}
 use Rattle.std.specs.Option.{option_map, option_map_or}
 use Rattle.std.specs.Str.{bytes_eq}
@@ -8,8 +8,8 @@ use Rattle.spk_session.specs.Step.{without, one_more, is_spent}
 use Rattle.spk_broker_rules.specs.Data.{Post, Copy, Line, Guest, Seat, Stored, Broker}
 use Rattle.spk_broker_rules.specs.Table.{Table}
 use Rattle.spk_packets.specs.Spelling.{is_empty}
-use Rattle.spk_broker_rules.specs.Words.{handed_out, without_id, stored, is_silent, most_topics, most_kept, most_open, last_number}
-use Rattle.spk_broker_rules.specs.Plan.{Event, Seen, conn_of, client_of}
+use Rattle.spk_broker_rules.specs.Words.{handed_out, without_id, stored, granted_of, is_heavy, is_silent, most_topics, most_kept, most_open, last_number}
+use Rattle.spk_broker_rules.specs.Plan.{Event, Seen, conn_of, client_of, entries_of}
 
 -- ---- facts
 
@@ -361,6 +361,18 @@ abbrev pub silent_of : Past → ℕ → List ℕ
 silent_of h s = option_map_or (λ (j : Joining). if is_silent (clock h) j.alive (heard (conn_deeds h j.conn)) then j.conn ∷ [] else [])
     (here (deeds h s)) []
 
+-- the pairs of a session and a filter, but those of this session
+abbrev pub other_pairs : Past → ℕ → ℕ
+other_pairs h s = length (flat_map (λ t. grants (deeds h t)) (sessions h)) - length (grants (deeds h s))
+
+-- whether these entries would be given too much
+abbrev pub heavy_for : Past → Option ℕ → List (List ℕ × ℕ) → Bool
+heavy_for h None entries = false
+heavy_for h (Some s) entries = is_heavy (retained h) (granted_of (other_pairs h s) (grants (deeds h s)) entries)
+
+abbrev pub heavy_of : Past → ℕ → List (List ℕ × ℕ) → Bool
+heavy_of h conn entries = heavy_for h (session_at h conn) entries
+
 abbrev pub seen_in : ℕ → Past → Event → Seen
 seen_in limit h e = record {
   joined = is_some (session_at h (conn_of e));
@@ -368,6 +380,7 @@ seen_in limit h e = record {
   welcome = is_welcome h (client_of e);
   spent = is_spent limit (drops_of h (conn_of e));
   silent = flat_map (silent_of h) (sessions h);
+  heavy = heavy_of h (conn_of e) (entries_of e);
 }
 
 -- ---- which events may come

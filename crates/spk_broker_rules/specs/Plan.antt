@@ -1,6 +1,6 @@
 -- The rules of the broker: each event is a short list of acts (MQTT 3.1.1, chapters 3 and 4). What an act does is said
 -- twice, on tables (Step) and on the past (Story); the rules stand here alone.
-use Rattle.std.specs.Prelude.{ℕ, Bool, true, false, not, ◌&&◌, List, [], ◌∷◌, ◌++◌, Option, Some, None, is_some, if◌then◌else◌}
+use Rattle.std.specs.Prelude.{ℕ, Bool, true, false, not, ◌&&◌, ◌||◌, List, [], ◌∷◌, ◌++◌, Option, Some, None, is_some, if◌then◌else◌}
 use Rattle.std.specs.List.{list_any, flat_map}
 use Rattle.std.specs.Option.{option_map}
 use Rattle.spk_packets.specs.declared.fault.PacketFault.{PacketFault}
@@ -56,7 +56,7 @@ pub data Act : Type 0 where
   -- its session has no message of this identifier any more
   Ack : (conn : ℕ) (id : ℕ) → Act
 
--- What the rules ask, for the event's connection and, where it is a CONNECT, its client.
+-- What the rules ask, for the event's connection and, where it is a CONNECT, its client, or a SUBSCRIBE, its entries.
 pub record Seen : Type 0 where
   -- its CONNECT was accepted
   pub joined : Bool
@@ -68,6 +68,8 @@ pub record Seen : Type 0 where
   pub spent : Bool
   -- the connections that were silent for too long, in the order of connecting
   pub silent : List ℕ
+  -- its entries would be given more of retained messages than may be
+  pub heavy : Bool
 
 -- ---- closing
 
@@ -133,34 +135,35 @@ publish conn id post = if is_some (topic_refusal post.topic) then shut conn else
 abbrev pub has_bad_filter : List (List ℕ) → Bool
 has_bad_filter filters = list_any (λ f. is_some (filter_refusal f)) filters
 
-abbrev pub subscribe : ℕ → ℕ → List (List ℕ × ℕ) → List Act
-subscribe conn id entries =
-    if list_any (λ e. is_some (filter_refusal e.0)) entries then shut conn else Give conn id entries ∷ Route ∷ []
+-- closed, and nothing given, where a filter is none, or where it asks for too much (own rule)
+abbrev pub subscribe : Seen → ℕ → ℕ → List (List ℕ × ℕ) → List Act
+subscribe seen conn id entries =
+    if list_any (λ e. is_some (filter_refusal e.0)) entries || seen.heavy then shut conn else Give conn id entries ∷ Route ∷ []
 
 abbrev pub unsubscribe : ℕ → ℕ → List (List ℕ) → List Act
 unsubscribe conn id filters =
     if has_bad_filter filters then shut conn else Take conn filters ∷ Say conn (UnsubAck id) ∷ []
 
 -- a second CONNECT, and what only a broker sends, closes the connection (3.1.0-2)
-abbrev pub next_packet : ℕ → Message → List Act
-next_packet conn (Connect client clean alive will) = shut conn
-next_packet conn (ConnAck present code) = shut conn
-next_packet conn (Publish dup qos retain topic id payload) =
+abbrev pub next_packet : Seen → ℕ → Message → List Act
+next_packet seen conn (Connect client clean alive will) = shut conn
+next_packet seen conn (ConnAck present code) = shut conn
+next_packet seen conn (Publish dup qos retain topic id payload) =
     publish conn id (record { topic = topic; payload = payload; qos = qos; retain = retain })
-next_packet conn (PubAck id) = Ack conn id ∷ []
-next_packet conn (Subscribe id entries) = subscribe conn id entries
-next_packet conn (SubAck id codes) = shut conn
-next_packet conn (Unsubscribe id filters) = unsubscribe conn id filters
-next_packet conn (UnsubAck id) = shut conn
-next_packet conn PingReq = Say conn PingResp ∷ []
-next_packet conn PingResp = shut conn
-next_packet conn Disconnect = Leave conn false ∷ []
+next_packet seen conn (PubAck id) = Ack conn id ∷ []
+next_packet seen conn (Subscribe id entries) = subscribe seen conn id entries
+next_packet seen conn (SubAck id codes) = shut conn
+next_packet seen conn (Unsubscribe id filters) = unsubscribe conn id filters
+next_packet seen conn (UnsubAck id) = shut conn
+next_packet seen conn PingReq = Say conn PingResp ∷ []
+next_packet seen conn PingResp = shut conn
+next_packet seen conn Disconnect = Leave conn false ∷ []
 
 -- a packet that can't be written closes the connection as its bytes would
 abbrev pub packet : Seen → ℕ → Message → List Act
 packet seen conn p =
     if is_some (first_of (unwritable p)) then shut conn
-    else if seen.joined then next_packet conn p
+    else if seen.joined then next_packet seen conn p
     else first_packet seen conn p
 
 -- ---- the other events
@@ -240,3 +243,25 @@ client_of (Fault conn f moment) = []
 client_of (Closed conn moment) = []
 client_of (Tick moment) = []
 client_of (Refused conn s moment) = []
+
+-- the entries that a SUBSCRIBE asks for
+abbrev pub entries_in : Message → List (List ℕ × ℕ)
+entries_in (Connect client clean alive will) = []
+entries_in (ConnAck present code) = []
+entries_in (Publish dup qos retain topic id payload) = []
+entries_in (PubAck id) = []
+entries_in (Subscribe id entries) = entries
+entries_in (SubAck id codes) = []
+entries_in (Unsubscribe id filters) = []
+entries_in (UnsubAck id) = []
+entries_in PingReq = []
+entries_in PingResp = []
+entries_in Disconnect = []
+
+abbrev pub entries_of : Event → List (List ℕ × ℕ)
+entries_of (Open moment) = []
+entries_of (Packet conn p moment) = entries_in p
+entries_of (Fault conn f moment) = []
+entries_of (Closed conn moment) = []
+entries_of (Tick moment) = []
+entries_of (Refused conn s moment) = []

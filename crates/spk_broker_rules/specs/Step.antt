@@ -10,8 +10,8 @@ use Rattle.spk_session.specs.Step.{has_room, without, one_more, is_spent}
 use Rattle.spk_broker_rules.specs.Data.{Post, Copy, Line, Guest, Seat, Stored, Broker, Send, fresh_broker}
 use Rattle.spk_broker_rules.specs.Table.{Table, has, put, remove}
 use Rattle.spk_packets.specs.Spelling.{is_empty}
-use Rattle.spk_broker_rules.specs.Words.{best, level, sent_as, plain_packet, numbered_packet, to_line, option_list, resent, handed_out, without_id, stored, offers_to, granted_of, codes_of, with_entry, is_silent, most_topics, most_kept, most_open, last_number}
-use Rattle.spk_broker_rules.specs.Plan.{Event, Act, Opens, At, Hear, Drop, Say, Leave, Tell, Queue, Route, Forget, Accept, Give, Take, Ack, Seen, before, plan, conn_of, client_of}
+use Rattle.spk_broker_rules.specs.Words.{best, level, sent_as, plain_packet, numbered_packet, to_line, option_list, resent, handed_out, without_id, stored, offers_to, granted_of, codes_of, with_entry, is_heavy, is_silent, most_topics, most_kept, most_open, last_number}
+use Rattle.spk_broker_rules.specs.Plan.{Event, Act, Opens, At, Hear, Drop, Say, Leave, Tell, Queue, Route, Forget, Accept, Give, Take, Ack, Seen, before, plan, conn_of, client_of, entries_of}
 
 -- A broker in the midst of a call: its data by now, what it sends and closes so far, and the messages that wait.
 pub record Turn : Type 0 where
@@ -300,6 +300,14 @@ drops_in conn b = option_map_or (λ (g : Guest). g.drops) (find (is_guest conn) 
 abbrev pub silent_at : ℕ → Seat → List ℕ
 silent_at clock s = option_map_or (λ (l : Line). if is_silent clock l.alive l.heard then l.conn ∷ [] else []) s.here []
 
+-- whether these entries would be given too much
+abbrev pub heavy_at : Option Seat → List (List ℕ × ℕ) → Broker → Bool
+heavy_at None entries b = false
+heavy_at (Some seat) entries b = is_heavy b.retained (granted_of (other_grants seat b.seats) seat.grants entries)
+
+abbrev pub heavy_in : ℕ → List (List ℕ × ℕ) → Broker → Bool
+heavy_in conn entries b = heavy_at (seat_at conn b.seats) entries b
+
 abbrev pub seen : Broker → Event → Seen
 seen b e = record {
   joined = is_some (seat_at (conn_of e) b.seats);
@@ -307,6 +315,7 @@ seen b e = record {
   welcome = welcome_in (client_of e) b.seats;
   spent = is_spent b.limit (drops_in (conn_of e) b);
   silent = flat_map (silent_at b.clock) b.seats;
+  heavy = heavy_in (conn_of e) (entries_of e) b;
 }
 
 -- ---- a whole event

@@ -1,5 +1,5 @@
 -- The acts on the past: what each adds to the facts, and what it sends and closes, asked of the facts before it.
-use Rattle.std.specs.Prelude.{◌≡◌, ◌==◌, ℕ, zero, suc, ◌+◌, ◌-◌, Bool, true, false, not, ◌&&◌, List, [], ◌∷◌, ◌++◌, map, length, Option, Some, None, is_some, if◌then◌else◌}
+use Rattle.std.specs.Prelude.{◌≡◌, ◌==◌, ℕ, zero, suc, ◌+◌, Bool, true, false, not, ◌&&◌, List, [], ◌∷◌, ◌++◌, map, length, Option, Some, None, is_some, if◌then◌else◌}
 use Rattle.std.specs.List.{find, fold, flat_map}
 use Rattle.std.specs.Option.{option_map_or}
 use Rattle.spk_packets.specs.Message.{ConnAck, SubAck}
@@ -8,7 +8,7 @@ use Rattle.spk_session.specs.Step.{has_room}
 use Rattle.spk_broker_rules.specs.Data.{Post, Send}
 use Rattle.spk_broker_rules.specs.Words.{best, level, sent_as, plain_packet, numbered_packet, to_line, option_list, resent, offers_to, granted_of, codes_of}
 use Rattle.spk_broker_rules.specs.Plan.{Act, Opens, At, Hear, Drop, Say, Leave, Tell, Queue, Route, Forget, Accept, Give, Take, Ack}
-use Rattle.spk_broker_rules.specs.Past.{Past, Moment, OfConn, OfSession, Routed, Opened, Heard, Dropped, Ended, Deed, Made, Joined, Left, Over, Granted, TakenBack, Numbered, Acked, Joining, deeds, clock, given, made, guests, sessions, kept, here, grants, used, copies, last_id, retained, conn_here, session_at, is_of}
+use Rattle.spk_broker_rules.specs.Past.{Past, Moment, OfConn, OfSession, Routed, Opened, Heard, Dropped, Ended, Deed, Made, Joined, Left, Over, Granted, TakenBack, Numbered, Acked, Joining, deeds, clock, given, made, guests, sessions, kept, here, grants, used, copies, last_id, retained, conn_here, session_at, is_of, other_pairs}
 
 -- The past in the midst of an event, what is sent and closed so far, and the messages that wait.
 pub record Story : Type 0 where
@@ -142,10 +142,6 @@ stands h s = is_some (find (λ t. t == s) (sessions h))
 
 abbrev pub told_offer : ℕ → Story → Post → Story
 told_offer s t post = told_offer_at (stands t.past s) s post t
-
--- the pairs of a session and a filter, but those of this session
-abbrev pub other_pairs : Past → ℕ → ℕ
-other_pairs h s = length (flat_map (λ t. grants (deeds h t)) (sessions h)) - length (grants (deeds h s))
 
 abbrev pub granting : ℕ → Past → List ℕ × ℕ → Past
 granting s h entry = OfSession s (Granted entry.0 entry.1) ∷ h

@@ -1,6 +1,6 @@
 -- Words in which both explanations of the broker speak, on tables and on the past. None of them looks at a table.
 use Rattle.std.specs.Prelude.{ℕ, ◌+◌, ◌-◌, ◌*◌, min, max, ◌==◌, nat_lt, Bool, true, false, not, ◌&&◌, ◌||◌, List, [], ◌∷◌, ◌++◌, map, length, Option, Some, None, unwrap_or, if◌then◌else◌}
-use Rattle.std.specs.List.{filter}
+use Rattle.std.specs.List.{filter, flat_map, sum_by}
 use Rattle.spk_packets.specs.Message.{Message, Publish, WillData}
 use Rattle.spk_topics.specs.Fitting.{is_match}
 use Rattle.spk_broker_rules.specs.Data.{Post, Copy, Stored, Send}
@@ -107,6 +107,22 @@ abbrev pub codes_of : ℕ → Table ℕ → List (List ℕ × ℕ) → List ℕ
 codes_of others grants [] = []
 codes_of others grants (e ∷ es) =
     (if is_granted others grants e then min 1 e.1 else 128) ∷ codes_of others (with_entry others grants e) es
+
+-- What a retained message weighs: topic, payload, and the 9 bytes that a PUBLISH takes beside them at most (3.3): its type, four of
+-- length, two of the topic's length, two of the identifier.
+abbrev pub weight : Post → ℕ
+weight m = length m.topic + length m.payload + 9
+
+abbrev pub weight_of : List Post → ℕ
+weight_of ms = sum_by weight ms
+
+-- the most that the entries of one SUBSCRIBE are given of retained messages, together: 64 MB (own rule)
+abbrev pub most_given : ℕ
+most_given = 67108864
+
+-- What these granted entries are given passes it. Each entry counts by itself, also where a later one names its filter again.
+abbrev pub is_heavy : Table Stored → List (List ℕ × ℕ) → Bool
+is_heavy retained given = nat_lt most_given (weight_of (flat_map (offers_to retained) given))
 
 -- ---- time
 

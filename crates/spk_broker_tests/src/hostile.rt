@@ -1,6 +1,7 @@
 //! What comes from a client that keeps no rule: bytes that are no packet, packets in the wrong place. Each closes its connection,
 //! nothing of it takes effect, and its will is routed once.
 use crate::broker::{Event, HELLO, Row, Talks, WELCOME, X, all_told, answer, is_right, plays};
+use crate::limits::{asks_again, retains_bytes, said};
 use spk_broker::{Broker, BrokerFault};
 use std::alloc::Global;
 use std::test::Fail;
@@ -71,6 +72,31 @@ fn a_client_that_keeps_no_rule_is_closed_and_its_will_is_routed_once(
         let is_right = closes(rt.alloc(), &mut Broker::new(rt.alloc(), 128), bytes)?;
         assert!(rt; is_right, "{bytes:?}");
     }
+    Ok(())
+}
+
+/// Whether a client with a will that asks for 68 MB of retained messages is closed, is sent nothing of them, and its will alone is sent to who has
+/// the filter `#`, which goes on listening.
+fn asks_for_too_much(alloc: Global, broker: &mut impl Talks) -> Result<bool, BrokerFault> {
+    all_told(alloc, broker, &BEFORE)?;
+    let retained = retains_bytes(alloc, 1_000_000)?;
+    let _ = said(broker, 1, &retained);
+    let asked = asks_again(alloc, 68)?;
+    let Some(out) = said(broker, 2, &asked) else {
+        return Ok(false);
+    };
+    let again = broker.ended(2, 0);
+    let later = answer(alloc, broker, 1, &Event::Says(b"\x30\x04\x00\x01a7"), 0)?;
+    Ok(
+        is_right(&out, &[(1, WILL)], &[2])
+            && again == Err(BrokerFault::NoSuchConn)
+            && is_right(&later, &[(1, b"\x30\x04\x00\x01a7")], &[]),
+    )
+}
+
+#[test]
+fn who_asks_for_too_much_is_closed_and_others_are_not(rt: HostRuntime) -> Result<(), Fail> {
+    assert!(rt; asks_for_too_much(rt.alloc(), &mut Broker::new(rt.alloc(), 128))?);
     Ok(())
 }
 

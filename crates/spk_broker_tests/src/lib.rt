@@ -16,6 +16,8 @@ mod limits;
 #[cfg(test)]
 mod page;
 #[cfg(test)]
+mod ports;
+#[cfg(test)]
 mod pressure;
 #[cfg(test)]
 mod serve;

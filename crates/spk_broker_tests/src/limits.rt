@@ -377,3 +377,63 @@ fn filters_past_the_limit_come_into_no_index(rt: HostRuntime) -> Result<(), Fail
     assert_eq!(rt; reached, (1, 1));
     Ok(())
 }
+
+/// A retained publish of so many bytes on the topic of the number 0.
+pub(crate) fn retains_bytes(alloc: Global, count: usize) -> Result<Packet, AllocError> {
+    let mut payload = Vec::new(alloc);
+    payload.resize(count, b'7')?;
+    Ok(Packet::Publish {
+        dup: false,
+        qos: 0,
+        retain: true,
+        topic: name(alloc, "t", 0)?,
+        id: None,
+        payload,
+    })
+}
+
+/// A SUBSCRIBE that names the topic of the number 0 so often.
+pub(crate) fn asks_again(alloc: Global, times: u16) -> Result<Packet, AllocError> {
+    let mut filters = Vec::new(alloc);
+    for _ in 0..times {
+        let filter = name(alloc, "t", 0)?;
+        filters.push(Request { filter, qos: 0 })?;
+    }
+    Ok(Packet::Subscribe { id: 1, filters })
+}
+
+/// With a retained message of so many bytes: how many sends a SUBSCRIBE gives that names its topic so often, SUBACK with them, and how many
+/// connections it closes.
+fn given(
+    alloc: Global,
+    broker: &mut impl Talks,
+    bytes: usize,
+    times: u16,
+) -> Result<(usize, usize), AllocError> {
+    let conn = comes(alloc, broker);
+    let retained = retains_bytes(alloc, bytes)?;
+    let _ = said(broker, conn, &retained);
+    let asked = asks_again(alloc, times)?;
+    Ok(match said(broker, conn, &asked) {
+        Some(out) => (out.sends.len(), out.closes.len()),
+        None => (0, 0),
+    })
+}
+
+/// A message weighs its payload, the two bytes of its topic, and 9: 64 of 1,048,565 bytes weigh 67,108,864, which is the most.
+#[test]
+fn a_subscribe_is_given_64_megabytes(rt: HostRuntime) -> Result<(), Fail> {
+    let sends = given(rt.alloc(), &mut Broker::new(rt.alloc(), 128), 1_048_565, 64)?;
+    assert_eq!(rt; sends, (65, 0));
+    Ok(())
+}
+
+/// A byte more in each is 64 too many, and 68 of 1,000,000 bytes weigh 68,000,748.
+#[test]
+fn a_subscribe_for_more_than_64_megabytes_closes(rt: HostRuntime) -> Result<(), Fail> {
+    for (bytes, times) in [(1_048_566, 64), (1_000_000, 68)] {
+        let sends = given(rt.alloc(), &mut Broker::new(rt.alloc(), 128), bytes, times)?;
+        assert_eq!(rt; sends, (0, 1), "{bytes} {times}");
+    }
+    Ok(())
+}

@@ -65,7 +65,7 @@ struct Client {
 }
 
 /// Whether each client sends all of its packets in an order: the order's digits, lowest first, name who is next.
-fn is_order(order: usize) -> bool {
+pub(crate) fn is_order(order: usize) -> bool {
     let mut counts = [0u8; 3];
     let mut rest = order;
     for _ in 0..8 {

@@ -13,7 +13,7 @@ use Rattle.spk_broker_rules.specs.Knowing.{is_opening}
 use Rattle.spk_broker_rules.specs.Listening.{IsPlain, is_closed_in, is_joined, is_listening, lets_go, plain_publish, takes_back}
 use Rattle.spk_broker_rules.specs.Plan.{Event, Open, shut}
 use Rattle.spk_broker_rules.specs.Plan as event
-use Rattle.spk_broker_rules.specs.Step.{Turn, act, acts, after, drops_in, is_guest, knows, line_heard, noted, route, seat_at, sits, step}
+use Rattle.spk_broker_rules.specs.Step.{Turn, act, acts, after, drops_in, is_guest, knows, line_heard, noted, route, seat_at, seen, sits, step}
 use Rattle.spk_broker_body.specs.Data.{Offer, Room}
 use Rattle.spk_broker_body.specs.Step.{called, client_of, conn_at, holds_client, is_client, is_dropped, known, next_conn, offer_of, opened}
 use Rattle.spk_relay.proofs.Base.{AllJoined, AllJoinedBut, Base, BringsAlike, Hears, base-called, base-opened, client-more, client-new, client-within, closes-client, drops-kept, hears-called, hears-opened, joined-called, joined-first, joined-known, joined-opened}
@@ -389,9 +389,9 @@ first-shut f b d now topic payload un = by (is_some (first_of (unwritable (plain
     end : Shut d (acts (shut d) t)
     end = shut-turn f d t none refl refl refl
 
-    by : (x : Bool) → Shut d (acts (cond x (shut d) (cond (is_some (seat_at d t.broker.seats)) (event.next_packet d (plain_publish topic payload)) (shut d))) t)
+    by : (x : Bool) → Shut d (acts (cond x (shut d) (cond (is_some (seat_at d t.broker.seats)) (event.next_packet (seen t.broker (event.Packet d (plain_publish topic payload) now)) d (plain_publish topic payload)) (shut d))) t)
     by true = end
-    by false = subst (λ (o : Option Seat). Shut d (acts (cond (is_some o) (event.next_packet d (plain_publish topic payload)) (shut d)) t)) (sym none) end
+    by false = subst (λ (o : Option Seat). Shut d (acts (cond (is_some o) (event.next_packet (seen t.broker (event.Packet d (plain_publish topic payload) now)) d (plain_publish topic payload)) (shut d)) t)) (sym none) end
 
 opens-none : (b : Broker) (now : ℕ) → knows b (b.given + 1) ≡ false → is_joined (step b (Open now)).broker (b.given + 1) ≡ false
 unfolding step

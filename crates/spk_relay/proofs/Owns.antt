@@ -9,6 +9,7 @@ use Rattle.spk_packets.specs.Spelling.{spelling}
 use Rattle.spk_topics.specs.Spark.Named.{of_node}
 use Rattle.spk_topics.specs.declared.spark.Verb.TheVariants.{Death}
 use Rattle.spk_device.specs.declared.fault.Refusal.{Refusal}
+use Rattle.spk_device.specs.declared.owner.Owner.{Owner}
 use Rattle.spk_state.specs.declared.primary.Heard.{Heard}
 use Rattle.spk_state.specs.declared.primary.Heard.TheVariants.{Online, Offline, Ignored}
 use Rattle.spk_state.specs.declared.state.State as read
@@ -23,9 +24,9 @@ use Rattle.spk_edge_rules.specs.Writable.{is_writable}
 use Rattle.spk_edge_rules.specs.Claims.{HasNames}
 use Rattle.spk_edge_rules.specs.Config.{Config, Setup}
 use Rattle.spk_edge_rules.specs.History.{front_going}
-use Rattle.spk_edge_rules.specs.Inputs.{Act, Open, Accepted, Change, Turn, Command, State, Drain, Stop, Cut, TurnedAway, Pass, ChangeData, Input}
+use Rattle.spk_edge_rules.specs.Inputs.{Act, Open, Accepted, Change, Changes, Turn, Command, State, Drain, Stop, Cut, TurnedAway, Pass, ChangeData, Input}
 use Rattle.spk_edge_rules.specs.Packets.{connect_of, death_topic, subscribe_of}
-use Rattle.spk_edge_rules.specs.Rules.{Asked, Given, accepting, acked, acts, born, changing, is_born, is_connecting, is_same_value, is_so_already, is_waiting, commanded, draining, fits, hearing, heard_in, is_timely, joining, leaving, nothing, obeying, on_ok, refused_or, rules, telling, timely, turned_away, turning}
+use Rattle.spk_edge_rules.specs.Rules.{Asked, Given, accepting, acked, acts, born, changes_fault, changing, faulted_or, is_born, is_connecting, is_same_value, is_so_already, is_waiting, commanded, draining, fits, hearing, heard_in, is_timely, joining, leaving, nothing, obeying, on_ok, others_in, owner_of, refused_or, rules, saying, several, telling, timely, turned_away, turning}
 use Rattle.spk_relay.specs.Speech.{HasTexts}
 use Rattle.spk_relay.specs.Topics.{is_numbered_topic}
 use Rattle.spk_relay.proofs.Dying.{own-birth}
@@ -68,6 +69,10 @@ own-told c a now alias value = own-cond c (is_born a.phase) _ _ (record { own = 
 own-change : (c : Config) (a : Asked) (now alias : ℕ) (value : Option Typed) → IsOwnGiven c (changing a now alias value)
 own-change c a now alias value = own-cond c (not (is_same_value a.book alias value) && owner_is_up a.book (owner_at a.book alias)) (telling a now alias value) (nothing a) (own-told c a now alias value) (own-nothing c a)
 
+own-saying : (c : Config) (a : Asked) (now : ℕ) (owner : Owner) (changes : List (ℕ × Option Typed)) → IsOwnGiven c (saying a now owner changes)
+own-saying c a now owner [] = own-nothing c a
+own-saying c a now owner (x ∷ xs) = own-cond c (owner_is_up a.book owner) _ (nothing a) (record { own = tt }) (own-nothing c a)
+
 own-turn : (c : Config) (a : Asked) (now : ℕ) (name : List ℕ) (up : Bool) → IsOwnGiven c (turning a now name up)
 own-turn c a now name up = own-cond c (not (is_so_already a.book name up) && is_born a.phase) _ (nothing a) (record { own = tt }) (own-nothing c a)
 
@@ -102,6 +107,11 @@ own-acts c k a now (Change alias value) = by (set_refusal a.book alias value)
     by : (o : Option Refusal) → GivesOwn c (refused_or o (changing a now alias value))
     by None = own-change c a now alias value
     by (Some r) = tt
+own-acts c k a now (Changes changes) = by (changes_fault a.book changes)
+  where
+    by : (o : Option EdgeFault) → GivesOwn c (faulted_or o (several a now changes))
+    by None = own-saying c a now (owner_of a.book changes) (others_in a.book changes)
+    by (Some f) = tt
 own-acts c k a now (Turn name up) = by (turn_refusal a.book name)
   where
     by : (o : Option Refusal) → GivesOwn c (refused_or o (turning a now name up))

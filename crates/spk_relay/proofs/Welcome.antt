@@ -1,5 +1,5 @@
 -- In a plant no CONNACK turns a client away: each CONNECT asks for a clean session, and each frame is a packet.
-use Rattle.std.proofs.Common.{◌≡◌, sym, refl, subst, ℕ, zero, suc, ◌≤◌, Bool, true, false, ◌&&◌, cond, List, [], ◌∷◌, ◌++◌, Option, Some, None, is_some, fold, arith}
+use Rattle.std.proofs.Common.{◌≡◌, sym, refl, subst, ℕ, zero, suc, ◌≤◌, Bool, true, false, ◌&&◌, ◌||◌, cond, List, [], ◌∷◌, ◌++◌, Option, Some, None, is_some, fold, arith}
 use Rattle.std.specs.List.{flat_map, AllByRecursion}
 use Rattle.std.specs.Option.{option_map}
 use Rattle.spk_packets.specs.Fault.{first_of}
@@ -239,25 +239,25 @@ kind-publish conn id post = by (is_some (Rattle.spk_topics.specs.Text.topic_refu
     by true = (tt, (tt, (tt, tt)))
     by false = acts-append (event.puback conn id) (event.Queue post ∷ event.Route ∷ []) (kind-puback conn id) (tt, (tt, tt))
 
-kind-next : (conn : ℕ) (p : Packet) → AreKindActs (event.next_packet conn p)
-kind-next conn (Connect client clean alive will) = (tt, (tt, (tt, tt)))
-kind-next conn (ConnAck present code) = (tt, (tt, (tt, tt)))
-kind-next conn (Publish dup qos retain topic id payload) = kind-publish conn id (record { topic = topic; payload = payload; qos = qos; retain = retain })
-kind-next conn (PubAck id) = (tt, tt)
-kind-next conn (Subscribe id filters) = acts-cond (Rattle.std.specs.List.list_any (λ (e : List ℕ × ℕ). is_some (Rattle.spk_topics.specs.Text.filter_refusal e.0)) filters) (event.shut conn) (event.Give conn id filters ∷ event.Route ∷ []) (tt, (tt, (tt, tt))) (tt, (tt, tt))
-kind-next conn (SubAck id given) = (tt, (tt, (tt, tt)))
-kind-next conn (Unsubscribe id filters) = acts-cond (event.has_bad_filter filters) (event.shut conn) (event.Take conn filters ∷ event.Say conn (UnsubAck id) ∷ []) (tt, (tt, (tt, tt))) (tt, (tt, tt))
-kind-next conn (UnsubAck id) = (tt, (tt, (tt, tt)))
-kind-next conn PingReq = (tt, tt)
-kind-next conn PingResp = (tt, (tt, (tt, tt)))
-kind-next conn Disconnect = (tt, tt)
+kind-next : (s : Seen) (conn : ℕ) (p : Packet) → AreKindActs (event.next_packet s conn p)
+kind-next s conn (Connect client clean alive will) = (tt, (tt, (tt, tt)))
+kind-next s conn (ConnAck present code) = (tt, (tt, (tt, tt)))
+kind-next s conn (Publish dup qos retain topic id payload) = kind-publish conn id (record { topic = topic; payload = payload; qos = qos; retain = retain })
+kind-next s conn (PubAck id) = (tt, tt)
+kind-next s conn (Subscribe id filters) = acts-cond (Rattle.std.specs.List.list_any (λ (e : List ℕ × ℕ). is_some (Rattle.spk_topics.specs.Text.filter_refusal e.0)) filters || s.heavy) (event.shut conn) (event.Give conn id filters ∷ event.Route ∷ []) (tt, (tt, (tt, tt))) (tt, (tt, tt))
+kind-next s conn (SubAck id given) = (tt, (tt, (tt, tt)))
+kind-next s conn (Unsubscribe id filters) = acts-cond (event.has_bad_filter filters) (event.shut conn) (event.Take conn filters ∷ event.Say conn (UnsubAck id) ∷ []) (tt, (tt, (tt, tt))) (tt, (tt, tt))
+kind-next s conn (UnsubAck id) = (tt, (tt, (tt, tt)))
+kind-next s conn PingReq = (tt, tt)
+kind-next s conn PingResp = (tt, (tt, (tt, tt)))
+kind-next s conn Disconnect = (tt, tt)
 
 kind-packet : (s : Seen) (conn : ℕ) (p : Packet) → JoinsClean p → AreKindActs (event.packet s conn p)
 kind-packet s conn p good = by (is_some (first_of (unwritable p))) s.joined
   where
-    by : (a b : Bool) → AreKindActs (cond a (event.shut conn) (cond b (event.next_packet conn p) (event.first_packet s conn p)))
+    by : (a b : Bool) → AreKindActs (cond a (event.shut conn) (cond b (event.next_packet s conn p) (event.first_packet s conn p)))
     by true b = (tt, (tt, (tt, tt)))
-    by false true = kind-next conn p
+    by false true = kind-next s conn p
     by false false = kind-first s conn p good
 
 kind-plan : (s : Seen) (e : Event) → IsCleanEvent e → AreKindActs (plan s e)

@@ -12,6 +12,7 @@ mod server;
 
 pub use fault::ServeFault;
 pub use port::Port;
+pub use rounds::Rounds;
 pub use server::{Serving, serve, serve_at};
 pub use spk_engines::{Counted, EngineFault, Failures, read_frames, write_items};
 pub use spk_ingress::{

@@ -17,9 +17,9 @@ const WRITES: usize = 16;
 /// of its buffer is free, which takes a slow client longer than others wait for it.
 const AGAIN: u64 = 10;
 
-/// The server and its clients' sockets, by the numbers of their connections.
+/// The server and its clients' sockets, by the numbers of their connections. `serve` runs it over TCP.
 #[derive(Drop)]
-pub(crate) struct Rounds<P: Port> {
+pub struct Rounds<P: Port> {
     pub(crate) server: Server,
     lines: HashMap<Conn, Line<P>>,
     /// Who is to be read.
@@ -37,7 +37,8 @@ pub(crate) struct Rounds<P: Port> {
 }
 
 impl<P: Port> Rounds<P> {
-    pub(crate) fn new(alloc: Global) -> Result<Rounds<P>, AllocError> {
+    /// Nobody came yet. Refused only where memory is.
+    pub fn new(alloc: Global) -> Result<Rounds<P>, AllocError> {
         Ok(Rounds {
             server: Server::new(alloc),
             lines: HashMap::new(alloc),
@@ -66,8 +67,31 @@ impl<P: Port> Rounds<P> {
         Ok(())
     }
 
+    /// A client came, with this socket: the number of its connection. None where there is no room or memory: its socket is dropped.
+    pub fn come(&mut self, port: P, now: u64) -> Result<Option<Conn>, ServerFault> {
+        if self.reserve().is_err() {
+            return Ok(None);
+        }
+        let Ok(conn) = self.server.accepted(now) else {
+            return Ok(None);
+        };
+        if self.seat(conn, port).is_err() {
+            self.turn_away(conn, now)?;
+            return Ok(None);
+        }
+        Ok(Some(conn))
+    }
+
+    /// A client's socket. None where it was shut.
+    pub fn port(&mut self, conn: Conn) -> Option<&mut P> {
+        match self.lines.get_mut(&conn) {
+            Some(line) => Some(&mut line.port),
+            None => None,
+        }
+    }
+
     /// A client is to be read.
-    pub(crate) fn may_read(&mut self, conn: Conn, closing: bool) {
+    pub fn may_read(&mut self, conn: Conn, closing: bool) {
         let Some(line) = self.lines.get_mut(&conn) else {
             return;
         };
@@ -80,7 +104,7 @@ impl<P: Port> Rounds<P> {
     }
 
     /// A client may be written to.
-    pub(crate) fn may_write(&mut self, conn: Conn) -> Result<(), ServerFault> {
+    pub fn may_write(&mut self, conn: Conn) -> Result<(), ServerFault> {
         let Some(line) = self.lines.get_mut(&conn) else {
             return Ok(());
         };
@@ -171,7 +195,7 @@ impl<P: Port> Rounds<P> {
     }
 
     /// When a round is to begin at the latest, if no socket does anything.
-    pub(crate) fn due(&self) -> Option<u64> {
+    pub fn due(&self) -> Option<u64> {
         let due = self.server.due()?;
         if self.server.is_waiting() && !self.blocked.is_empty() {
             return Some(due.min(self.again));
@@ -251,7 +275,7 @@ impl<P: Port> Rounds<P> {
     }
 
     /// Shuts the socket of the next client who is done: whose, and why its end came.
-    pub(crate) fn shut_next(&mut self) -> Option<(Conn, Cause)> {
+    pub fn shut_next(&mut self) -> Option<(Conn, Cause)> {
         let (conn, cause) = self.server.next_to_shut()?;
         if let Some(mut line) = self.lines.remove(&conn) {
             line.port.shut();
@@ -283,7 +307,7 @@ impl<P: Port> Rounds<P> {
 
     /// What is to be done before sockets are waited for, with what is ready; those who are done are shut behind it. Whether more is ready at
     /// once.
-    pub(crate) fn round(&mut self, now: u64) -> Result<bool, ServerFault> {
+    pub fn round(&mut self, now: u64) -> Result<bool, ServerFault> {
         self.server.moment(now)?;
         self.try_all_again(now)?;
         self.server.go_on(now)?;

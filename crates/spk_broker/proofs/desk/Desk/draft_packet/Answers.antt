@@ -18,7 +18,7 @@ use Rattle.spk_broker.proofs.desk.Desk.draft_packet.Goals as goal
 pub returns-clause-done : goal.returns-clause-done
 returns-clause-done c t s =
     let t2 = act (Hear c.args.conn) (act (At c.args.now) t) in
-    c.in_ok-ending.ensures.done (seen t2.broker (Packet c.args.conn (view c.args.packet.now) c.args.now)) t2 refl refl refl
+    c.in_ok-ending.ensures.done (seen t2.broker (Packet c.args.conn (view c.args.packet.now) c.args.now)) t2 refl refl refl refl
     (c.hear.ensures.done c.args.draft.now (act (At c.args.now) t) (c.at.ensures.done c.args.draft.now t s))
 
 pub hear-requires : goal.hear-requires

@@ -10,9 +10,7 @@ use Rattle.spk_broker.proofs.Alive.{found-alive}
 use Rattle.spk_broker.proofs.Changes.{is-there}
 use Rattle.spk_broker.proofs.Gives.{grown-there}
 use Rattle.spk_broker.proofs.Near.{found-sits}
-use Rattle.std.proofs.lemmas.List.{length-map}
-use Rattle.spk_broker.proofs.Sendables.{suback-writable}
-use Rattle.spk_broker.proofs.desk.Desk.give.Goals as goal
+use Rattle.spk_broker.proofs.desk.Desk.granted_at.Goals as goal
 
 -- what is read past the end of a list
 nobody : Both
@@ -22,13 +20,8 @@ pub granted-requires-clause-place : goal.granted-requires-clause-place
 granted-requires-clause-place c =
     subst (λ (l : List Both). c.args.place < length l) (sym c.deref.ensures.value) (found-sits c.args.conn c.args.self.now.seats.items c.args.place c.requires.place).0
 
-pub give_at-requires-clause-writable : goal.give_at-requires-clause-writable
-give_at-requires-clause-writable c =
-    suback-writable c.args.id (map request_view c.args.entries.now) c.in_ok-granting.granting.codes.items
-    (c.in_ok-granting.ensures.codes ∙ sym (length-map c.args.entries.now request_view)) c.in_ok-granting.ensures.granted c.requires.writable
-
-pub returns-clause-done : goal.returns-clause-done
-returns-clause-done c t s =
+pub returns-clause-view : goal.returns-clause-view
+returns-clause-view c x t s =
     let bs = c.args.self.now.seats.items in
     let i = c.args.place in
     let at = found-alive seat_here (sits c.args.conn) bs i nobody c.requires.place in
@@ -39,6 +32,8 @@ returns-clause-done c t s =
     grown-there (λ x. granting_view c.in_ok-granting.granting ≡ grown_by (other_grants x (seats_now c.deref.result.now)) x.grants (map request_view c.args.entries.now))
     (get_or c.deref.result.now i nobody).now there.0
     (ap (λ (xs : List Both). (get_or xs i nobody).now) c.deref.ensures.value ∙ there.1)
-    (c.in_ok-granting.ensures.view nobody) in
-    c.in_ok-give_at.ensures.done t there.0 (map request_view c.args.entries.now) s sitting
-    (counted ∙ ap (λ ss. grown_by (other_grants there.0 ss) there.0.grants (map request_view c.args.entries.now)) (ap seats_now c.deref.ensures.value ∙ same))
+    (c.in_ok-granting.ensures.view nobody) in (
+      there.0,
+      sitting,
+      counted ∙ ap (λ ss. grown_by (other_grants there.0 ss) there.0.grants (map request_view c.args.entries.now)) (ap seats_now c.deref.ensures.value ∙ same),
+    )
