@@ -45,6 +45,7 @@ edge_fault edge.BadConfig = Edge edge.BadConfig
 edge_fault edge.TooLarge = Edge edge.TooLarge
 edge_fault (edge.Device refusal) = Edge (edge.Device refusal)
 edge_fault (edge.State fault) = Edge (edge.State fault)
+edge_fault edge.TwoOwners = Edge edge.TwoOwners
 
 abbrev pub host_fault : HostFault → WorldFault
 host_fault host.NoMemory = NoMemory

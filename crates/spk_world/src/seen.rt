@@ -1,11 +1,11 @@
 //! What is asked of a world.
 ghost use Rattle.std.specs.Prelude.{◌≡◌, List, map, IfSome};
 ghost use Rattle.std.specs.Option.{option_map};
-ghost use Rattle.spk_sequence.specs.Claims.{BirthPrefixes};
+ghost use Rattle.spk_sequence.specs.Claims.{BirthPrefixes, HasCause};
 ghost use Rattle.spk_edge_rules.specs.Run.{outline};
 ghost use Rattle.spk_world_rules.specs.Events as rules;
 ghost use Rattle.spk_world_rules.specs.Events.{Deed, node_at};
-ghost use Rattle.spk_world_rules.specs.Queries.{consumed_of, published_of};
+ghost use Rattle.spk_world_rules.specs.Queries.{consumed_of, published_of, record_of, setting_of};
 ghost use Rattle.spk_world_run.specs.Run.{AreConsumed, IsRun, posts_of};
 ghost use Rattle.spk_world.specs.Listed.{IsHeard};
 ghost use Rattle.spk_world.specs.Seen as spec;
@@ -31,6 +31,9 @@ impl World {
         ensures prefixes { (w : rules.World) (done : List Deed) → IsRun w done self.now
             → IfSome result (λ s. BirthPrefixes (outline (published_of w done node))
             (map (λ c. c.position) (map consumed_view s.now))) }
+        // and where it stands there, it stands for a cause
+        ensures cause { (w : rules.World) (done : List Deed) → IsRun w done self.now
+            → HasCause (setting_of w done host node) (record_of w done host node) }
     {
         headline();
         self.consumed_there(host, node)

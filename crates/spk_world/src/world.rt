@@ -1,9 +1,13 @@
 //! A world.
-ghost use Rattle.std.specs.Prelude.{◌≡◌, ◌⊎◌, IfOk, IfErr, OnErr, OnOk, None, List, ◌∷◌, map, take, slice_get};
+ghost use Rattle.std.specs.Prelude.{◌≡◌, ◌⊎◌, ℕ, IfOk, IfErr, OnErr, OnOk, None, List, ◌∷◌, map, take, slice_get};
+ghost use Rattle.spk_sequence.specs.Claims.{AfterDeath, AfterGap, HasCause, TakesBirth};
+ghost use Rattle.spk_sequence.specs.HostRecord.{Input, MessageComes};
 ghost use Rattle.spk_world_rules.specs.Answers.{answer_of};
 ghost use Rattle.spk_world_rules.specs.Events as rules;
-ghost use Rattle.spk_world_rules.specs.Events.{Deed};
+ghost use Rattle.spk_world_rules.specs.Claims.{ComesAs, event_of};
+ghost use Rattle.spk_world_rules.specs.Events.{Deed, Hand};
 ghost use Rattle.spk_world_rules.specs.Files.{deed_of};
+ghost use Rattle.spk_world_rules.specs.Queries.{record_of, setting_of};
 ghost use Rattle.spk_world_rules.specs.Refusals.{refusal_of};
 ghost use Rattle.spk_world_run.specs.Run.{IsRun};
 ghost use Rattle.spk_world.specs.Listed.{IsRefusedBy, IsStoppedBy, with_events};
@@ -20,6 +24,7 @@ use crate::fault::WorldFault;
 use crate::member::Member;
 use crate::node::Node;
 use spk_edge::Act;
+use spk_world_rules::laws::headline;
 use spk_world_run::laws;
 use std::alloc::Global;
 use std::fmt;
@@ -125,10 +130,32 @@ impl World {
             → OnOk result (refusal_of w done (deed_of w (event_view event.now)) ≡ None) }
         ensures ruled { (w : rules.World) (done : List Deed) → IsRun w done self.old
             → IfErr result (IsRefusedBy w done (event_view event.now)) }
+        // and of what each host consumes of each node: where the event comes to a host that doesn't follow the node, as after a gap,
+        // nothing is consumed but a newer birth
+        ensures after_gap { (w : rules.World) (done : List Deed) (h n : ℕ) (input : Input)
+            → IsRun w done self.old → ComesAs done (deed_of w (event_view event.now)) h n input
+            → OnOk result (AfterGap (setting_of w done h n) (record_of w done h n)
+            (event_of w done h n input)) }
+        // nothing of a session whose matching death came
+        ensures after_death { (w : rules.World) (done : List Deed) (h n : ℕ) (input : Input)
+            → IsRun w done self.old → ComesAs done (deed_of w (event_view event.now)) h n input
+            → OnOk result (AfterDeath (setting_of w done h n) (record_of w done h n)
+            (event_of w done h n input)) }
+        // an NBIRTH that is handed is taken unless that birth or a later one was taken before, or the matching death of its session
+        // came and no birth was taken since
+        ensures births { (w : rules.World) (done : List Deed) (h n p now : ℕ)
+            → IsRun w done self.old → deed_of w (event_view event.now) ≡ Hand h n p now
+            → OnOk result (TakesBirth (setting_of w done h n) (record_of w done h n) p
+            (event_of w done h n (MessageComes p now))) }
+        // and wherever consumption stands behind it, it stands for a cause
+        ensures cause { (w : rules.World) (done : List Deed) (h n : ℕ) → IsRun w done self.old
+            → OnOk result (HasCause (setting_of w (deed_of w (event_view event.now) ∷ done) h n)
+            (record_of w (deed_of w (event_view event.now) ∷ done) h n)) }
     {
         laws::any_list();
         laws::refusals();
         laws::sent();
+        headline();
         self.done(event)
     }
 
