@@ -12,11 +12,11 @@ use Rattle.spk_connection.specs.Run as conn
 use Rattle.spk_connection.specs.Step.{after_wrote, is_open}
 use Rattle.spk_host_app.specs.Data.{App, Deed, Fate, LoginData, Word, Words}
 use Rattle.spk_host_app.specs.Data as word
-use Rattle.spk_host_app.specs.Data.{Whole, Unsent, Lost, Began, Connected, Read, Told, Denied, Unsubscribed, Ticked, Pinged, Stopped, GaveUp, Wrote, Over, Printed}
+use Rattle.spk_host_app.specs.Data.{Whole, Unsent, Lost, Began, Connected, Read, Told, Denied, Unsubscribed, Ticked, Requested, Pinged, Stopped, GaveUp, Wrote, Over, Printed}
 use Rattle.spk_host_app.specs.Log.{IsFate, IsRun, any_deed}
 use Rattle.spk_host_app.specs.Meant.{topic_in}
 use Rattle.spk_host_app.specs.Past.{calls_in, events_in, has_begun, printed_in, said_in, says, sends}
-use Rattle.spk_host_app.specs.Step.{ack_of, answered, behind, bytes_of, called, fresh_app, taken, told, words_of}
+use Rattle.spk_host_app.specs.Step.{ack_of, answered, behind, bytes_of, called, fresh_app, request_bytes, request_words, taken, told, words_of}
 
 -- ---- what an answer leaves as it was
 
@@ -65,6 +65,7 @@ module _ (config : Config) (keep spread : ℕ) (login : Option LoginData) where
   hosts (Unsubscribed p rest ∷ ds) b (m, run, ok, may, e) = ap (λ x. x.host) e ∙ hosts ds m run
   hosts (Ticked now fate ∷ ds) b (m, run, ok, may, e) =
       ap (λ x. x.host) e ∙ host_stays fate _ _ _ ∙ ap (λ h. host_with h (host.Ticked now)) (hosts ds m run)
+  hosts (Requested group node now fate ∷ ds) b (m, run, ok, may, e) = ap (λ x. x.host) e ∙ host_stays fate _ _ _ ∙ hosts ds m run
   hosts (Pinged now ∷ ds) b (m, run, ok, may, e) = ap (λ x. x.host) e ∙ hosts ds m run
   hosts (Stopped now fate ∷ ds) b (m, run, ok, may, e) =
       ap (λ x. x.host) e ∙ host_stays fate _ _ _ ∙ ap (λ h. host_with h (host.Stopped now)) (hosts ds m run)
@@ -84,6 +85,7 @@ module _ (config : Config) (keep spread : ℕ) (login : Option LoginData) where
   logins (Denied p rest fault fate ∷ ds) b (m, run, ok, may, e) = ap (λ x. x.login) e ∙ login_stays fate _ _ _ ∙ logins ds m run
   logins (Unsubscribed p rest ∷ ds) b (m, run, ok, may, e) = ap (λ x. x.login) e ∙ logins ds m run
   logins (Ticked now fate ∷ ds) b (m, run, ok, may, e) = ap (λ x. x.login) e ∙ login_stays fate _ _ _ ∙ logins ds m run
+  logins (Requested group node now fate ∷ ds) b (m, run, ok, may, e) = ap (λ x. x.login) e ∙ login_stays fate _ _ _ ∙ logins ds m run
   logins (Pinged now ∷ ds) b (m, run, ok, may, e) = ap (λ x. x.login) e ∙ logins ds m run
   logins (Stopped now fate ∷ ds) b (m, run, ok, may, e) = ap (λ x. x.login) e ∙ login_stays fate _ _ _ ∙ logins ds m run
   logins (GaveUp fault ∷ ds) b (m, run, ok, may, e) = ap (λ x. x.login) e ∙ logins ds m run
@@ -138,6 +140,9 @@ module _ (config : Config) (keep spread : ℕ) (login : Option LoginData) where
         subst (λ x. conn.IsRun keep spread (conn.Took p ∷ events_in config login ds) x.connection) (sym e) (took_step m p rest _ front (connections ds m run))
     connections (Ticked now fate ∷ ds) b (m, run, ok, may, e) =
         call_step (host.Ticked now) fate m b _ _ (hosts ds m run) (logins ds m run) may.1 e (connections ds m run)
+    connections (Requested group node now fate ∷ ds) b (m, run, ok, (may, full, here, address), e) =
+        subst (λ x. conn.IsRun keep spread (sends fate (request_bytes group node now) ++ events_in config login ds) x.connection) (sym e)
+        (sent_step fate (request_words group node) (request_bytes group node now) m _ here (connections ds m run))
     connections (Pinged now ∷ ds) b (m, run, ok, may, e) = (m.connection, connections ds m run, (may.0, ap (λ x. x.connection) e))
     connections (Stopped now fate ∷ ds) b (m, run, ok, may, e) =
         call_step (host.Stopped now) fate m b _ _ (hosts ds m run) (logins ds m run) (fate_open fate m may.2) e (connections ds m run)
@@ -182,6 +187,7 @@ module _ (config : Config) (keep spread : ℕ) (login : Option LoginData) where
   begins (Denied p rest fault fate ∷ ds) b (m, run, ok, may, e) = ap (λ x. x.words.begun) e ∙ begun_stays fate _ _ _ ∙ begins ds m run
   begins (Unsubscribed p rest ∷ ds) b (m, run, ok, may, e) = ap (λ x. x.words.begun) e ∙ begins ds m run
   begins (Ticked now fate ∷ ds) b (m, run, ok, may, e) = ap (λ x. x.words.begun) e ∙ begun_stays fate _ _ _ ∙ begins ds m run
+  begins (Requested group node now fate ∷ ds) b (m, run, ok, may, e) = ap (λ x. x.words.begun) e ∙ begun_stays fate _ _ _ ∙ begins ds m run
   begins (Pinged now ∷ ds) b (m, run, ok, may, e) = ap (λ x. x.words.begun) e ∙ begins ds m run
   begins (Stopped now fate ∷ ds) b (m, run, ok, may, e) = ap (λ x. x.words.begun) e ∙ begun_stays fate _ _ _ ∙ begins ds m run
   begins (GaveUp fault ∷ ds) b (m, run, ok, may, e) = ap (λ x. x.words.begun) e ∙ begins ds m run
@@ -203,6 +209,9 @@ module _ (config : Config) (keep spread : ℕ) (login : Option LoginData) where
       ap (λ x. printed_in ds ++ x.words.said) e ∙ sym (append_assoc (printed_in ds) m.words.said (word.SubscriptionRefused ∷ []))
       ∙ ap (λ l. l ++ word.SubscriptionRefused ∷ []) (worded ds m run)
   worded (Ticked now fate ∷ ds) b (m, run, ok, may, e) = call_words (host.Ticked now) fate m b _ _ _ (hosts ds m run) e (worded ds m run)
+  worded (Requested group node now fate ∷ ds) b (m, run, ok, may, e) =
+      ap (λ x. printed_in ds ++ x.words.said) e
+      ∙ word_step fate (request_words group node) (request_bytes group node now) m (printed_in ds) _ (worded ds m run)
   worded (Pinged now ∷ ds) b (m, run, ok, may, e) = quiet m b _ _ (ap (λ x. x.words.said) e) (worded ds m run)
   worded (Stopped now fate ∷ ds) b (m, run, ok, may, e) = call_words (host.Stopped now) fate m b _ _ _ (hosts ds m run) e (worded ds m run)
   worded (GaveUp fault ∷ ds) b (m, run, ok, may, e) = quiet m b _ _ (ap (λ x. x.words.said) e) (worded ds m run)

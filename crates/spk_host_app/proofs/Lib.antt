@@ -1,4 +1,5 @@
 pub mod Along
+pub mod Calls
 pub mod Joins
 pub mod Losing
 pub mod Opening

@@ -12,7 +12,7 @@ use Rattle.spk_host.specs.Step.{acks, packet_out, spelled}
 use Rattle.spk_connection.specs.Step.{stands_open}
 use Rattle.spk_host_app.specs.Data.{App, Deed, Fate, Word}
 use Rattle.spk_host_app.specs.Data as word
-use Rattle.spk_host_app.specs.Data.{Whole, Unsent, Lost, Began, Connected, Read, Told, Denied, Unsubscribed, Ticked, Pinged, Stopped, GaveUp, Wrote, Over, Printed}
+use Rattle.spk_host_app.specs.Data.{Whole, Unsent, Lost, Began, Connected, Read, Told, Denied, Unsubscribed, Ticked, Requested, Pinged, Stopped, GaveUp, Wrote, Over, Printed}
 use Rattle.spk_host_app.specs.Log.{DoesOne, IsAnswered, IsFate, IsGivenUp, IsTakenUp, IsTold, Reaches, takes, takes_packet}
 use Rattle.spk_host_app.specs.Meant.{IsRefused, id_in, refuses, topic_in}
 use Rattle.spk_host_app.specs.Step.{answered, first_of_heard, ends_heard, lost_by, is_full, is_within, join, out_words, put_words, taken}
@@ -76,6 +76,7 @@ any_packet (Began now) e = absurd cc
 any_packet (Connected now fate) e = absurd cc
 any_packet (Read piece now) e = absurd cc
 any_packet (Ticked now fate) e = absurd cc
+any_packet (Requested group node now fate) e = absurd cc
 any_packet (Pinged now) e = absurd cc
 any_packet (Stopped now fate) e = absurd cc
 any_packet (GaveUp fault) e = absurd cc

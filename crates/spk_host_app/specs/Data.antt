@@ -25,6 +25,8 @@ pub data Word : Type 0 where
   Died : (group node : List ℕ) → Word
   -- messages that were held of this node are dropped
   Dropped : (group node : List ℕ) (loss : Loss) → Word
+  -- SUBACK granted the subscription
+  Granted : Word
   -- a rebirth was asked for, by this topic
   Asked : (topic : Named) → Word
   -- a message on this topic was refused
@@ -71,6 +73,8 @@ pub data Deed : Type 0 where
   Unsubscribed : (packet : Message) (rest : List ℕ) → Deed
   -- a moment came to the host
   Ticked : (now : ℕ) (fate : Fate) → Deed
+  -- a rebirth was asked of this node, beside what the rules ask for
+  Requested : (group node : List ℕ) (now : ℕ) (fate : Fate) → Deed
   -- PINGREQ was sent
   Pinged : (now : ℕ) → Deed
   -- the host's session was left with a farewell

@@ -1,3 +1,4 @@
+pub mod Calls
 pub mod Data
 pub mod Fault
 pub mod Log

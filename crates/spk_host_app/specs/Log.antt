@@ -9,10 +9,11 @@ use Rattle.spk_packets.specs.declared.fault.PacketFault.{PacketFault}
 use Rattle.spk_packets.specs.declared.fault.PacketFault.TheVariants.{More}
 use Rattle.spk_reading.specs.Data.{HeardData}
 use Rattle.spk_reading.specs.Meaning.{heard}
+use Rattle.spk_host_session.specs.Data.{is_address}
 use Rattle.spk_host.specs.Inputs as host
 use Rattle.spk_connection.specs.Step.{is_open}
 use Rattle.spk_host_app.specs.Data.{App, Deed, Fate, Word}
-use Rattle.spk_host_app.specs.Data.{Whole, Unsent, Lost, Began, Connected, Read, Told, Denied, Unsubscribed, Ticked, Pinged, Stopped, GaveUp, Wrote, Over, Printed}
+use Rattle.spk_host_app.specs.Data.{Whole, Unsent, Lost, Began, Connected, Read, Told, Denied, Unsubscribed, Ticked, Requested, Pinged, Stopped, GaveUp, Wrote, Over, Printed}
 use Rattle.spk_host_app.specs.Meant.{IsRefused, refuses}
 use Rattle.spk_host_app.specs.Step.{after, answered, called, is_full, is_within, taken}
 use Rattle.spk_host_app.specs.declared.fault.HostAppFault.{HostAppFault}
@@ -47,6 +48,7 @@ May (Told p rest h now fate) a = MayTell a × IsFate fate a × TakesPacket a.con
 May (Denied p rest fault fate) a = (a.closing ≡ false) × (is_full a ≡ false) × IsFate fate a × TakesPacket a.connection.unread p rest × IsRefused p fault
 May (Unsubscribed p rest) a = (a.closing ≡ false) × (is_full a ≡ false) × TakesPacket a.connection.unread p rest × (refuses p ≡ true)
 May (Ticked now fate) a = MayTell a × IsFate fate a
+May (Requested group node now fate) a = (a.closing ≡ false) × (is_full a ≡ false) × IsFate fate a × (is_address group node ≡ true)
 May (Pinged now) a = (is_open a.connection ≡ true) × (due_at a.connection.link now ≡ due.Ping)
 May (Stopped now fate) a = (is_within a ≡ true) × (a.closing ≡ false) × (is_open a.connection ≡ true)
 May (GaveUp fault) a = IsReason fault a
@@ -117,3 +119,7 @@ IsTicked now a b = ((fate : Fate) × May (Ticked now fate) a × (b ≡ after (Ti
 -- the host left, or the connection was given up
 abbrev pub IsStopped : ℕ → App → App → Type 0
 IsStopped now a b = ((fate : Fate) × May (Stopped now fate) a × (b ≡ after (Stopped now fate) a)) ⊎ IsGivenUp a b
+
+-- a rebirth was asked of a node, or the connection was given up
+abbrev pub IsRequested : (group node : List ℕ) → ℕ → App → App → Type 0
+IsRequested group node now a b = ((fate : Fate) × May (Requested group node now fate) a × (b ≡ after (Requested group node now fate) a)) ⊎ IsGivenUp a b

@@ -7,9 +7,9 @@ use Rattle.spk_host.specs.Inputs.{host_after}
 use Rattle.spk_connection.specs.Run as conn
 use Rattle.spk_host_app.specs.Data.{Deed, Fate, LoginData, Word}
 use Rattle.spk_host_app.specs.Data as word
-use Rattle.spk_host_app.specs.Data.{Whole, Unsent, Lost, Began, Connected, Read, Told, Denied, Unsubscribed, Ticked, Pinged, Stopped, GaveUp, Wrote, Over, Printed}
+use Rattle.spk_host_app.specs.Data.{Whole, Unsent, Lost, Began, Connected, Read, Told, Denied, Unsubscribed, Ticked, Requested, Pinged, Stopped, GaveUp, Wrote, Over, Printed}
 use Rattle.spk_host_app.specs.Meant.{topic_in}
-use Rattle.spk_host_app.specs.Step.{ack_of, bytes_of, words_of}
+use Rattle.spk_host_app.specs.Step.{ack_of, bytes_of, request_bytes, request_words, words_of}
 
 -- ---- the host
 
@@ -25,6 +25,7 @@ calls_in (Began now ∷ ds) = calls_in ds
 calls_in (Read piece now ∷ ds) = calls_in ds
 calls_in (Denied p rest fault fate ∷ ds) = calls_in ds
 calls_in (Unsubscribed p rest ∷ ds) = calls_in ds
+calls_in (Requested group node now fate ∷ ds) = calls_in ds
 calls_in (Pinged now ∷ ds) = calls_in ds
 calls_in (GaveUp fault ∷ ds) = calls_in ds
 calls_in (Wrote bytes now ∷ ds) = calls_in ds
@@ -47,6 +48,7 @@ events_of login h (Told p rest heard now fate) = sends fate (bytes_of login h (h
 events_of login h (Denied p rest fault fate) = sends fate (ack_of p) ++ conn.Took p ∷ []
 events_of login h (Unsubscribed p rest) = conn.Took p ∷ []
 events_of login h (Ticked now fate) = sends fate (bytes_of login h (host.Ticked now))
+events_of login h (Requested group node now fate) = sends fate (request_bytes group node now)
 events_of login h (Pinged now) = conn.Asked now ∷ []
 events_of login h (Stopped now fate) = sends fate (bytes_of login h (host.Stopped now))
 events_of login h (GaveUp fault) = []
@@ -56,7 +58,7 @@ events_of login h (Over now) = conn.Over now ∷ []
 events_of login h (Printed w) = []
 
 -- what happened to the connection: the packets that were told to the host or refused were taken, CONNECT, what the host answered, acknowledgements of what
--- it refused and PINGREQs were sent
+-- it refused, requests for rebirths beside the rules and PINGREQs were sent
 abbrev pub events_in : Config → Option LoginData → List Deed → List conn.Event
 events_in config login [] = []
 events_in config login (d ∷ ds) = events_of login (host_after config (calls_in ds)) d ++ events_in config login ds
@@ -80,6 +82,7 @@ has_begun (Told p rest heard now fate ∷ ds) = has_begun ds
 has_begun (Denied p rest fault fate ∷ ds) = has_begun ds
 has_begun (Unsubscribed p rest ∷ ds) = has_begun ds
 has_begun (Ticked now fate ∷ ds) = has_begun ds
+has_begun (Requested group node now fate ∷ ds) = has_begun ds
 has_begun (Pinged now ∷ ds) = has_begun ds
 has_begun (Stopped now fate ∷ ds) = has_begun ds
 has_begun (GaveUp fault ∷ ds) = has_begun ds
@@ -93,6 +96,7 @@ said_of h begun (Told p rest heard now fate) = says fate (words_of h (host.Heard
 said_of h begun (Denied p rest fault fate) = says fate (word.Refused fault (topic_in p) ∷ [])
 said_of h begun (Unsubscribed p rest) = word.SubscriptionRefused ∷ []
 said_of h begun (Ticked now fate) = says fate (words_of h (host.Ticked now))
+said_of h begun (Requested group node now fate) = says fate (request_words group node)
 said_of h begun (Stopped now fate) = says fate (words_of h (host.Stopped now))
 said_of h begun (Over now) = if begun then word.Ended ∷ [] else []
 said_of h begun (Began now) = []
@@ -119,6 +123,7 @@ printed_in (Told p rest heard now fate ∷ ds) = printed_in ds
 printed_in (Denied p rest fault fate ∷ ds) = printed_in ds
 printed_in (Unsubscribed p rest ∷ ds) = printed_in ds
 printed_in (Ticked now fate ∷ ds) = printed_in ds
+printed_in (Requested group node now fate ∷ ds) = printed_in ds
 printed_in (Pinged now ∷ ds) = printed_in ds
 printed_in (Stopped now fate ∷ ds) = printed_in ds
 printed_in (GaveUp fault ∷ ds) = printed_in ds

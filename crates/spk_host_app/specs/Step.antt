@@ -4,11 +4,16 @@ use Rattle.spk_link.specs.Step.{due_at}
 use Rattle.spk_link.specs.declared.stand.Due.{Due}
 use Rattle.spk_link.specs.declared.stand.Due.TheVariants as due
 use Rattle.spk_packets.specs.Message.{Message}
+use Rattle.spk_packets.specs.Spelling.{spelling}
+use Rattle.spk_topics.specs.Spark.Named.{of_node}
+use Rattle.spk_topics.specs.declared.spark.Verb.TheVariants.{Command}
 use Rattle.spk_sequence.specs.declared.answer.Loss.{Loss}
 use Rattle.spk_sequence.specs.Calls.{Tick}
 use Rattle.spk_sequence.specs.Losses.{Called}
 use Rattle.spk_reading.specs.Data as said
 use Rattle.spk_reading.specs.Data.{HeardData}
+use Rattle.spk_host_session.specs.Data.{is_address}
+use Rattle.spk_host_session.specs.Packets.{rebirth_of}
 use Rattle.spk_host_session.specs.Step as session
 use Rattle.spk_host.specs.Data.{Entry, HostData, OutData}
 use Rattle.spk_host.specs.Inputs as host
@@ -20,12 +25,16 @@ use Rattle.spk_login.specs.Bytes.{login_bytes}
 use Rattle.spk_connection.specs.Step.{after_asked, after_opened, after_over, after_read, after_sent, after_wrote, fresh_connection, is_open}
 use Rattle.spk_host_app.specs.Data.{App, Deed, Fate, LoginData, Word, Words}
 use Rattle.spk_host_app.specs.Data as word
-use Rattle.spk_host_app.specs.Data.{Whole, Unsent, Lost, Began, Connected, Read, Told, Denied, Unsubscribed, Ticked, Pinged, Stopped, GaveUp, Wrote, Over, Printed}
+use Rattle.spk_host_app.specs.Data.{Whole, Unsent, Lost, Began, Connected, Read, Told, Denied, Unsubscribed, Ticked, Requested, Pinged, Stopped, GaveUp, Wrote, Over, Printed}
 use Rattle.spk_host_app.specs.Meant.{id_in, topic_in}
 
 -- the most words that may wait to be printed before a packet is taken, or a moment told to the host
 abbrev pub most_said : ℕ
 most_said = 1024
+
+-- so many words wait to be printed that no packet is taken
+abbrev pub is_full : App → Bool
+is_full a = not (nat_lt (length a.words.said) most_said)
 
 -- these bytes, one after the other
 abbrev pub join : List (List ℕ) → List ℕ
@@ -42,7 +51,7 @@ answer h (host.Stopped now) = sends (said_by (session.says h.session (session.St
 answer h host.Ended = nothing
 answer h (host.Renewed now) = sends (said_by (session.says h.session (session.Renewed now)))
 
--- what is said of a packet before what the host answers: an NDEATH came, or a CONNACK that turns the host away
+-- what is said of a packet before what the host answers: an NDEATH came, a CONNACK that turns the host away, or a SUBACK that grants
 abbrev pub first_of_content : said.ContentData → List Word
 first_of_content (said.Message m) = []
 first_of_content (said.Death group node bd) = word.Died group node ∷ []
@@ -51,7 +60,7 @@ first_of_content said.Nothing = []
 abbrev pub first_of_heard : HeardData → List Word
 first_of_heard (said.Published ack content) = first_of_content content
 first_of_heard (said.Answered code) = if code == 0 then [] else word.TurnedAway code ∷ []
-first_of_heard said.Granted = []
+first_of_heard said.Granted = word.Granted ∷ []
 first_of_heard said.Other = []
 
 abbrev pub first_words : host.Call → List Word
@@ -154,6 +163,17 @@ taken rest a = record a { connection = record a.connection { unread = rest } }
 abbrev pub ack_of : Message → List ℕ
 ack_of p = join (spelled (acks (id_in p)))
 
+-- a request for a rebirth that is asked of a node, and what is said of it
+abbrev pub request_bytes : (group node : List ℕ) → ℕ → List ℕ
+request_bytes group node now = spelling (rebirth_of group node now)
+
+abbrev pub request_words : (group node : List ℕ) → List Word
+request_words group node = word.Asked (of_node group Command node) ∷ []
+
+-- it may be sent: on a connection that goes on, while fewer words wait than may, to names that can stand in its topic
+abbrev pub may_request : (group node : List ℕ) → App → Bool
+may_request group node a = not a.closing && (not (is_full a) && (is_open a.connection && is_address group node))
+
 -- the end of a connection that began
 abbrev pub ended : Words → Words
 ended w = record { said = if w.begun then w.said ++ word.Ended ∷ [] else w.said; begun = false }
@@ -172,6 +192,7 @@ after (Told p rest heard now fate) a = called (host.Heard heard now) fate (taken
 after (Denied p rest fault fate) a = answered fate (word.Refused fault (topic_in p) ∷ []) (ack_of p) (taken rest a)
 after (Unsubscribed p rest) a = record (taken rest a) { words = put_words (word.SubscriptionRefused ∷ []) a.words; closing = true }
 after (Ticked now fate) a = called (host.Ticked now) fate a
+after (Requested group node now fate) a = answered fate (request_words group node) (request_bytes group node now) a
 after (Pinged now) a = record a { connection = after_asked a.connection now }
 after (Stopped now fate) a = called (host.Stopped now) fate a
 after (GaveUp fault) a = record a { closing = true }
@@ -205,10 +226,6 @@ is_ping due.Nothing = false
 
 abbrev pub pinged : ℕ → App → App
 pinged now a = if not a.closing && is_ping (due_at a.connection.link now) then after (Pinged now) a else a
-
--- so many words wait to be printed that no packet is taken
-abbrev pub is_full : App → Bool
-is_full a = not (nat_lt (length a.words.said) most_said)
 
 -- a session of the host has begun
 abbrev pub is_within : App → Bool

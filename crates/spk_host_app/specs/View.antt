@@ -16,6 +16,7 @@ word (said.Consumed message) = plain.Consumed (numbered_view message)
 word (said.Step step) = plain.Became step
 word (said.Death group node) = plain.Died (string_bytes group) (string_bytes node)
 word (said.Lost group node loss) = plain.Dropped (string_bytes group) (string_bytes node) loss
+word said.Granted = plain.Granted
 word (said.Asked topic) = plain.Asked (named topic)
 word (said.Refused fault topic) = plain.Refused fault (string_bytes topic)
 word (said.TurnedAway code) = plain.TurnedAway code

@@ -39,6 +39,7 @@ fn first_words(alloc: Global, heard: &Heard) -> Result<Vec<Said>, AllocError>
             node: String::from_str(alloc, node.as_str())?,
         })?,
         Heard::Answered(code) if *code != 0 => words.push(Said::TurnedAway(*code))?,
+        Heard::Granted => words.push(Said::Granted)?,
         _ => {}
     }
     Ok(words)

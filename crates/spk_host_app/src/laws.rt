@@ -5,8 +5,9 @@ ghost use Rattle.spk_host.specs.Inputs.{host_after};
 ghost use Rattle.spk_link.specs.Past as link;
 ghost use Rattle.spk_connection.specs.Run as conn;
 ghost use Rattle.spk_connection.specs.Step.{is_open};
+ghost use Rattle.spk_host_app.specs.Calls.{AreDone, Call, IsDone};
 ghost use Rattle.spk_host_app.specs.Data.{App, Deed, LoginData};
-ghost use Rattle.spk_host_app.specs.Log.{IsRun, any_deed};
+ghost use Rattle.spk_host_app.specs.Log.{IsRun, Reaches, any_deed};
 ghost use Rattle.spk_host_app.specs.Past.{calls_in, events_in, printed_in, said_in};
 ghost use Rattle.spk_host_app.specs.Step.{fresh_app};
 
@@ -50,3 +51,10 @@ pub fn any_list()
 {
     spk_connection::laws::any_list();
 }
+
+/// For every list of calls that were done, one after the other, newest first: there is a list of deeds that is all that they did, call by call. So
+/// `any_list` holds of what they left.
+pub fn calls_are_deeds()
+    ensures one_by_one { (call : Call) (a b : App) → IsDone a call b → Reaches any_deed a b }
+    ensures all { (calls : List Call) (a b : App) → AreDone a calls b → Reaches any_deed a b }
+{}

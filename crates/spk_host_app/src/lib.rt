@@ -3,6 +3,7 @@
 #![tactic(auto)]
 
 mod app;
+mod asking;
 mod fault;
 mod hearing;
 mod joining;

@@ -22,6 +22,8 @@ pub enum Said {
         node: String,
         loss: Loss,
     },
+    /// SUBACK granted the subscription (MQTT 3.1.1, section 3.9.3): what is published from now on comes.
+    Granted,
     /// A rebirth was asked for, by this topic.
     Asked(Spark),
     /// A message on this topic was refused. At QoS 1 it is acknowledged all the same.
