@@ -1,6 +1,6 @@
 //! Payloads in the order of their numbers. What the tests ask of an order they ask through a trait without clauses.
 use spk_order::{Handed, NoMemory, Order};
-use spk_sequence::{Kind, Match, Step, Width};
+use spk_sequence::{Kind, Loss, Match, Step, Width};
 use std::alloc::{AllocError, Global};
 use std::process::Abort;
 
@@ -19,6 +19,9 @@ trait Orders {
     fn count(&self) -> u8;
 
     fn next(&self) -> Option<u8>;
+
+    /// What a message of this number, the moment, the bdSeq and a reset would lose.
+    fn losses(&self, number: u8, kind: Kind, now: u64, bd: u8) -> [Loss; 4];
 }
 
 /// A message that is handed in at a moment, its step, and the payloads that come out.
@@ -68,6 +71,15 @@ impl Orders for Payloads {
     fn next(&self) -> Option<u8> {
         self.sequence().next()
     }
+
+    fn losses(&self, number: u8, kind: Kind, now: u64, bd: u8) -> [Loss; 4] {
+        [
+            self.loss_at_hand(number, kind, now),
+            self.loss_at_tick(now),
+            self.loss_at_death(bd),
+            self.loss_at_reset(),
+        ]
+    }
 }
 
 /// A call, and what it answers.
@@ -81,6 +93,8 @@ enum Row {
     Held(u8),
     /// The number that comes next.
     Next(Option<u8>),
+    /// A message, a moment and a bdSeq, and what each would lose, and a reset.
+    Loses(u8, Kind, u64, u8, [Loss; 4]),
 }
 
 fn is_answered<T: Orders>(order: &mut T, row: &Row) -> bool {
@@ -94,6 +108,9 @@ fn is_answered<T: Orders>(order: &mut T, row: &Row) -> bool {
         }
         Row::Held(count) => order.count() == *count,
         Row::Next(number) => order.next() == *number,
+        Row::Loses(number, kind, now, bd, losses) => {
+            order.losses(*number, *kind, *now, *bd) == *losses
+        }
     }
 }
 
@@ -154,7 +171,18 @@ static IN_ORDER: [Row; 7] = [
     Row::Next(Some(0)),
 ];
 
-static DROPPED: [Row; 11] = [
+const NONE: Loss = Loss {
+    held: 0,
+    missing: 0,
+};
+
+/// 10 is missing before 11, which is held.
+const ONE: Loss = Loss {
+    held: 1,
+    missing: 1,
+};
+
+static DROPPED: [Row; 14] = [
     Row::Handed(Message {
         number: 9,
         kind: Kind::Birth { stamp: 100, bd: 4 },
@@ -172,9 +200,12 @@ static DROPPED: [Row; 11] = [
         consumed: &[],
     }),
     Row::Ticked(1999, false),
+    Row::Loses(10, OTHER, 1999, 3, [NONE, NONE, NONE, ONE]),
+    Row::Loses(10, Kind::Birth { stamp: 101, bd: 5 }, 2000, 4, [ONE; 4]),
     Row::Held(1),
     Row::Ticked(2000, true),
     Row::Held(0),
+    Row::Loses(10, Kind::Birth { stamp: 101, bd: 5 }, 2000, 4, [NONE; 4]),
     Row::Handed(Message {
         number: 10,
         kind: Kind::Birth { stamp: 101, bd: 5 },

@@ -1,6 +1,6 @@
 //! One node's order by its calls. A function that holds it is dear to prove: what the tests ask of one they ask through a trait without
 //! clauses, and the rows are walked over a type parameter.
-use spk_sequence::{Gap, Kind, Match, Phase, Sequence, Step, Width};
+use spk_sequence::{Gap, Kind, Loss, Match, Phase, Sequence, Step, Width};
 use std::process::Abort;
 
 /// A call: a birth's number, stamp and bdSeq, another message's number at a moment, with a stamp of 100, one with a stamp of its own, a moment,
@@ -33,6 +33,11 @@ trait Orders {
     fn count(&self) -> u8;
 
     fn holds(&self, number: u8) -> bool;
+
+    /// What a call would lose.
+    fn loss_at(&self, call: Call) -> Loss;
+
+    fn stake(&self) -> Loss;
 }
 
 impl Orders for Sequence {
@@ -66,6 +71,25 @@ impl Orders for Sequence {
 
     fn holds(&self, number: u8) -> bool {
         self.is_held(number)
+    }
+
+    fn loss_at(&self, call: Call) -> Loss {
+        match call {
+            Call::Birth(number, stamp, bd) => {
+                self.loss_at_hand(number, Kind::Birth { stamp, bd }, 0)
+            }
+            Call::Other(number, now) => {
+                self.loss_at_hand(number, Kind::Other { stamp: Some(100) }, now)
+            }
+            Call::Stamped(number, stamp) => self.loss_at_hand(number, Kind::Other { stamp }, 0),
+            Call::Tick(now) => self.loss_at_tick(now),
+            Call::Death(bd) => self.loss_at_death(bd),
+            Call::Reset => self.loss_at_reset(),
+        }
+    }
+
+    fn stake(&self) -> Loss {
+        self.at_stake()
     }
 }
 
@@ -359,6 +383,145 @@ fn counts<T: Orders>(order: &mut T) -> bool {
 #[test]
 fn what_is_held_is_counted_and_found(rt: HostRuntime) {
     assert!(rt; counts(&mut order_of(&rt, 64)));
+}
+
+const NONE: Loss = Loss {
+    held: 0,
+    missing: 0,
+};
+
+const ALL: Loss = Loss {
+    held: 3,
+    missing: 2,
+};
+
+/// What is held behind a birth at 9 with the stamp 100 and the bdSeq 4, how many messages and how many are missing before them,
+/// and what each call would lose then.
+struct Losing {
+    shows: &'static str,
+    calls: &'static [(Call, Reply)],
+    stake: Loss,
+    losses: &'static [(Call, Loss)],
+}
+
+static LOSING: [Losing; 4] = [
+    Losing {
+        shows: "10 and 11 are missing, and three are held",
+        calls: &[
+            (Call::Other(12, 0), HELD),
+            (Call::Other(13, 0), HELD),
+            (Call::Other(15, 0), HELD),
+        ],
+        stake: ALL,
+        losses: &[
+            (Call::Tick(1999), NONE),
+            (Call::Tick(2000), ALL),
+            (Call::Death(3), NONE),
+            (Call::Death(4), ALL),
+            (Call::Reset, ALL),
+            (Call::Other(80, 0), ALL),
+            (Call::Other(10, 0), NONE),
+            (Call::Other(14, 0), NONE),
+            (Call::Other(13, 0), NONE),
+            (Call::Other(8, 0), NONE),
+            (Call::Birth(11, 101, 4), ALL),
+            (Call::Birth(200, 101, 5), ALL),
+            (Call::Birth(11, 100, 4), NONE),
+        ],
+    },
+    Losing {
+        shows: "a birth keeps newer ones behind it alone",
+        calls: &[
+            (Call::Stamped(12, Some(200)), HELD),
+            (Call::Other(13, 0), HELD),
+            (Call::Stamped(14, None), HELD),
+            (Call::Stamped(15, Some(101)), HELD),
+        ],
+        stake: Loss {
+            held: 4,
+            missing: 2,
+        },
+        losses: &[
+            // 12 comes out with it, 15 stays held, and 13 and 14 are dropped
+            (
+                Call::Birth(11, 101, 4),
+                Loss {
+                    held: 2,
+                    missing: 2,
+                },
+            ),
+            // it takes the place of 12, and 15 stays held
+            (
+                Call::Birth(12, 101, 4),
+                Loss {
+                    held: 3,
+                    missing: 2,
+                },
+            ),
+        ],
+    },
+    Losing {
+        shows: "a birth that keeps all loses nothing",
+        calls: &[
+            (Call::Stamped(11, Some(101)), HELD),
+            (Call::Stamped(73, Some(101)), HELD),
+        ],
+        stake: Loss {
+            held: 2,
+            missing: 1,
+        },
+        losses: &[
+            (Call::Birth(10, 101, 4), NONE),
+            (
+                Call::Birth(9, 101, 4),
+                Loss {
+                    held: 1,
+                    missing: 1,
+                },
+            ),
+        ],
+    },
+    Losing {
+        shows: "nothing is held, and nothing is lost",
+        calls: &[],
+        stake: NONE,
+        losses: &[
+            (Call::Tick(9000), NONE),
+            (Call::Death(4), NONE),
+            (Call::Reset, NONE),
+            (Call::Other(80, 0), NONE),
+            (Call::Birth(10, 101, 4), NONE),
+        ],
+    },
+];
+
+/// The first place at which a call would lose something else.
+fn first_other_loss<T: Orders>(order: &T, rows: &[(Call, Loss)]) -> Option<usize> {
+    for (place, (call, wanted)) in rows.iter().enumerate() {
+        if order.loss_at(*call) != *wanted {
+            return Some(place);
+        }
+    }
+    None
+}
+
+fn loses<T: Orders>(order: &mut T, row: &Losing) -> bool {
+    order.reply_to(Call::Birth(9, 100, 4)) == ONE
+        && first_wrong(order, row.calls).is_none()
+        && order.stake() == row.stake
+        && first_other_loss(order, row.losses).is_none()
+        && order.stake() == row.stake
+}
+
+fn is_lost(rt: &impl Abort, row: &Losing) -> bool {
+    loses(&mut order_of(rt, 64), row)
+}
+
+#[test]
+fn what_is_lost_is_told_before_the_call(rt: HostRuntime) {
+    for row in &LOSING {
+        assert!(rt; is_lost(&rt, row), "{}", row.shows);
+    }
 }
 
 /// A width, and how many messages in a row may be lost before a byte of number can no longer tell the later ones from old ones.

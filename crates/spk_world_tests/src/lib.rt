@@ -6,6 +6,8 @@ mod acts;
 #[cfg(test)]
 mod beside_twin;
 #[cfg(test)]
+mod floats;
+#[cfg(test)]
 mod history;
 #[cfg(test)]
 mod refused;
