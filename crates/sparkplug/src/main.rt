@@ -5,10 +5,13 @@
 mod records;
 
 use records::MachineDisks;
+use spk_board::Screen;
 use spk_commands::{Files, NOT_TEXT, Outcome, plant, run_with_notes, serve_clients};
 use spk_programs::{run_edge, run_host};
 use std::alloc::{AllocError, Global};
+use std::env::VarError;
 use std::fs::File;
+use std::io::IsTerminal;
 use std::process::ExitCode;
 use std::{env, io};
 
@@ -42,6 +45,18 @@ fn lent(alloc: Global, given: &[String]) -> Result<Vec<&str>, AllocError> {
         words.push(word.as_str())?;
     }
     Ok(words)
+}
+
+/// Where a board is shown: with colours on a terminal, but where NO_COLOR is set and not empty.
+fn screen_of(rt: &HostRuntime) -> Screen {
+    if !rt.stdout().is_terminal() {
+        return Screen::Plain;
+    }
+    match env::var(rt, "NO_COLOR") {
+        Ok(text) if text.is_empty() => Screen::Colours,
+        Err(VarError::NotPresent) => Screen::Colours,
+        _ => Screen::Terminal,
+    }
 }
 
 /// Says that there was no memory even for the words.
@@ -82,7 +97,7 @@ fn main(rt: HostRuntime) -> io::Result<ExitCode> {
             let mut disks = MachineDisks { rt: &rt };
             run_edge(&rt, plan, rt.stdin(), &mut disks, writer, notes)
         }
-        Outcome::Host(plan) => run_host(&rt, plan, writer, notes),
+        Outcome::Host(plan) => run_host(&rt, plan, screen_of(&rt), writer, notes),
     };
     Ok(ExitCode::from(status))
 }

@@ -94,6 +94,10 @@ prints a JSON line for each message that it consumes, its metrics called as the 
 `state` is `current`, `stale` or `offline`, `cause` is `birth`, `gap`, `death` or `session`, which is the host's own, or,
 with --silence, `silence` and `message`, which ends one.
 
+With --watch it draws a board each second in place of the lines: how many nodes are current, then those that need a
+look, since when and how many readings are missing, then the others, and what happened last. It has no colours where
+standard output isn't a terminal or NO_COLOR is set.
+
 What it consumes of a node is, birth by birth, a prefix of what the node published, each message once and in order;
 behind a gap nothing until a newer birth, for which it asks. A broker that drops 256 messages, or nearly as many,
 without a word is not found out: docs/BROKERS.md says which do. docs/HOST.md tells the rest.
@@ -371,6 +375,19 @@ fn host<'a>(alloc: Global) -> Result<Command<'a>, AllocError> {
         .value_parser(value_parser!(u32).range(1..))
         .action(ArgAction::Set);
     let command = command.arg(silence)?;
+    let ask = Arg::new(alloc, "ask")
+        .long("ask")
+        .value_name("NODE")
+        .help(
+            "Asks this node of the group for a rebirth at the start of each session; several are asked in turn",
+        )
+        .action(ArgAction::Append);
+    let command = command.arg(ask)?;
+    let watch = Arg::new(alloc, "watch")
+        .long("watch")
+        .help("Draws a board of the nodes each second, in place of the lines")
+        .action(ArgAction::SetTrue);
+    let command = command.arg(watch)?;
     Ok(
         with_broker(alloc, command)?
             .about(

@@ -31,13 +31,18 @@ fn edge_text(alloc: Global, plan: &EdgePlan) -> Result<String, AllocError> {
     )
 }
 
-/// Of a host to be run: how many brokers it may be connected with, and whether it has a login, an end and a silence.
+/// Of a host to be run: how many brokers it may be connected with, and whether it has a login, an end, a silence and a board, and how
+/// many nodes it asks for a rebirth.
 fn host_text(alloc: Global, plan: &HostPlan) -> Result<String, AllocError> {
     let brokers = plan.brokers.len();
     let login = plan.login.is_some();
     let count = plan.count;
     let silence = plan.silence;
-    format!(in alloc; "host brokers {brokers} login {login} count {count:?} silence {silence:?}")
+    let watch = plan.watch;
+    let asks = plan.asks.len();
+    format!(in alloc;
+        "host brokers {brokers} login {login} count {count:?} silence {silence:?} watch {watch} asks {asks}"
+    )
 }
 
 /// What a run came to.

@@ -19,13 +19,13 @@ fn owned(alloc: Global, given: &ArgMatches<'_>, name: &str) -> Result<String, Al
     String::from_str(alloc, given.get_str(name).unwrap_or(""))
 }
 
-/// The brokers, in order.
-fn brokers_of(alloc: Global, given: &ArgMatches<'_>) -> Result<Vec<String>, AllocError> {
-    let mut brokers = Vec::new(alloc);
-    for name in given.get_strs("broker").unwrap_or(&[]) {
-        brokers.push(String::from_str(alloc, name)?)?;
+/// What a word that may come more than once was given, in order.
+fn all_of(alloc: Global, given: &ArgMatches<'_>, word: &str) -> Result<Vec<String>, AllocError> {
+    let mut all = Vec::new(alloc);
+    for text in given.get_strs(word).unwrap_or(&[]) {
+        all.push(String::from_str(alloc, text)?)?;
     }
-    Ok(brokers)
+    Ok(all)
 }
 
 /// The password, where a file has one, without the white space at its end.
@@ -96,7 +96,7 @@ pub(crate) fn edge_plan<F: Files, N: Write>(
         config,
         registry,
         names,
-        brokers: brokers_of(alloc, given)?,
+        brokers: all_of(alloc, given, "broker")?,
         login: login_of(alloc, given, files)?,
         record: owned(alloc, given, "record")?,
         kept: kept_of(alloc, given, text, keep)?,
@@ -128,9 +128,11 @@ pub(crate) fn host_plan<F: Files>(
     };
     Ok(HostPlan {
         config,
-        brokers: brokers_of(alloc, given)?,
+        brokers: all_of(alloc, given, "broker")?,
         login: login_of(alloc, given, files)?,
         count: given.get_one::<u64>("count"),
         silence: silence_of(given),
+        watch: given.get_flag("watch"),
+        asks: all_of(alloc, given, "ask")?,
     })
 }

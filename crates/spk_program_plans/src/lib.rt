@@ -35,7 +35,8 @@ impl fmt::Debug for EdgePlan {
 }
 
 /// What `host` is to run: a host application, the brokers that it may be connected with, each HOST:PORT, after how many consumed messages it ends, if
-/// it does, and for how many milliseconds nothing of a node may be consumed before its values are told to be stale, if that is to be told.
+/// it does, for how many milliseconds nothing of a node may be consumed before its values are told to be stale, if that is to be told, and whether a
+/// board of the nodes is to be drawn in place of lines.
 #[derive(Drop)]
 pub struct HostPlan {
     pub config: HostConfig,
@@ -43,6 +44,9 @@ pub struct HostPlan {
     pub login: Option<Words>,
     pub count: Option<u64>,
     pub silence: Option<u64>,
+    pub watch: bool,
+    /// The nodes of its group that are asked for a rebirth once the subscription is granted.
+    pub asks: Vec<String>,
 }
 
 impl fmt::Debug for HostPlan {

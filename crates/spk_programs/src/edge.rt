@@ -78,6 +78,14 @@ fn write_fault<N: Write>(notes: &mut N, fault: EdgeAppFault) {
     };
 }
 
+/// How many items of a line it is.
+fn size_of(said: &Said) -> usize {
+    match said {
+        Said::Values(values) => values.len(),
+        Said::Device { .. } => 1,
+    }
+}
+
 /// The parts that lines are told to.
 #[derive(Drop)]
 struct Desk<D: Disk, O: Write + Drop, N: Write + Drop> {
@@ -111,17 +119,24 @@ pub struct EdgeProgram<D: Disk, O: Write + Drop, N: Write + Drop> {
 }
 
 impl<D: Disk, O: Write + Drop, N: Write + Drop> Desk<D, O, N> {
-    /// A line was refused.
-    fn refuse(&mut self, number: u64, fault: EdgeAppFault) {
+    /// A line was refused, or the item at a place of it.
+    fn refuse(&mut self, number: u64, place: Option<usize>, fault: EdgeAppFault) {
         self.counts.refused = self.counts.refused.saturating_add(1);
-        let _ = write!(self.notes, "sparkplug: line {number}: ");
+        let _ = match place {
+            Some(place) => write!(self.notes, "sparkplug: line {number}: [{place}] "),
+            None => write!(self.notes, "sparkplug: line {number}: "),
+        };
         write_fault(&mut self.notes, fault);
     }
 
-    /// Does what a line says.
-    fn say(&mut self, number: u64, said: &Said, now: u64) {
-        if let Err(fault) = tell(&mut self.app, said, now) {
-            self.refuse(number, fault);
+    /// Does what stands in a line behind so many items.
+    fn say(&mut self, number: u64, before: usize, said: &Said, now: u64) {
+        if let Err(refused) = tell(&mut self.app, said, now) {
+            let place = match refused.place {
+                Some(place) => Some(before.saturating_add(place)),
+                None => None,
+            };
+            self.refuse(number, place, refused.fault);
         }
     }
 
@@ -155,8 +170,10 @@ impl<D: Disk, O: Write + Drop, N: Write + Drop> Desk<D, O, N> {
         match line_of(self.alloc, &self.names, text) {
             Ok(all) => {
                 let before = kept_in(&self.app);
+                let mut items = 0usize;
                 for said in &all {
-                    self.say(number, said, now);
+                    self.say(number, items, said, now);
+                    items = items.saturating_add(size_of(said));
                 }
                 self.note_line(number, text, all, before, now);
             }

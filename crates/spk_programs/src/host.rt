@@ -1,4 +1,4 @@
-//! `host`: a host application that prints what it consumes, and what is current.
+//! `host`: a host application that prints what it consumes, and what is current, or draws a board of its nodes.
 
 use crate::fault::{ProgramFault, told};
 use crate::known::{Nodes, Stand, stand_of};
@@ -6,6 +6,8 @@ use crate::notes::write_note;
 use crate::printing::{
     Cause, write_asked, write_death, write_lost, write_message, write_refused, write_stand,
 };
+use crate::watched;
+use spk_board::Board;
 use spk_host_app::{HostApp, HostAppFault, Said};
 use spk_link::Due;
 use spk_network::{App, NetworkFault, Note};
@@ -27,6 +29,13 @@ const MINUTE: u64 = 60_000;
 /// How many bytes may wait to be written before nothing is read (own rule).
 const MANY: usize = 1_048_576;
 
+/// Which nodes of a group are asked for a rebirth once the host's subscription is granted.
+#[derive(Drop)]
+pub struct Asks {
+    pub group: String,
+    pub nodes: Vec<String>,
+}
+
 /// What was told so far.
 #[derive(Clone, Copy, Debug, PartialEq, Eq)]
 struct Counts {
@@ -43,6 +52,9 @@ pub struct HostProgram<O: Write + Drop, N: Write + Drop> {
     alloc: Global,
     app: HostApp,
     nodes: Nodes,
+    asks: Asks,
+    /// The board that is drawn in place of lines; None where lines are printed.
+    board: Option<Board>,
     out: O,
     notes: N,
     counts: Counts,
@@ -77,12 +89,14 @@ fn cause_of(subject: &Subject) -> Option<Cause> {
 
 impl<O: Write + Drop, N: Write + Drop> HostProgram<O, N> {
     /// A program that ends once so many messages were consumed, or never, and tells a node's values to be stale once nothing of it was consumed for so many
-    /// milliseconds, or not.
+    /// milliseconds, or not. Where there is a board it is drawn in place of lines.
     pub fn new(
         alloc: Global,
         app: HostApp,
         count: Option<u64>,
         silence: Option<u64>,
+        asks: Asks,
+        board: Option<Board>,
         out: O,
         notes: N,
     ) -> HostProgram<O, N> {
@@ -90,6 +104,8 @@ impl<O: Write + Drop, N: Write + Drop> HostProgram<O, N> {
             alloc,
             app,
             nodes: Nodes::new(alloc),
+            asks,
+            board,
             out,
             notes,
             counts: Counts {
@@ -201,6 +217,17 @@ impl<O: Write + Drop, N: Write + Drop> HostProgram<O, N> {
         Ok(())
     }
 
+    /// One of the messages that are still to be consumed was. Behind the last of them a board is drawn once more.
+    fn count_down(&mut self, now: u64) {
+        if let Some(left) = &mut self.left {
+            *left = left.saturating_sub(1);
+        }
+        if self.left == Some(0) {
+            self.draw(now);
+            self.end(now);
+        }
+    }
+
     /// A message was consumed.
     fn consumed(&mut self, message: &Numbered, now: u64) -> io::Result<()> {
         if self.left == Some(0) {
@@ -225,29 +252,29 @@ impl<O: Write + Drop, N: Write + Drop> HostProgram<O, N> {
         } else if was_silent {
             self.tell_changes(place, Cause::Message, now)?;
         }
-        if let Some(left) = &mut self.left {
-            *left = left.saturating_sub(1);
-        }
-        if self.left == Some(0) {
-            self.end(now);
-        }
+        self.count_down(now);
         Ok(())
+    }
+
+    /// What became of a message that came, or a gap, is counted.
+    fn count_step(&mut self, step: Step) {
+        match step {
+            Step::Gap => self.counts.gaps = self.counts.gaps.saturating_add(1),
+            Step::Old | Step::OldBirth | Step::DeadSession | Step::NotLive => {
+                self.counts.dropped = self.counts.dropped.saturating_add(1);
+            }
+            Step::Consumed(_) | Step::Held => {}
+        }
     }
 
     /// What became of a message that came, or a gap.
     fn stepped(&mut self, step: Step, now: u64) -> io::Result<()> {
-        match step {
-            Step::Gap => {
-                self.counts.gaps = self.counts.gaps.saturating_add(1);
-                self.nodes.follow(self.app.host().nodes())?;
-                self.tell_all(Cause::Gap, now)
-            }
-            Step::Old | Step::OldBirth | Step::DeadSession | Step::NotLive => {
-                self.counts.dropped = self.counts.dropped.saturating_add(1);
-                Ok(())
-            }
-            Step::Consumed(_) | Step::Held => Ok(()),
+        self.count_step(step);
+        if step == Step::Gap {
+            self.nodes.follow(self.app.host().nodes())?;
+            self.tell_all(Cause::Gap, now)?;
         }
+        Ok(())
     }
 
     /// An NDEATH came.
@@ -272,6 +299,73 @@ impl<O: Write + Drop, N: Write + Drop> HostProgram<O, N> {
                 )
             }
             _ => Ok(()),
+        }
+    }
+
+    /// The subscription is granted: the nodes that are to be asked for a rebirth are.
+    fn ask_all(&mut self, now: u64) {
+        for place in 0..self.asks.nodes.len() {
+            let Some(node) = self.asks.nodes.get(place) else {
+                return;
+            };
+            let (group, node) = (self.asks.group.as_str(), node.as_str());
+            match self.app.ask(group, node, now) {
+                Ok(true) => {}
+                Ok(false) => {
+                    let _ = writeln!(self.notes, "sparkplug: {node} can't be asked for a rebirth");
+                }
+                Err(fault) => {
+                    self.fault(fault);
+                    return;
+                }
+            }
+        }
+    }
+
+    /// A word comes to the board.
+    fn watch(&mut self, said: &Said, now: u64) -> io::Result<()> {
+        if let Some(board) = &mut self.board {
+            let entries = self.app.host().nodes();
+            watched::hear(board, &mut self.nodes, entries, said, now)?;
+        }
+        match said {
+            Said::Consumed(_) if self.left != Some(0) => {
+                self.counts.consumed = self.counts.consumed.saturating_add(1);
+                self.count_down(now);
+            }
+            Said::Step(step) => self.count_step(*step),
+            Said::Granted => self.ask_all(now),
+            Said::Refused { .. } => self.counts.refused = self.counts.refused.saturating_add(1),
+            _ => {}
+        }
+        Ok(())
+    }
+
+    /// Draws the board, if there is one.
+    fn draw(&mut self, now: u64) {
+        if self.failed {
+            return;
+        }
+        if let Some(board) = &mut self.board {
+            let entries = self.app.host().nodes();
+            let out = &mut self.out;
+            let written = watched::draw(self.alloc, board, out, entries, self.silence, now);
+            self.check(written, now);
+        }
+    }
+
+    /// When the board is drawn next, if there is one and the program isn't to end.
+    fn next_board(&self) -> Option<u64> {
+        match &self.board {
+            Some(board) if !self.done => Some(board.due()),
+            _ => None,
+        }
+    }
+
+    /// Tells the board whether there is a connection.
+    fn show_connection(&mut self) {
+        if let Some(board) = &mut self.board {
+            board.connect(self.open);
         }
     }
 
@@ -300,6 +394,10 @@ impl<O: Write + Drop, N: Write + Drop> HostProgram<O, N> {
                 writeln!(self.out, "{{\"turned_away\":{code},\"at\":{now}}}")?;
                 self.tell_all(Cause::Session, now)
             }
+            Said::Granted => {
+                self.ask_all(now);
+                writeln!(self.out, "{{\"subscription\":\"granted\",\"at\":{now}}}")
+            }
             Said::SubscriptionRefused => {
                 writeln!(self.out, "{{\"subscription\":\"refused\",\"at\":{now}}}")
             }
@@ -317,7 +415,11 @@ impl<O: Write + Drop, N: Write + Drop> HostProgram<O, N> {
                 break;
             };
             if !self.failed {
-                let written = self.print(&said, now);
+                let written = if self.board.is_some() {
+                    self.watch(&said, now)
+                } else {
+                    self.print(&said, now)
+                };
                 self.check(written, now);
             }
         }
@@ -380,7 +482,7 @@ impl<O: Write + Drop, N: Write + Drop> HostProgram<O, N> {
         let Some(patience) = self.silence else {
             return;
         };
-        if now < self.look || self.failed {
+        if now < self.look || self.failed || self.board.is_some() {
             return;
         }
         self.look = now.saturating_add(TICK);
@@ -440,11 +542,15 @@ impl<O: Write + Drop, N: Write + Drop> App for HostProgram<O, N> {
         if self.open {
             until = until.min(self.last.saturating_add(TICK));
         }
+        if let Some(due) = self.next_board() {
+            until = until.min(due);
+        }
         Some(until.saturating_sub(now))
     }
 
     fn opened(&mut self, now: u64) {
         self.open = true;
+        self.show_connection();
         self.last = now;
         self.counts.connections = self.counts.connections.saturating_add(1);
         if let Err(fault) = self.app.opened(now) {
@@ -455,6 +561,7 @@ impl<O: Write + Drop, N: Write + Drop> App for HostProgram<O, N> {
 
     fn over(&mut self, now: u64) {
         self.open = false;
+        self.show_connection();
         self.shut = false;
         self.app.over(now);
         self.print_all(now);
@@ -489,6 +596,9 @@ impl<O: Write + Drop, N: Write + Drop> App for HostProgram<O, N> {
         self.print_all(now);
         self.look(now);
         self.tell_progress(now);
+        if self.next_board().is_some_and(|due| now >= due) {
+            self.draw(now);
+        }
         self.flush(now);
     }
 

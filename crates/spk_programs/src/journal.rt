@@ -7,9 +7,10 @@ use crate::disk::Disk;
 use crate::fault::ProgramFault;
 use crate::replay::{Again, Replay, replay_of, set};
 use crate::texts::{json_text, owner_text, value_text};
-use spk_device::{Owner, Registry};
-use spk_edge_app::{EdgeApp, EdgeAppFault};
+use spk_device::{Alias, Owner, Registry};
+use spk_edge_app::{ChangesRefused, EdgeApp, EdgeAppFault};
 use spk_files::Said;
+use spk_payload::Value;
 use std::alloc::{AllocError, Global};
 use std::collections::VecDeque;
 
@@ -52,11 +53,34 @@ pub(crate) struct Journal<D: Disk> {
     rested: u64,
 }
 
-/// Tells a node what a line says.
-pub(crate) fn tell(app: &mut EdgeApp, said: &Said, now: u64) -> Result<(), EdgeAppFault> {
+/// Why a node refuses what stands in a line, where no item of it is to blame.
+fn whole(told: Result<(), EdgeAppFault>) -> Result<(), ChangesRefused> {
+    match told {
+        Ok(()) => Ok(()),
+        Err(fault) => Err(ChangesRefused { fault, place: None }),
+    }
+}
+
+/// Tells a node values of one owner. Where they are refused none is set, and the first one that is refused is told.
+fn tell_values(
+    app: &mut EdgeApp,
+    values: &[(Alias, Option<Value>)],
+    now: u64,
+) -> Result<(), ChangesRefused> {
+    if values.len() > 1 {
+        return app.changes(now, values);
+    }
+    match values.first() {
+        Some(value) => whole(app.change(now, value.0, &value.1)),
+        None => Ok(()),
+    }
+}
+
+/// Tells a node what stands in a line. Where it is refused, it comes back with the place of the item that is.
+pub(crate) fn tell(app: &mut EdgeApp, said: &Said, now: u64) -> Result<(), ChangesRefused> {
     match said {
-        Said::Value { alias, value } => app.change(now, *alias, value),
-        Said::Device { name, up } => app.device(now, name.as_str(), *up),
+        Said::Values(values) => tell_values(app, values.as_slice(), now),
+        Said::Device { name, up } => whole(app.device(now, name.as_str(), *up)),
     }
 }
 

@@ -14,10 +14,11 @@ mod printing;
 mod replay;
 mod running;
 mod texts;
+mod watched;
 
 pub use disk::{Disk, Disks, Opened};
 pub use edge::EdgeProgram;
 pub use fault::ProgramFault;
-pub use host::HostProgram;
+pub use host::{Asks, HostProgram};
 pub use lines::{Lines, Listener};
 pub use running::{Begun, begin_edge, host_app, run_edge, run_host};

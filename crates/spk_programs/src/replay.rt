@@ -31,18 +31,25 @@ pub(crate) struct Replay {
     pub(crate) is_torn: bool,
 }
 
+/// A device is up, or down.
+fn turn(registry: &mut Registry, name: &str, up: bool) {
+    let _ = if up {
+        registry.device_up(name)
+    } else {
+        registry.device_down(name)
+    };
+}
+
 /// Sets what a line says.
 pub(crate) fn set(registry: &mut Registry, said: Said) {
-    let _ = match said {
-        Said::Value { alias, value } => registry.set(alias, value),
-        Said::Device { name, up } => {
-            if up {
-                registry.device_up(name.as_str())
-            } else {
-                registry.device_down(name.as_str())
+    match said {
+        Said::Values(values) => {
+            for (alias, value) in values {
+                let _ = registry.set(alias, value);
             }
         }
-    };
+        Said::Device { name, up } => turn(registry, name.as_str(), up),
+    }
 }
 
 /// What a line of the file says, and of when. None where it says nothing.

@@ -3,9 +3,10 @@
 use crate::disk::{self, Disk, Disks};
 use crate::edge::EdgeProgram;
 use crate::fault::{ProgramFault, told};
-use crate::host::HostProgram;
+use crate::host::{Asks, HostProgram};
 use crate::journal::Journal;
 use crate::replay::Replay;
+use spk_board::{Board, Screen};
 use spk_connection::Connection;
 use spk_device::Registry;
 use spk_edge::{EdgeConfig, EdgeFault, EdgeNode, Record as Start};
@@ -16,7 +17,7 @@ use spk_host_app::HostApp;
 use spk_network::run_app;
 use spk_program_plans::{EdgePlan, HostPlan, Words};
 use spk_record::{Record, RecordFault};
-use std::alloc::Global;
+use std::alloc::{AllocError, Global};
 use std::io::{self, BufWriter, Read, Write};
 use std::mem;
 use std::net::Net;
@@ -258,9 +259,23 @@ pub fn host_app(
     Ok(HostApp::new(alloc, host, connection, login))
 }
 
+/// The board of a host whose plan asks for one.
+fn board_of(
+    alloc: Global,
+    watch: bool,
+    config: &HostConfig,
+    screen: Screen,
+) -> Result<Option<Board>, AllocError> {
+    if !watch {
+        return Ok(None);
+    }
+    let group = String::from_str(alloc, config.group.as_str())?;
+    Ok(Some(Board::new(alloc, group, screen)))
+}
+
 /// Runs a host application until so many messages were consumed as its plan says, or for ever, and answers the status: 0, or 1 where a fault ended it, which
-/// is printed, or where a line couldn't be written. What goes over a socket no contract says.
-pub fn run_host<R, O, N>(rt: &R, plan: HostPlan, mut out: O, notes: N) -> u8
+/// is printed, or where a line couldn't be written. A board is drawn for this screen. What goes over a socket no contract says.
+pub fn run_host<R, O, N>(rt: &R, plan: HostPlan, screen: Screen, mut out: O, notes: N) -> u8
 where
     R: AllocGlobal + Wait + Clock + Net,
     O: Write + Drop,
@@ -273,7 +288,16 @@ where
         login,
         count,
         silence,
+        watch,
+        asks,
     } = plan;
+    let Ok(group) = String::from_str(alloc, config.group.as_str()) else {
+        return told(&mut out, ProgramFault::NoMemory);
+    };
+    let asks = Asks { group, nodes: asks };
+    let Ok(board) = board_of(alloc, watch, &config, screen) else {
+        return told(&mut out, ProgramFault::NoMemory);
+    };
     let app = match host_app(alloc, config, login) {
         Ok(app) => app,
         Err(fault) => return told(&mut out, fault),
@@ -281,7 +305,7 @@ where
     let Ok(buffered) = BufWriter::new(alloc, out) else {
         return 1;
     };
-    let mut program = HostProgram::new(alloc, app, count, silence, buffered, notes);
+    let mut program = HostProgram::new(alloc, app, count, silence, asks, board, buffered, notes);
     let ended = run_app(rt, alloc, brokers.as_slice(), Nothing, false, &mut program);
     program.finish(ended)
 }
