@@ -1,9 +1,13 @@
 //! Calls of `spk_world`.
-ghost use Rattle.std.specs.Prelude.{◌≡◌, Ok, IfOk, IfErr, OnErr, OnOk, None, List, ◌∷◌, if◌then◌else◌};
+ghost use Rattle.std.specs.Prelude.{◌≡◌, ℕ, Ok, IfOk, IfErr, OnErr, OnOk, None, List, ◌∷◌, if◌then◌else◌};
+ghost use Rattle.spk_sequence.specs.Claims.{AfterDeath, AfterGap, HasCause, TakesBirth};
+ghost use Rattle.spk_sequence.specs.HostRecord.{Input, MessageComes};
 ghost use Rattle.spk_world_rules.specs.Answers.{answer_of};
+ghost use Rattle.spk_world_rules.specs.Claims.{ComesAs, event_of};
 ghost use Rattle.spk_world_rules.specs.Events as rules;
-ghost use Rattle.spk_world_rules.specs.Events.{Deed};
+ghost use Rattle.spk_world_rules.specs.Events.{Deed, Hand};
 ghost use Rattle.spk_world_rules.specs.Files.{deed_of};
+ghost use Rattle.spk_world_rules.specs.Queries.{record_of, setting_of};
 ghost use Rattle.spk_world_rules.specs.Refusals.{refusal_of};
 ghost use Rattle.spk_world_run.specs.Run.{IsRun};
 ghost use Rattle.spk_world.specs.Listed.{IsRefusedBy};
@@ -50,6 +54,21 @@ impl World {
             → OnOk result (refusal_of w done (deed_of w (event_view event.now)) ≡ None) }
         ensures ruled { (w : rules.World) (done : List Deed) → IsRun w done self.old
             → IfErr result (IsRefusedBy w done (event_view event.now)) }
+        ensures after_gap { (w : rules.World) (done : List Deed) (h n : ℕ) (input : Input)
+            → IsRun w done self.old → ComesAs done (deed_of w (event_view event.now)) h n input
+            → OnOk result (AfterGap (setting_of w done h n) (record_of w done h n)
+            (event_of w done h n input)) }
+        ensures after_death { (w : rules.World) (done : List Deed) (h n : ℕ) (input : Input)
+            → IsRun w done self.old → ComesAs done (deed_of w (event_view event.now)) h n input
+            → OnOk result (AfterDeath (setting_of w done h n) (record_of w done h n)
+            (event_of w done h n input)) }
+        ensures births { (w : rules.World) (done : List Deed) (h n p now : ℕ)
+            → IsRun w done self.old → deed_of w (event_view event.now) ≡ Hand h n p now
+            → OnOk result (TakesBirth (setting_of w done h n) (record_of w done h n) p
+            (event_of w done h n (MessageComes p now))) }
+        ensures cause { (w : rules.World) (done : List Deed) (h n : ℕ) → IsRun w done self.old
+            → OnOk result (HasCause (setting_of w (deed_of w (event_view event.now) ∷ done) h n)
+            (record_of w (deed_of w (event_view event.now) ∷ done) h n)) }
     {
         self.world.step(event)
     }

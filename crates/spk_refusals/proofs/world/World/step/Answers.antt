@@ -24,3 +24,15 @@ returns-clause-allowed c = rw (sym c.self.view_is) (first_of (assumption c.step.
 
 pub returns-clause-ruled : goal.returns-clause-ruled
 returns-clause-ruled c = rw (sym c.self.view_is) (first_of (assumption c.step.ensures.ruled, grind arith))
+
+pub returns-clause-after_gap : goal.returns-clause-after_gap
+returns-clause-after_gap c = rw (sym c.self.view_is) (first_of (assumption c.step.ensures.after_gap, grind arith))
+
+pub returns-clause-after_death : goal.returns-clause-after_death
+returns-clause-after_death c = rw (sym c.self.view_is) (first_of (assumption c.step.ensures.after_death, grind arith))
+
+pub returns-clause-births : goal.returns-clause-births
+returns-clause-births c = rw (sym c.self.view_is) (first_of (assumption c.step.ensures.births, grind arith))
+
+pub returns-clause-cause : goal.returns-clause-cause
+returns-clause-cause c = rw (sym c.self.view_is) (first_of (assumption c.step.ensures.cause, grind arith))
