@@ -1,4 +1,5 @@
 pub mod Begun
+pub mod Earlier
 pub mod EndToEnd
 pub mod Joined
 pub mod Published

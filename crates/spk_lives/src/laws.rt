@@ -7,12 +7,13 @@ ghost use Rattle.spk_sequence.specs.NodeRecord.{IsNodeRecord, Restarts};
 ghost use Rattle.spk_host_node.specs.Inputs as node;
 ghost use Rattle.spk_edge_rules.specs.Claims.{SaysSession};
 ghost use Rattle.spk_edge_rules.specs.Config.{Setup};
+ghost use Rattle.spk_edge_rules.specs.Inputs as edge;
 ghost use Rattle.spk_edge_rules.specs.Run.{outline, run_of, session_number};
 ghost use Rattle.spk_tie.specs.Tie.{host_setting};
 ghost use Rattle.spk_heard.specs.Read.{AreRead, HandsOutFronts, all_taken};
 ghost use Rattle.spk_handed.specs.Handed.{IsHanded};
 ghost use Rattle.spk_record.specs.Covers as kept;
-ghost use Rattle.spk_lives.specs.Lives.{AreApart, AreLives, AreNumbered, CoversRun, Deed, IsCareful, Life, bds_of, end_to_end, first_setup, on_disk, record_in, said, sessions_in};
+ghost use Rattle.spk_lives.specs.Lives.{AreApart, AreLives, AreNumbered, CoversRun, Deed, IsCareful, Life, Reserve, bds_of, end_to_end, first_setup, on_disk, record_in, said, sessions_in};
 ghost use Rattle.spk_lives.specs.Order.{KeepsOrder};
 
 /// Of every list of lives of a node, newest first, each begun from a record that survived the one before, at whatever moment that one was cut.
@@ -54,6 +55,10 @@ pub fn records()
     ensures survivors { (s : Setup) (deeds : List Deed) → IsCareful s deeds
         → AllByRecursion (CoversRun s (run_of s (said deeds))) (on_disk s deeds) }
 
+    // and a record that covers what a node did covers what it had done at any moment before
+    ensures earlier { (s : Setup) (later is : List edge.Input) (r : Reserve)
+        → CoversRun s (run_of s (later ++ is)) r → CoversRun s (run_of s is) r }
+
     // a life that is cut earlier is careful too
     ensures cut { (s : Setup) (later deeds : List Deed) → IsCareful s (later ++ deeds)
         → IsCareful s deeds }
@@ -66,7 +71,10 @@ pub fn records()
     ensures reserved { (s : Setup) (session stamp : ℕ)
         → kept.reserved (session_number s session) stamp
         ≡ record_in s (session + 1) (min (stamp + kept.ahead) (2 ^ 63 - 1)) }
-{}
+{
+    spk_edge_rules::laws::any_list();
+    spk_edge_rules::laws::published();
+}
 
 /// The headline for a node that crashes: over any broker that keeps the order, for the lives of a node end to end.
 pub fn headline_over_lives()

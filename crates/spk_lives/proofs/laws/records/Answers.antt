@@ -1,6 +1,8 @@
 use Rattle.std.proofs.Common.{◌≡◌, ℕ, ◌+◌, ◌-◌, ◌%◌, ◌^◌, ap, arith, min}
 use Rattle.spk_record.specs.Covers.{ahead}
 use Rattle.spk_record.specs.declared.record.Record.{Record}
+use Rattle.spk_lives.proofs.Earlier.{earlier}
+use Rattle.spk_lives.proofs.Published.{Laws}
 use Rattle.spk_lives.proofs.Survivors.{cut, survivors}
 use Rattle.spk_lives.proofs.laws.records.Goals as goal
 
@@ -12,6 +14,11 @@ next-back bd session = omega arith
 
 pub returns-clause-survivors : goal.returns-clause-survivors
 returns-clause-survivors c = survivors
+
+pub returns-clause-earlier : goal.returns-clause-earlier
+returns-clause-earlier c =
+    let laws : Laws = record { node = c.any_list.ensures.record; openings = c.any_list.ensures.openings; joined = c.any_list.ensures.joined } in
+    earlier laws c.published.ensures.grows
 
 pub returns-clause-cut : goal.returns-clause-cut
 returns-clause-cut c = cut
