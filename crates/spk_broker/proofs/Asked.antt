@@ -1,14 +1,17 @@
 -- What is asked of the sessions by now, by places.
 use Rattle.std.proofs.Common.{◌≡◌, ℕ, ◌+◌, ◌<◌, Bool, true, false, ◌||◌, ◌==◌, cond, List, [], ◌∷◌, ◌++◌, length, take, get_or, ltb, count_by, refl, sym, ◌∙◌, ap, append-nil, arith, Option, Some, None}
-use Rattle.std.specs.List.{find, flat_map, list_any, position}
+use Rattle.std.specs.List.{find, flat_map, list_any, position, position_from}
 use Rattle.std.specs.Option.{option_map_or, option_and_then}
-use Rattle.std.proofs.lemmas.List.{take_more}
+use Rattle.std.proofs.lemmas.Bool.{lt-ltb}
+use Rattle.std.proofs.lemmas.Iterator.Adapters.{position_from-zero}
+use Rattle.std.proofs.lemmas.List.Sums.{count_by-le-length}
+use Rattle.std.proofs.lemmas.List.{length-take-le, take_more}
 use Rattle.spk_broker_rules.specs.Data as plain
 use Rattle.spk_broker_rules.specs.Step.{conn_at, is_guest, is_kept_of, older_in, seat_at, silent_at, sits, welcome_in}
 use Rattle.spk_packets.specs.Spelling.{is_empty}
 use Rattle.spk_broker_rules.proofs.Lists.{eqb-is, flat_map-append}
 use Rattle.spk_broker.specs.Both.{Both}
-use Rattle.spk_broker.specs.Asking.{drops_at, guest_here, guests_now, is_joined_by, passes, seat_here, seats_now, test_at}
+use Rattle.spk_broker.specs.Asking.{drops_at, first_with, guest_here, guests_now, is_joined_by, passes, seat_here, seats_now, test_at}
 use Rattle.spk_broker.specs.View.{seat_now}
 use Rattle.spk_broker.proofs.Alive.{any-alive, count-alive, found-alive, guests-alive, lost-alive, plain_of}
 use Rattle.spk_broker.specs.declared.guest.Guest.{Guest}
@@ -57,6 +60,38 @@ welcome-then client bs e = ap (λ b. b || ltb (count_by (passes (λ s. s.kept)) 
 pub welcome-else : (client : List ℕ) (bs : List Both) → list_any (passes (is_kept_of client)) bs ≡ false
     → ltb (count_by (passes (λ s. s.kept)) bs) 1000 ≡ welcome_in client (seats_now bs)
 welcome-else client bs e = ap (λ b. b || ltb (count_by (passes (λ s. s.kept)) bs) 1000) (sym e) ∙ welcome-is client bs
+
+-- where there are fewer sessions than may be kept, each is
+pub welcome-few : (client : List ℕ) (bs : List Both) → length bs < 1000 → true ≡ welcome_in client (seats_now bs)
+welcome-few client bs low =
+    let few = count_by-le-length (passes (λ s. s.kept)) bs in
+    let less : ltb (count_by (passes (λ s. s.kept)) bs) 1000 ≡ true = lt-ltb (count_by (passes (λ s. s.kept)) bs) 1000 (omega (arith, few, low)) in
+    by (list_any (passes (is_kept_of client)) bs) ∙ ap (λ b. list_any (passes (is_kept_of client)) bs || b) (sym less) ∙ welcome-is client bs
+  where
+    by : (b : Bool) → true ≡ b || true
+    by true = refl
+    by false = refl
+
+from-more : {X : Type 0} (p : X → Bool) (i : ℕ) (ys : List X) (y : X)
+    → position_from p i (ys ++ y ∷ []) ≡ first_with (position_from p i ys) (i + length ys) (p y)
+from-more p i [] y = ap (λ n. cond (p y) (Some n) None) (omega arith)
+from-more p i (x ∷ xs) y = by (p x) (from-more p (i + 1) xs y)
+  where
+    by : (b : Bool) → position_from p (i + 1) (xs ++ y ∷ []) ≡ first_with (position_from p (i + 1) xs) (i + 1 + length xs) (p y)
+        → cond b (Some i) (position_from p (i + 1) (xs ++ y ∷ [])) ≡ first_with (cond b (Some i) (position_from p (i + 1) xs)) (i + length (x ∷ xs)) (p y)
+    by true e = refl
+    by false e = e ∙ ap (λ n. first_with (position_from p (i + 1) xs) n (p y)) (omega arith)
+
+-- the first place of one session more
+pub first-more : {X : Type 0} (p : X → Bool) (xs : List X) (i : ℕ) (d : X) → i < length xs
+    → first_with (position p (take i xs)) i (p (get_or xs i d)) ≡ position p (take (i + 1) xs)
+first-more p xs i d low =
+    let long : i ≡ 0 + length (take i xs) = omega (arith, length-take-le i xs (omega (arith, low))) in
+    ap (λ n. first_with (position p (take i xs)) n (p (get_or xs i d))) long
+    ∙ ap (λ o. first_with o (0 + length (take i xs)) (p (get_or xs i d))) (position_from-zero p (take i xs))
+    ∙ sym (from-more p 0 (take i xs) (get_or xs i d))
+    ∙ sym (position_from-zero p (take i xs ++ get_or xs i d ∷ []))
+    ∙ sym (ap (position p) (take_more xs i d low))
 
 -- the silent ones of one seat more
 pub silent-more : (clock : ℕ) (bs : List Both) (i : ℕ) (d : Both) → i < length bs

@@ -287,7 +287,7 @@ flat-at f g (x ∷ xs) [] e h = absurd (omega (arith, e))
 flat-at f g (x ∷ xs) (y ∷ ys) e h =
     ap (λ l. l ++ flat_map f xs) (h zero x (omega arith)) ∙ ap (λ l. g y ++ l) (flat-at f g xs ys (omega (arith, e)) (λ i d lt. h (suc i) d (omega (arith, lt))))
 
-any-none : {X : Type 0} (p : X → Bool) (xs : List X) → ((i : ℕ) (d : X) → i < length xs → p (get_or xs i d) ≡ false) → list_any p xs ≡ false
+pub any-none : {X : Type 0} (p : X → Bool) (xs : List X) → ((i : ℕ) (d : X) → i < length xs → p (get_or xs i d) ≡ false) → list_any p xs ≡ false
 any-none p [] h = refl
 any-none p (x ∷ xs) h = ap (λ b. b || list_any p xs) (h zero x (omega arith)) ∙ any-none p xs (λ i d lt. h (suc i) d (omega (arith, lt)))
 
@@ -322,6 +322,11 @@ settled-there ps j start cur ended c t whole-list none =
     (λ in-it. let at = place-at i ps in-it in let low = at.1 in
     subst (λ n. has_ended (get_or cur n d) ≡ false) at.2 (ap not (c.there none at.0 d (omega (arith, low, whole-list)) low)))
     (λ out. ap has_ended (c.apart i d out ∙ t.rest i d (omega (arith, lt, long)) out)))
+
+-- and none that stands elsewhere did
+pub settled-stay : (ps : List ℕ) (j : ℕ) (start cur : List Both) (ended : Bool) → Settling ps j start cur ended → AreTouched ps start → (i : ℕ) (d : Both) → i < length cur
+    → is_place i ps ≡ false → has_ended (get_or cur i d) ≡ false
+settled-stay ps j start cur ended c t i d lt out = let long = c.long in ap has_ended (c.apart i d out ∙ t.rest i d (omega (arith, lt, long)) out)
 
 -- whether one of them ended
 pub settled-ended : (ps : List ℕ) (j : ℕ) (start cur : List Both) (ended : Bool) → Settling ps j start cur ended → AreTouched ps start → length ps ≤ j → ended ≡ list_any has_ended cur

@@ -47,3 +47,8 @@ place_in conn seats = position (passes (sits conn)) seats
 -- this connection sits at this place by now
 abbrev pub SitsAt : ℕ → ℕ → List Both → Type 0
 SitsAt conn place seats = (place < length seats) × ((d : Both) → passes (sits conn) (get_or seats place d) ≡ true)
+
+-- the first place that passes, with one more behind those that were looked at
+abbrev pub first_with : Option ℕ → ℕ → Bool → Option ℕ
+first_with None place passes = if passes then Some place else None
+first_with (Some first) place passes = Some first

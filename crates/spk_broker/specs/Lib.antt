@@ -6,6 +6,7 @@ pub mod Changes
 pub mod Connecting
 pub mod Counting
 pub mod Drafts
+pub mod Encoded
 pub mod Endings
 pub mod Entering
 pub mod Fault

@@ -6,7 +6,7 @@ ghost use Rattle.spk_session.specs.Step.{is_spent};
 ghost use Rattle.spk_broker_rules.specs.Lawful.{places};
 ghost use Rattle.spk_broker_rules.specs.Step.{conn_at, drops_in, is_away, is_guest, is_kept_of, knows, older_in, silent_at, sits, welcome_in};
 ghost use Rattle.spk_broker_rules.specs.Words.{option_list};
-ghost use Rattle.spk_broker.specs.Asking.{SitsAt, drops_at, guest_here, guests_now, is_joined_by, passes, place_in, seats_now, test_at};
+ghost use Rattle.spk_broker.specs.Asking.{SitsAt, drops_at, first_with, guest_here, guests_now, is_joined_by, passes, place_in, seats_now, test_at};
 ghost use Rattle.spk_broker.specs.View.{desk_now, seat_now};
 
 use crate::desk::Desk;
@@ -17,6 +17,15 @@ use spk_broker_rules::is_silent;
 
 /// The most kept sessions (own rule).
 const MOST_KEPT: usize = 1_000;
+
+/// Where sessions of a client stand.
+#[derive(Debug, Drop)]
+pub(crate) struct ClientPlaces {
+    /// The first one in which a connection sits.
+    pub(crate) joined: Option<usize>,
+    /// The first kept one without a connection.
+    pub(crate) away: Option<usize>,
+}
 
 impl Seat {
     /// Whether this connection sits here.
@@ -142,28 +151,51 @@ fn kept_count(seats: &[Seat]) -> usize
     count
 }
 
-/// Whether the client has a kept session, or there may be one more.
+/// Whether the client has a kept session, or there may be one more. Where there are fewer sessions than may be kept none is looked at.
 pub(crate) fn is_welcome(seats: &[Seat], client: &str) -> bool
     ensures { result ≡ welcome_in client.now (seats_now seats.now) }
 {
+    if seats.len() < MOST_KEPT {
+        return true;
+    }
     has_kept(seats, client) || kept_count(seats) < MOST_KEPT
 }
 
-/// Where a connection of this client sits.
-fn place_of_client(seats: &[Seat], client: &str) -> Option<usize>
-    ensures { result ≡ position (passes (is_joined_by client.now)) seats.now }
+/// The first place that passes, with one more behind those that were looked at.
+fn first_with(known: Option<usize>, place: usize, passes: bool) -> Option<usize>
+    ensures { result ≡ first_with known place passes }
 {
-    seats.iter().position(|seat| seat.is_joined_by(client))
+    match known {
+        Some(first) => Some(first),
+        None if passes => Some(place),
+        None => None,
+    }
 }
 
-/// The connection that sits for a client; none for the empty client id (section 3.1.3.1).
-pub(crate) fn older(seats: &[Seat], client: &str) -> Option<Conn>
+/// Where sessions of this client stand: each session is looked at once.
+pub(crate) fn client_places(seats: &[Seat], client: &str) -> ClientPlaces
+    ensures joined { result.joined ≡ position (passes (is_joined_by client.now)) seats.now }
+    ensures away { result.away ≡ position (passes (is_away client.now)) seats.now }
+{
+    let mut joined = None;
+    let mut away = None;
+    for place in 0..seats.len() {
+        let seat = &seats[place];
+        joined = first_with(joined, place, seat.is_joined_by(client));
+        away = first_with(away, place, seat.is_away(client));
+    }
+    ClientPlaces { joined, away }
+}
+
+/// The connection that sits for a client, which is at this place, if there is one; none for the empty client id (section 3.1.3.1).
+pub(crate) fn older(seats: &[Seat], client: &str, joined: Option<usize>) -> Option<Conn>
+    requires { joined ≡ position (passes (is_joined_by client.now)) seats.now }
     ensures { result ≡ older_in client.now (seats_now seats.now) }
 {
     if client.is_empty() {
         return None;
     }
-    match place_of_client(seats, client) {
+    match joined {
         Some(place) => seats[place].conn(),
         None => None,
     }

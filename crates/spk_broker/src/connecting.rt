@@ -1,13 +1,13 @@
 //! A CONNECT (sections 3.1 and 3.1.4): judged, and then the client's older connection is taken over.
 ghost use Rattle.std.specs.Prelude.{ℕ, ◌≡◌, ◌∷◌, ◌++◌, [], IfOk, IfSome, None, OnOk, false, true, not, if◌then◌else◌};
-ghost use Rattle.std.specs.List.{find};
+ghost use Rattle.std.specs.List.{find, position};
 ghost use Rattle.std.specs.Option.{option_map};
 ghost use Rattle.spk_packets.specs.View.{will_view};
 ghost use Rattle.spk_broker_rules.specs.Lawful.{IsLawful};
 ghost use Rattle.spk_broker_rules.specs.Plan.{Accept, Forget, Seen, connect, has_bad_topic, join, take_over, tell_older};
-ghost use Rattle.spk_broker_rules.specs.Step.{Turn, act, acts, is_guest, line_of, older_in, welcome_in};
+ghost use Rattle.spk_broker_rules.specs.Step.{Turn, act, acts, is_away, is_guest, line_of, older_in, welcome_in};
 ghost use Rattle.spk_broker_rules.specs.Words.{option_list, will_post};
-ghost use Rattle.spk_broker.specs.Asking.{guests_now, seats_now};
+ghost use Rattle.spk_broker.specs.Asking.{guests_now, passes, seats_now};
 ghost use Rattle.spk_broker.specs.Called.{AreInOrder};
 ghost use Rattle.spk_broker.specs.Connecting.{Comes, judged};
 ghost use Rattle.spk_broker.specs.Drafts.{draft_view};
@@ -19,7 +19,7 @@ ghost use Rattle.spk_broker.specs.Touched.{IsStill};
 ghost use Rattle.spk_broker.specs.View.{Stands, desk_now, desk_was};
 ghost use Rattle.spk_broker.specs.declared.out.Draft.{Draft};
 
-use crate::asking::{guest_place, is_welcome, older};
+use crate::asking::{away_place, client_places, guest_place, is_welcome, older};
 use crate::desk::Desk;
 use crate::joining::Entry;
 use crate::out::{Conn, Draft};
@@ -111,10 +111,13 @@ impl Desk {
         conn: Conn,
         client: &str,
         kept: bool,
+        away: Option<usize>,
         alive: u16,
         will: Option<Post>,
     ) -> Result<Option<Entry>, AllocError>
         requires lawful { IsLawful (desk_was self.old) }
+        requires away { kept ≡ true
+            → away ≡ position (passes (is_away client.now)) self.old.seats.items }
         ensures done { IfOk result (λ e. (t : Turn) → Stands self.old draft.old t
             → Comes self.new draft.new e
             (act (Accept conn client.now kept alive (option_map post_view will)) t)) }
@@ -124,7 +127,7 @@ impl Desk {
         ensures same { desk_was self.new ≡ desk_was self.old }
     {
         match self.line(conn, alive, will) {
-            Some(line) => Ok(Some(self.prepare(draft, client, kept, line)?)),
+            Some(line) => Ok(Some(self.prepare(draft, client, kept, away, line)?)),
             None => Ok(None),
         }
     }
@@ -151,14 +154,32 @@ impl Desk {
         Ok(())
     }
 
-    /// A clean session ends the kept one of its client. Whether there was one.
-    fn clean_up(&mut self, client: &str, clean: bool) -> bool
+    /// Where the first kept session of the client without a connection stands: where nobody was taken over, where it stood before.
+    fn away_now(&self, client: &str, older: Option<Conn>, before: Option<usize>) -> Option<usize>
+        requires { older ≡ None
+            → before ≡ position (passes (is_away client.now)) self.now.seats.items }
+        ensures { result ≡ position (passes (is_away client.now)) self.now.seats.items }
+    {
+        match older {
+            Some(_) => away_place(&self.seats, client),
+            None => before,
+        }
+    }
+
+    /// A clean session ends the kept one of its client, which stands at this place, if there is one. Whether there was one.
+    fn clean_up(&mut self, client: &str, clean: bool, away: Option<usize>) -> bool
+        requires away { away ≡ position (passes (is_away client.now)) self.old.seats.items }
         ensures still { result ≡ false → IsStill self.old → IsStill self.new }
+        ensures kept { clean ≡ false → self.new ≡ self.old }
         ensures done { (x : Draft) (t : Turn) → Stands self.old x t
             → Stands self.new x (acts (if clean then Forget client.now ∷ [] else []) t) }
         ensures same { desk_was self.new ≡ desk_was self.old }
     {
-        if clean { self.forget(client) } else { false }
+        if clean {
+            self.forget(client, away)
+        } else {
+            false
+        }
     }
 
     /// The client's older connection is taken over (section 3.1.4), and the newer one is about to enter.
@@ -185,10 +206,12 @@ impl Desk {
             (draft.new.is_still ≡ true → IsStill self.old → IsStill self.new) }
         ensures same { desk_was self.new ≡ desk_was self.old }
     {
-        let older = older(&self.seats, client);
+        let places = client_places(&self.seats, client);
+        let older = older(&self.seats, client, places.joined);
         self.take_over(draft, tree, older)?;
-        let was_kept = self.clean_up(client, clean);
-        let entry = self.accept(draft, conn, client, !clean, alive, will)?;
+        let away = self.away_now(client, older, places.away);
+        let was_kept = self.clean_up(client, clean, away);
+        let entry = self.accept(draft, conn, client, !clean, away, alive, will)?;
         draft.tell_older(older)?;
         draft.is_still = older.is_none() && !was_kept;
         Ok(entry)

@@ -206,15 +206,16 @@ impl Seat {
     }
 }
 
-/// The kept session of a client without a connection ends. Whether there was one.
-fn end_away(seats: &mut [Seat], client: &str) -> bool
+/// The kept session of a client without a connection, which stands at this place, ends. Whether there was one.
+fn end_away(seats: &mut [Seat], client: &str, away: Option<usize>) -> bool
+    requires { away ≡ position (passes (is_away client.now)) seats.old }
     ensures none { result ≡ false → seats.new ≡ seats.old }
     ensures now { (low top : ℕ) → Rises low top (seats_now seats.old)
         → seats_now seats.new
         ≡ forgot (find (is_away client.now) (seats_now seats.old)) (seats_now seats.old) }
     ensures was { map seat_was seats.new ≡ map seat_was seats.old }
 {
-    match away_place(seats, client) {
+    match away {
         Some(place) => {
             seats[place].end();
             true
@@ -263,14 +264,15 @@ impl Desk {
         }
     }
 
-    /// A kept session of this client ends. Whether there was one.
-    pub(crate) fn forget(&mut self, client: &str) -> bool
+    /// The kept session of this client without a connection, which stands at this place, ends. Whether there was one.
+    pub(crate) fn forget(&mut self, client: &str, away: Option<usize>) -> bool
+        requires away { away ≡ position (passes (is_away client.now)) self.old.seats.items }
         ensures still { result ≡ false → IsStill self.old → IsStill self.new }
         ensures done { (draft : Draft) (t : Turn) → Stands self.old draft t
             → Stands self.new draft (act (Forget client.now) t) }
         ensures same { desk_was self.new ≡ desk_was self.old }
     {
-        end_away(&mut self.seats, client)
+        end_away(&mut self.seats, client, away)
     }
 
     /// A new session is prepared: CONNACK, and room for it.
@@ -351,16 +353,19 @@ impl Desk {
         })
     }
 
-    /// What an accepted CONNECT comes to is prepared.
+    /// What an accepted CONNECT comes to is prepared; the kept session of its client stands at this place, if there is one.
     pub(crate) fn prepare(
         &mut self,
         draft: &mut Draft,
         client: &str,
         kept: bool,
+        away: Option<usize>,
         line: Line,
     ) -> Result<Entry, AllocError>
         requires line { line_was line ≡ line_now line }
         requires number { self.old.made < self.old.given }
+        requires away { kept ≡ true
+            → away ≡ position (passes (is_away client.now)) self.old.seats.items }
         ensures entry { IfOk result
             (λ e. entered e (desk_now self.old)
             ≡ (taken client.now kept (line_now line) (desk_now self.old)).broker) }
@@ -376,7 +381,7 @@ impl Desk {
         if !kept {
             return self.make(draft, client, false, line);
         }
-        match away_place(&self.seats, client) {
+        match away {
             Some(place) => self.come_back(draft, place, client, line),
             None => self.make(draft, client, true, line),
         }

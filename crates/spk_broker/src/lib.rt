@@ -10,6 +10,7 @@ mod calm;
 mod connecting;
 mod counting;
 mod desk;
+mod encoded;
 mod ending;
 mod events;
 mod fault;

@@ -1,18 +1,24 @@
 //! A message for one session, with its QoS and RETAIN as they are sent.
-ghost use Rattle.std.specs.Prelude.{◌≡◌, OnOk};
+ghost use Rattle.std.specs.Prelude.{Bool, ◌≡◌, OnOk};
+ghost use Rattle.spk_packets.specs.Spelling.{spelling};
+ghost use Rattle.spk_broker_rules.specs.Data as plain;
 ghost use Rattle.spk_broker_rules.specs.Step.{hand};
-ghost use Rattle.spk_broker_rules.specs.Words.{option_list};
+ghost use Rattle.spk_broker_rules.specs.Words.{option_list, plain_packet, sent_as};
 ghost use Rattle.spk_broker.specs.Drafts.{draft_view, left_by, served_by};
+ghost use Rattle.spk_broker.specs.Encoded.{IsGiven};
 ghost use Rattle.spk_broker.specs.Parts.{post_view};
 
 use crate::out::Draft;
 use crate::post::Post;
+use crate::presenting::Given;
 use crate::seat::Seat;
+use spk_bytes::Bytes;
+use spk_session::Sort;
 use std::alloc::AllocError;
 
 impl Seat {
     /// The message goes to the session.
-    pub(crate) fn hand(&mut self, draft: &mut Draft, post: &Post) -> Result<(), AllocError>
+    fn hand(&mut self, draft: &mut Draft, post: &Post) -> Result<(), AllocError>
         ensures was { self.new.was ≡ self.old.was }
         ensures left { OnOk result (
             option_list self.new.now ≡ left_by (hand (post_view post.now)) self.old.now) }
@@ -23,5 +29,44 @@ impl Seat {
             return self.hand_plain(draft, post, post.retain);
         }
         self.hand_numbered(draft, post, post.qos, post.retain)
+    }
+
+    /// The bytes of a message of QoS 0 go to its connection, where it has one.
+    fn hand_bytes(&mut self, draft: &mut Draft, bytes: Bytes) -> Result<(), AllocError>
+        ensures was { self.new.was ≡ self.old.was }
+        ensures left { OnOk result ((m : plain.Post) (retain : Bool)
+            → option_list self.new.now ≡ left_by (hand (sent_as m 0 retain)) self.old.now) }
+        ensures drafted { OnOk result ((m : plain.Post) (retain : Bool)
+            → bytes ≡ spelling (plain_packet (sent_as m 0 retain))
+            → draft_view draft.new
+            ≡ served_by (hand (sent_as m 0 retain)) self.old.now (draft_view draft.old)) }
+    {
+        if self.ended {
+            return Ok(());
+        }
+        if let Some(line) = &self.here {
+            draft.send(line.conn, Sort::QosZero, bytes)?;
+        }
+        Ok(())
+    }
+
+    /// What is given of a retained message goes to the session.
+    pub(crate) fn hand_given(&mut self, draft: &mut Draft, given: Given) -> Result<(), AllocError>
+        ensures was { self.new.was ≡ self.old.was }
+        ensures left { OnOk result ((p : plain.Post) → IsGiven given p
+            → option_list self.new.now ≡ left_by (hand p) self.old.now) }
+        ensures drafted { OnOk result ((p : plain.Post) → IsGiven given p
+            → draft_view draft.new ≡ served_by (hand p) self.old.now (draft_view draft.old)) }
+    {
+        match given {
+            Given::Plain(bytes) => {
+                self.hand_bytes(draft, bytes)?;
+                Ok(())
+            }
+            Given::Numbered(post) => {
+                self.hand(draft, &post)?;
+                Ok(())
+            }
+        }
     }
 }

@@ -1,12 +1,13 @@
 //! Retained messages for new grants (sections 3.3.1.3 and 3.8.4).
-ghost use Rattle.std.specs.Prelude.{ℕ, ◌≡◌, ◌<◌, ◌∷◌, [], IfOk, OnOk, length, map, string_bytes, true, slice_index_or, slice_set, vec_len};
+ghost use Rattle.std.specs.Prelude.{ℕ, List, ◌≡◌, ◌<◌, ◌∷◌, [], IfOk, OnOk, Some, length, map, string_bytes, true, slice_index_or, slice_set, vec_len};
 ghost use Rattle.std.specs.List.{flat_map, fold};
-ghost use Rattle.std.specs.Option.{option_map};
 ghost use Rattle.std.specs.List.{slice_get};
 ghost use Rattle.spk_topics.specs.Text.{is_plain};
+ghost use Rattle.spk_broker_rules.specs.Data as plain;
 ghost use Rattle.spk_broker_rules.specs.Step.{Turn, hand, offer};
-ghost use Rattle.spk_broker_rules.specs.Words.{offers_to, option_list};
+ghost use Rattle.spk_broker_rules.specs.Words.{offers_to};
 ghost use Rattle.spk_broker.specs.Drafts.{draft_view, left_by, served_by};
+ghost use Rattle.spk_broker.specs.Encoded.{AreBytesOf, AreEncoded, AreGiven, encoded_at};
 ghost use Rattle.spk_broker.specs.Offering.{Offering, offers_at, offers_in, retained_at};
 ghost use Rattle.spk_broker.specs.Parts.{grant_view, post_view, retained_view, stored_view};
 ghost use Rattle.spk_broker.specs.Sendable.{are_sendable, is_sendable};
@@ -14,11 +15,13 @@ ghost use Rattle.spk_broker.specs.Touched.{OnlyAt};
 ghost use Rattle.spk_broker.specs.View.{desk_was};
 
 use crate::desk::{Desk, Stored};
+use crate::encoded::Encoded;
 use crate::fitting::{is_match, is_plain};
 use crate::out::Draft;
 use crate::post::Post;
 use crate::seat::{Grant, Seat};
 use indexmap::IndexMap;
+use spk_bytes::Bytes;
 use std::alloc::AllocError;
 
 /// A retained message as it is offered at a QoS.
@@ -30,32 +33,63 @@ fn post_at(topic: &String, stored: &Stored, qos: u8) -> Result<Post, AllocError>
     Post::of(topic, &stored.payload, qos, true)
 }
 
+/// What is given of a retained message: its bytes, where it goes with QoS 0, or the message itself.
+#[derive(Drop)]
+pub(crate) enum Given {
+    Plain(Bytes),
+    Numbered(Post),
+}
+
 /// A retained message for a grant, where its topic matches: with RETAIN, and the lesser QoS.
-fn offered_one(topic: &String, stored: &Stored, grant: &Grant) -> Result<Option<Post>, AllocError>
-    requires { is_sendable (string_bytes topic.now) stored.now.payload.items stored.now.qos ≡ true }
-    ensures { IfOk result (λ p. option_list (option_map post_view p)
-        ≡ offers_to ((string_bytes topic.now, stored_view stored.now) ∷ [])
-        (grant_view grant.now)) }
+fn offered_one(
+    encoded: &mut Encoded,
+    place: usize,
+    topic: &String,
+    stored: &Stored,
+    grant: &Grant,
+) -> Result<Option<Given>, AllocError>
+    requires sendable { is_sendable (string_bytes topic.now) stored.now.payload.items stored.now.qos
+        ≡ true }
+    requires right { AreBytesOf (encoded_at encoded.old place)
+        (Some (string_bytes topic.now, stored_view stored.now)) }
+    ensures given { IfOk result (λ g. AreGiven g
+        (offers_to ((string_bytes topic.now, stored_view stored.now) ∷ [])
+        (grant_view grant.now))) }
+    ensures right { OnOk result ((es : List (List ℕ × plain.Stored))
+        → slice_get es place ≡ Some (string_bytes topic.now, stored_view stored.now)
+        → AreEncoded encoded.old es → AreEncoded encoded.new es) }
 {
     if !is_match(grant.filter.as_str(), topic.as_str()) {
         return Ok(None);
     }
-    Ok(Some(post_at(topic, stored, stored.qos.min(grant.qos))?))
+    let qos = stored.qos.min(grant.qos);
+    if qos == 0 {
+        let bytes = encoded.bytes(place, topic, stored)?;
+        return Ok(Some(Given::Plain(bytes)));
+    }
+    let post = post_at(topic, stored, qos)?;
+    Ok(Some(Given::Numbered(post)))
 }
 
 /// The retained message at this place for a grant.
 fn offered(
+    encoded: &mut Encoded,
     retained: &IndexMap<String, Stored>,
     place: usize,
     grant: &Grant,
-) -> Result<Option<Post>, AllocError>
-    requires { are_sendable (map retained_view retained.now.entries) ≡ true }
-    ensures { IfOk result (λ p. option_list (option_map post_view p)
-        ≡ offers_at (slice_get (map retained_view retained.now.entries) place)
-        (grant_view grant.now)) }
+) -> Result<Option<Given>, AllocError>
+    requires sendable { are_sendable (map retained_view retained.now.entries) ≡ true }
+    requires right { AreEncoded encoded.old (map retained_view retained.now.entries) }
+    ensures given { IfOk result (λ g. AreGiven g
+        (offers_at (slice_get (map retained_view retained.now.entries) place)
+        (grant_view grant.now))) }
+    ensures right { OnOk result (AreEncoded encoded.new (map retained_view retained.now.entries)) }
 {
     match retained.get_index(place) {
-        Some((topic, stored)) => Ok(offered_one(topic, stored, grant)?),
+        Some((topic, stored)) => {
+            let given = offered_one(encoded, place, topic, stored, grant)?;
+            Ok(given)
+        }
         None => Ok(None),
     }
 }
@@ -74,11 +108,13 @@ impl Desk {
     fn offer_one(
         &mut self,
         draft: &mut Draft,
+        encoded: &mut Encoded,
         place: usize,
         grant: &Grant,
         from: usize,
     ) -> Result<(), AllocError>
-        requires { place < vec_len self.old.seats }
+        requires low { place < vec_len self.old.seats }
+        requires right { AreEncoded encoded.old (map retained_view self.old.retained.entries) }
         ensures done { OnOk result
             ((key : ℕ) (t : Turn) → Offering self.old draft.old place key t
             → Offering self.new draft.new place key
@@ -86,13 +122,15 @@ impl Desk {
             (offers_at (slice_get (map retained_view self.old.retained.entries) from)
             (grant_view grant.now)))) }
         ensures only { OnOk result (OnlyAt (place ∷ []) self.old → OnlyAt (place ∷ []) self.new) }
+        ensures right { OnOk result
+            (AreEncoded encoded.new (map retained_view self.old.retained.entries)) }
         ensures retained { self.new.retained ≡ self.old.retained }
         ensures len { vec_len self.new.seats ≡ vec_len self.old.seats }
         ensures same { desk_was self.new ≡ desk_was self.old }
     {
-        match offered(&self.retained, from, grant)? {
-            Some(post) => {
-                self.seats[place].hand(draft, &post)?;
+        match offered(encoded, &self.retained, from, grant)? {
+            Some(given) => {
+                self.seats[place].hand_given(draft, given)?;
                 Ok(())
             }
             None => Ok(()),
@@ -103,22 +141,26 @@ impl Desk {
     fn offer_each(
         &mut self,
         draft: &mut Draft,
+        encoded: &mut Encoded,
         place: usize,
         grant: &Grant,
     ) -> Result<(), AllocError>
-        requires { place < vec_len self.old.seats }
+        requires low { place < vec_len self.old.seats }
+        requires right { AreEncoded encoded.old (map retained_view self.old.retained.entries) }
         ensures done { OnOk result
             ((key : ℕ) (t : Turn) → Offering self.old draft.old place key t
             → Offering self.new draft.new place key
             (fold (offer key) t
             (offers_to (map retained_view self.old.retained.entries) (grant_view grant.now)))) }
         ensures only { OnOk result (OnlyAt (place ∷ []) self.old → OnlyAt (place ∷ []) self.new) }
+        ensures right { OnOk result
+            (AreEncoded encoded.new (map retained_view self.old.retained.entries)) }
         ensures retained { self.new.retained ≡ self.old.retained }
         ensures len { vec_len self.new.seats ≡ vec_len self.old.seats }
         ensures same { desk_was self.new ≡ desk_was self.old }
     {
         for from in 0..self.retained.len() {
-            self.offer_one(draft, place, grant, from)?;
+            self.offer_one(draft, encoded, place, grant, from)?;
         }
         Ok(())
     }
@@ -127,10 +169,12 @@ impl Desk {
     fn offer_named(
         &mut self,
         draft: &mut Draft,
+        encoded: &mut Encoded,
         place: usize,
         grant: &Grant,
     ) -> Result<(), AllocError>
         requires low { place < vec_len self.old.seats }
+        requires right { AreEncoded encoded.old (map retained_view self.old.retained.entries) }
         requires plain { is_plain (string_bytes grant.now.filter) ≡ true }
         ensures done { OnOk result
             ((key : ℕ) (t : Turn) → Offering self.old draft.old place key t
@@ -138,13 +182,15 @@ impl Desk {
             (fold (offer key) t
             (offers_to (map retained_view self.old.retained.entries) (grant_view grant.now)))) }
         ensures only { OnOk result (OnlyAt (place ∷ []) self.old → OnlyAt (place ∷ []) self.new) }
+        ensures right { OnOk result
+            (AreEncoded encoded.new (map retained_view self.old.retained.entries)) }
         ensures retained { self.new.retained ≡ self.old.retained }
         ensures len { vec_len self.new.seats ≡ vec_len self.old.seats }
         ensures same { desk_was self.new ≡ desk_was self.old }
     {
         match place_on(&self.retained, grant.filter.as_str()) {
             Some(from) => {
-                self.offer_one(draft, place, grant, from)?;
+                self.offer_one(draft, encoded, place, grant, from)?;
                 Ok(())
             }
             None => Ok(()),
@@ -155,29 +201,33 @@ impl Desk {
     fn offer_table(
         &mut self,
         draft: &mut Draft,
+        encoded: &mut Encoded,
         place: usize,
         grant: &Grant,
     ) -> Result<(), AllocError>
-        requires { place < vec_len self.old.seats }
+        requires low { place < vec_len self.old.seats }
+        requires right { AreEncoded encoded.old (map retained_view self.old.retained.entries) }
         ensures done { OnOk result
             ((key : ℕ) (t : Turn) → Offering self.old draft.old place key t
             → Offering self.new draft.new place key
             (fold (offer key) t
             (offers_to (map retained_view self.old.retained.entries) (grant_view grant.now)))) }
         ensures only { OnOk result (OnlyAt (place ∷ []) self.old → OnlyAt (place ∷ []) self.new) }
+        ensures right { OnOk result
+            (AreEncoded encoded.new (map retained_view self.old.retained.entries)) }
         ensures retained { self.new.retained ≡ self.old.retained }
         ensures len { vec_len self.new.seats ≡ vec_len self.old.seats }
         ensures same { desk_was self.new ≡ desk_was self.old }
     {
         if is_plain(grant.filter.as_str()) {
-            self.offer_named(draft, place, grant)?;
+            self.offer_named(draft, encoded, place, grant)?;
             return Ok(());
         }
-        self.offer_each(draft, place, grant)?;
+        self.offer_each(draft, encoded, place, grant)?;
         Ok(())
     }
 
-    /// All retained messages that match are offered for each grant, one grant after the other.
+    /// All retained messages that match are offered for each grant, one grant after the other. Each that goes with QoS 0 is encoded once.
     pub(crate) fn offer_all(
         &mut self,
         draft: &mut Draft,
@@ -194,8 +244,9 @@ impl Desk {
         ensures only { OnOk result (OnlyAt (place ∷ []) self.old → OnlyAt (place ∷ []) self.new) }
         ensures same { desk_was self.new ≡ desk_was self.old }
     {
+        let mut encoded = Encoded::new(self.alloc, given.len());
         for grant in given {
-            self.offer_table(draft, place, grant)?;
+            self.offer_table(draft, &mut encoded, place, grant)?;
         }
         Ok(())
     }

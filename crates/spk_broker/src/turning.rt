@@ -1,9 +1,11 @@
 //! How sessions come out of a call, and how their connections leave.
-ghost use Rattle.std.specs.Prelude.{◌≡◌, ◌++◌, ◌∷◌, ◌≤◌, [], OnOk, Some, is_some, map, false, true, vec_capacity, vec_len};
-ghost use Rattle.std.specs.List.{flat_map, list_any};
+ghost use Rattle.std.specs.Prelude.{ℕ, ◌≡◌, ◌++◌, ◌∷◌, ◌<◌, ◌≤◌, [], OnOk, Some, get_or, is_some, length, map, false, true, vec_capacity, vec_len};
+ghost use Rattle.std.specs.List.{filter, flat_map, list_any};
 ghost use Rattle.std.specs.Option.{option_map};
 ghost use Rattle.spk_broker_rules.specs.Step.{left_behind, will_at};
 ghost use Rattle.spk_broker_rules.specs.Words.{option_list};
+ghost use Rattle.spk_broker.specs.Both.{Both};
+ghost use Rattle.spk_broker.specs.Called.{is_place};
 ghost use Rattle.spk_broker.specs.Drafts.{draft_view};
 ghost use Rattle.spk_broker.specs.Seats.{seat_dropped, seat_heard};
 ghost use Rattle.spk_broker.specs.Settling.{has_ended, seat_left};
@@ -175,6 +177,10 @@ fn settle_places(seats: &mut [Seat], places: &[usize], last: usize) -> bool
     ensures ended { result ≡ list_any has_ended seats.new }
     ensures now { flat_map seat_now seats.new ≡ flat_map seat_now seats.old }
     ensures left { flat_map seat_left seats.new ≡ flat_map seat_now seats.old }
+    ensures stay { (i : ℕ) (d : Both) → i < length seats.new
+        → is_place i (places.now ++ last ∷ []) ≡ false
+        → has_ended (get_or seats.new i d) ≡ false }
+    ensures long { length seats.new ≡ length seats.old }
 {
     let mut ended = false;
     for place in places {
@@ -185,6 +191,23 @@ fn settle_places(seats: &mut [Seat], places: &[usize], last: usize) -> bool
     ended | other
 }
 
+/// Who ended is gone, where one did, and none but those at these places and at that one can have. Where that one alone can, no other is looked
+/// at.
+fn drop_ended(seats: &mut Vec<Seat>, places: &[usize], place: usize)
+    requires low { place < length seats.old.items }
+    requires some { list_any has_ended seats.old.items ≡ true }
+    requires stay { (i : ℕ) (d : Both) → i < length seats.old.items
+        → is_place i (places.now ++ place ∷ []) ≡ false
+        → has_ended (get_or seats.old.items i d) ≡ false }
+    ensures { seats.new.items ≡ filter (λ b. is_some b.now) seats.old.items }
+{
+    if places.is_empty() {
+        let _ = seats.remove(place);
+        return;
+    }
+    seats.retain(|seat| seat.is_there());
+}
+
 /// What was drafted stands, where only the sessions at these places and at that one may have changed; which of them ended is
 /// gone.
 pub(crate) fn settle_at(seats: &mut Vec<Seat>, places: &[usize], place: usize)
@@ -193,7 +216,7 @@ pub(crate) fn settle_at(seats: &mut Vec<Seat>, places: &[usize], place: usize)
     ensures now { flat_map seat_now seats.new.items ≡ flat_map seat_now seats.old.items }
 {
     if settle_places(seats, places, place) {
-        seats.retain(|seat| seat.is_there());
+        drop_ended(seats, places, place);
     }
 }
 

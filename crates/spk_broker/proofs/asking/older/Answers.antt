@@ -7,7 +7,7 @@ use Rattle.spk_broker.proofs.asking.older.Goals as goal
 
 pub returns-in-Some : goal.returns-in-Some
 returns-in-Some c = c.conn.ensures ∙ ap (λ (b : Both). option_and_then conn_at b.now) c.index-seats-place.is
-    ∙ sym (older-found c.args.client.now c.args.seats.now c.in-Some.place c.index-seats-place.result (sym c.is_empty.ensures ∙ c.if-is_empty.false) (sym c.place_of_client.ensures ∙ c.in-Some.is))
+    ∙ sym (older-found c.args.client.now c.args.seats.now c.in-Some.place c.index-seats-place.result (sym c.is_empty.ensures ∙ c.if-is_empty.false) (sym c.requires ∙ c.in-Some.is))
 
 pub returns-in-None : goal.returns-in-None
-returns-in-None c = sym (older-lost c.args.client.now c.args.seats.now (sym c.is_empty.ensures ∙ c.if-is_empty.false) (sym c.place_of_client.ensures ∙ c.in-None.is))
+returns-in-None c = sym (older-lost c.args.client.now c.args.seats.now (sym c.is_empty.ensures ∙ c.if-is_empty.false) (sym c.requires ∙ c.in-None.is))

@@ -10,8 +10,8 @@ use Rattle.spk_broker.proofs.joining.end_away.Goals as goal
 pub returns-in-Some-clause-now : goal.returns-in-Some-clause-now
 returns-in-Some-clause-now c =
     λ low top r. ap (λ (b : Both). seats_now (set c.args.seats.now c.in-Some.place b)) c.end.ensures
-    ∙ end-found (is_away c.args.client.now) c.args.seats.now c.in-Some.place c.index-seats-place.result low top (sym c.away_place.ensures ∙ c.in-Some.is)
-    (position-Some (passes (is_away c.args.client.now)) c.args.seats.now c.in-Some.place c.index-seats-place.result (sym c.away_place.ensures ∙ c.in-Some.is)).1 r
+    ∙ end-found (is_away c.args.client.now) c.args.seats.now c.in-Some.place c.index-seats-place.result low top (sym c.requires ∙ c.in-Some.is)
+    (position-Some (passes (is_away c.args.client.now)) c.args.seats.now c.in-Some.place c.index-seats-place.result (sym c.requires ∙ c.in-Some.is)).1 r
 
 pub returns-in-Some-clause-was : goal.returns-in-Some-clause-was
 returns-in-Some-clause-was c =
@@ -19,4 +19,4 @@ returns-in-Some-clause-was c =
     (ap (λ (b : Both). b.was) c.end.ensures ∙ ap (λ (b : Both). b.was) (sym c.index-seats-place.is))
 
 pub returns-in-None-clause-now : goal.returns-in-None-clause-now
-returns-in-None-clause-now c = λ low top r. end-lost (is_away c.args.client.now) c.args.seats.now (sym c.away_place.ensures ∙ c.in-None.is)
+returns-in-None-clause-now c = λ low top r. end-lost (is_away c.args.client.now) c.args.seats.now (sym c.requires ∙ c.in-None.is)

@@ -1,5 +1,5 @@
 use Rattle.std.proofs.Common.{◌+◌, ◌++◌, ◌∷◌, [], ◌||◌, set}
-use Rattle.spk_broker.proofs.Touched.{Settling, all-places, front-low, last-low, settled-ended, settled-left, settled-now, settling-front, settling-last, settling-start}
+use Rattle.spk_broker.proofs.Touched.{Settling, all-places, front-low, last-low, settled-ended, settled-left, settled-now, settled-stay, settling-front, settling-last, settling-start}
 use Rattle.spk_broker.proofs.turning.settle_places.Goals as goal
 
 pub bounds-seats-place : goal.bounds-seats-place
@@ -37,3 +37,11 @@ pub returns-clause-ended : goal.returns-clause-ended
 returns-clause-ended c =
     settled-ended (c.args.places.now ++ c.args.last ∷ []) (c.loop-place.place-index + 1) c.args.seats.now (set c.loop-place.seats c.args.last c.settle_ended-other.new.self)
     (c.loop-place.ended || c.settle_ended-other.result) (all-settled c) c.requires (all-places c.args.places.now c.args.last c.loop-place.place-index c.loop-place-test.false)
+
+pub returns-clause-stay : goal.returns-clause-stay
+returns-clause-stay c i d lt out =
+    settled-stay (c.args.places.now ++ c.args.last ∷ []) (c.loop-place.place-index + 1) c.args.seats.now (set c.loop-place.seats c.args.last c.settle_ended-other.new.self)
+    (c.loop-place.ended || c.settle_ended-other.result) (all-settled c) c.requires i d lt out
+
+pub returns-clause-long : goal.returns-clause-long
+returns-clause-long c = (all-settled c).long

@@ -1,4 +1,4 @@
-use Rattle.std.proofs.Common.{◌≡◌, ◌∙◌, ◌≤◌, ap, eqb, map, subst, sym, take, Global}
+use Rattle.std.proofs.Common.{◌∙◌, ◌≤◌, ap, eqb, map, subst, sym, take, Global}
 use Rattle.std.proofs.lemmas.List.{take_all}
 use Rattle.std.specs.List.{flat_map}
 use Rattle.spk_broker_rules.specs.Words.{offers_to}

@@ -1,4 +1,4 @@
-use Rattle.std.proofs.Common.{◌∙◌, [], ap, map, sym, Global}
+use Rattle.std.proofs.Common.{◌∙◌, ap, sym, Global}
 use Rattle.std.proofs.lemmas.Option.{slice_get-map}
 use Rattle.std.specs.Option.{option_map}
 use Rattle.spk_broker.specs.Offering.{offers_at}

@@ -1,11 +1,11 @@
 use Rattle.std.proofs.Common.{◌≡◌, ◌∙◌, List, ap, map, sym, subst, length, rules}
 use Rattle.std.proofs.lemmas.List.{with_items_is}
-use Rattle.std.specs.List.{find, flat_map}
+use Rattle.std.specs.List.{find, flat_map, position}
 use Rattle.std.specs.Vec.{with_items}
 use Rattle.spk_broker_rules.specs.Data as plain
 use Rattle.spk_broker_rules.specs.Lawful.{Rises}
 use Rattle.spk_broker_rules.specs.Step.{is_away}
-use Rattle.spk_broker.specs.Asking.{seats_now}
+use Rattle.spk_broker.specs.Asking.{passes, seats_now}
 use Rattle.spk_broker.specs.Both.{Both}
 use Rattle.spk_broker.specs.Changes.{forgot}
 use Rattle.spk_broker.specs.View.{seat_now, seat_was}
@@ -26,3 +26,6 @@ returns-clause-still c none still =
     let len : length c.end_away.new.seats ≡ c.args.self.now.seats.len = search rules in
     let same = with_items_is c.args.self.now.seats c.end_away.new.seats len in
     subst (λ (bs : List Both). flat_map seat_now bs ≡ map seat_was bs) (sym (same ∙ c.end_away.ensures.none none ∙ c.deref_mut.ensures.value)) still
+
+pub end_away-requires : goal.end_away-requires
+end_away-requires c = c.requires.away ∙ ap (λ (bs : List Both). position (passes (is_away c.args.client.now)) bs) (sym c.deref_mut.ensures.value)

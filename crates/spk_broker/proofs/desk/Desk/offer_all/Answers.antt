@@ -1,8 +1,9 @@
-use Rattle.std.proofs.Common.{◌∙◌, ap, map, take, Global}
+use Rattle.std.proofs.Common.{◌∙◌, ap, map, subst, sym, take, Global}
 use Rattle.std.proofs.lemmas.List.{take_all}
 use Rattle.std.specs.List.{flat_map, fold}
 use Rattle.spk_broker_rules.specs.Step.{offer}
 use Rattle.spk_broker_rules.specs.Words.{offers_to}
+use Rattle.spk_broker.specs.Encoded.{AreEncoded}
 use Rattle.spk_broker.specs.Parts.{grant_view, retained_view}
 use Rattle.spk_broker.proofs.Offers.{offering-along, grants-step}
 use Rattle.spk_broker.proofs.desk.Desk.offer_all.Goals as goal
@@ -20,6 +21,7 @@ loop-grant-preserved c =
       retained = c.offer_table.ensures.retained ∙ c.loop-grant.invariant.retained;
       len = c.offer_table.ensures.len ∙ c.loop-grant.invariant.len;
       same = c.offer_table.ensures.same ∙ c.loop-grant.invariant.same;
+      right = subst (AreEncoded c.offer_table.new.encoded) (ap (λ r. map (retained_view {A = Global}) r.entries) c.loop-grant.invariant.retained) c.in_ok-offer_table.ensures.right;
       only = λ o. c.in_ok-offer_table.ensures.only (c.loop-grant.invariant.only o);
     }
 
@@ -28,3 +30,7 @@ returns-clause-done c = λ key t o.
     let es = map (retained_view {A = Global}) c.args.self.now.retained.entries in
     offering-along _ _ _ _ _ _ (c.loop-grant.invariant.done key t o)
     (ap (λ gs. fold (offer key) t (flat_map (offers_to es) (map grant_view gs))) (take_all c.loop-grant.grant-index c.args.given.now c.loop-grant-test.false))
+
+pub offer_table-requires-clause-right : goal.offer_table-requires-clause-right
+offer_table-requires-clause-right c =
+    subst (AreEncoded c.loop-grant.encoded) (ap (λ r. map (retained_view {A = Global}) r.entries) (sym c.loop-grant.invariant.retained)) c.loop-grant.invariant.right

@@ -1,9 +1,10 @@
-use Rattle.std.proofs.Common.{◌≤◌, ◌∙◌, ap, map, take, length, arith, Global}
+use Rattle.std.proofs.Common.{◌≤◌, ◌∙◌, ap, map, subst, sym, take, length, arith, Global}
 use Rattle.std.proofs.lemmas.List.{length-map, take_all}
 use Rattle.std.specs.List.{fold, slice_get}
 use Rattle.spk_broker_rules.specs.Step.{offer}
 use Rattle.spk_broker_rules.specs.Words.{offers_to}
 use Rattle.spk_broker.specs.Offering.{offers_at}
+use Rattle.spk_broker.specs.Encoded.{AreEncoded}
 use Rattle.spk_broker.specs.Parts.{grant_view, retained_view}
 use Rattle.spk_broker.proofs.Offers.{offering-along, offers-step}
 use Rattle.spk_broker.proofs.desk.Desk.offer_each.Goals as goal
@@ -21,6 +22,7 @@ loop-from-preserved c =
       retained = c.offer_one.ensures.retained ∙ c.loop-from.invariant.retained;
       len = c.offer_one.ensures.len ∙ c.loop-from.invariant.len;
       same = c.offer_one.ensures.same ∙ c.loop-from.invariant.same;
+      right = subst (AreEncoded c.offer_one.new.encoded) (ap (λ r. map (retained_view {A = Global}) r.entries) c.loop-from.invariant.retained) c.in_ok-offer_one.ensures.right;
       only = λ o. c.in_ok-offer_one.ensures.only (c.loop-from.invariant.only o);
     }
 
@@ -29,3 +31,10 @@ returns-clause-done c = λ key t o.
     let es = map (retained_view {A = Global}) c.args.self.now.retained.entries in
     let all : length es ≤ c.loop-from.from = simp length-map (omega (arith, c.len-from-end.ensures.len)) in
     offering-along _ _ _ _ _ _ (c.loop-from.invariant.done key t o) (ap (λ xs. fold (offer key) t (offers_to xs (grant_view c.args.grant.now))) (take_all c.loop-from.from es all))
+
+pub offer_one-requires-clause-right : goal.offer_one-requires-clause-right
+offer_one-requires-clause-right c =
+    subst (AreEncoded c.loop-from.encoded) (ap (λ r. map (retained_view {A = Global}) r.entries) (sym c.loop-from.invariant.retained)) c.loop-from.invariant.right
+
+pub returns-clause-right : goal.returns-clause-right
+returns-clause-right c = c.loop-from.invariant.right

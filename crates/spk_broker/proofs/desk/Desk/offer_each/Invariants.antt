@@ -2,6 +2,7 @@ use Rattle.std.proofs.Common.{◌≡◌, ◌∷◌, [], ℕ, map, take, vec_len,
 use Rattle.std.specs.List.{fold}
 use Rattle.spk_broker_rules.specs.Step.{Turn, offer}
 use Rattle.spk_broker_rules.specs.Words.{offers_to}
+use Rattle.spk_broker.specs.Encoded.{AreEncoded}
 use Rattle.spk_broker.specs.Offering.{Offering}
 use Rattle.spk_broker.specs.Parts.{grant_view, retained_view}
 use Rattle.spk_broker.specs.Touched.{OnlyAt}
@@ -15,5 +16,6 @@ invariant-loop-from l = record {
   retained : l.self.retained ≡ l.initial.self.retained;
   len : vec_len l.self.seats ≡ vec_len l.initial.self.seats;
   same : desk_was l.self ≡ desk_was l.initial.self;
+  right : AreEncoded l.encoded (map (retained_view {A = Global}) l.initial.self.retained.entries);
   only : OnlyAt (l.place ∷ []) l.initial.self → OnlyAt (l.place ∷ []) l.self;
 }

@@ -1,8 +1,7 @@
-use Rattle.std.proofs.Common.{◌≡◌, ◌∙◌, ap, sym, subst, None}
-use Rattle.std.specs.List.{position}
+use Rattle.std.proofs.Common.{◌≡◌, ◌∙◌, sym, subst, None}
 use Rattle.std.specs.Result.{IfOk, OnOk}
-use Rattle.spk_broker_rules.specs.Step.{Turn, away_for, is_away}
-use Rattle.spk_broker.specs.Asking.{passes, seats_now}
+use Rattle.spk_broker_rules.specs.Step.{Turn, away_for}
+use Rattle.spk_broker.specs.Asking.{seats_now}
 use Rattle.spk_broker.specs.Drafts.{draft_view}
 use Rattle.spk_broker.specs.Entering.{entered, with_sends}
 use Rattle.spk_broker.specs.Parts.{line_now}
@@ -14,7 +13,7 @@ pub returns-in-None-clause-entry : goal.returns-in-None-clause-entry
 returns-in-None-clause-entry c =
     let nobody : away_for c.args.kept c.args.client.now (seats_now c.args.self.now.seats.items) ≡ None =
     nobody-away c.args.kept c.args.client.now c.args.self.now.seats.items
-    (ap (position (passes (is_away c.args.client.now))) (sym c.deref.ensures.value) ∙ sym c.away_place.ensures ∙ c.in-None.is) in
+    (sym (c.requires.away c.if-not-kept.false) ∙ c.in-None.is) in
     subst (λ (u : Turn). IfOk c.make-in-None.result (λ e. entered e (desk_now c.args.self.now) ≡ u.broker))
     (taken-none c.args.kept c.args.client.now (line_now c.args.line) (desk_now c.args.self.now) c.if-not-kept.false nobody)
     c.make-in-None.ensures.entry
@@ -23,7 +22,10 @@ pub returns-in-None-clause-sends : goal.returns-in-None-clause-sends
 returns-in-None-clause-sends c =
     let nobody : away_for c.args.kept c.args.client.now (seats_now c.args.self.now.seats.items) ≡ None =
     nobody-away c.args.kept c.args.client.now c.args.self.now.seats.items
-    (ap (position (passes (is_away c.args.client.now))) (sym c.deref.ensures.value) ∙ sym c.away_place.ensures ∙ c.in-None.is) in
+    (sym (c.requires.away c.if-not-kept.false) ∙ c.in-None.is) in
     subst (λ (u : Turn). OnOk c.make-in-None.result (draft_view c.make-in-None.new.draft ≡ with_sends u.sends (draft_view c.args.draft.now)))
     (taken-none c.args.kept c.args.client.now (line_now c.args.line) (desk_now c.args.self.now) c.if-not-kept.false nobody)
     c.make-in-None.ensures.sends
+
+pub come_back-requires-clause-place : goal.come_back-requires-clause-place
+come_back-requires-clause-place c = sym (c.requires.away c.if-not-kept.false) ∙ c.in-Some.is

@@ -1,4 +1,4 @@
-use Rattle.std.proofs.Common.{◌≡◌, ◌∙◌, ap, map, refl, sym, true, false, Global}
+use Rattle.std.proofs.Common.{◌∙◌, ap, map, refl, sym, true, false, Global}
 use Rattle.std.proofs.lemmas.List.{length-map}
 use Rattle.spk_packets.specs.View.{request_view}
 use Rattle.spk_broker.specs.Parts.{grant_view, retained_view}
