@@ -1,0 +1,5 @@
+pub mod Depth
+pub mod Plain
+pub mod Round
+pub mod Same
+pub mod Streaming

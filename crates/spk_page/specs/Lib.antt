@@ -1,0 +1,11 @@
+pub mod Answers
+pub mod Asked
+pub mod Clients
+pub mod Fault
+pub mod Hearing
+pub mod Looks
+pub mod Rows
+pub mod Streams
+pub mod Totals
+pub mod Values
+pub mod View
