@@ -3,3 +3,4 @@ pub mod Moments
 pub mod Standing
 pub mod Placed
 pub mod Deaths
+pub mod Consumed

@@ -18,7 +18,8 @@ ghost use Rattle.spk_relay.specs.Given.{IsHeard};
 ghost use Rattle.spk_relay.specs.Origins.{AllSaidBefore, AreOwnOn};
 ghost use Rattle.spk_relay.specs.Shown.{IsFew, count_numbered};
 ghost use Rattle.spk_relay.specs.Speech.{IsPlant};
-ghost use Rattle.spk_running.specs.Deaths.{AreDeathsOf};
+ghost use Rattle.spk_running.specs.Consumed.{IsConsumedBy, IsTied};
+ghost use Rattle.spk_running.specs.Deaths.{AreDeathsOf, AreOpened, AreOwnDeaths};
 ghost use Rattle.spk_running.specs.Moments.{KeepsOrder};
 ghost use Rattle.spk_running.specs.Placed.{ArePlacedAt};
 ghost use Rattle.spk_running.specs.Places.{due_at, inputs_at, is_topic_at, published_at, setup_at, shown_at};
@@ -75,12 +76,31 @@ pub fn running()
         → HandsOutFronts (setup_at p k) (published_at p r k)
         (flat_map
         (consumed_for (setup_at p k).config.group (setup_at p k).config.node) r.given.items) }
+
+    // That is what the record of the order consumes, of which `heard` speaks, position by position, however what the host was told is read
+    // at positions: so gaps, deaths and causes are said of what the report has.
+    ensures tied { (p : Plan) (r : Report) (k : ℕ) → CanRun p → IsMade p → RunsAs p r
+        → k < length p.nodes.items → (positions : List ℕ)
+        → (h : IsHeard (setup_at p k) (published_at p r k) p.wait p.width positions
+        (node_calls (asked (told_in r.given.items)) (setup_at p k).config.group
+        (setup_at p k).config.node))
+        → IsConsumedBy (setup_at p k) (published_at p r k) p.wait p.width h.inputs r.given.items }
+
+    // and so at every moment: what the first items of `given` consumed is what the record of the inputs by then consumes
+    ensures moments { (p : Plan) (r : Report) (k : ℕ) → CanRun p → IsMade p → RunsAs p r
+        → k < length p.nodes.items → (positions : List ℕ)
+        → (h : IsHeard (setup_at p k) (published_at p r k) p.wait p.width positions
+        (node_calls (asked (told_in r.given.items)) (setup_at p k).config.group
+        (setup_at p k).config.node))
+        → IsTied (setup_at p k) (published_at p r k) p.wait p.width h.inputs r.given.items }
 {
     plant();
     spk_relay::laws::relayed();
     spk_relay::laws::headline();
     spk_relay::laws::shown();
     spk_relay::laws::running();
+    spk_heard::laws::consumption();
+    spk_host_body::laws::any_items();
 }
 
 /// Where the report says that the broker didn't close the host (`is_cut` is false), for every width of 1 to 96 and whatever the threads
@@ -165,6 +185,32 @@ pub fn deaths()
         (node_calls (asked (told_in r.given.items)) (setup_at p k).config.group
         (setup_at p k).config.node) }
 {
+    plant();
+}
+
+/// Of which sessions the deaths of a node are, and who said them.
+pub fn own_deaths()
+    // Whoever reads of what a ring got that the node died, reads the NDEATH of a session that the node opened; and its bytes are what the
+    // node said by then: the will of a CONNECT of its that was taken, or its own farewell.
+    ensures bytes { (p : Plan) (r : Report) (k : ℕ) → CanRun p → IsMade p → (ran : RunsAs p r)
+        → k < length p.nodes.items
+        → AreOwnDeaths (setup_at p k) (opened (run_of (setup_at p k) (inputs_at r k))) k ran.log }
+
+    // so each death that the host was told of the node, however what it was told is read at positions, is of a session that the node opened
+    ensures sessions { (p : Plan) (r : Report) (k : ℕ) → CanRun p → IsMade p → RunsAs p r
+        → k < length p.nodes.items → (positions : List ℕ)
+        → (h : IsHeard (setup_at p k) (published_at p r k) p.wait p.width positions
+        (node_calls (asked (told_in r.given.items)) (setup_at p k).config.group
+        (setup_at p k).config.node))
+        → AreOpened (opened (run_of (setup_at p k) (inputs_at r k))) h.inputs }
+{
+    spk_packets::laws::prefix_free();
+    spk_packets::laws::spelling_spells();
+    spk_topics::laws::reading();
+    spk_topics::laws::levels_are_parts();
+    spk_edge_rules::laws::published();
+    spk_broker_rules::laws::origins();
+    spk_tie::laws::deaths();
     plant();
 }
 

@@ -3,6 +3,7 @@ use Rattle.spk_host.specs.Inputs.{node_calls}
 use Rattle.spk_host_body.specs.Told.{asked, told_in}
 use Rattle.spk_plan_rules.specs.Plan.{host_in}
 use Rattle.spk_running.specs.Places.{inputs_at, published_at, setup_at, shown_at}
+use Rattle.spk_running.proofs.Consumed.{Laws, tied-always, tied-whole}
 use Rattle.spk_running.proofs.Moments.{keeps_order}
 use Rattle.spk_running.proofs.Plants.{few_sessions}
 use Rattle.spk_running.proofs.laws.running.Goals as goal
@@ -43,3 +44,18 @@ pub returns-clause-consumed : goal.returns-clause-consumed
 returns-clause-consumed c = λ p r k can made ran below.
     c.running.ensures.consumed (length p.nodes.items) k (setup_at p) (inputs_at r) (host_in p) r.given.items ran.log below made.some made.most
     (c.plant.ensures.is_plant p r can made ran) (few_sessions p r k (c.plant.ensures.opened p r k can ran below)) ran.host.told ran.host.consumed
+
+consuming : goal.After-any_items → Laws
+consuming c = record { session = c.consumption.ensures.session; consumed = c.any_items.ensures.consumed; kept = c.any_items.ensures.kept }
+
+pub returns-clause-tied : goal.returns-clause-tied
+returns-clause-tied c = λ p r k can made ran below positions h.
+    tied-whole (consuming c) (setup_at p k) (published_at p r k) (host_in p) h.inputs r.given.items made.some made.most h.read
+    (c.shown.ensures.welcome p.width (length p.nodes.items) (setup_at p) (inputs_at r) (host_in p) r.given.items ran.log (c.plant.ensures.is_plant p r can made ran) ran.host.told)
+    ran.host.consumed
+
+pub returns-clause-moments : goal.returns-clause-moments
+returns-clause-moments c = λ p r k can made ran below positions h.
+    tied-always (consuming c) (setup_at p k) (published_at p r k) (host_in p) h.inputs r.given.items made.some made.most h.read
+    (c.shown.ensures.welcome p.width (length p.nodes.items) (setup_at p) (inputs_at r) (host_in p) r.given.items ran.log (c.plant.ensures.is_plant p r can made ran) ran.host.told)
+    ran.host.consumed
