@@ -1,17 +1,17 @@
 -- What is asked of the sessions by now, by places.
-use Rattle.std.proofs.Common.{◌≡◌, ℕ, ◌+◌, ◌<◌, Bool, true, false, ◌||◌, ◌==◌, cond, List, [], ◌∷◌, ◌++◌, length, take, get_or, ltb, count_by, refl, sym, ◌∙◌, ap, append-nil, arith, Option, Some, None}
+use Rattle.std.proofs.Common.{◌≡◌, ℕ, ◌+◌, ◌<◌, Bool, true, false, ◌&&◌, ◌||◌, not, ◌==◌, cond, List, [], ◌∷◌, ◌++◌, length, take, get_or, ltb, count_by, refl, sym, ◌∙◌, ap, append-nil, arith, Option, Some, None, is_some}
 use Rattle.std.specs.List.{find, flat_map, list_any, position, position_from}
 use Rattle.std.specs.Option.{option_map_or, option_and_then}
 use Rattle.std.proofs.lemmas.Bool.{lt-ltb}
 use Rattle.std.proofs.lemmas.Iterator.Adapters.{position_from-zero}
 use Rattle.std.proofs.lemmas.List.Sums.{count_by-le-length}
-use Rattle.std.proofs.lemmas.List.{length-take-le, take_more}
+use Rattle.std.proofs.lemmas.List.{take_more}
 use Rattle.spk_broker_rules.specs.Data as plain
-use Rattle.spk_broker_rules.specs.Step.{conn_at, is_guest, is_kept_of, older_in, seat_at, silent_at, sits, welcome_in}
+use Rattle.spk_broker_rules.specs.Step.{conn_at, is_away, is_guest, is_kept_of, older_in, seat_at, silent_at, sits, welcome_in}
 use Rattle.spk_packets.specs.Spelling.{is_empty}
 use Rattle.spk_broker_rules.proofs.Lists.{eqb-is, flat_map-append}
 use Rattle.spk_broker.specs.Both.{Both}
-use Rattle.spk_broker.specs.Asking.{drops_at, first_with, guest_here, guests_now, is_joined_by, passes, seat_here, seats_now, test_at}
+use Rattle.spk_broker.specs.Asking.{drops_at, guest_here, guests_now, is_joined_by, is_named, passes, seat_here, seats_now, test_at}
 use Rattle.spk_broker.specs.View.{seat_now}
 use Rattle.spk_broker.proofs.Alive.{any-alive, count-alive, found-alive, guests-alive, lost-alive, plain_of}
 use Rattle.spk_broker.specs.declared.guest.Guest.{Guest}
@@ -72,26 +72,51 @@ welcome-few client bs low =
     by true = refl
     by false = refl
 
-from-more : {X : Type 0} (p : X → Bool) (i : ℕ) (ys : List X) (y : X)
-    → position_from p i (ys ++ y ∷ []) ≡ first_with (position_from p i ys) (i + length ys) (p y)
-from-more p i [] y = ap (λ n. cond (p y) (Some n) None) (omega arith)
-from-more p i (x ∷ xs) y = by (p x) (from-more p (i + 1) xs y)
+none-from : {X : Type 0} (p q : X → Bool) → ((x : X) → p x ≡ false → q x ≡ false) → (i : ℕ) (xs : List X)
+    → list_any p xs ≡ false → None ≡ position_from q i xs
+none-from p q less i [] e = refl
+none-from p q less i (x ∷ xs) e = by (p x) refl e (none-from p q less (i + 1) xs)
   where
-    by : (b : Bool) → position_from p (i + 1) (xs ++ y ∷ []) ≡ first_with (position_from p (i + 1) xs) (i + 1 + length xs) (p y)
-        → cond b (Some i) (position_from p (i + 1) (xs ++ y ∷ [])) ≡ first_with (cond b (Some i) (position_from p (i + 1) xs)) (i + length (x ∷ xs)) (p y)
-    by true e = refl
-    by false e = e ∙ ap (λ n. first_with (position_from p (i + 1) xs) n (p y)) (omega arith)
+    by : (b : Bool) → p x ≡ b → b || list_any p xs ≡ false → (list_any p xs ≡ false → None ≡ position_from q (i + 1) xs)
+        → None ≡ cond (q x) (Some i) (position_from q (i + 1) xs)
+    by true is e rest = cc
+    by false is e rest = rest e ∙ ap (λ b. cond b (Some i) (position_from q (i + 1) xs)) (sym (less x is))
 
--- the first place of one session more
-pub first-more : {X : Type 0} (p : X → Bool) (xs : List X) (i : ℕ) (d : X) → i < length xs
-    → first_with (position p (take i xs)) i (p (get_or xs i d)) ≡ position p (take (i + 1) xs)
-first-more p xs i d low =
-    let long : i ≡ 0 + length (take i xs) = omega (arith, length-take-le i xs (omega (arith, low))) in
-    ap (λ n. first_with (position p (take i xs)) n (p (get_or xs i d))) long
-    ∙ ap (λ o. first_with o (0 + length (take i xs)) (p (get_or xs i d))) (position_from-zero p (take i xs))
-    ∙ sym (from-more p 0 (take i xs) (get_or xs i d))
-    ∙ sym (position_from-zero p (take i xs ++ get_or xs i d ∷ []))
-    ∙ sym (ap (position p) (take_more xs i d low))
+-- where no session passes, none passes more
+none-of : {X : Type 0} (p q : X → Bool) → ((x : X) → p x ≡ false → q x ≡ false) → (xs : List X)
+    → list_any p xs ≡ false → None ≡ position q xs
+none-of p q less xs e = none-from p q less 0 xs e ∙ sym (position_from-zero q xs)
+
+unnamed-joins : (client : List ℕ) (b : Both) → passes (is_named client) b ≡ false → passes (is_joined_by client) b ≡ false
+unnamed-joins client b e = at b.now e
+  where
+    last : (x : Bool) → x && false ≡ false
+    last true = refl
+    last false = refl
+
+    at : (o : Option plain.Seat) → option_map_or (is_named client) o false ≡ false → option_map_or (is_joined_by client) o false ≡ false
+    at None e = refl
+    at (Some s) e = ap (λ x. is_some s.here && x) e ∙ last (is_some s.here)
+
+unnamed-away : (client : List ℕ) (b : Both) → passes (is_named client) b ≡ false → passes (is_away client) b ≡ false
+unnamed-away client b e = at b.now e
+  where
+    last : (x y : Bool) → x && (y && false) ≡ false
+    last true true = refl
+    last true false = refl
+    last false y = refl
+
+    at : (o : Option plain.Seat) → option_map_or (is_named client) o false ≡ false → option_map_or (is_away client) o false ≡ false
+    at None e = refl
+    at (Some s) e = ap (λ x. s.kept && (not (is_some s.here) && x)) e ∙ last s.kept (not (is_some s.here))
+
+-- a client without a session sits nowhere
+pub none-joined : (client : List ℕ) (bs : List Both) → list_any (passes (is_named client)) bs ≡ false → None ≡ position (passes (is_joined_by client)) bs
+none-joined client = none-of (passes (is_named client)) (passes (is_joined_by client)) (unnamed-joins client)
+
+-- a client without a session is away from none
+pub none-away : (client : List ℕ) (bs : List Both) → list_any (passes (is_named client)) bs ≡ false → None ≡ position (passes (is_away client)) bs
+none-away client = none-of (passes (is_named client)) (passes (is_away client)) (unnamed-away client)
 
 -- the silent ones of one seat more
 pub silent-more : (clock : ℕ) (bs : List Both) (i : ℕ) (d : Both) → i < length bs

@@ -28,6 +28,10 @@ seat_here seat = seat.now
 abbrev pub passes : (plain.Seat → Bool) → Both → Bool
 passes test seat = test_at seat_here test seat
 
+-- it is a session of this client
+abbrev pub is_named : List ℕ → plain.Seat → Bool
+is_named client seat = bytes_eq seat.client client
+
 -- a connection of this client sits here
 abbrev pub is_joined_by : List ℕ → plain.Seat → Bool
 is_joined_by client seat = is_some seat.here && bytes_eq seat.client client
@@ -47,8 +51,3 @@ place_in conn seats = position (passes (sits conn)) seats
 -- this connection sits at this place by now
 abbrev pub SitsAt : ℕ → ℕ → List Both → Type 0
 SitsAt conn place seats = (place < length seats) × ((d : Both) → passes (sits conn) (get_or seats place d) ≡ true)
-
--- the first place that passes, with one more behind those that were looked at
-abbrev pub first_with : Option ℕ → ℕ → Bool → Option ℕ
-first_with None place passes = if passes then Some place else None
-first_with (Some first) place passes = Some first

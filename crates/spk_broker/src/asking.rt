@@ -6,7 +6,7 @@ ghost use Rattle.spk_session.specs.Step.{is_spent};
 ghost use Rattle.spk_broker_rules.specs.Lawful.{places};
 ghost use Rattle.spk_broker_rules.specs.Step.{conn_at, drops_in, is_away, is_guest, is_kept_of, knows, older_in, silent_at, sits, welcome_in};
 ghost use Rattle.spk_broker_rules.specs.Words.{option_list};
-ghost use Rattle.spk_broker.specs.Asking.{SitsAt, drops_at, first_with, guest_here, guests_now, is_joined_by, passes, place_in, seats_now, test_at};
+ghost use Rattle.spk_broker.specs.Asking.{SitsAt, drops_at, guest_here, guests_now, is_joined_by, is_named, passes, place_in, seats_now, test_at};
 ghost use Rattle.spk_broker.specs.View.{desk_now, seat_now};
 
 use crate::desk::Desk;
@@ -57,6 +57,13 @@ impl Seat {
         ensures { result ≡ passes (λ s. s.kept) self.now }
     {
         !self.ended && self.kept
+    }
+
+    /// Whether it is a session of this client.
+    fn is_named(&self, client: &str) -> bool
+        ensures { result ≡ passes (is_named client.now) self.now }
+    {
+        !self.ended && self.client.as_str() == client
     }
 
     /// Whether a connection of this client sits here.
@@ -161,30 +168,35 @@ pub(crate) fn is_welcome(seats: &[Seat], client: &str) -> bool
     has_kept(seats, client) || kept_count(seats) < MOST_KEPT
 }
 
-/// The first place that passes, with one more behind those that were looked at.
-fn first_with(known: Option<usize>, place: usize, passes: bool) -> Option<usize>
-    ensures { result ≡ first_with known place passes }
+/// Whether the client has a session.
+fn has_one(seats: &[Seat], client: &str) -> bool
+    ensures { result ≡ list_any (passes (is_named client.now)) seats.now }
 {
-    match known {
-        Some(first) => Some(first),
-        None if passes => Some(place),
-        None => None,
-    }
+    seats.iter().any(|seat| seat.is_named(client))
 }
 
-/// Where sessions of this client stand: each session is looked at once.
+/// Where a connection of this client sits first.
+fn joined_place(seats: &[Seat], client: &str) -> Option<usize>
+    ensures { result ≡ position (passes (is_joined_by client.now)) seats.now }
+{
+    seats.iter().position(|seat| seat.is_joined_by(client))
+}
+
+/// Where sessions of this client stand: each session is looked at once where it has none, as when it comes for the first time.
 pub(crate) fn client_places(seats: &[Seat], client: &str) -> ClientPlaces
     ensures joined { result.joined ≡ position (passes (is_joined_by client.now)) seats.now }
     ensures away { result.away ≡ position (passes (is_away client.now)) seats.now }
 {
-    let mut joined = None;
-    let mut away = None;
-    for place in 0..seats.len() {
-        let seat = &seats[place];
-        joined = first_with(joined, place, seat.is_joined_by(client));
-        away = first_with(away, place, seat.is_away(client));
+    if !has_one(seats, client) {
+        return ClientPlaces {
+            joined: None,
+            away: None,
+        };
     }
-    ClientPlaces { joined, away }
+    ClientPlaces {
+        joined: joined_place(seats, client),
+        away: away_place(seats, client),
+    }
 }
 
 /// The connection that sits for a client, which is at this place, if there is one; none for the empty client id (section 3.1.3.1).
