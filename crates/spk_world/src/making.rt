@@ -135,6 +135,9 @@ impl World {
             ⊎ (((e ≡ WorldFault.Edge EdgeFault.BadConfig) × AreBadNodes nodes.items)
             ⊎ ((e ≡ WorldFault.Host HostFault.NotSparkplug)
             × (list_all is_good_host hosts.items ≡ false)))) }
+        ensures order { IfErr result (λ e. e ≡ WorldFault.Host HostFault.NotSparkplug
+            → (list_all is_good_setup nodes.items ≡ true)
+            × (are_apart (map fresh_node nodes.items) ≡ true)) }
     {
         begins();
         are_wide(&hosts);
