@@ -98,6 +98,10 @@ With --watch it draws a board each second in place of the lines: how many nodes 
 look, since when and how many readings are missing, then the others, and what happened last. It has no colours where
 standard output isn't a terminal or NO_COLOR is set.
 
+With --page 8080 it serves a page of its nodes at http://127.0.0.1:8080, to browsers on this machine alone: what needs a
+look and why, holes in the readings, each node's metrics, and what happened, as it happens. /view is the same as JSON,
+/metrics for Prometheus, /text as text.
+
 What it consumes of a node is, birth by birth, a prefix of what the node published, each message once and in order;
 behind a gap nothing until a newer birth, for which it asks. A broker that drops 256 messages, or nearly as many,
 without a word is not found out: docs/BROKERS.md says which do. docs/HOST.md tells the rest.
@@ -388,6 +392,13 @@ fn host<'a>(alloc: Global) -> Result<Command<'a>, AllocError> {
         .help("Draws a board of the nodes each second, in place of the lines")
         .action(ArgAction::SetTrue);
     let command = command.arg(watch)?;
+    let page = Arg::new(alloc, "page")
+        .long("page")
+        .value_name("PORT")
+        .help("Serves a page of the nodes at this port of 127.0.0.1, and figures at /metrics")
+        .value_parser(value_parser!(u16).range(1..))
+        .action(ArgAction::Set);
+    let command = command.arg(page)?;
     Ok(
         with_broker(alloc, command)?
             .about(

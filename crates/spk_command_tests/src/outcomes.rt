@@ -39,9 +39,10 @@ fn host_text(alloc: Global, plan: &HostPlan) -> Result<String, AllocError> {
     let count = plan.count;
     let silence = plan.silence;
     let watch = plan.watch;
+    let page = plan.page;
     let asks = plan.asks.len();
     format!(in alloc;
-        "host brokers {brokers} login {login} count {count:?} silence {silence:?} watch {watch} asks {asks}"
+        "host brokers {brokers} login {login} count {count:?} silence {silence:?} watch {watch} page {page:?} asks {asks}"
     )
 }
 

@@ -56,20 +56,92 @@ fn login_of<F: Files>(
     Ok(Some(Words { user, password }))
 }
 
+/// A node's file is judged: what is wrong with it, and where, is noted.
+fn judge_file<N: Write>(alloc: Global, text: &str, keep: u16, notes: &mut N) -> Result<(), Stop> {
+    match edge_of(alloc, text, keep) {
+        Ok(_setup) => Ok(()),
+        Err(Misfit::NoMemory) => Err(Stop::no_memory()),
+        Err(Misfit::Wrong(place, cause)) => {
+            let _ = writeln!(notes, "sparkplug: BadPlan: {place} {cause}");
+            Err(Stop::Fault(Fault::BadPlan))
+        }
+    }
+}
+
+/// The registry of a file that was judged.
+fn registry_of(alloc: Global, text: &str, keep: u16) -> Result<Registry, AllocError> {
+    match edge_of(alloc, text, keep) {
+        Ok((_config, registry)) => Ok(registry),
+        Err(_) => Err(AllocError),
+    }
+}
+
 /// The name of the file in which values survive, and the node's registry once more, where there is one.
 fn kept_of(
     alloc: Global,
     given: &ArgMatches<'_>,
     text: &str,
     keep: u16,
-) -> Result<Option<(String, Registry)>, Stop> {
+) -> Result<Option<(String, Registry)>, AllocError> {
     let Some(name) = given.get_str("kept") else {
         return Ok(None);
     };
-    let Ok((_config, base)) = edge_of(alloc, text, keep) else {
-        return Err(Stop::no_memory());
-    };
-    Ok(Some((String::from_str(alloc, name)?, base)))
+    let name = String::from_str(alloc, name)?;
+    match registry_of(alloc, text, keep) {
+        Ok(base) => Ok(Some((name, base))),
+        Err(refused) => Err(refused),
+    }
+}
+
+/// What the words of `edge` say.
+#[derive(Drop)]
+struct EdgeWords {
+    brokers: Vec<String>,
+    login: Option<Words>,
+    record: String,
+}
+
+/// What the words of `edge` say, and the password's file.
+fn edge_words<F: Files>(
+    alloc: Global,
+    given: &ArgMatches<'_>,
+    files: &mut F,
+) -> Result<EdgeWords, Stop> {
+    Ok(EdgeWords {
+        brokers: all_of(alloc, given, "broker")?,
+        login: login_of(alloc, given, files)?,
+        record: owned(alloc, given, "record")?,
+    })
+}
+
+/// The plan of these words, and of a file that was judged. Each value is dear to hold where one may leave, so those that hold much come last.
+fn plan_of(
+    alloc: Global,
+    text: &str,
+    keep: u16,
+    words: EdgeWords,
+    kept: Option<(String, Registry)>,
+) -> Result<EdgePlan, AllocError> {
+    let names = registry_of(alloc, text, keep)?;
+    match edge_of(alloc, text, keep) {
+        Ok((config, registry)) => {
+            let EdgeWords {
+                brokers,
+                login,
+                record,
+            } = words;
+            Ok(EdgePlan {
+                config,
+                registry,
+                names,
+                brokers,
+                login,
+                record,
+                kept,
+            })
+        }
+        Err(_) => Err(AllocError),
+    }
 }
 
 /// What `edge` is to run. What is wrong with its file, and where, is noted.
@@ -81,26 +153,10 @@ pub(crate) fn edge_plan<F: Files, N: Write>(
     notes: &mut N,
 ) -> Result<EdgePlan, Stop> {
     let keep = given.get_one::<u16>("keep-alive").unwrap_or(30);
-    let (config, registry) = match edge_of(alloc, text, keep) {
-        Ok(setup) => setup,
-        Err(Misfit::NoMemory) => return Err(Stop::no_memory()),
-        Err(Misfit::Wrong(place, cause)) => {
-            let _ = writeln!(notes, "sparkplug: BadPlan: {place} {cause}");
-            return Err(Stop::Fault(Fault::BadPlan));
-        }
-    };
-    let Ok((_again, names)) = edge_of(alloc, text, keep) else {
-        return Err(Stop::no_memory());
-    };
-    Ok(EdgePlan {
-        config,
-        registry,
-        names,
-        brokers: all_of(alloc, given, "broker")?,
-        login: login_of(alloc, given, files)?,
-        record: owned(alloc, given, "record")?,
-        kept: kept_of(alloc, given, text, keep)?,
-    })
+    judge_file(alloc, text, keep, notes)?;
+    let words = edge_words(alloc, given, files)?;
+    let kept = kept_of(alloc, given, text, keep)?;
+    Ok(plan_of(alloc, text, keep, words, kept)?)
 }
 
 /// For how many milliseconds a node may be silent, where that is said.
@@ -133,6 +189,7 @@ pub(crate) fn host_plan<F: Files>(
         count: given.get_one::<u64>("count"),
         silence: silence_of(given),
         watch: given.get_flag("watch"),
+        page: given.get_one::<u16>("page"),
         asks: all_of(alloc, given, "ask")?,
     })
 }

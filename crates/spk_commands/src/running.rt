@@ -129,7 +129,7 @@ fn shown<F: Files, W: Write, N: Write>(
     files: &mut F,
     out: &mut W,
     notes: &mut N,
-) -> Result<Outcome, Stop> {
+) -> Result<u8, Stop> {
     let digits = digits_of(alloc, given, files)?;
     let birth = birth_of(alloc, given, files)?;
     let birth = birth.as_ref().map(|digits| digits.as_str());
@@ -138,7 +138,7 @@ fn shown<F: Files, W: Write, N: Write>(
         _ => Values::Whole,
     };
     show(alloc, out, notes, digits.as_str(), birth, values)?;
-    Ok(Outcome::Over(0))
+    Ok(0)
 }
 
 /// `packets`: the packets that digits say.
@@ -148,10 +148,10 @@ fn listed<F: Files, W: Write, N: Write>(
     files: &mut F,
     out: &mut W,
     notes: &mut N,
-) -> Result<Outcome, Stop> {
+) -> Result<u8, Stop> {
     let digits = digits_of(alloc, given, files)?;
     packets(alloc, out, notes, digits.as_str())?;
-    Ok(Outcome::Over(0))
+    Ok(0)
 }
 
 /// `world`: a world's file, played.
@@ -161,10 +161,17 @@ fn played<F: Files, W: Write, N: Write>(
     files: &mut F,
     out: &mut W,
     notes: &mut N,
-) -> Result<Outcome, Stop> {
+) -> Result<u8, Stop> {
     let text = noted_text_of(alloc, given, files, notes)?;
-    let status = world(alloc, out, notes, text.as_str())?;
-    Ok(Outcome::Over(status))
+    world(alloc, out, notes, text.as_str())
+}
+
+/// A command that is over, with its status.
+fn over(answer: Result<u8, Stop>) -> Result<Outcome, Stop> {
+    match answer {
+        Ok(status) => Ok(Outcome::Over(status)),
+        Err(stop) => Err(stop),
+    }
 }
 
 /// `plant`: the plan of a file, which is to be run.
@@ -175,8 +182,10 @@ fn planned<F: Files, N: Write>(
     notes: &mut N,
 ) -> Result<Outcome, Stop> {
     let text = noted_text_of(alloc, given, files, notes)?;
-    let plan = plan_from(alloc, notes, text.as_str())?;
-    Ok(Outcome::Plant(plan))
+    match plan_from(alloc, notes, text.as_str()) {
+        Ok(plan) => Ok(Outcome::Plant(plan)),
+        Err(stop) => Err(stop),
+    }
 }
 
 /// Says what it means to listen beyond the machine.
@@ -230,13 +239,18 @@ fn edge<F: Files, N: Write>(
     notes: &mut N,
 ) -> Result<Outcome, Stop> {
     let text = noted_text_of(alloc, given, files, notes)?;
-    let plan = edge_plan(alloc, given, text.as_str(), files, notes)?;
-    Ok(Outcome::Edge(plan))
+    match edge_plan(alloc, given, text.as_str(), files, notes) {
+        Ok(plan) => Ok(Outcome::Edge(plan)),
+        Err(stop) => Err(stop),
+    }
 }
 
 /// `host`: the host application that is to be run.
 fn host<F: Files>(alloc: Global, given: &ArgMatches<'_>, files: &mut F) -> Result<Outcome, Stop> {
-    Ok(Outcome::Host(host_plan(alloc, given, files)?))
+    match host_plan(alloc, given, files) {
+        Ok(plan) => Ok(Outcome::Host(plan)),
+        Err(stop) => Err(stop),
+    }
 }
 
 /// The command that was given. Each has a function of its own, since whoever holds all that was given is dear to prove.
@@ -248,13 +262,13 @@ fn chosen<F: Files, W: Write, N: Write>(
     notes: &mut N,
 ) -> Result<Outcome, Stop> {
     if let Some(given) = matches.subcommand_matches("show") {
-        return shown(alloc, given, files, out, notes);
+        return over(shown(alloc, given, files, out, notes));
     }
     if let Some(given) = matches.subcommand_matches("packets") {
-        return listed(alloc, given, files, out, notes);
+        return over(listed(alloc, given, files, out, notes));
     }
     if let Some(given) = matches.subcommand_matches("world") {
-        return played(alloc, given, files, out, notes);
+        return over(played(alloc, given, files, out, notes));
     }
     if let Some(given) = matches.subcommand_matches("plant") {
         return planned(alloc, given, files, notes);

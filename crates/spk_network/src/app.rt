@@ -1,6 +1,7 @@
 //! What the loop asks of a program.
 
 use spk_link::Due;
+use spk_page::{Asked, Client};
 use std::net::SocketAddr;
 
 /// What the loop tells of its connections.
@@ -14,6 +15,23 @@ pub enum Note {
     NoAddress(usize),
     /// The connection is over: the broker closed it, it failed, nothing was heard for too long, or its end was asked for.
     Over,
+}
+
+/// What a client of a page was told last: up to which revision, and up to which entry.
+#[derive(Clone, Copy, Debug, PartialEq, Eq)]
+pub struct Seen {
+    pub revision: u64,
+    pub number: u64,
+}
+
+impl Seen {
+    /// Nothing.
+    pub fn new() -> Seen {
+        Seen {
+            revision: 0,
+            number: 0,
+        }
+    }
 }
 
 /// A program that has one connection with a broker, or none. Moments are in milliseconds since 1970, and never fall.
@@ -62,4 +80,22 @@ pub trait App {
 
     /// The loop tells this.
     fn note(&mut self, note: &Note);
+
+    /// The port of 127.0.0.1 on which the program has a page; None where it has none.
+    fn page_port(&self) -> Option<u16> {
+        None
+    }
+
+    /// Answers what a client of the page asks for. One that isn't answered is shut.
+    fn show(&mut self, _asked: Asked, _client: &mut Client, _seen: &mut Seen, _now: u64) {}
+
+    /// Whether there is something that a client of the page wasn't told.
+    fn has_news(&self, _seen: &Seen) -> bool {
+        false
+    }
+
+    /// Tells a client of the page what it wasn't told. Whether it may go on.
+    fn tell(&mut self, _client: &mut Client, _seen: &mut Seen, _now: u64) -> bool {
+        false
+    }
 }

@@ -9,9 +9,10 @@ mod door;
 mod fault;
 mod looping;
 mod port;
+mod visitors;
 mod wire;
 
-pub use app::{App, Note};
+pub use app::{App, Note, Seen};
 pub use fault::NetworkFault;
 pub use looping::run_app;
 pub use port::Port;

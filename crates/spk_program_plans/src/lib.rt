@@ -45,6 +45,8 @@ pub struct HostPlan {
     pub count: Option<u64>,
     pub silence: Option<u64>,
     pub watch: bool,
+    /// The port of 127.0.0.1 on which a page of the nodes is served; None where none is.
+    pub page: Option<u16>,
     /// The nodes of its group that are asked for a rebirth once the subscription is granted.
     pub asks: Vec<String>,
 }

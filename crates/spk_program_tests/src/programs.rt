@@ -3,7 +3,7 @@ use spk_files::edge_of;
 use spk_link::Due;
 use spk_network::App;
 use spk_program_plans::EdgePlan;
-use spk_programs::{Disk, Disks, EdgeProgram, Lines, Listener, Opened, begin_edge};
+use spk_programs::{Disk, Disks, EdgeParts, EdgeProgram, Lines, Listener, Opened, begin_edge};
 use std::alloc::Global;
 use std::io::{self, Write};
 use std::process::Abort;
@@ -78,7 +78,7 @@ const NODE: &str =
 \"metrics\":[{\"device\":null,\"name\":\"x\",\"type\":3,\"value\":0},{\"device\":\"D\",\"name\":\"y\",\"type\":12,\"value\":null}]}";
 
 /// A program of a node that never ran, with this disk.
-fn program(alloc: Global, fails: u32) -> Option<EdgeProgram<Slow, Counted, Counted>> {
+fn program(alloc: Global, fails: u32) -> Option<EdgeProgram<EdgeParts<Slow>, Counted, Counted>> {
     let (config, registry) = edge_of(alloc, NODE, 30).ok()?;
     let (_again, names) = edge_of(alloc, NODE, 30).ok()?;
     let plan = EdgePlan {
@@ -108,7 +108,7 @@ trait Runs {
     fn lines(&mut self, bytes: &[u8], now: u64) -> (usize, usize);
 }
 
-impl Runs for EdgeProgram<Slow, Counted, Counted> {
+impl Runs for EdgeProgram<EdgeParts<Slow>, Counted, Counted> {
     fn begins(&mut self, now: u64) -> bool {
         let is_due = self.due(now) == Due::Connect;
         self.opened(now);

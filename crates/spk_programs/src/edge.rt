@@ -1,19 +1,15 @@
 //! `edge`: an edge node beside a machine, whose values come as lines of standard input.
 
 use crate::disk::Disk;
+use crate::edge_core::EdgeCore;
+use crate::edge_lines::write_fault;
+use crate::edge_parts::EdgeParts;
 use crate::fault::{ProgramFault, told};
-use crate::journal::{Journal, kept_in, tell};
 use crate::lines::{Lines, Listener};
 use crate::notes::write_note;
 use crate::running::Begun;
-use crate::texts::{json_text, owner_text, value_text};
-use spk_device::Registry;
-use spk_edge::Phase;
-use spk_edge_app::{EdgeApp, EdgeAppFault};
-use spk_files::{Misfit, Said, line_of};
 use spk_link::Due;
 use spk_network::{App, NetworkFault, Note};
-use spk_record::Record;
 use std::alloc::Global;
 use std::io::Write;
 use std::str;
@@ -56,45 +52,10 @@ struct Counts {
     connections: u64,
 }
 
-/// A fault, and its number: of what the node or a packet is refused for, that.
-fn write_fault<N: Write>(notes: &mut N, fault: EdgeAppFault) {
-    let _ = match fault {
-        EdgeAppFault::Edge(inner) => {
-            let number = inner.number();
-            writeln!(notes, "{inner} ({number})")
-        }
-        EdgeAppFault::Packet(inner) => {
-            let number = inner.number();
-            writeln!(notes, "{inner} ({number})")
-        }
-        EdgeAppFault::Login(inner) => {
-            let number = inner.number();
-            writeln!(notes, "{inner} ({number})")
-        }
-        other => {
-            let number = other.number();
-            writeln!(notes, "{other} ({number})")
-        }
-    };
-}
-
-/// How many items of a line it is.
-fn size_of(said: &Said) -> usize {
-    match said {
-        Said::Values(values) => values.len(),
-        Said::Device { .. } => 1,
-    }
-}
-
 /// The parts that lines are told to.
 #[derive(Drop)]
-struct Desk<D: Disk, O: Write + Drop, N: Write + Drop> {
-    alloc: Global,
-    app: EdgeApp,
-    names: Registry,
-    disk: D,
-    /// Where values and kept changes survive.
-    journal: Option<Journal<D>>,
+struct Desk<C: EdgeCore, O: Write + Drop, N: Write + Drop> {
+    core: C,
     out: O,
     notes: N,
     counts: Counts,
@@ -106,8 +67,8 @@ struct Desk<D: Disk, O: Write + Drop, N: Write + Drop> {
 
 /// An edge node's program.
 #[derive(Drop)]
-pub struct EdgeProgram<D: Disk, O: Write + Drop, N: Write + Drop> {
-    desk: Desk<D, O, N>,
+pub struct EdgeProgram<C: EdgeCore, O: Write + Drop, N: Write + Drop> {
+    desk: Desk<C, O, N>,
     lines: Lines,
     input: Input,
     /// No session began with the connection: it is to be closed.
@@ -118,84 +79,18 @@ pub struct EdgeProgram<D: Disk, O: Write + Drop, N: Write + Drop> {
     report: u64,
 }
 
-impl<D: Disk, O: Write + Drop, N: Write + Drop> Desk<D, O, N> {
-    /// A line was refused, or the item at a place of it.
-    fn refuse(&mut self, number: u64, place: Option<usize>, fault: EdgeAppFault) {
-        self.counts.refused = self.counts.refused.saturating_add(1);
-        let _ = match place {
-            Some(place) => write!(self.notes, "sparkplug: line {number}: [{place}] "),
-            None => write!(self.notes, "sparkplug: line {number}: "),
-        };
-        write_fault(&mut self.notes, fault);
-    }
-
-    /// Does what stands in a line behind so many items.
-    fn say(&mut self, number: u64, before: usize, said: &Said, now: u64) {
-        if let Err(refused) = tell(&mut self.app, said, now) {
-            let place = match refused.place {
-                Some(place) => Some(before.saturating_add(place)),
-                None => None,
-            };
-            self.refuse(number, place, refused.fault);
-        }
-    }
-
-    /// A line was done: it is noted where values survive.
-    fn note_line(&mut self, number: u64, text: &str, all: Vec<Said>, before: u64, now: u64) {
-        let kept = kept_in(&self.app).saturating_sub(before);
-        let Some(journal) = &mut self.journal else {
-            return;
-        };
-        if !journal.note(now, text, all, kept) {
-            let _ = writeln!(
-                self.notes,
-                "sparkplug: line {number} isn't kept: NoMemory (1)"
-            );
-        }
-    }
-
-    /// Tells what is wrong with a line.
-    fn misfit(&mut self, number: u64, misfit: &Misfit) {
-        self.counts.refused = self.counts.refused.saturating_add(1);
-        let _ = match misfit {
-            Misfit::NoMemory => writeln!(self.notes, "sparkplug: line {number}: NoMemory (1)"),
-            Misfit::Wrong(place, cause) => {
-                writeln!(self.notes, "sparkplug: line {number}: {place} {cause}")
-            }
-        };
-    }
-
-    /// Does what a text says.
-    fn text(&mut self, number: u64, text: &str, now: u64) {
-        match line_of(self.alloc, &self.names, text) {
-            Ok(all) => {
-                let before = kept_in(&self.app);
-                let mut items = 0usize;
-                for said in &all {
-                    self.say(number, items, said, now);
-                    items = items.saturating_add(size_of(said));
-                }
-                self.note_line(number, text, all, before, now);
-            }
-            Err(misfit) => self.misfit(number, &misfit),
-        }
+impl<C: EdgeCore, O: Write + Drop, N: Write + Drop> Desk<C, O, N> {
+    /// So many items, or lines, were refused.
+    fn refuse(&mut self, count: u64) {
+        self.counts.refused = self.counts.refused.saturating_add(count);
     }
 
     /// Keeps the record that is wanted, where there is one and none failed of late.
     fn keep(&mut self, now: u64) {
-        let Some(record) = self.app.wanted() else {
-            return;
-        };
-        if now < self.rested {
+        if now < self.rested || !self.core.wants() {
             return;
         }
-        let kept = match record.encode(self.alloc) {
-            Ok(text) => self.disk.keep(text.as_bytes()),
-            Err(_) => false,
-        };
-        if kept {
-            self.app.keep(record);
-        } else {
+        if !self.core.keep() {
             self.rested = now.saturating_add(REST);
             let _ = writeln!(
                 self.notes,
@@ -206,81 +101,37 @@ impl<D: Disk, O: Write + Drop, N: Write + Drop> Desk<D, O, N> {
 
     /// What was told and is said no longer waits.
     fn mark(&mut self) {
-        let is_said = self.is_born()
-            && self.app.node().kept() == 0
-            && self.app.unwritten().is_empty();
-        if let Some(journal) = &mut self.journal {
-            if is_said {
-                journal.say();
-            }
+        let is_said = self.core.is_born() && self.core.kept() == 0;
+        if is_said && self.core.unwritten().is_empty() {
+            self.core.say();
         }
     }
 
     /// Writes what is to survive.
     fn keep_lines(&mut self, now: u64) {
-        let Some(journal) = &mut self.journal else {
-            return;
-        };
-        if !journal.keep(now) {
+        if !self.core.keep_lines(now) {
             let _ = writeln!(self.notes, "sparkplug: values and changes can't be kept");
         }
     }
 
     /// Writes for the last time what is to survive: where nothing is kept any more, values alone.
-    fn close_journal(&mut self) {
-        let is_said = self.app.node().kept() == 0;
-        if let Some(journal) = &mut self.journal {
-            if is_said {
-                journal.say();
-            }
+    fn close_file(&mut self) {
+        if self.core.kept() == 0 {
+            self.core.say();
         }
         self.keep_lines(u64::MAX);
     }
 
-    /// Keeps the record of what the node did, and no more: a next run needn't wait.
-    fn settle(&mut self) {
-        let last = self.app.node().record();
-        let Some(stamp) = last.stamp else {
-            return;
-        };
-        let record = Record { bd: last.bd, stamp };
-        if let Ok(text) = record.encode(self.alloc) {
-            let _ = self.disk.keep(text.as_bytes());
-        }
-    }
-
     /// Prints the writes that commands asked for.
     fn print(&mut self) {
-        let mut printed = false;
-        for _ in 0..u64::MAX {
-            let Some(write) = self.app.next_write() else {
-                break;
-            };
-            let Some(gauge) = self.names.metric(write.alias) else {
-                continue;
-            };
-            let owner = owner_text(self.alloc, &self.names, gauge.owner);
-            let value = value_text(self.alloc, &write.value);
-            let name = json_text(self.alloc, gauge.name.as_str());
-            let (Ok(owner), Ok(value), Ok(name)) = (owner, value, name) else {
-                let _ = writeln!(self.notes, "sparkplug: a write isn't told: NoMemory (1)");
-                continue;
-            };
-            let line = writeln!(
-                self.out,
-                "{{\"write\":{{\"device\":{owner},\"metric\":{name},\"value\":{value}}}}}"
-            );
-            self.failed = self.failed || line.is_err();
-            printed = true;
-        }
-        if printed && self.out.flush().is_err() {
+        if self.core.print(&mut self.out, &mut self.notes).is_err() {
             self.failed = true;
         }
     }
 
     /// Tells how far it is.
     fn report(&mut self) {
-        let (kept, lost) = (self.app.node().kept(), self.app.node().lost());
+        let (kept, lost) = (self.core.kept(), self.core.lost());
         let Counts {
             lines,
             refused,
@@ -292,29 +143,42 @@ impl<D: Disk, O: Write + Drop, N: Write + Drop> Desk<D, O, N> {
         );
     }
 
-    /// Whether the births were given.
-    fn is_born(&self) -> bool {
-        self.app.node().phase() == Phase::Born
-    }
-
     /// Whether the next round may send kept changes.
     fn drains(&self) -> bool {
-        self.is_born()
-            && self.app.node().kept() > 0
-            && self.app.wanted().is_none()
-            && !self.app.is_closing()
-            && self.app.unwritten().len() < LITTLE
+        self.core.is_born()
+            && self.core.kept() > 0
+            && !self.core.wants()
+            && !self.core.is_closing()
+            && self.core.unwritten().len() < LITTLE
+    }
+
+    /// Tells that the input is over, and no session came.
+    fn give_up(&mut self) {
+        let kept = self.core.kept();
+        let what = if self.core.has_file() {
+            "stay kept"
+        } else {
+            "are lost"
+        };
+        let _ = writeln!(
+            self.notes,
+            "sparkplug: the input is over, and no session came within 30 seconds: {kept} changes {what}"
+        );
+        self.failed = true;
     }
 }
 
-impl<D: Disk, O: Write + Drop, N: Write + Drop> Listener for Desk<D, O, N> {
+impl<C: EdgeCore, O: Write + Drop, N: Write + Drop> Listener for Desk<C, O, N> {
     fn line(&mut self, number: u64, bytes: &[u8], now: u64) {
         self.counts.lines = self.counts.lines.saturating_add(1);
         match str::from_utf8(bytes) {
             Ok(text) if text.trim().is_empty() => {}
-            Ok(text) => self.text(number, text, now),
+            Ok(text) => {
+                let refused = self.core.tell(&mut self.notes, number, text, now);
+                self.refuse(refused);
+            }
             Err(_) => {
-                self.counts.refused = self.counts.refused.saturating_add(1);
+                self.refuse(1);
                 let _ = writeln!(self.notes, "sparkplug: line {number}: it isn't UTF-8");
             }
         }
@@ -322,7 +186,7 @@ impl<D: Disk, O: Write + Drop, N: Write + Drop> Listener for Desk<D, O, N> {
 
     fn passed(&mut self, number: u64) {
         self.counts.lines = self.counts.lines.saturating_add(1);
-        self.counts.refused = self.counts.refused.saturating_add(1);
+        self.refuse(1);
         let _ = writeln!(
             self.notes,
             "sparkplug: line {number}: it has more than 1,048,576 bytes, or there is no memory for it"
@@ -330,37 +194,40 @@ impl<D: Disk, O: Write + Drop, N: Write + Drop> Listener for Desk<D, O, N> {
     }
 }
 
-impl<D: Disk, O: Write + Drop, N: Write + Drop> EdgeProgram<D, O, N> {
+/// Tells what of a file says nothing: so many lines, and its torn end.
+fn write_passed<N: Write>(notes: &mut N, passed: u64, is_torn: bool) {
+    if passed > 0 {
+        let _ = writeln!(
+            notes,
+            "sparkplug: {passed} lines of what was kept say nothing"
+        );
+    }
+    if is_torn {
+        let _ = writeln!(
+            notes,
+            "sparkplug: the last line of what was kept is torn, and passed over"
+        );
+    }
+}
+
+impl<D: Disk, O: Write + Drop, N: Write + Drop> EdgeProgram<EdgeParts<D>, O, N> {
     /// A program that goes on from what a run begins with.
-    pub fn new(alloc: Global, begun: Begun<D>, out: O, mut notes: N) -> EdgeProgram<D, O, N> {
+    pub fn new(
+        alloc: Global,
+        begun: Begun<D>,
+        out: O,
+        mut notes: N,
+    ) -> EdgeProgram<EdgeParts<D>, O, N> {
         let Begun {
-            app,
-            names,
+            parts,
             begin,
-            disk,
-            journal,
             passed,
             is_torn,
         } = begun;
-        if passed > 0 {
-            let _ = writeln!(
-                notes,
-                "sparkplug: {passed} lines of what was kept say nothing"
-            );
-        }
-        if is_torn {
-            let _ = writeln!(
-                notes,
-                "sparkplug: the last line of what was kept is torn, and passed over"
-            );
-        }
+        write_passed(&mut notes, passed, is_torn);
         EdgeProgram {
             desk: Desk {
-                alloc,
-                app,
-                names,
-                disk,
-                journal,
+                core: parts,
                 out,
                 notes,
                 counts: Counts {
@@ -379,9 +246,25 @@ impl<D: Disk, O: Write + Drop, N: Write + Drop> EdgeProgram<D, O, N> {
         }
     }
 
+    /// Where its record is kept.
+    pub fn disk(&self) -> &D {
+        &self.desk.core.disk
+    }
+
+    /// Where values and kept changes survive, if they do.
+    pub fn kept_disk(&self) -> Option<&D> {
+        self.desk
+            .core
+            .journal
+            .as_ref()
+            .map(|journal| journal.disk())
+    }
+}
+
+impl<C: EdgeCore, O: Write + Drop, N: Write + Drop> EdgeProgram<C, O, N> {
     /// How many changes are kept.
     pub fn kept(&self) -> usize {
-        self.desk.app.node().kept()
+        self.desk.core.kept()
     }
 
     /// What it prints on.
@@ -394,16 +277,6 @@ impl<D: Disk, O: Write + Drop, N: Write + Drop> EdgeProgram<D, O, N> {
         &self.desk.notes
     }
 
-    /// Where its record is kept.
-    pub fn disk(&self) -> &D {
-        &self.desk.disk
-    }
-
-    /// Where values and kept changes survive, if they do.
-    pub fn kept_disk(&self) -> Option<&D> {
-        self.desk.journal.as_ref().map(|journal| journal.disk())
-    }
-
     /// Whether the record of the start is ahead of the clock, as far as it reserved.
     fn is_early(&self, now: u64) -> bool {
         now < self.begin && self.begin.saturating_sub(now) <= WAIT
@@ -411,24 +284,15 @@ impl<D: Disk, O: Write + Drop, N: Write + Drop> EdgeProgram<D, O, N> {
 
     /// Standard input is over: the session ends once all that was kept is said, or its time is over.
     fn end(&mut self, until: u64, now: u64) {
-        let said = self.desk.is_born() && self.desk.app.node().kept() == 0;
-        if said {
-            if self.desk.app.stop(now).is_ok() {
+        let is_born = self.desk.core.is_born();
+        if is_born && self.desk.core.kept() == 0 {
+            if self.desk.core.stop(now) {
                 self.input = Input::Done;
             }
-        } else if now >= until && !self.desk.is_born() {
-            let kept = self.desk.app.node().kept();
-            let what = match self.desk.journal {
-                Some(_) => "stay kept",
-                None => "are lost",
-            };
-            let _ = writeln!(
-                self.desk.notes,
-                "sparkplug: the input is over, and no session came within 30 seconds: {kept} changes {what}"
-            );
-            let _ = self.desk.app.stop(now);
+        } else if now >= until && !is_born {
+            self.desk.give_up();
+            let _ = self.desk.core.stop(now);
             self.input = Input::Done;
-            self.desk.failed = true;
         }
     }
 
@@ -445,8 +309,8 @@ impl<D: Disk, O: Write + Drop, N: Write + Drop> EdgeProgram<D, O, N> {
     /// The last lines, and the record of the end, which reserves nothing; the status. A fault that ended the loop is printed.
     pub fn finish(&mut self, ended: Result<(), NetworkFault>) -> u8 {
         self.desk.print();
-        self.desk.settle();
-        self.desk.close_journal();
+        self.desk.core.settle();
+        self.desk.close_file();
         self.desk.report();
         match ended {
             Err(fault) => told(&mut self.desk.out, ProgramFault::from(fault)),
@@ -456,9 +320,9 @@ impl<D: Disk, O: Write + Drop, N: Write + Drop> EdgeProgram<D, O, N> {
     }
 }
 
-impl<D: Disk, O: Write + Drop, N: Write + Drop> App for EdgeProgram<D, O, N> {
+impl<C: EdgeCore, O: Write + Drop, N: Write + Drop> App for EdgeProgram<C, O, N> {
     fn due(&self, now: u64) -> Due {
-        match self.desk.app.due(now) {
+        match self.desk.core.due(now) {
             Due::Connect if self.is_early(now) || self.input == Input::Done => Due::Nothing,
             due => due,
         }
@@ -468,17 +332,16 @@ impl<D: Disk, O: Write + Drop, N: Write + Drop> App for EdgeProgram<D, O, N> {
         if self.desk.drains() {
             return Some(0);
         }
-        let mut until = self.desk.app.next_due().unwrap_or(u64::MAX);
+        let mut until = self.desk.core.next_due().unwrap_or(u64::MAX);
         if self.is_early(now) {
             until = until.max(self.begin);
         }
-        if self.desk.app.wanted().is_some() {
+        if self.desk.core.wants() {
             until = until.min(self.desk.rested);
         }
-        let tried = self.desk.journal.as_ref().and_then(|journal| journal.due());
-        until = until.min(tried.unwrap_or(u64::MAX));
+        until = until.min(self.desk.core.next_file().unwrap_or(u64::MAX));
         if let Input::Over(last) = self.input {
-            if !self.desk.is_born() {
+            if !self.desk.core.is_born() {
                 until = until.min(last);
             }
         }
@@ -487,7 +350,7 @@ impl<D: Disk, O: Write + Drop, N: Write + Drop> App for EdgeProgram<D, O, N> {
 
     fn opened(&mut self, now: u64) {
         self.desk.counts.connections = self.desk.counts.connections.saturating_add(1);
-        if let Err(fault) = self.desk.app.opened(now) {
+        if let Err(fault) = self.desk.core.opened(now) {
             self.shut = true;
             let _ = write!(self.desk.notes, "sparkplug: no session: ");
             write_fault(&mut self.desk.notes, fault);
@@ -496,15 +359,15 @@ impl<D: Disk, O: Write + Drop, N: Write + Drop> App for EdgeProgram<D, O, N> {
 
     fn over(&mut self, now: u64) {
         self.shut = false;
-        self.desk.app.over(now);
+        self.desk.core.over(now);
     }
 
     fn may_read(&self) -> bool {
-        !self.shut && self.desk.app.unwritten().len() < MANY
+        !self.shut && self.desk.core.unwritten().len() < MANY
     }
 
     fn read(&mut self, piece: &[u8], now: u64) {
-        if let Err(fault) = self.desk.app.read(piece, now) {
+        if let Err(fault) = self.desk.core.read(piece, now) {
             let _ = write!(self.desk.notes, "sparkplug: from the broker: ");
             write_fault(&mut self.desk.notes, fault);
         }
@@ -512,8 +375,8 @@ impl<D: Disk, O: Write + Drop, N: Write + Drop> App for EdgeProgram<D, O, N> {
 
     fn takes_input(&self) -> bool {
         self.input == Input::Open
-            && self.desk.app.wanted().is_none()
-            && self.desk.app.unwritten().len() < MANY
+            && !self.desk.core.wants()
+            && self.desk.core.unwritten().len() < MANY
     }
 
     fn input(&mut self, piece: &[u8], now: u64) {
@@ -526,7 +389,7 @@ impl<D: Disk, O: Write + Drop, N: Write + Drop> App for EdgeProgram<D, O, N> {
     }
 
     fn turn(&mut self, now: u64) {
-        let _ = self.desk.app.moment(now);
+        self.desk.core.moment(now);
         if let Input::Over(until) = self.input {
             self.end(until, now);
         }
@@ -537,16 +400,16 @@ impl<D: Disk, O: Write + Drop, N: Write + Drop> App for EdgeProgram<D, O, N> {
     }
 
     fn unwritten(&self) -> &[u8] {
-        self.desk.app.unwritten()
+        self.desk.core.unwritten()
     }
 
     fn wrote(&mut self, count: usize, now: u64) {
-        self.desk.app.wrote(count, now);
+        self.desk.core.wrote(count, now);
         self.desk.mark();
     }
 
     fn is_closing(&self) -> bool {
-        self.shut || (self.desk.app.is_closing() && self.desk.app.wanted().is_none())
+        self.shut || (self.desk.core.is_closing() && !self.desk.core.wants())
     }
 
     fn is_done(&self) -> bool {

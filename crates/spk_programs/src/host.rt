@@ -1,20 +1,13 @@
 //! `host`: a host application that prints what it consumes, and what is current, or draws a board of its nodes.
 
 use crate::fault::{ProgramFault, told};
-use crate::known::{Nodes, Stand, stand_of};
+use crate::host_core::{Heard, HostCore};
 use crate::notes::write_note;
-use crate::printing::{
-    Cause, write_asked, write_death, write_lost, write_message, write_refused, write_stand,
-};
-use crate::watched;
-use spk_board::Board;
-use spk_host_app::{HostApp, HostAppFault, Said};
+use spk_host_app::HostAppFault;
 use spk_link::Due;
-use spk_network::{App, NetworkFault, Note};
-use spk_reading::{Numbered, Subject};
+use spk_network::{App, NetworkFault, Note, Seen};
+use spk_page::{Asked, Client};
 use spk_sequence::Step;
-use spk_topics::Spark;
-use std::alloc::Global;
 use std::io::{self, Write};
 
 /// How often the host is told the moment while it has a connection, in milliseconds (own rule).
@@ -48,20 +41,14 @@ struct Counts {
 
 /// A host's program.
 #[derive(Drop)]
-pub struct HostProgram<O: Write + Drop, N: Write + Drop> {
-    alloc: Global,
-    app: HostApp,
-    nodes: Nodes,
+pub struct HostProgram<C: HostCore, O: Write + Drop, N: Write + Drop> {
+    core: C,
     asks: Asks,
-    /// The board that is drawn in place of lines; None where lines are printed.
-    board: Option<Board>,
     out: O,
     notes: N,
     counts: Counts,
     /// How many messages are still to be consumed before it ends; None where it doesn't.
     left: Option<u64>,
-    /// For how long nothing of a node may be consumed before its values are told to be stale, in milliseconds; None where for ever.
-    silence: Option<u64>,
     /// When it is looked next who is silent.
     look: u64,
     /// There is a connection.
@@ -78,34 +65,12 @@ pub struct HostProgram<O: Write + Drop, N: Write + Drop> {
     failed: bool,
 }
 
-/// Whether a message may change how a node or a device stands, and of what that comes.
-fn cause_of(subject: &Subject) -> Option<Cause> {
-    match subject {
-        Subject::NodeBirth | Subject::DeviceBirth(_) => Some(Cause::Birth),
-        Subject::DeviceDeath(_) => Some(Cause::Death),
-        Subject::NodeData | Subject::DeviceData(_) => None,
-    }
-}
-
-impl<O: Write + Drop, N: Write + Drop> HostProgram<O, N> {
-    /// A program that ends once so many messages were consumed, or never, and tells a node's values to be stale once nothing of it was consumed for so many
-    /// milliseconds, or not. Where there is a board it is drawn in place of lines.
-    pub fn new(
-        alloc: Global,
-        app: HostApp,
-        count: Option<u64>,
-        silence: Option<u64>,
-        asks: Asks,
-        board: Option<Board>,
-        out: O,
-        notes: N,
-    ) -> HostProgram<O, N> {
+impl<C: HostCore, O: Write + Drop, N: Write + Drop> HostProgram<C, O, N> {
+    /// A program that ends once so many messages were consumed, or never.
+    pub fn new(core: C, count: Option<u64>, asks: Asks, out: O, notes: N) -> HostProgram<C, O, N> {
         HostProgram {
-            alloc,
-            app,
-            nodes: Nodes::new(alloc),
+            core,
             asks,
-            board,
             out,
             notes,
             counts: Counts {
@@ -116,7 +81,6 @@ impl<O: Write + Drop, N: Write + Drop> HostProgram<O, N> {
                 connections: 0,
             },
             left: count,
-            silence,
             look: 0,
             open: false,
             shut: false,
@@ -140,7 +104,7 @@ impl<O: Write + Drop, N: Write + Drop> HostProgram<O, N> {
     /// It ends, with a farewell where there is a session.
     fn end(&mut self, now: u64) {
         self.done = true;
-        let _ = self.app.stop(now);
+        self.core.stop(now);
     }
 
     /// Lines were written, or weren't.
@@ -157,68 +121,32 @@ impl<O: Write + Drop, N: Write + Drop> HostProgram<O, N> {
         self.check(written, now);
     }
 
-    /// Tells how the node at a place, and its devices, stand otherwise than they were told to.
-    fn tell_changes(&mut self, place: usize, cause: Cause, now: u64) -> io::Result<()> {
-        let (Some(entry), Some(known)) = (
-            self.app.host().nodes().get(place),
-            self.nodes.at_mut(place),
-        ) else {
-            return Ok(());
-        };
-        let Some(view) = entry.kept().view() else {
-            return Ok(());
-        };
-        let (group, node) = (entry.group(), entry.node());
-        let stand = known.told(stand_of(view.is_online(), view.is_stale()));
-        if stand != known.stand {
-            known.stand = stand;
-            write_stand(
-                self.alloc,
-                &mut self.out,
-                group,
-                node,
-                None,
-                stand,
-                cause,
-                now,
-            )?;
+    /// Draws the board, if there is one.
+    fn draw(&mut self, now: u64) {
+        if !self.failed {
+            let written = self.core.draw(&mut self.out, now);
+            self.check(written, now);
         }
-        for (index, device) in view.devices().iter().enumerate() {
-            let stand = known.told(stand_of(device.is_online(), device.is_stale()));
-            if known.devices.len() <= index {
-                known.devices.push(Stand::Unborn)?;
-            }
-            let Some(before) = known.devices.get_mut(index) else {
-                continue;
-            };
-            if stand != *before {
-                *before = stand;
-                let name = Some(device.name());
-                write_stand(
-                    self.alloc,
-                    &mut self.out,
-                    group,
-                    node,
-                    name,
-                    stand,
-                    cause,
-                    now,
-                )?;
-            }
-        }
-        Ok(())
     }
 
-    /// The same of each node.
-    fn tell_all(&mut self, cause: Cause, now: u64) -> io::Result<()> {
-        for place in 0..self.app.host().nodes().len() {
-            self.tell_changes(place, cause, now)?;
+    /// When the board is drawn next, if there is one and the program isn't to end.
+    fn next_board(&self) -> Option<u64> {
+        if self.done {
+            None
+        } else {
+            self.core.next_board()
         }
-        Ok(())
+    }
+
+    /// Tells the board and the page whether there is a connection.
+    fn show_connection(&mut self, now: u64) {
+        let told = self.core.connect(self.open, now);
+        self.check(told, now);
     }
 
     /// One of the messages that are still to be consumed was. Behind the last of them a board is drawn once more.
     fn count_down(&mut self, now: u64) {
+        self.counts.consumed = self.counts.consumed.saturating_add(1);
         if let Some(left) = &mut self.left {
             *left = left.saturating_sub(1);
         }
@@ -226,34 +154,6 @@ impl<O: Write + Drop, N: Write + Drop> HostProgram<O, N> {
             self.draw(now);
             self.end(now);
         }
-    }
-
-    /// A message was consumed.
-    fn consumed(&mut self, message: &Numbered, now: u64) -> io::Result<()> {
-        if self.left == Some(0) {
-            return Ok(());
-        }
-        self.nodes.follow(self.app.host().nodes())?;
-        let (group, node) = (message.group.as_str(), message.node.as_str());
-        let place = self.nodes.place_of(group, node)?.unwrap_or(usize::MAX);
-        let births = match self.nodes.at(place) {
-            Some(known) => known.names(),
-            None => None,
-        };
-        write_message(self.alloc, &mut self.out, message, births)?;
-        self.counts.consumed = self.counts.consumed.saturating_add(1);
-        let was_silent = self
-            .nodes
-            .at_mut(place)
-            .is_some_and(|known| known.hear(now));
-        if let Some(cause) = cause_of(&message.subject) {
-            self.nodes.learn(place, message)?;
-            self.tell_changes(place, cause, now)?;
-        } else if was_silent {
-            self.tell_changes(place, Cause::Message, now)?;
-        }
-        self.count_down(now);
-        Ok(())
     }
 
     /// What became of a message that came, or a gap, is counted.
@@ -267,160 +167,65 @@ impl<O: Write + Drop, N: Write + Drop> HostProgram<O, N> {
         }
     }
 
-    /// What became of a message that came, or a gap.
-    fn stepped(&mut self, step: Step, now: u64) -> io::Result<()> {
-        self.count_step(step);
-        if step == Step::Gap {
-            self.nodes.follow(self.app.host().nodes())?;
-            self.tell_all(Cause::Gap, now)?;
-        }
-        Ok(())
-    }
-
-    /// An NDEATH came.
-    fn died(&mut self, group: &str, node: &str, now: u64) -> io::Result<()> {
-        write_death(self.alloc, &mut self.out, group, node, now)?;
-        match self.nodes.place_of(group, node)? {
-            Some(place) => self.tell_changes(place, Cause::Death, now),
-            None => Ok(()),
-        }
-    }
-
-    /// A rebirth was asked for.
-    fn asked(&mut self, topic: &Spark, now: u64) -> io::Result<()> {
-        match topic {
-            Spark::Node { group, node, .. } => {
-                write_asked(
-                    self.alloc,
-                    &mut self.out,
-                    group.as_str(),
-                    node.as_str(),
-                    now,
-                )
+    /// The node at a place of those that are to be asked for a rebirth is. Whether the next one may be.
+    fn ask(&mut self, place: usize, now: u64) -> bool {
+        let Some(node) = self.asks.nodes.get(place) else {
+            return false;
+        };
+        match self.core.ask(self.asks.group.as_str(), node.as_str(), now) {
+            Ok(true) => true,
+            Ok(false) => {
+                let _ = writeln!(self.notes, "sparkplug: {node} can't be asked for a rebirth");
+                true
             }
-            _ => Ok(()),
+            Err(fault) => {
+                self.fault(fault);
+                false
+            }
         }
     }
 
     /// The subscription is granted: the nodes that are to be asked for a rebirth are.
     fn ask_all(&mut self, now: u64) {
         for place in 0..self.asks.nodes.len() {
-            let Some(node) = self.asks.nodes.get(place) else {
+            if !self.ask(place, now) {
                 return;
-            };
-            let (group, node) = (self.asks.group.as_str(), node.as_str());
-            match self.app.ask(group, node, now) {
-                Ok(true) => {}
-                Ok(false) => {
-                    let _ = writeln!(self.notes, "sparkplug: {node} can't be asked for a rebirth");
-                }
-                Err(fault) => {
-                    self.fault(fault);
-                    return;
-                }
             }
         }
     }
 
-    /// A word comes to the board.
-    fn watch(&mut self, said: &Said, now: u64) -> io::Result<()> {
-        if let Some(board) = &mut self.board {
-            let entries = self.app.host().nodes();
-            watched::hear(board, &mut self.nodes, entries, said, now)?;
+    /// What a word is to the program itself, which showed it.
+    fn follow(&mut self, heard: Heard, now: u64) {
+        match heard {
+            Heard::Consumed if self.left != Some(0) => self.count_down(now),
+            Heard::Step(step) => self.count_step(step),
+            Heard::Granted => self.ask_all(now),
+            Heard::Refused => self.counts.refused = self.counts.refused.saturating_add(1),
+            Heard::Consumed | Heard::Other => {}
         }
-        match said {
-            Said::Consumed(_) if self.left != Some(0) => {
-                self.counts.consumed = self.counts.consumed.saturating_add(1);
-                self.count_down(now);
-            }
-            Said::Step(step) => self.count_step(*step),
-            Said::Granted => self.ask_all(now),
-            Said::Refused { .. } => self.counts.refused = self.counts.refused.saturating_add(1),
-            _ => {}
-        }
-        Ok(())
     }
 
-    /// Draws the board, if there is one.
-    fn draw(&mut self, now: u64) {
-        if self.failed {
-            return;
-        }
-        if let Some(board) = &mut self.board {
-            let entries = self.app.host().nodes();
-            let out = &mut self.out;
-            let written = watched::draw(self.alloc, board, out, entries, self.silence, now);
+    /// A word is shown. Where enough was consumed, what is consumed then is no line.
+    fn show_word(&mut self, said: &C::Said, now: u64) {
+        let told = self.core.tell_page(said, now);
+        self.check(told, now);
+        let heard = C::heard(said);
+        let is_enough = heard == Heard::Consumed && self.left == Some(0);
+        if !is_enough || self.core.has_board() {
+            let written = self.core.tell(&mut self.out, said, now);
             self.check(written, now);
         }
+        self.follow(heard, now);
     }
 
-    /// When the board is drawn next, if there is one and the program isn't to end.
-    fn next_board(&self) -> Option<u64> {
-        match &self.board {
-            Some(board) if !self.done => Some(board.due()),
-            _ => None,
-        }
-    }
-
-    /// Tells the board whether there is a connection.
-    fn show_connection(&mut self) {
-        if let Some(board) = &mut self.board {
-            board.connect(self.open);
-        }
-    }
-
-    /// Prints a word.
-    fn print(&mut self, said: &Said, now: u64) -> io::Result<()> {
-        match said {
-            Said::Consumed(message) => self.consumed(message, now),
-            Said::Step(step) => self.stepped(*step, now),
-            Said::Death { group, node } => self.died(group.as_str(), node.as_str(), now),
-            Said::Lost { group, node, loss } => {
-                write_lost(
-                    self.alloc,
-                    &mut self.out,
-                    group.as_str(),
-                    node.as_str(),
-                    *loss,
-                    now,
-                )
-            }
-            Said::Asked(topic) => self.asked(topic, now),
-            Said::Refused { fault, topic } => {
-                self.counts.refused = self.counts.refused.saturating_add(1);
-                write_refused(self.alloc, &mut self.out, *fault, topic.as_str(), now)
-            }
-            Said::TurnedAway(code) => {
-                writeln!(self.out, "{{\"turned_away\":{code},\"at\":{now}}}")?;
-                self.tell_all(Cause::Session, now)
-            }
-            Said::Granted => {
-                self.ask_all(now);
-                writeln!(self.out, "{{\"subscription\":\"granted\",\"at\":{now}}}")
-            }
-            Said::SubscriptionRefused => {
-                writeln!(self.out, "{{\"subscription\":\"refused\",\"at\":{now}}}")
-            }
-            Said::Ended => {
-                writeln!(self.out, "{{\"session\":\"over\",\"at\":{now}}}")?;
-                self.tell_all(Cause::Session, now)
-            }
-        }
-    }
-
-    /// Prints what is to be printed.
-    fn print_all(&mut self, now: u64) {
+    /// Shows what is to be shown.
+    fn show_all(&mut self, now: u64) {
         for _ in 0..u64::MAX {
-            let Some(said) = self.app.next_said() else {
+            let Some(said) = self.core.next_said() else {
                 break;
             };
             if !self.failed {
-                let written = if self.board.is_some() {
-                    self.watch(&said, now)
-                } else {
-                    self.print(&said, now)
-                };
-                self.check(written, now);
+                self.show_word(&said, now);
             }
         }
     }
@@ -434,15 +239,15 @@ impl<O: Write + Drop, N: Write + Drop> HostProgram<O, N> {
         );
     }
 
-    /// Takes the packets that were read, and prints what comes of each.
+    /// Takes the packets that were read, and shows what comes of each.
     fn hear_all(&mut self, now: u64) {
         for _ in 0..u64::MAX {
-            match self.app.hear(now) {
-                Ok(true) => self.print_all(now),
+            match self.core.hear(now) {
+                Ok(true) => self.show_all(now),
                 Ok(false) => return,
                 Err(fault) => {
                     self.fault(fault);
-                    self.print_all(now);
+                    self.show_all(now);
                     return;
                 }
             }
@@ -453,40 +258,23 @@ impl<O: Write + Drop, N: Write + Drop> HostProgram<O, N> {
     /// ends, and another begins.
     fn renew_if_late(&mut self, now: u64) {
         let late = now > self.last.saturating_add(TICK + LATE);
-        if self.open && late && !self.app.is_closing() {
+        if self.open && late && !self.core.is_closing() {
             let _ = writeln!(
                 self.notes,
                 "sparkplug: it read too late: the session ends, and another begins"
             );
-            let _ = self.app.stop(now);
+            self.core.stop(now);
         }
         self.last = now;
     }
 
-    /// Tells which nodes are silent from now on.
-    fn tell_silence(&mut self, patience: u64, now: u64) -> io::Result<()> {
-        for place in 0..self.nodes.count() {
-            let falls = self
-                .nodes
-                .at_mut(place)
-                .is_some_and(|known| known.falls_silent(patience, now));
-            if falls {
-                self.tell_changes(place, Cause::Silence, now)?;
-            }
-        }
-        Ok(())
-    }
-
     /// Looks who is silent, now and then.
     fn look(&mut self, now: u64) {
-        let Some(patience) = self.silence else {
-            return;
-        };
-        if now < self.look || self.failed || self.board.is_some() {
+        if now < self.look || self.failed {
             return;
         }
         self.look = now.saturating_add(TICK);
-        let written = self.tell_silence(patience, now);
+        let written = self.core.tell_silence(&mut self.out, now);
         self.check(written, now);
     }
 
@@ -529,31 +317,30 @@ impl<O: Write + Drop, N: Write + Drop> HostProgram<O, N> {
     }
 }
 
-impl<O: Write + Drop, N: Write + Drop> App for HostProgram<O, N> {
+impl<C: HostCore, O: Write + Drop, N: Write + Drop> App for HostProgram<C, O, N> {
     fn due(&self, now: u64) -> Due {
-        match self.app.due(now) {
+        match self.core.due(now) {
             Due::Connect if self.done => Due::Nothing,
             due => due,
         }
     }
 
     fn pause(&self, now: u64) -> Option<u64> {
-        let mut until = self.app.next_due().unwrap_or(u64::MAX).min(self.report);
+        let mut until = self.core.next_due().unwrap_or(u64::MAX).min(self.report);
         if self.open {
             until = until.min(self.last.saturating_add(TICK));
         }
-        if let Some(due) = self.next_board() {
-            until = until.min(due);
-        }
+        until = until.min(self.next_board().unwrap_or(u64::MAX));
+        until = until.min(self.core.next_page().unwrap_or(u64::MAX));
         Some(until.saturating_sub(now))
     }
 
     fn opened(&mut self, now: u64) {
         self.open = true;
-        self.show_connection();
+        self.show_connection(now);
         self.last = now;
         self.counts.connections = self.counts.connections.saturating_add(1);
-        if let Err(fault) = self.app.opened(now) {
+        if let Err(fault) = self.core.opened(now) {
             self.shut = true;
             self.fault(fault);
         }
@@ -561,20 +348,20 @@ impl<O: Write + Drop, N: Write + Drop> App for HostProgram<O, N> {
 
     fn over(&mut self, now: u64) {
         self.open = false;
-        self.show_connection();
+        self.show_connection(now);
         self.shut = false;
-        self.app.over(now);
-        self.print_all(now);
+        self.core.over(now);
+        self.show_all(now);
         self.flush(now);
     }
 
     fn may_read(&self) -> bool {
-        !self.done && !self.shut && self.app.unwritten().len() < MANY
+        !self.done && !self.shut && self.core.unwritten().len() < MANY
     }
 
     fn read(&mut self, piece: &[u8], now: u64) {
         self.renew_if_late(now);
-        match self.app.feed(piece, now) {
+        match self.core.feed(piece, now) {
             Ok(()) => self.hear_all(now),
             Err(fault) => self.fault(fault),
         }
@@ -590,11 +377,12 @@ impl<O: Write + Drop, N: Write + Drop> App for HostProgram<O, N> {
 
     fn turn(&mut self, now: u64) {
         self.renew_if_late(now);
-        if let Err(fault) = self.app.moment(now) {
+        if let Err(fault) = self.core.moment(now) {
             self.fault(fault);
         }
-        self.print_all(now);
+        self.show_all(now);
         self.look(now);
+        self.core.turn_page(now);
         self.tell_progress(now);
         if self.next_board().is_some_and(|due| now >= due) {
             self.draw(now);
@@ -603,15 +391,15 @@ impl<O: Write + Drop, N: Write + Drop> App for HostProgram<O, N> {
     }
 
     fn unwritten(&self) -> &[u8] {
-        self.app.unwritten()
+        self.core.unwritten()
     }
 
     fn wrote(&mut self, count: usize, now: u64) {
-        self.app.wrote(count, now);
+        self.core.wrote(count, now);
     }
 
     fn is_closing(&self) -> bool {
-        self.shut || self.done || self.app.is_closing()
+        self.shut || self.done || self.core.is_closing()
     }
 
     fn is_done(&self) -> bool {
@@ -620,5 +408,21 @@ impl<O: Write + Drop, N: Write + Drop> App for HostProgram<O, N> {
 
     fn note(&mut self, note: &Note) {
         write_note(&mut self.notes, note);
+    }
+
+    fn page_port(&self) -> Option<u16> {
+        self.core.page_port()
+    }
+
+    fn show(&mut self, asked: Asked, client: &mut Client, _seen: &mut Seen, now: u64) {
+        self.core.show(asked, client, now);
+    }
+
+    fn has_news(&self, seen: &Seen) -> bool {
+        self.core.has_news(seen)
+    }
+
+    fn tell(&mut self, client: &mut Client, seen: &mut Seen, now: u64) -> bool {
+        self.core.tell_client(client, seen, now)
     }
 }

@@ -2,23 +2,40 @@
 //! TCP.
 #![tactic(auto)]
 
+mod ages;
+mod answers;
 mod disk;
 mod edge;
+mod edge_core;
+mod edge_lines;
+mod edge_parts;
 mod fault;
+mod happened;
 mod host;
+mod host_core;
+mod host_lines;
+mod host_parts;
 mod journal;
 mod known;
 mod lines;
 mod notes;
+mod page;
 mod printing;
 mod replay;
 mod running;
+mod shown;
+mod stories;
 mod texts;
 mod watched;
 
 pub use disk::{Disk, Disks, Opened};
 pub use edge::EdgeProgram;
+pub use edge_core::EdgeCore;
+pub use edge_parts::EdgeParts;
 pub use fault::ProgramFault;
 pub use host::{Asks, HostProgram};
+pub use host_core::{Heard, HostCore};
+pub use host_parts::HostParts;
 pub use lines::{Lines, Listener};
+pub use page::Page;
 pub use running::{Begun, begin_edge, host_app, run_edge, run_host};

@@ -2,9 +2,12 @@
 
 use crate::disk::{self, Disk, Disks};
 use crate::edge::EdgeProgram;
+use crate::edge_parts::EdgeParts;
 use crate::fault::{ProgramFault, told};
 use crate::host::{Asks, HostProgram};
+use crate::host_parts::HostParts;
 use crate::journal::Journal;
+use crate::page::Page;
 use crate::replay::Replay;
 use spk_board::{Board, Screen};
 use spk_connection::Connection;
@@ -81,12 +84,9 @@ pub(crate) fn edge_app(
 /// What a run of `edge` begins with.
 #[derive(Drop)]
 pub struct Begun<D: Disk> {
-    pub(crate) app: EdgeApp,
-    pub(crate) names: Registry,
+    pub(crate) parts: EdgeParts<D>,
     /// No connection is tried before this moment, where it is close.
     pub(crate) begin: u64,
-    pub(crate) disk: D,
-    pub(crate) journal: Option<Journal<D>>,
     /// How many lines of what was kept say nothing, and whether its last one was torn.
     pub(crate) passed: u64,
     pub(crate) is_torn: bool,
@@ -132,32 +132,44 @@ fn read_files<K: Disks>(
     Ok(RunFiles { disk, start, kept })
 }
 
-/// The changes that were kept are told once more.
+/// The changes that were kept are told once more: how many lines of the file say nothing, and whether its last one was torn.
+fn tell_again<D: Disk>(
+    kept: Option<(Journal<D>, Replay)>,
+    app: &mut EdgeApp,
+) -> Result<(Option<Journal<D>>, u64, bool), AllocError> {
+    match kept {
+        Some((mut file, replay)) => {
+            let (passed, is_torn) = (replay.passed, replay.is_torn);
+            file.tell_again(app, replay)?;
+            Ok((Some(file), passed, is_torn))
+        }
+        None => Ok((None, 0, false)),
+    }
+}
+
+/// A run begins: the changes that were kept are told once more.
 fn told_again<D: Disk>(
+    alloc: Global,
     files: RunFiles<D>,
     mut app: EdgeApp,
     names: Registry,
 ) -> Result<Begun<D>, ProgramFault> {
     let RunFiles { disk, start, kept } = files;
-    let begin = start.map_or(0, |record| record.stamp);
-    let mut passed = 0;
-    let mut is_torn = false;
-    let mut journal = None;
-    if let Some((mut file, replay)) = kept {
-        passed = replay.passed;
-        is_torn = replay.is_torn;
-        file.tell_again(&mut app, replay)?;
-        journal = Some(file);
+    match tell_again(kept, &mut app) {
+        Ok((journal, passed, is_torn)) => Ok(Begun {
+            parts: EdgeParts {
+                alloc,
+                app,
+                names,
+                disk,
+                journal,
+            },
+            begin: start.map_or(0, |record| record.stamp),
+            passed,
+            is_torn,
+        }),
+        Err(_) => Err(ProgramFault::NoMemory),
     }
-    Ok(Begun {
-        app,
-        names,
-        begin,
-        disk,
-        journal,
-        passed,
-        is_torn,
-    })
 }
 
 /// What a plan's run begins with, but for its brokers: the record is read, and what was kept is told once more. Refused with NoMemory (1), and with BadConfig
@@ -187,7 +199,7 @@ pub fn begin_edge<K: Disks>(
         capacity,
     ) {
         Ok(files) => match edge_app(alloc, config, registry, login, files.start) {
-            Ok(app) => told_again(files, app, names),
+            Ok(app) => told_again(alloc, files, app, names),
             Err(fault) => Err(fault),
         },
         Err(fault) => Err(fault),
@@ -273,39 +285,98 @@ fn board_of(
     Ok(Some(Board::new(alloc, group, screen)))
 }
 
+/// The page of a host whose plan asks for one.
+fn page_of(
+    alloc: Global,
+    port: Option<u16>,
+    config: &HostConfig,
+    silence: Option<u64>,
+) -> Result<Option<Page>, AllocError> {
+    let Some(port) = port else {
+        return Ok(None);
+    };
+    let group = String::from_str(alloc, config.group.as_str())?;
+    Ok(Some(Page::new(alloc, port, group, silence)))
+}
+
+/// What a host's plan runs, but for its brokers: its core with what shows it, which nodes are asked, and after how many messages it ends.
+#[derive(Drop)]
+struct Prepared {
+    parts: HostParts,
+    asks: Asks,
+    count: Option<u64>,
+}
+
+/// The core of a host's plan, with its board and its page.
+fn parts_of(
+    alloc: Global,
+    config: HostConfig,
+    login: Option<Words>,
+    silence: Option<u64>,
+    board: Option<Board>,
+    page: Option<Page>,
+) -> Result<HostParts, ProgramFault> {
+    match host_app(alloc, config, login) {
+        Ok(app) => Ok(HostParts::new(alloc, app, silence, board, page)),
+        Err(fault) => Err(fault),
+    }
+}
+
+/// What shows a host, as its plan asks: a board, and a page.
+fn shows_of(
+    alloc: Global,
+    watch: bool,
+    page: Option<u16>,
+    silence: Option<u64>,
+    config: &HostConfig,
+    screen: Screen,
+) -> Result<(Option<Board>, Option<Page>), AllocError> {
+    let board = board_of(alloc, watch, config, screen)?;
+    let page = page_of(alloc, page, config, silence)?;
+    Ok((board, page))
+}
+
+/// What a plan runs. A board is drawn for this screen.
+fn prepare(alloc: Global, plan: HostPlan, screen: Screen) -> Result<Prepared, ProgramFault> {
+    let HostPlan {
+        config,
+        brokers: _brokers,
+        login,
+        count,
+        silence,
+        watch,
+        page,
+        asks,
+    } = plan;
+    let group = String::from_str(alloc, config.group.as_str())?;
+    let (board, page) = shows_of(alloc, watch, page, silence, &config, screen)?;
+    let parts = parts_of(alloc, config, login, silence, board, page)?;
+    Ok(Prepared {
+        parts,
+        asks: Asks { group, nodes: asks },
+        count,
+    })
+}
+
 /// Runs a host application until so many messages were consumed as its plan says, or for ever, and answers the status: 0, or 1 where a fault ended it, which
 /// is printed, or where a line couldn't be written. A board is drawn for this screen. What goes over a socket no contract says.
-pub fn run_host<R, O, N>(rt: &R, plan: HostPlan, screen: Screen, mut out: O, notes: N) -> u8
+pub fn run_host<R, O, N>(rt: &R, mut plan: HostPlan, screen: Screen, mut out: O, notes: N) -> u8
 where
     R: AllocGlobal + Wait + Clock + Net,
     O: Write + Drop,
     N: Write + Drop,
 {
     let alloc = rt.alloc();
-    let HostPlan {
-        config,
-        brokers,
-        login,
-        count,
-        silence,
-        watch,
-        asks,
-    } = plan;
-    let Ok(group) = String::from_str(alloc, config.group.as_str()) else {
-        return told(&mut out, ProgramFault::NoMemory);
-    };
-    let asks = Asks { group, nodes: asks };
-    let Ok(board) = board_of(alloc, watch, &config, screen) else {
-        return told(&mut out, ProgramFault::NoMemory);
-    };
-    let app = match host_app(alloc, config, login) {
-        Ok(app) => app,
+    let brokers = mem::replace(&mut plan.brokers, Vec::new(alloc));
+    let prepared = match prepare(alloc, plan, screen) {
+        Ok(prepared) => prepared,
         Err(fault) => return told(&mut out, fault),
     };
     let Ok(buffered) = BufWriter::new(alloc, out) else {
         return 1;
     };
-    let mut program = HostProgram::new(alloc, app, count, silence, asks, board, buffered, notes);
+    let Prepared { parts, asks, count } = prepared;
+    let mut program = HostProgram::new(parts, count, asks, buffered, notes);
     let ended = run_app(rt, alloc, brokers.as_slice(), Nothing, false, &mut program);
     program.finish(ended)
 }

@@ -120,7 +120,7 @@ pub(crate) fn hear(
 }
 
 /// The values of a node and its devices.
-fn values_of(entry: &Entry) -> Values {
+pub(crate) fn values_of(entry: &Entry) -> Values {
     let mut values = Values {
         current: 0,
         all: 0,
