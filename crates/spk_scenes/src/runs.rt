@@ -6,7 +6,7 @@ use crate::shelf::{Lent, Shelf};
 use spk_board::{Board, Screen};
 use spk_commands::{Outcome, run_with_notes};
 use spk_program_plans::{EdgePlan, HostPlan, Words};
-use spk_programs::{Asks, EdgeProgram, HostProgram, begin_edge, host_app};
+use spk_programs::{Asks, EdgeProgram, HostParts, HostProgram, begin_edge, host_app};
 use std::alloc::Global;
 use std::io::Write;
 
@@ -84,6 +84,7 @@ fn host(alloc: Global, plan: HostPlan) -> Option<Program> {
         count,
         silence,
         watch: _,
+        page: _,
         asks,
     } = plan;
     let asks = Asks {
@@ -92,7 +93,8 @@ fn host(alloc: Global, plan: HostPlan) -> Option<Program> {
     };
     let app = host_app(alloc, config, login).ok()?;
     let (out, notes) = (Vec::new(alloc), Vec::new(alloc));
-    Some(Program::Host(HostProgram::new(alloc, app, count, silence, asks, board, out, notes)))
+    let parts = HostParts::new(alloc, app, silence, board, None);
+    Some(Program::Host(HostProgram::new(parts, count, asks, out, notes)))
 }
 
 /// An edge node's program, or why there is none.

@@ -7,14 +7,14 @@ use crate::seat::{Seat, refused};
 use crate::serves::Serves;
 use crate::shelf::{Paper, Shelf};
 use spk_network::App;
-use spk_programs::{EdgeProgram, HostProgram};
+use spk_programs::{EdgeParts, EdgeProgram, HostParts, HostProgram};
 use std::alloc::Global;
 
 /// An edge node's program, whose files are in memory.
-pub(crate) type Edge = EdgeProgram<Paper, Vec<u8>, Vec<u8>>;
+pub(crate) type Edge = EdgeProgram<EdgeParts<Paper>, Vec<u8>, Vec<u8>>;
 
 /// A host's program.
-pub(crate) type Host = HostProgram<Vec<u8>, Vec<u8>>;
+pub(crate) type Host = HostProgram<HostParts, Vec<u8>, Vec<u8>>;
 
 /// A program that is run.
 #[derive(Drop)]
