@@ -1,0 +1,5 @@
+mod Entries
+mod Parted
+pub mod Rows
+pub mod Telling
+mod Unread
