@@ -2,8 +2,11 @@
 //! application over any broker, on the command line.
 #![tactic(auto)]
 
+mod histories;
+mod parts;
 mod records;
 
+use histories::read_history;
 use records::MachineDisks;
 use spk_board::Screen;
 use spk_commands::{Files, NOT_TEXT, Outcome, plant, run_with_notes, serve_clients};
@@ -97,7 +100,11 @@ fn main(rt: HostRuntime) -> io::Result<ExitCode> {
             let mut disks = MachineDisks { rt: &rt };
             run_edge(&rt, plan, rt.stdin(), &mut disks, writer, notes)
         }
-        Outcome::Host(plan) => run_host(&rt, plan, screen_of(&rt), writer, notes),
+        Outcome::Host(plan) => {
+            let mut disks = MachineDisks { rt: &rt };
+            run_host(&rt, plan, screen_of(&rt), &mut disks, writer, notes)
+        }
+        Outcome::History(plan) => read_history(&rt, &plan, &mut writer, &mut notes),
     };
     Ok(ExitCode::from(status))
 }

@@ -26,7 +26,7 @@ pub(crate) struct MachineDisks<'a> {
 }
 
 /// The folder in which a file stands.
-fn folder_of(name: &str) -> &str {
+pub(crate) fn folder_of(name: &str) -> &str {
     match name.rfind('/') {
         Some(0) => "/",
         Some(at) => name.get(..at).unwrap_or("."),

@@ -102,9 +102,23 @@ With --page 8080 it serves a page of its nodes at http://127.0.0.1:8080, to brow
 look and why, holes in the readings, each node's metrics, and what happened, as it happens. /view is the same as JSON,
 /metrics for Prometheus, /text as text.
 
+With --history plant each message that it consumes, and each birth, death, gap and hole, is kept in files plant.MOMENT
+as well, which survive a crash up to the last second; docs/HISTORY.md tells how they are read.
+
 What it consumes of a node is, birth by birth, a prefix of what the node published, each message once and in order;
 behind a gap nothing until a newer birth, for which it asks. A broker that drops 256 messages, or nearly as many,
 without a word is not found out: docs/BROKERS.md says which do. docs/HOST.md tells the rest.
+
+Status: 0 is done; 1 is a fault, printed as `fault NAME (number)`, or output that could not be written;
+2 is a command line that isn't one. docs/FAULTS.md tells each fault by its number.";
+
+const HISTORY: &str = "\
+Example, with what `sparkplug host --history plant` kept:
+  sparkplug history plant.* --sqlite plant.db
+  sparkplug history plant.* --csv level
+  sparkplug history plant.* --holes
+makes tables that sqlite3, Grafana and pandas read, prints each value of the metrics of that name, and when readings
+were missing and how many. A torn end is cut, and told on standard error. docs/HISTORY.md tells the rest.
 
 Status: 0 is done; 1 is a fault, printed as `fault NAME (number)`, or output that could not be written;
 2 is a command line that isn't one. docs/FAULTS.md tells each fault by its number.";
@@ -333,6 +347,25 @@ fn edge<'a>(alloc: Global) -> Result<Command<'a>, AllocError> {
     )
 }
 
+/// The words of a history.
+fn with_history<'a>(alloc: Global, command: Command<'a>) -> Result<Command<'a>, AllocError> {
+    let history = Arg::new(alloc, "history")
+        .long("history")
+        .value_name("NAME")
+        .help(
+            "Keeps what it consumes in files NAME.MOMENT, a new one for each run and each full one",
+        )
+        .action(ArgAction::Set);
+    let command = command.arg(history)?;
+    let size = Arg::new(alloc, "history-size")
+        .long("history-size")
+        .value_name("MIB")
+        .help("How many MiB such a file has at most, 1 to 4096; 64 where nothing is said")
+        .value_parser(value_parser!(u16).range(1..=4096))
+        .action(ArgAction::Set);
+    command.arg(size)
+}
+
 fn host<'a>(alloc: Global) -> Result<Command<'a>, AllocError> {
     let command = Command::new(alloc, "host");
     let group = Arg::new(alloc, "group")
@@ -399,12 +432,68 @@ fn host<'a>(alloc: Global) -> Result<Command<'a>, AllocError> {
         .value_parser(value_parser!(u16).range(1..))
         .action(ArgAction::Set);
     let command = command.arg(page)?;
+    let command = with_history(alloc, command)?;
     Ok(
         with_broker(alloc, command)?
             .about(
                 "Runs a host application over any MQTT 3.1.1 broker, and prints what it consumes",
             )
             .after_help(HOST),
+    )
+}
+
+/// What is made of a history.
+fn with_forms<'a>(alloc: Global, command: Command<'a>) -> Result<Command<'a>, AllocError> {
+    let tables = Arg::new(alloc, "sqlite")
+        .long("sqlite")
+        .value_name("OUT")
+        .help("Makes tables in a new file for SQLite, in place of a summary")
+        .action(ArgAction::Set);
+    let command = command.arg(tables)?;
+    let csv = Arg::new(alloc, "csv")
+        .long("csv")
+        .value_name("METRIC")
+        .help("Prints the values of the metrics of this name, as CSV")
+        .conflicts_with("sqlite")?
+        .action(ArgAction::Set);
+    let command = command.arg(csv)?;
+    let holes = Arg::new(alloc, "holes")
+        .long("holes")
+        .help("Prints the holes in the readings, as CSV")
+        .conflicts_with("sqlite")?
+        .conflicts_with("csv")?
+        .action(ArgAction::SetTrue);
+    command.arg(holes)
+}
+
+fn history<'a>(alloc: Global) -> Result<Command<'a>, AllocError> {
+    let files = Arg::new(alloc, "files")
+        .value_name("FILE")
+        .help("The files of `host --history`, oldest first, as the shell lists NAME.*")
+        .required(true)
+        .num_args(1..)
+        .action(ArgAction::Append);
+    let command = Command::new(alloc, "history").arg(files)?;
+    let command = with_forms(alloc, command)?;
+    let from = Arg::new(alloc, "from")
+        .long("from")
+        .value_name("MOMENT")
+        .help("Passes over what was before, in milliseconds since 1970")
+        .default_value("0")
+        .value_parser(value_parser!(u64))
+        .action(ArgAction::Set);
+    let command = command.arg(from)?;
+    let to = Arg::new(alloc, "to")
+        .long("to")
+        .value_name("MOMENT")
+        .help("Passes over what was at this moment and behind it")
+        .value_parser(value_parser!(u64))
+        .action(ArgAction::Set);
+    let command = command.arg(to)?;
+    Ok(
+        command
+            .about("Reads the history of a host: tables for SQLite, values, holes or a summary")
+            .after_help(HISTORY),
     )
 }
 
@@ -450,5 +539,6 @@ pub fn command_line<'a>(alloc: Global) -> Result<Command<'a>, AllocError> {
     let command = command.subcommand(plant(alloc)?)?;
     let command = command.subcommand(serve(alloc)?)?;
     let command = command.subcommand(edge(alloc)?)?;
-    command.subcommand(host(alloc)?)
+    let command = command.subcommand(host(alloc)?)?;
+    command.subcommand(history(alloc)?)
 }

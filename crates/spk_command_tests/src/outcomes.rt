@@ -1,6 +1,6 @@
 //! What a run came to, as a text.
 
-use spk_commands::Outcome;
+use spk_commands::{HistoryPlan, Outcome};
 use spk_plan::Plan;
 use spk_program_plans::{EdgePlan, HostPlan};
 use std::alloc::{AllocError, Global};
@@ -31,8 +31,8 @@ fn edge_text(alloc: Global, plan: &EdgePlan) -> Result<String, AllocError> {
     )
 }
 
-/// Of a host to be run: how many brokers it may be connected with, and whether it has a login, an end, a silence and a board, and how
-/// many nodes it asks for a rebirth.
+/// Of a host to be run: how many brokers it may be connected with, and whether it has a login, an end, a silence, a board, a page
+/// and a history, and how many nodes it asks for a rebirth.
 fn host_text(alloc: Global, plan: &HostPlan) -> Result<String, AllocError> {
     let brokers = plan.brokers.len();
     let login = plan.login.is_some();
@@ -40,9 +40,24 @@ fn host_text(alloc: Global, plan: &HostPlan) -> Result<String, AllocError> {
     let silence = plan.silence;
     let watch = plan.watch;
     let page = plan.page;
+    let history = plan.history.as_ref().map_or(0, |history| history.1);
     let asks = plan.asks.len();
     format!(in alloc;
-        "host brokers {brokers} login {login} count {count:?} silence {silence:?} watch {watch} page {page:?} asks {asks}"
+        "host brokers {brokers} login {login} count {count:?} silence {silence:?} watch {watch} page {page:?} history {history} asks {asks}"
+    )
+}
+
+/// Of a history to be read: how many files, what is to be made of them, and of which moments.
+fn history_text(alloc: Global, plan: &HistoryPlan) -> Result<String, AllocError> {
+    let HistoryPlan {
+        parts,
+        form,
+        from,
+        to,
+    } = plan;
+    format!(in alloc;
+        "history parts {} {form:?} from {from} to {to:?}",
+        parts.len()
     )
 }
 
@@ -59,5 +74,6 @@ pub(crate) fn text_of(alloc: Global, outcome: &Outcome) -> Result<String, AllocE
         Outcome::Plant(plan) => plant_text(alloc, plan),
         Outcome::Edge(plan) => edge_text(alloc, plan),
         Outcome::Host(plan) => host_text(alloc, plan),
+        Outcome::History(plan) => history_text(alloc, plan),
     }
 }

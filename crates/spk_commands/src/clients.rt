@@ -165,6 +165,19 @@ fn silence_of(given: &ArgMatches<'_>) -> Option<u64> {
     Some(u64::from(seconds).saturating_mul(1_000))
 }
 
+/// The name of the history, and how many bytes a part of it has at most, where one is to be kept.
+fn history_of(
+    alloc: Global,
+    given: &ArgMatches<'_>,
+) -> Result<Option<(String, usize)>, AllocError> {
+    let Some(name) = given.get_str("history") else {
+        return Ok(None);
+    };
+    let name = String::from_str(alloc, name)?;
+    let size = given.get_one::<u16>("history-size").unwrap_or(64);
+    Ok(Some((name, usize::from(size).saturating_mul(1_048_576))))
+}
+
 /// What `host` is to run.
 pub(crate) fn host_plan<F: Files>(
     alloc: Global,
@@ -190,6 +203,7 @@ pub(crate) fn host_plan<F: Files>(
         silence: silence_of(given),
         watch: given.get_flag("watch"),
         page: given.get_one::<u16>("page"),
+        history: history_of(alloc, given)?,
         asks: all_of(alloc, given, "ask")?,
     })
 }

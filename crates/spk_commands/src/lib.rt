@@ -7,6 +7,7 @@ mod broker;
 mod clients;
 mod fault;
 mod files;
+mod histories;
 mod packets;
 mod places;
 mod plants;
@@ -17,5 +18,6 @@ mod world;
 
 pub use broker::{said, serve_clients};
 pub use files::Files;
+pub use histories::{HistoryForm, HistoryPlan};
 pub use plants::{plant, told};
 pub use running::{NOT_TEXT, Outcome, run, run_with_notes};

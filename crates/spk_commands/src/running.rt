@@ -3,6 +3,7 @@
 use crate::clients::{edge_plan, host_plan};
 use crate::fault::{Fault, Stop};
 use crate::files::{Files, text_of};
+use crate::histories::{HistoryPlan, history_plan};
 use crate::packets::packets;
 use crate::plants::plan_from;
 use crate::show::show;
@@ -120,6 +121,8 @@ pub enum Outcome {
     Edge(EdgePlan),
     /// This host application is to be run.
     Host(HostPlan),
+    /// This history is to be read.
+    History(HistoryPlan),
 }
 
 /// `show`: the payload that digits say.
@@ -253,6 +256,14 @@ fn host<F: Files>(alloc: Global, given: &ArgMatches<'_>, files: &mut F) -> Resul
     }
 }
 
+/// `history`: the history that is to be read.
+fn history(alloc: Global, given: &ArgMatches<'_>) -> Result<Outcome, Stop> {
+    match history_plan(alloc, given) {
+        Ok(plan) => Ok(Outcome::History(plan)),
+        Err(_) => Err(Stop::no_memory()),
+    }
+}
+
 /// The command that was given. Each has a function of its own, since whoever holds all that was given is dear to prove.
 fn chosen<F: Files, W: Write, N: Write>(
     alloc: Global,
@@ -281,6 +292,9 @@ fn chosen<F: Files, W: Write, N: Write>(
     }
     if let Some(given) = matches.subcommand_matches("host") {
         return host(alloc, given, files);
+    }
+    if let Some(given) = matches.subcommand_matches("history") {
+        return history(alloc, given);
     }
     Ok(Outcome::Over(0))
 }
@@ -334,7 +348,7 @@ fn buffered<F: Files, W: Write + Drop, N: Write>(
 /// done or help was asked for, 1 at a fault, which is printed as `fault NAME (number)`, or where the writer failed,
 /// 2 where the words aren't a command. All texts go to the writer. Words that ask to serve clients are answered with
 /// the port and the number of clients: `serve_clients` does that. Words that ask to run a plant, an edge node or a host application
-/// are answered with its plan: `plant` and `spk_programs` do that.
+/// are answered with its plan: `plant` and `spk_programs` do that. So are words that ask to read a history.
 pub fn run<R: AllocGlobal, F: Files, W: Write>(
     rt: &R,
     words: &[&str],

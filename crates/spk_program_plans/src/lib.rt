@@ -47,6 +47,8 @@ pub struct HostPlan {
     pub watch: bool,
     /// The port of 127.0.0.1 on which a page of the nodes is served; None where none is.
     pub page: Option<u16>,
+    /// The name of the history that it keeps, and how many bytes a part of that has at most; None where it keeps none.
+    pub history: Option<(String, usize)>,
     /// The nodes of its group that are asked for a rebirth once the subscription is granted.
     pub asks: Vec<String>,
 }

@@ -2,6 +2,7 @@
 ghost use Rattle.std.specs.Prelude.{◌≡◌};
 ghost use Rattle.spk_programs.specs.Fault.{number_of};
 
+use spk_history::HistoryFault;
 use spk_network::NetworkFault;
 use std::alloc::{AllocError, AllocFailed};
 use std::io::Write;
@@ -22,6 +23,9 @@ pub enum ProgramFault {
     /// The file of the record isn't a record.
     #[error("BadRecord")]
     BadRecord = 110,
+    /// No part of the history can be begun.
+    #[error("NoHistory")]
+    NoHistory = 127,
     /// Another process has the record, or the file of what is kept.
     #[error("BusyRecord")]
     BusyRecord = 130,
@@ -57,6 +61,12 @@ impl<T: Drop> From<AllocFailed<T>> for ProgramFault {
     ghost from_gives = { λ _ e. e ≡ NoMemory };
 
     fn from(_failed: AllocFailed<T>) -> ProgramFault {
+        ProgramFault::NoMemory
+    }
+}
+
+impl From<HistoryFault> for ProgramFault {
+    fn from(_fault: HistoryFault) -> ProgramFault {
         ProgramFault::NoMemory
     }
 }

@@ -61,8 +61,10 @@ pub struct HostProgram<C: HostCore, O: Write + Drop, N: Write + Drop> {
     report: u64,
     /// It is to end.
     done: bool,
-    /// Standard output or memory failed.
+    /// Standard output, memory or the history failed.
     failed: bool,
+    /// What is to be written of the history couldn't be.
+    waits: bool,
 }
 
 impl<C: HostCore, O: Write + Drop, N: Write + Drop> HostProgram<C, O, N> {
@@ -88,7 +90,13 @@ impl<C: HostCore, O: Write + Drop, N: Write + Drop> HostProgram<C, O, N> {
             report: 0,
             done: false,
             failed: false,
+            waits: false,
         }
+    }
+
+    /// What it runs.
+    pub fn core(&self) -> &C {
+        &self.core
     }
 
     /// What it prints on.
@@ -112,6 +120,29 @@ impl<C: HostCore, O: Write + Drop, N: Write + Drop> HostProgram<C, O, N> {
         if written.is_err() && !self.failed {
             self.failed = true;
             self.end(now);
+        }
+    }
+
+    /// Something came to the history, or couldn't.
+    fn check_history(&mut self, kept: io::Result<()>, now: u64) {
+        if kept.is_err() && !self.failed {
+            let _ = writeln!(self.notes, "sparkplug: the history can't be kept");
+            self.failed = true;
+            self.end(now);
+        }
+    }
+
+    /// Writes what is to be written of the history, and tells where that fails, and where it does no more.
+    fn turn_history(&mut self, now: u64) {
+        let waits = !self.core.turn_history(now);
+        if waits != self.waits {
+            self.waits = waits;
+            let told = if waits {
+                "can't be written, and waits"
+            } else {
+                "is written again"
+            };
+            let _ = writeln!(self.notes, "sparkplug: the history {told}");
         }
     }
 
@@ -207,6 +238,8 @@ impl<C: HostCore, O: Write + Drop, N: Write + Drop> HostProgram<C, O, N> {
 
     /// A word is shown. Where enough was consumed, what is consumed then is no line.
     fn show_word(&mut self, said: &C::Said, now: u64) {
+        let kept = self.core.keep(said, now);
+        self.check_history(kept, now);
         let told = self.core.tell_page(said, now);
         self.check(told, now);
         let heard = C::heard(said);
@@ -308,6 +341,13 @@ impl<C: HostCore, O: Write + Drop, N: Write + Drop> HostProgram<C, O, N> {
         if self.out.flush().is_err() {
             self.failed = true;
         }
+        if !self.core.close_history() {
+            let _ = writeln!(
+                self.notes,
+                "sparkplug: the end of the history isn't on the disk"
+            );
+            self.failed = true;
+        }
         self.report();
         match ended {
             Err(fault) => told(&mut self.out, ProgramFault::from(fault)),
@@ -332,6 +372,7 @@ impl<C: HostCore, O: Write + Drop, N: Write + Drop> App for HostProgram<C, O, N>
         }
         until = until.min(self.next_board().unwrap_or(u64::MAX));
         until = until.min(self.core.next_page().unwrap_or(u64::MAX));
+        until = until.min(self.core.next_history().unwrap_or(u64::MAX));
         Some(until.saturating_sub(now))
     }
 
@@ -340,9 +381,15 @@ impl<C: HostCore, O: Write + Drop, N: Write + Drop> App for HostProgram<C, O, N>
         self.show_connection(now);
         self.last = now;
         self.counts.connections = self.counts.connections.saturating_add(1);
-        if let Err(fault) = self.core.opened(now) {
-            self.shut = true;
-            self.fault(fault);
+        match self.core.opened(now) {
+            Ok(()) => {
+                let kept = self.core.keep_session(now);
+                self.check_history(kept, now);
+            }
+            Err(fault) => {
+                self.shut = true;
+                self.fault(fault);
+            }
         }
     }
 
@@ -383,6 +430,7 @@ impl<C: HostCore, O: Write + Drop, N: Write + Drop> App for HostProgram<C, O, N>
         self.show_all(now);
         self.look(now);
         self.core.turn_page(now);
+        self.turn_history(now);
         self.tell_progress(now);
         if self.next_board().is_some_and(|due| now >= due) {
             self.draw(now);

@@ -22,7 +22,7 @@ pub enum Heard {
     Other,
 }
 
-/// A host's core, and what shows its nodes: lines or a board, and a page.
+/// A host's core, and what shows its nodes: lines or a board, a page, and a history.
 pub trait HostCore: Drop {
     /// A word of the core.
     type Said: Drop;
@@ -71,6 +71,21 @@ pub trait HostCore: Drop {
 
     /// A word comes to the page, if there is one.
     fn tell_page(&mut self, said: &Self::Said, now: u64) -> io::Result<()>;
+
+    /// A word comes to the history, if there is one.
+    fn keep(&mut self, said: &Self::Said, now: u64) -> io::Result<()>;
+
+    /// A connection stands, and with it begins a session of the host: that comes to the history, if there is one.
+    fn keep_session(&mut self, now: u64) -> io::Result<()>;
+
+    /// A moment comes to the history, if there is one: whether what is to be written of it could be, as far as it was tried.
+    fn turn_history(&mut self, now: u64) -> bool;
+
+    /// When something is to be done next of the history, if anything is.
+    fn next_history(&self) -> Option<u64>;
+
+    /// The history is over, if there is one: whether all of it is on the disk.
+    fn close_history(&mut self) -> bool;
 
     /// A word is printed as lines, or comes to the board, if there is one.
     fn tell<W: Write>(&mut self, out: &mut W, said: &Self::Said, now: u64) -> io::Result<()>;

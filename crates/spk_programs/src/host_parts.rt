@@ -1,9 +1,11 @@
-//! A host's core, with what its program knows of the nodes and what shows them.
+//! A host's core, with what its program knows of the nodes, what shows them, and what keeps them.
 
+use crate::history::History;
 use crate::host_core::{Heard, HostCore};
 use crate::host_lines::{print, print_silence};
 use crate::known::Nodes;
 use crate::page::Page;
+use crate::part_disk::PartDisk;
 use crate::watched;
 use spk_board::Board;
 use spk_host_app::{HostApp, HostAppFault, Said};
@@ -13,9 +15,9 @@ use spk_page::{Asked, Client};
 use std::alloc::Global;
 use std::io::{self, Write};
 
-/// A host's core, what its births named, and the board and the page, if there are.
+/// A host's core, what its births named, and the board, the page and the history, if there are.
 #[derive(Drop)]
-pub struct HostParts {
+pub struct HostParts<P: PartDisk> {
     alloc: Global,
     app: HostApp,
     nodes: Nodes,
@@ -23,31 +25,41 @@ pub struct HostParts {
     board: Option<Board>,
     /// The page that is served beside; None where there is none.
     page: Option<Page>,
+    /// The history that is kept beside; None where none is.
+    history: Option<History<P>>,
     /// For how long nothing of a node may be consumed before its values are told to be stale, in milliseconds; None where for ever.
     silence: Option<u64>,
 }
 
-impl HostParts {
-    /// A core that says which nodes are silent, or doesn't. Where there is a board it is drawn in place of lines; where there is a page it is served beside.
+impl<P: PartDisk> HostParts<P> {
+    /// A core that says which nodes are silent, or doesn't. Where there is a board it is drawn in place of lines; where there are a page and a history these are
+    /// served and kept beside.
     pub fn new(
         alloc: Global,
         app: HostApp,
         silence: Option<u64>,
         board: Option<Board>,
         page: Option<Page>,
-    ) -> HostParts {
+        history: Option<History<P>>,
+    ) -> HostParts<P> {
         HostParts {
             alloc,
             app,
             nodes: Nodes::new(alloc),
             board,
             page,
+            history,
             silence,
         }
     }
+
+    /// The history that is kept, if one is.
+    pub fn history(&self) -> Option<&History<P>> {
+        self.history.as_ref()
+    }
 }
 
-impl HostCore for HostParts {
+impl<P: PartDisk> HostCore for HostParts<P> {
     type Said = Said;
 
     fn due(&self, now: u64) -> Due {
@@ -109,6 +121,38 @@ impl HostCore for HostParts {
             Said::Granted => Heard::Granted,
             Said::Refused { .. } => Heard::Refused,
             _ => Heard::Other,
+        }
+    }
+
+    fn keep(&mut self, said: &Said, now: u64) -> io::Result<()> {
+        match &mut self.history {
+            Some(history) => history.hear(&mut self.nodes, self.app.host().nodes(), said, now),
+            None => Ok(()),
+        }
+    }
+
+    fn keep_session(&mut self, now: u64) -> io::Result<()> {
+        match &mut self.history {
+            Some(history) => history.opened(now),
+            None => Ok(()),
+        }
+    }
+
+    fn turn_history(&mut self, now: u64) -> bool {
+        match &mut self.history {
+            Some(history) => history.turn(now),
+            None => true,
+        }
+    }
+
+    fn next_history(&self) -> Option<u64> {
+        self.history.as_ref().and_then(|history| history.due())
+    }
+
+    fn close_history(&mut self) -> bool {
+        match &mut self.history {
+            Some(history) => history.close(),
+            None => true,
         }
     }
 

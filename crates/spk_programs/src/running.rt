@@ -4,10 +4,12 @@ use crate::disk::{self, Disk, Disks};
 use crate::edge::EdgeProgram;
 use crate::edge_parts::EdgeParts;
 use crate::fault::{ProgramFault, told};
+use crate::history::History;
 use crate::host::{Asks, HostProgram};
 use crate::host_parts::HostParts;
 use crate::journal::Journal;
 use crate::page::Page;
+use crate::part_disk::{PartDisk, PartDisks};
 use crate::replay::Replay;
 use spk_board::{Board, Screen};
 use spk_connection::Connection;
@@ -301,23 +303,46 @@ fn page_of(
 
 /// What a host's plan runs, but for its brokers: its core with what shows it, which nodes are asked, and after how many messages it ends.
 #[derive(Drop)]
-struct Prepared {
-    parts: HostParts,
+struct Prepared<P: PartDisk> {
+    parts: HostParts<P>,
     asks: Asks,
     count: Option<u64>,
 }
 
-/// The core of a host's plan, with its board and its page.
-fn parts_of(
+/// The history of a host whose plan asks for one: its first part is begun.
+fn history_of<K: PartDisks>(
+    alloc: Global,
+    disks: &mut K,
+    history: Option<(String, usize)>,
+    group: &str,
+) -> Result<Option<History<K::Disk>>, ProgramFault> {
+    let Some((name, most)) = history else {
+        return Ok(None);
+    };
+    let Some(disk) = disks.parts(name.as_str()) else {
+        return Err(ProgramFault::NoMemory);
+    };
+    let group = String::from_str(alloc, group)?;
+    let mut history = History::new(alloc, disk, most, group)?;
+    if history.begin() {
+        Ok(Some(history))
+    } else {
+        Err(ProgramFault::NoHistory)
+    }
+}
+
+/// The core of a host's plan, with its board, its page and its history.
+fn parts_of<P: PartDisk>(
     alloc: Global,
     config: HostConfig,
     login: Option<Words>,
     silence: Option<u64>,
     board: Option<Board>,
     page: Option<Page>,
-) -> Result<HostParts, ProgramFault> {
+    history: Option<History<P>>,
+) -> Result<HostParts<P>, ProgramFault> {
     match host_app(alloc, config, login) {
-        Ok(app) => Ok(HostParts::new(alloc, app, silence, board, page)),
+        Ok(app) => Ok(HostParts::new(alloc, app, silence, board, page, history)),
         Err(fault) => Err(fault),
     }
 }
@@ -337,7 +362,12 @@ fn shows_of(
 }
 
 /// What a plan runs. A board is drawn for this screen.
-fn prepare(alloc: Global, plan: HostPlan, screen: Screen) -> Result<Prepared, ProgramFault> {
+fn prepare<K: PartDisks>(
+    alloc: Global,
+    plan: HostPlan,
+    screen: Screen,
+    disks: &mut K,
+) -> Result<Prepared<K::Disk>, ProgramFault> {
     let HostPlan {
         config,
         brokers: _brokers,
@@ -346,11 +376,13 @@ fn prepare(alloc: Global, plan: HostPlan, screen: Screen) -> Result<Prepared, Pr
         silence,
         watch,
         page,
+        history,
         asks,
     } = plan;
     let group = String::from_str(alloc, config.group.as_str())?;
     let (board, page) = shows_of(alloc, watch, page, silence, &config, screen)?;
-    let parts = parts_of(alloc, config, login, silence, board, page)?;
+    let history = history_of(alloc, disks, history, group.as_str())?;
+    let parts = parts_of(alloc, config, login, silence, board, page, history)?;
     Ok(Prepared {
         parts,
         asks: Asks { group, nodes: asks },
@@ -359,16 +391,25 @@ fn prepare(alloc: Global, plan: HostPlan, screen: Screen) -> Result<Prepared, Pr
 }
 
 /// Runs a host application until so many messages were consumed as its plan says, or for ever, and answers the status: 0, or 1 where a fault ended it, which
-/// is printed, or where a line couldn't be written. A board is drawn for this screen. What goes over a socket no contract says.
-pub fn run_host<R, O, N>(rt: &R, mut plan: HostPlan, screen: Screen, mut out: O, notes: N) -> u8
+/// is printed, or where a line or the history couldn't be written. A board is drawn for this screen. What goes over a socket, and what a disk keeps, no
+/// contract says.
+pub fn run_host<R, K, O, N>(
+    rt: &R,
+    mut plan: HostPlan,
+    screen: Screen,
+    disks: &mut K,
+    mut out: O,
+    notes: N,
+) -> u8
 where
     R: AllocGlobal + Wait + Clock + Net,
+    K: PartDisks,
     O: Write + Drop,
     N: Write + Drop,
 {
     let alloc = rt.alloc();
     let brokers = mem::replace(&mut plan.brokers, Vec::new(alloc));
-    let prepared = match prepare(alloc, plan, screen) {
+    let prepared = match prepare(alloc, plan, screen, disks) {
         Ok(prepared) => prepared,
         Err(fault) => return told(&mut out, fault),
     };

@@ -1,5 +1,6 @@
 //! The broker and who is connected with it.
 
+use crate::history::write_history;
 use crate::page::write_lines;
 use crate::plays::Plays;
 use crate::seat::Seat;
@@ -144,6 +145,13 @@ impl<S: Serves + Drop, P: Plays + Drop> Hall<S, P> {
     /// Writes what a file says.
     pub(crate) fn read(&mut self, name: &str) -> Option<()> {
         write_lines(&mut self.page, name, ":", self.shelf.text(name)?)
+    }
+
+    /// The entries of a part of a history come to the page.
+    pub(crate) fn history(&mut self, name: &str) -> Option<()> {
+        let mut lines = Vec::new(self.alloc);
+        write_history(self.alloc, &mut lines, self.shelf.text(name)?)?;
+        write_lines(&mut self.page, name, ":", lines.as_slice())
     }
 
     /// What the broker writes is handed on: whether something moved.

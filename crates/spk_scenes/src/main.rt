@@ -4,8 +4,10 @@
 //! three times, with all bytes in pieces of 65,536, then of 7, and then of 1: the same is to be printed.
 #![tactic(auto)]
 
+mod binder;
 mod client;
 mod hall;
+mod history;
 mod page;
 mod part;
 mod plays;

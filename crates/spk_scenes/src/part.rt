@@ -1,5 +1,6 @@
 //! The programs that play.
 
+use crate::binder::Binder;
 use crate::client::Client;
 use crate::plays::Plays;
 use crate::runs::begun;
@@ -14,7 +15,7 @@ use std::alloc::Global;
 pub(crate) type Edge = EdgeProgram<EdgeParts<Paper>, Vec<u8>, Vec<u8>>;
 
 /// A host's program.
-pub(crate) type Host = HostProgram<HostParts, Vec<u8>, Vec<u8>>;
+pub(crate) type Host = HostProgram<HostParts<Binder>, Vec<u8>, Vec<u8>>;
 
 /// A program that is run.
 #[derive(Drop)]
@@ -31,6 +32,14 @@ fn put_edge_back(app: &Edge, shelf: &mut Shelf) -> Option<()> {
     shelf.put_back(app.disk())?;
     match app.kept_disk() {
         Some(kept) => shelf.put_back(kept),
+        None => Some(()),
+    }
+}
+
+/// The parts of a host's history are on the shelf.
+fn put_history_back(app: &Host, shelf: &mut Shelf) -> Option<()> {
+    match app.core().history() {
+        Some(history) => shelf.put_parts(history.disk()),
         None => Some(()),
     }
 }
@@ -137,7 +146,8 @@ impl Plays for Program {
     fn put_back(&self, shelf: &mut Shelf) -> Option<()> {
         match self {
             Program::Edge(app) => put_edge_back(app, shelf),
-            Program::Host(_) | Program::Client(_) | Program::Gone => Some(()),
+            Program::Host(app) => put_history_back(app, shelf),
+            Program::Client(_) | Program::Gone => Some(()),
         }
     }
 

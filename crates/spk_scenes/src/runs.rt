@@ -1,12 +1,13 @@
 //! A program of the command line, run under a name.
 
+use crate::binder::Binder;
 use crate::page::write_lines;
 use crate::part::Program;
 use crate::shelf::{Lent, Shelf};
 use spk_board::{Board, Screen};
 use spk_commands::{Outcome, run_with_notes};
 use spk_program_plans::{EdgePlan, HostPlan, Words};
-use spk_programs::{Asks, EdgeProgram, HostParts, HostProgram, begin_edge, host_app};
+use spk_programs::{Asks, EdgeProgram, History, HostParts, HostProgram, begin_edge, host_app};
 use std::alloc::Global;
 use std::io::Write;
 
@@ -74,6 +75,21 @@ fn board_of(alloc: Global, plan: &HostPlan) -> Option<Option<Board>> {
     Some(Some(Board::new(alloc, group, Screen::Plain)))
 }
 
+/// The history of a host that keeps one. A part has as many bytes at most as it has times 512 in MiB, so that several are begun.
+fn history_of(
+    alloc: Global,
+    history: Option<(String, usize)>,
+    group: &str,
+) -> Option<Option<History<Binder>>> {
+    let Some((name, most)) = history else {
+        return Some(None);
+    };
+    let group = String::from_str(alloc, group).ok()?;
+    let most = most / 1_048_576 * 512;
+    let kept = History::new(alloc, Binder::new(alloc, name), most, group).ok()?;
+    Some(Some(kept))
+}
+
 /// A host's program.
 fn host(alloc: Global, plan: HostPlan) -> Option<Program> {
     let board = board_of(alloc, &plan)?;
@@ -85,15 +101,17 @@ fn host(alloc: Global, plan: HostPlan) -> Option<Program> {
         silence,
         watch: _,
         page: _,
+        history,
         asks,
     } = plan;
+    let history = history_of(alloc, history, config.group.as_str())?;
     let asks = Asks {
         group: String::from_str(alloc, config.group.as_str()).ok()?,
         nodes: asks,
     };
     let app = host_app(alloc, config, login).ok()?;
     let (out, notes) = (Vec::new(alloc), Vec::new(alloc));
-    let parts = HostParts::new(alloc, app, silence, board, None);
+    let parts = HostParts::new(alloc, app, silence, board, None, history);
     Some(Program::Host(HostProgram::new(parts, count, asks, out, notes)))
 }
 
@@ -139,7 +157,7 @@ fn begin(
             write_host(page, &plan)?;
             Some(Some(host(alloc, plan)?))
         }
-        Outcome::Serve { .. } | Outcome::Plant(_) => None,
+        Outcome::Serve { .. } | Outcome::Plant(_) | Outcome::History(_) => None,
     }
 }
 

@@ -7,6 +7,7 @@
 //! | `file NAME TEXT` | there is a file of this name |
 //! | `stuck NAME COUNT` | a file can't be kept so many times |
 //! | `read NAME` | what the file says, which no program has |
+//! | `history NAME` | the entries of a part of a history, NAME.1 the first one of a host's `--history NAME`, once that is killed or has ended |
 //! | `run NAME WORD..` | `sparkplug WORD..` begins, and has this name here |
 //! | `client NAME HEX` | another client, if it isn't there yet, sends these bytes |
 //! | `line NAME TEXT` | a line of standard input of an edge node |
@@ -159,6 +160,7 @@ fn happen<R: AllocGlobal, S: Serves + Drop, P: Plays + Drop>(
         "file" => hall.shelf.put(name, more.as_bytes()),
         "stuck" => stick(hall, name, more),
         "read" => hall.read(name),
+        "history" => hall.history(name),
         "run" => run(rt, hall, name, more),
         "client" => send(hall, name, more),
         "line" => input(hall, name, Some(more)),

@@ -1,5 +1,6 @@
 //! Files that stand in memory, records among them.
 
+use crate::binder::Binder;
 use spk_commands::Files;
 use spk_programs::{Disk, Disks, Opened};
 use std::alloc::Global;
@@ -129,6 +130,16 @@ impl Shelf {
         sheet.is_held = false;
         sheet.bytes.clear();
         sheet.bytes.extend_from_slice(paper.bytes.as_slice()).ok()
+    }
+
+    /// The parts of a history are there, as NAME.1, NAME.2, ..
+    pub(crate) fn put_parts(&mut self, binder: &Binder) -> Option<()> {
+        for (place, part) in binder.parts.iter().enumerate() {
+            let number = place.saturating_add(1);
+            let name = format!(in self.alloc; "{}.{number}", binder.name).ok()?;
+            self.put(name.as_str(), part.as_slice())?;
+        }
+        Some(())
     }
 
     /// What a file says.
