@@ -1,4 +1,6 @@
 //! What happened last.
+ghost use Rattle.std.specs.Prelude.{◌≡◌};
+ghost use Rattle.spk_board.specs.Happening.{is_asking};
 
 use crate::row::NAME;
 use crate::text::{write_name, write_time};
@@ -69,6 +71,17 @@ impl What {
 }
 
 impl Happened {
+    /// Whether it is a request for the node at a place, at a moment or behind it.
+    pub(crate) fn is_asking(&self, place: usize, since: u64) -> bool
+        ensures { result ≡ is_asking place since self.now }
+    {
+        let is_request = match self.what {
+            What::Asked => true,
+            _ => false,
+        };
+        self.place == Some(place) && is_request && self.at >= since
+    }
+
     /// Writes it as a line of at most 80 columns, of the node with this name.
     pub(crate) fn write<W: Write>(&self, out: &mut W, name: &str) -> io::Result<()> {
         write_time(out, self.at)?;

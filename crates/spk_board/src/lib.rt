@@ -3,9 +3,12 @@
 #![tactic(auto)]
 
 mod board;
+mod drawing;
 mod happened;
+pub mod laws;
 mod row;
 mod screen;
+mod telling;
 #[cfg(test)]
 mod tests;
 mod text;

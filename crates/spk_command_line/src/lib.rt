@@ -353,7 +353,7 @@ fn with_history<'a>(alloc: Global, command: Command<'a>) -> Result<Command<'a>, 
         .long("history")
         .value_name("NAME")
         .help(
-            "Keeps what it consumes in files NAME.MOMENT, a new one for each run and each full one",
+            "Keeps what it consumes in files NAME.MOMENT, a new one for each run and each full one; in NAME.G.MOMENT where there are several groups",
         )
         .action(ArgAction::Set);
     let command = command.arg(history)?;
@@ -362,6 +362,7 @@ fn with_history<'a>(alloc: Global, command: Command<'a>) -> Result<Command<'a>, 
         .value_name("MIB")
         .help("How many MiB such a file has at most, 1 to 4096; 64 where nothing is said")
         .value_parser(value_parser!(u16).range(1..=4096))
+        .requires_arg("history")?
         .action(ArgAction::Set);
     command.arg(size)
 }
@@ -371,16 +372,20 @@ fn host<'a>(alloc: Global) -> Result<Command<'a>, AllocError> {
     let group = Arg::new(alloc, "group")
         .long("group")
         .value_name("G")
-        .help("The group whose nodes it follows")
+        .help(
+            "The group whose nodes it follows; several are followed at once, each over a connection of its own",
+        )
         .required(true)
-        .action(ArgAction::Set);
+        .action(ArgAction::Append);
     let command = command.arg(group)?;
     let name = Arg::new(alloc, "name")
         .long("name")
         .value_name("H")
-        .help("Its name: its STATE is published under it, and it is its client identifier")
+        .help(
+            "Its name: its STATE is published under it, and it is its client identifier; one for each group, in their order",
+        )
         .required(true)
-        .action(ArgAction::Set);
+        .action(ArgAction::Append);
     let command = command.arg(name)?;
     let wait = Arg::new(alloc, "wait")
         .long("wait")
@@ -416,7 +421,7 @@ fn host<'a>(alloc: Global) -> Result<Command<'a>, AllocError> {
         .long("ask")
         .value_name("NODE")
         .help(
-            "Asks this node of the group for a rebirth at the start of each session; several are asked in turn",
+            "Asks this node of the group for a rebirth at the start of each session; several are asked in turn; G/NODE where there are several groups",
         )
         .action(ArgAction::Append);
     let command = command.arg(ask)?;

@@ -32,7 +32,7 @@ fn edge_text(alloc: Global, plan: &EdgePlan) -> Result<String, AllocError> {
 }
 
 /// Of a host to be run: how many brokers it may be connected with, and whether it has a login, an end, a silence, a board, a page
-/// and a history, and how many nodes it asks for a rebirth.
+/// and a history, and each group with the host's name, and how many of its nodes are asked for a rebirth.
 fn host_text(alloc: Global, plan: &HostPlan) -> Result<String, AllocError> {
     let brokers = plan.brokers.len();
     let login = plan.login.is_some();
@@ -41,10 +41,15 @@ fn host_text(alloc: Global, plan: &HostPlan) -> Result<String, AllocError> {
     let watch = plan.watch;
     let page = plan.page;
     let history = plan.history.as_ref().map_or(0, |history| history.1);
-    let asks = plan.asks.len();
-    format!(in alloc;
-        "host brokers {brokers} login {login} count {count:?} silence {silence:?} watch {watch} page {page:?} history {history} asks {asks}"
-    )
+    let mut text = format!(in alloc;
+        "host brokers {brokers} login {login} count {count:?} silence {silence:?} watch {watch} page {page:?} history {history}"
+    )?;
+    for group in &plan.groups {
+        let asks = group.asks.len();
+        let config = &group.config;
+        write!(text, " {}/{} asks {asks}", config.group, config.name)?;
+    }
+    Ok(text)
 }
 
 /// Of a history to be read: how many files, what is to be made of them, and of which moments.

@@ -6,13 +6,23 @@ use clap::ArgMatches;
 use spk_device::Registry;
 use spk_files::{Misfit, edge_of};
 use spk_host_session::HostConfig;
-use spk_program_plans::{EdgePlan, HostPlan, Words};
+use spk_program_plans::{EdgePlan, GroupPlan, HostPlan, Words};
 use spk_sequence::Width;
 use std::alloc::{AllocError, Global};
 use std::io::Write;
 
 /// What is said of a width that is none, like what clap says of other words that it refuses.
 const NO_WIDTH: &str = "error: --width takes 1 to 96\n\nFor more information, try '--help'.\n";
+
+/// The same of names that aren't one for each group, of a group or a name that comes twice, and of a node whose group isn't said, or isn't followed.
+const NO_PAIRS: &str =
+    "error: --name is to be given once for each --group, in their order\n\nFor more information, try '--help'.\n";
+
+const TWICE: &str =
+    "error: each --group and each --name may be given once alone\n\nFor more information, try '--help'.\n";
+
+const NO_GROUP: &str =
+    "error: --ask takes a node of the group, or GROUP/NODE with a group that is followed\n\nFor more information, try '--help'.\n";
 
 /// A text of its own.
 fn owned(alloc: Global, given: &ArgMatches<'_>, name: &str) -> Result<String, AllocError> {
@@ -178,6 +188,140 @@ fn history_of(
     Ok(Some((name, usize::from(size).saturating_mul(1_048_576))))
 }
 
+/// Words are refused: this is said of them.
+fn refused(alloc: Global, text: &str) -> Stop {
+    match String::from_str(alloc, text) {
+        Ok(text) => Stop::Words(text, 2),
+        Err(_) => Stop::no_memory(),
+    }
+}
+
+/// Whether some text comes twice.
+fn comes_twice(texts: &[String]) -> bool {
+    for (place, text) in texts.iter().enumerate() {
+        for other in texts.iter().skip(place.saturating_add(1)) {
+            if other.as_str() == text.as_str() {
+                return true;
+            }
+        }
+    }
+    false
+}
+
+/// The group that a node to be asked is said to be of, if it is said, and the node. No name has `/`.
+fn parts_of(ask: &str) -> (Option<&str>, &str) {
+    match ask.split_once('/') {
+        Some((group, node)) => (Some(group), node),
+        None => (None, ask),
+    }
+}
+
+/// Whether a node to be asked is one of this group. One whose group isn't said is of the only one.
+fn is_of(ask: &str, group: &str, is_alone: bool) -> bool {
+    match parts_of(ask) {
+        (Some(said), _) => said == group,
+        (None, _) => is_alone,
+    }
+}
+
+/// Whether each node to be asked is of one of these groups.
+fn are_followed(asks: &[String], groups: &[String]) -> bool {
+    for ask in asks {
+        let is_followed = groups.iter().any(|group| is_of(
+            ask.as_str(),
+            group.as_str(),
+            groups.len() == 1,
+        ));
+        if !is_followed {
+            return false;
+        }
+    }
+    true
+}
+
+/// The nodes of a group that are to be asked.
+fn asks_of(
+    alloc: Global,
+    asks: &[String],
+    group: &str,
+    is_alone: bool,
+) -> Result<Vec<String>, AllocError> {
+    let mut nodes = Vec::new(alloc);
+    for ask in asks {
+        if is_of(ask.as_str(), group, is_alone) {
+            let (_group, node) = parts_of(ask.as_str());
+            nodes.push(String::from_str(alloc, node)?)?;
+        }
+    }
+    Ok(nodes)
+}
+
+/// Why these groups, names and nodes can't be followed, if they can't.
+fn misfit_of(groups: &[String], names: &[String], asks: &[String]) -> Option<&'static str> {
+    if names.len() != groups.len() {
+        Some(NO_PAIRS)
+    } else if comes_twice(groups) || comes_twice(names) {
+        Some(TWICE)
+    } else if !are_followed(asks, groups) {
+        Some(NO_GROUP)
+    } else {
+        None
+    }
+}
+
+/// The host of a group.
+fn group_plan(
+    alloc: Global,
+    given: &ArgMatches<'_>,
+    width: Width,
+    group: &str,
+    name: &str,
+    asks: Vec<String>,
+) -> Result<GroupPlan, AllocError> {
+    let config = HostConfig {
+        name: String::from_str(alloc, name)?,
+        group: String::from_str(alloc, group)?,
+        wait: given.get_one::<u64>("wait").unwrap_or(2_000),
+        keep: given.get_one::<u16>("keep-alive").unwrap_or(30),
+        width,
+    };
+    Ok(GroupPlan { config, asks })
+}
+
+/// The hosts of these groups, of these names, which stand in their order.
+fn plans_of(
+    alloc: Global,
+    given: &ArgMatches<'_>,
+    width: Width,
+    groups: &[String],
+    names: &[String],
+    asks: &[String],
+) -> Result<Vec<GroupPlan>, AllocError> {
+    let mut plans = Vec::new(alloc);
+    for (place, group) in groups.iter().enumerate() {
+        let name = match names.get(place) {
+            Some(name) => name.as_str(),
+            None => "",
+        };
+        let group = group.as_str();
+        let asks = asks_of(alloc, asks, group, groups.len() == 1)?;
+        plans.push(group_plan(alloc, given, width, group, name, asks)?)?;
+    }
+    Ok(plans)
+}
+
+/// The groups that are to be followed, each with its host.
+fn groups_of(alloc: Global, given: &ArgMatches<'_>, width: Width) -> Result<Vec<GroupPlan>, Stop> {
+    let groups = all_of(alloc, given, "group")?;
+    let names = all_of(alloc, given, "name")?;
+    let asks = all_of(alloc, given, "ask")?;
+    let (groups, names, asks) = (groups.as_slice(), names.as_slice(), asks.as_slice());
+    match misfit_of(groups, names, asks) {
+        Some(text) => Err(refused(alloc, text)),
+        None => Ok(plans_of(alloc, given, width, groups, names, asks)?),
+    }
+}
+
 /// What `host` is to run.
 pub(crate) fn host_plan<F: Files>(
     alloc: Global,
@@ -186,17 +330,10 @@ pub(crate) fn host_plan<F: Files>(
 ) -> Result<HostPlan, Stop> {
     let places = given.get_one::<u8>("width").unwrap_or(1);
     let Some(width) = Width::new(places) else {
-        return Err(Stop::Words(String::from_str(alloc, NO_WIDTH)?, 2));
-    };
-    let config = HostConfig {
-        name: owned(alloc, given, "name")?,
-        group: owned(alloc, given, "group")?,
-        wait: given.get_one::<u64>("wait").unwrap_or(2_000),
-        keep: given.get_one::<u16>("keep-alive").unwrap_or(30),
-        width,
+        return Err(refused(alloc, NO_WIDTH));
     };
     Ok(HostPlan {
-        config,
+        groups: groups_of(alloc, given, width)?,
         brokers: all_of(alloc, given, "broker")?,
         login: login_of(alloc, given, files)?,
         count: given.get_one::<u64>("count"),
@@ -204,6 +341,5 @@ pub(crate) fn host_plan<F: Files>(
         watch: given.get_flag("watch"),
         page: given.get_one::<u16>("page"),
         history: history_of(alloc, given)?,
-        asks: all_of(alloc, given, "ask")?,
     })
 }

@@ -34,25 +34,36 @@ impl Seen {
     }
 }
 
-/// A program that has one connection with a broker, or none. Moments are in milliseconds since 1970, and never fall.
+/// A program that has connections with brokers, each of which stands or doesn't. They have numbers from 0 on, which is what `at` is. Moments are in
+/// milliseconds since 1970, and never fall.
 pub trait App {
-    /// What is due: a try to connect, PINGREQ (which `turn` sends), or the end of a connection on which nothing is heard.
-    fn due(&self, now: u64) -> Due;
+    /// How many connections it has; it stays so.
+    fn connections(&self) -> usize {
+        1
+    }
 
-    /// How long nothing is to be done if nothing happens, in milliseconds; None where it is for ever.
-    fn pause(&self, now: u64) -> Option<u64>;
+    /// What is due of a connection: a try to connect, PINGREQ (which `turn` sends), or its end where nothing is heard on it.
+    fn due(&self, at: usize, now: u64) -> Due;
+
+    /// How long nothing is to be done for a connection if nothing happens, in milliseconds; None where it is for ever. While it is tried nobody asks.
+    fn pause(&self, at: usize, now: u64) -> Option<u64>;
+
+    /// The same of what is to be done besides.
+    fn rest(&self, _now: u64) -> Option<u64> {
+        None
+    }
 
     /// A connection stands.
-    fn opened(&mut self, now: u64);
+    fn opened(&mut self, at: usize, now: u64);
 
-    /// The connection is over, or no connection came of a try.
-    fn over(&mut self, now: u64);
+    /// The connection is over, or none came of a try.
+    fn over(&mut self, at: usize, now: u64);
 
     /// Whether bytes of the connection are to be read.
-    fn may_read(&self) -> bool;
+    fn may_read(&self, at: usize) -> bool;
 
-    /// These bytes were read.
-    fn read(&mut self, piece: &[u8], now: u64);
+    /// These bytes were read of it.
+    fn read(&mut self, at: usize, piece: &[u8], now: u64);
 
     /// Whether standard input is to be read.
     fn takes_input(&self) -> bool;
@@ -66,20 +77,20 @@ pub trait App {
     /// What is to be done in each round, behind what was read.
     fn turn(&mut self, now: u64);
 
-    /// The bytes that are to be written.
-    fn unwritten(&self) -> &[u8];
+    /// The bytes that are to be written to a connection.
+    fn unwritten(&self, at: usize) -> &[u8];
 
     /// So many of them were written, at least one.
-    fn wrote(&mut self, count: usize, now: u64);
+    fn wrote(&mut self, at: usize, count: usize, now: u64);
 
     /// Whether the connection is to be closed, once nothing is to be written.
-    fn is_closing(&self) -> bool;
+    fn is_closing(&self, at: usize) -> bool;
 
     /// Whether the program is over, once there is no connection.
     fn is_done(&self) -> bool;
 
-    /// The loop tells this.
-    fn note(&mut self, note: &Note);
+    /// The loop tells this of a connection.
+    fn note(&mut self, at: usize, note: &Note);
 
     /// The port of 127.0.0.1 on which the program has a page; None where it has none.
     fn page_port(&self) -> Option<u16> {

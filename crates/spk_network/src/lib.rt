@@ -1,10 +1,11 @@
-//! A client of an MQTT 3.1.1 broker over TCP: its socket, standard input and the clock in one loop over mio, without threads. What it says
+//! A client of MQTT 3.1.1 brokers over TCP: its connections, standard input, a page and the clock in one loop over mio, without threads. What it says
 //! and hears is an `App`'s.
 #![tactic(auto)]
 
 mod app;
 mod brokers;
 mod clockwork;
+mod connection;
 mod door;
 mod fault;
 mod looping;

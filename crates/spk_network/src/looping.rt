@@ -1,23 +1,17 @@
 //! The loop.
 
-use crate::app::{App, Note};
-use crate::brokers::Brokers;
+use crate::app::App;
 use crate::clockwork::Clockwork;
+use crate::connection::{Connection, FIRST, shorter};
 use crate::door::{Door, INPUT};
 use crate::fault::NetworkFault;
 use crate::visitors::Visitors;
-use crate::wire::Wire;
-use mio::net::TcpStream;
-use mio::{Events, Interest, Poll, Token};
-use spk_link::Due;
-use std::alloc::Global;
+use mio::{Events, Poll, Token};
+use std::alloc::{AllocError, Global};
 use std::io::Read;
-use std::net::{Net, SocketAddr};
+use std::net::Net;
 use std::sync::Wait;
 use std::time::{Clock, Duration};
-
-/// The token of the socket. Standard input has 1, and those who ask for a page have those from 2 on.
-const SOCKET: usize = 0;
 
 /// How many events are asked for at once.
 const EVENTS: usize = 16;
@@ -25,108 +19,51 @@ const EVENTS: usize = 16;
 /// How many bytes are read at once (own rule).
 const PIECE: usize = 65_536;
 
-/// A try at an address. None where it failed at once.
-fn begun<R: Net>(rt: &R, poll: &Poll, address: SocketAddr) -> Option<TcpStream> {
-    let mut stream = TcpStream::connect(rt, address).ok()?;
-    let _ = stream.set_nodelay(true);
-    let interest = Interest::READABLE | Interest::WRITABLE;
-    poll.registry()
-        .register(&mut stream, Token(SOCKET), interest)
-        .ok()?;
-    Some(stream)
+/// The connections of a program, none of which stands yet.
+fn connections_of<'a, A: App>(
+    alloc: Global,
+    names: &'a [String],
+    app: &A,
+) -> Result<Vec<Connection<'a>>, AllocError> {
+    let mut all = Vec::new(alloc);
+    for at in 0..app.connections() {
+        all.push(Connection::new(alloc, at, names))?;
+    }
+    Ok(all)
 }
 
-/// Tries the next address of the broker looked up last. Where there is none that can be tried the program is told that nothing came of it.
-fn try_next<R: Net, A: App>(
-    rt: &R,
-    poll: &Poll,
-    brokers: &mut Brokers<'_>,
-    wire: &mut Wire<TcpStream>,
-    app: &mut A,
-    now: u64,
-) {
-    for _ in 0..u64::MAX {
-        let Some(address) = brokers.next() else {
-            break;
-        };
-        if let Some(stream) = begun(rt, poll, address) {
-            wire.begin(stream, address, now);
-            return;
+/// Whether none of them stands or is tried.
+fn are_off(connections: &[Connection<'_>]) -> bool {
+    for connection in connections {
+        if !connection.wire.is_off() {
+            return false;
         }
-        app.note(&Note::Failed(address));
     }
-    app.over(now);
-}
-
-/// A connection is due: the next broker is looked up and tried.
-fn connect<R: Net, A: App>(
-    rt: &R,
-    poll: &Poll,
-    brokers: &mut Brokers<'_>,
-    wire: &mut Wire<TcpStream>,
-    app: &mut A,
-    now: u64,
-) {
-    let number = brokers.look_up(rt);
-    if brokers.is_empty() {
-        app.note(&Note::NoAddress(number));
-    }
-    try_next(rt, poll, brokers, wire, app, now);
-}
-
-/// What became of a try.
-fn settle<R: Net, A: App>(
-    rt: &R,
-    poll: &Poll,
-    brokers: &mut Brokers<'_>,
-    wire: &mut Wire<TcpStream>,
-    app: &mut A,
-    now: u64,
-) {
-    if !wire.settle(app, now) {
-        return;
-    }
-    if let Some(address) = wire.fail() {
-        app.note(&Note::Failed(address));
-    }
-    try_next(rt, poll, brokers, wire, app, now);
-}
-
-/// The shorter of two pauses, where None is for ever.
-fn shorter(one: Option<u64>, other: Option<u64>) -> Option<u64> {
-    match (one, other) {
-        (Some(one), Some(other)) => Some(one.min(other)),
-        (one, other) => one.or(other),
-    }
-}
-
-/// How long may be waited on account of the program and its connection, in milliseconds. None where nothing is due.
-fn pause<A: App>(wire: &Wire<TcpStream>, app: &A, now: u64) -> Option<u64> {
-    let own = wire.until().map(|until| until.saturating_sub(now));
-    if wire.is_trying() {
-        return own;
-    }
-    shorter(own, app.pause(now))
+    true
 }
 
 /// How long may be waited. None where nothing is due.
 fn timeout<A: App>(
-    wire: &Wire<TcpStream>,
+    connections: &[Connection<'_>],
     visitors: &Visitors,
     reads: bool,
     app: &A,
     now: u64,
 ) -> Option<Duration> {
-    if reads || wire.goes_on(app) {
+    if reads {
         return Some(Duration::ZERO);
     }
-    shorter(pause(wire, app, now), visitors.pause(app, now)).map(Duration::from_millis)
+    let mut pause = shorter(app.rest(now), visitors.pause(app, now));
+    for connection in connections {
+        pause = shorter(pause, connection.pause(app, now));
+    }
+    pause.map(Duration::from_millis)
 }
 
 /// Notes what is ready.
 fn note<I: Read + Drop>(
     events: &Events<Global>,
-    wire: &mut Wire<TcpStream>,
+    connections: &mut [Connection<'_>],
     visitors: &mut Visitors,
     door: &mut Door<I>,
 ) {
@@ -135,17 +72,19 @@ fn note<I: Read + Drop>(
         let over = event.is_read_closed() || event.is_error();
         let readable = event.is_readable() || over;
         let writable = event.is_writable() || over;
-        match token {
-            SOCKET => wire.note(readable, writable),
-            INPUT => door.note(),
-            _ => visitors.note(token, readable, writable),
+        if token == INPUT {
+            door.note();
+        } else if token < FIRST {
+            visitors.note(token, readable, writable);
+        } else if let Some(connection) = connections.get_mut(token.saturating_sub(FIRST)) {
+            connection.wire.note(readable, writable);
         }
     }
 }
 
-/// Runs a program that has one connection with one of these brokers, each named HOST:PORT, and reads standard input where it is to.
-/// Brokers are tried in turn, and of each its addresses in turn, for three seconds each. It ends where the program says that it is done and
-/// there is no connection. Where the program has a page, it is served on 127.0.0.1 in the same loop. Refused with NoMemory (1), and with Device (96)
+/// Runs a program that has connections with one of these brokers, each named HOST:PORT, and reads standard input where it is to.
+/// Of a connection the brokers are tried in turn, and of each its addresses in turn, for three seconds each. It ends where the program says that it is done
+/// and no connection stands. Where the program has a page, it is served on 127.0.0.1 in the same loop. Refused with NoMemory (1), and with Device (96)
 /// where nothing can be waited for or the page's port is taken. No contract says what goes over a socket.
 pub fn run_app<R: Wait + Clock + Net, I: Read + Drop, A: App>(
     rt: &R,
@@ -160,34 +99,48 @@ pub fn run_app<R: Wait + Clock + Net, I: Read + Drop, A: App>(
     };
     let mut events = Events::with_capacity(alloc, EVENTS)?;
     let mut piece = Vec::from_elem(alloc, 0, PIECE)?;
-    let mut brokers = Brokers::new(alloc, names);
-    let mut wire = Wire::new();
+    let mut connections = connections_of(alloc, names, app)?;
     let mut door = Door::new(&poll, input, reads);
     let mut visitors = Visitors::new(rt, alloc, &poll, app.page_port())?;
     let mut clockwork = Clockwork::new(rt);
     let mut now = clockwork.now(rt);
     for _ in rt.forever() {
-        if app.is_done() && wire.is_off() {
+        let is_off = are_off(connections.as_slice());
+        if app.is_done() && is_off {
             break;
         }
-        let timeout = timeout(&wire, &visitors, door.is_ready(app), app, now);
+        let timeout = timeout(
+            connections.as_slice(),
+            &visitors,
+            door.is_ready(app),
+            app,
+            now,
+        );
         if poll.poll(&mut events, timeout).is_err() {
             return Err(NetworkFault::Device);
         }
-        if wire.is_off() {
+        if is_off {
             clockwork.follow(rt);
         }
         now = clockwork.now(rt);
-        note(&events, &mut wire, &mut visitors, &mut door);
-        settle(rt, &poll, &mut brokers, &mut wire, app, now);
-        wire.read(app, piece.as_mut_slice(), now);
+        note(
+            &events,
+            connections.as_mut_slice(),
+            &mut visitors,
+            &mut door,
+        );
+        for connection in connections.iter_mut() {
+            connection.settle(rt, &poll, app, now);
+            connection.wire.read(app, piece.as_mut_slice(), now);
+        }
         door.read(&poll, app, piece.as_mut_slice(), now);
         app.turn(now);
-        wire.write(app, now);
+        for connection in connections.iter_mut() {
+            connection.wire.write(app, now);
+        }
         visitors.round(alloc, &poll, app, now);
-        wire.close(app, app.due(now) == Due::End, now);
-        if wire.is_off() && app.due(now) == Due::Connect {
-            connect(rt, &poll, &mut brokers, &mut wire, app, now);
+        for connection in connections.iter_mut() {
+            connection.turn(rt, &poll, app, now);
         }
     }
     Ok(())

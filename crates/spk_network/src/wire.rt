@@ -38,6 +38,8 @@ struct Socket<P: Port> {
 /// The socket of a connection, or of a try, or none.
 #[derive(Drop)]
 pub struct Wire<P: Port> {
+    /// The connection's number.
+    at: usize,
     socket: Option<Socket<P>>,
 }
 
@@ -86,9 +88,9 @@ impl<P: Port> Socket<P> {
 }
 
 impl<P: Port> Wire<P> {
-    /// No socket.
-    pub fn new() -> Wire<P> {
-        Wire { socket: None }
+    /// No socket of the connection of this number.
+    pub fn new(at: usize) -> Wire<P> {
+        Wire { at, socket: None }
     }
 
     /// Whether there is no socket.
@@ -125,12 +127,13 @@ impl<P: Port> Wire<P> {
         if let Some(mut socket) = self.socket.take() {
             socket.port.shut();
         }
-        app.over(now);
-        app.note(note);
+        app.over(self.at, now);
+        app.note(self.at, note);
     }
 
     /// Whether a try failed: it came to nothing, or takes too long. A try of which a connection came is one.
     pub fn settle<A: App>(&mut self, app: &mut A, now: u64) -> bool {
+        let at = self.at;
         let Some(socket) = &mut self.socket else {
             return false;
         };
@@ -140,8 +143,8 @@ impl<P: Port> Wire<P> {
         if socket.writable && socket.port.stands() {
             socket.stage = Stage::On;
             let note = Note::Connected(socket.address);
-            app.opened(now);
-            app.note(&note);
+            app.opened(at, now);
+            app.note(at, &note);
             return false;
         }
         socket.writable || socket.readable || now >= until
@@ -156,16 +159,17 @@ impl<P: Port> Wire<P> {
 
     /// Reads once. Whether more may be read in this round.
     fn read_once<A: App>(&mut self, app: &mut A, piece: &mut [u8], now: u64) -> bool {
+        let at = self.at;
         let Some(socket) = &mut self.socket else {
             return false;
         };
-        if matches!(socket.stage, Stage::Trying(_)) || !socket.readable || !app.may_read() {
+        if matches!(socket.stage, Stage::Trying(_)) || !socket.readable || !app.may_read(at) {
             return false;
         }
         match socket.read(piece) {
             Went::Some(count) => {
                 if let Some(bytes) = piece.get(..count) {
-                    app.read(bytes, now);
+                    app.read(at, bytes, now);
                 }
                 true
             }
@@ -188,20 +192,21 @@ impl<P: Port> Wire<P> {
 
     /// Writes once. Whether more may be written in this round.
     fn write_once<A: App>(&mut self, app: &mut A, now: u64) -> bool {
+        let at = self.at;
         let Some(socket) = &mut self.socket else {
             return false;
         };
         if matches!(socket.stage, Stage::Trying(_)) || !socket.writable {
             return false;
         }
-        let bytes = app.unwritten();
+        let bytes = app.unwritten(at);
         if bytes.is_empty() {
             return false;
         }
         match socket.write(bytes) {
             Went::Some(count) => {
                 if count > 0 {
-                    app.wrote(count, now);
+                    app.wrote(at, count, now);
                 }
                 true
             }
@@ -224,12 +229,13 @@ impl<P: Port> Wire<P> {
 
     /// Closes the connection where nothing is heard, or where its end was asked for and all is written, or is past its time.
     pub fn close<A: App>(&mut self, app: &mut A, silent: bool, now: u64) {
+        let at = self.at;
         let Some(socket) = &mut self.socket else {
             return;
         };
         let late = match socket.stage {
             Stage::Trying(_) => return,
-            Stage::On if app.is_closing() => {
+            Stage::On if app.is_closing(at) => {
                 socket.stage = Stage::Closing(now.saturating_add(LAST));
                 false
             }
@@ -237,7 +243,7 @@ impl<P: Port> Wire<P> {
             Stage::Closing(until) => now >= until,
         };
         let closing = matches!(socket.stage, Stage::Closing(_));
-        if silent || late || (closing && app.unwritten().is_empty()) {
+        if silent || late || (closing && app.unwritten(at).is_empty()) {
             self.end(app, now, &Note::Over);
         }
     }
@@ -250,9 +256,10 @@ impl<P: Port> Wire<P> {
         if matches!(socket.stage, Stage::Trying(_)) {
             return false;
         }
-        (socket.readable && app.may_read())
-            || (socket.writable && !app.unwritten().is_empty())
-            || (app.is_closing() && app.unwritten().is_empty())
+        let is_written = app.unwritten(self.at).is_empty();
+        (socket.readable && app.may_read(self.at))
+            || (socket.writable && !is_written)
+            || (app.is_closing(self.at) && is_written)
     }
 
     /// When a round is to begin at the latest on its account.

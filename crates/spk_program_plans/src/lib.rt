@@ -34,12 +34,19 @@ impl fmt::Debug for EdgePlan {
     }
 }
 
-/// What `host` is to run: a host application, the brokers that it may be connected with, each HOST:PORT, after how many consumed messages it ends, if
-/// it does, for how many milliseconds nothing of a node may be consumed before its values are told to be stale, if that is to be told, and whether a
-/// board of the nodes is to be drawn in place of lines.
+/// A host application of one group, and the nodes of that group which are asked for a rebirth once its subscription is granted.
+#[derive(Drop)]
+pub struct GroupPlan {
+    pub config: HostConfig,
+    pub asks: Vec<String>,
+}
+
+/// What `host` is to run: a host application for each group, the brokers that these may be connected with, each HOST:PORT, after how many consumed messages it
+/// ends, if it does, for how many milliseconds nothing of a node may be consumed before its values are told to be stale, if that is to be told, and whether
+/// a board of the nodes is to be drawn in place of lines.
 #[derive(Drop)]
 pub struct HostPlan {
-    pub config: HostConfig,
+    pub groups: Vec<GroupPlan>,
     pub brokers: Vec<String>,
     pub login: Option<Words>,
     pub count: Option<u64>,
@@ -49,8 +56,6 @@ pub struct HostPlan {
     pub page: Option<u16>,
     /// The name of the history that it keeps, and how many bytes a part of that has at most; None where it keeps none.
     pub history: Option<(String, usize)>,
-    /// The nodes of its group that are asked for a rebirth once the subscription is granted.
-    pub asks: Vec<String>,
 }
 
 impl fmt::Debug for HostPlan {

@@ -110,14 +110,14 @@ trait Runs {
 
 impl Runs for EdgeProgram<EdgeParts<Slow>, Counted, Counted> {
     fn begins(&mut self, now: u64) -> bool {
-        let is_due = self.due(now) == Due::Connect;
-        self.opened(now);
+        let is_due = self.due(0, now) == Due::Connect;
+        self.opened(0, now);
         is_due
     }
 
     fn turns(&mut self, now: u64) -> (u32, Option<u8>) {
         self.turn(now);
-        (self.disk().tries, self.unwritten().first().copied())
+        (self.disk().tries, self.unwritten(0).first().copied())
     }
 
     fn lines(&mut self, bytes: &[u8], now: u64) -> (usize, usize) {

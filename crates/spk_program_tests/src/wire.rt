@@ -101,27 +101,27 @@ fn with_digits(number: u64, bytes: &[u8]) -> u64 {
 }
 
 impl App for Plain {
-    fn due(&self, _now: u64) -> Due {
+    fn due(&self, _at: usize, _now: u64) -> Due {
         Due::Nothing
     }
 
-    fn pause(&self, _now: u64) -> Option<u64> {
+    fn pause(&self, _at: usize, _now: u64) -> Option<u64> {
         None
     }
 
-    fn opened(&mut self, _now: u64) {
+    fn opened(&mut self, _at: usize, _now: u64) {
         self.opened = self.opened.saturating_add(1);
     }
 
-    fn over(&mut self, _now: u64) {
+    fn over(&mut self, _at: usize, _now: u64) {
         self.over = self.over.saturating_add(1);
     }
 
-    fn may_read(&self) -> bool {
+    fn may_read(&self, _at: usize) -> bool {
         true
     }
 
-    fn read(&mut self, piece: &[u8], _now: u64) {
+    fn read(&mut self, _at: usize, piece: &[u8], _now: u64) {
         self.read = with_digits(self.read, piece);
     }
 
@@ -135,16 +135,16 @@ impl App for Plain {
 
     fn turn(&mut self, _now: u64) {}
 
-    fn unwritten(&self) -> &[u8] {
+    fn unwritten(&self, _at: usize) -> &[u8] {
         self.rest
     }
 
-    fn wrote(&mut self, count: usize, _now: u64) {
+    fn wrote(&mut self, _at: usize, count: usize, _now: u64) {
         self.written = with_digits(self.written, self.rest.get(..count).unwrap_or(&[]));
         self.rest = self.rest.get(count..).unwrap_or(&[]);
     }
 
-    fn is_closing(&self) -> bool {
+    fn is_closing(&self, _at: usize) -> bool {
         self.closing
     }
 
@@ -152,7 +152,7 @@ impl App for Plain {
         false
     }
 
-    fn note(&mut self, _note: &Note) {}
+    fn note(&mut self, _at: usize, _note: &Note) {}
 }
 
 /// A socket with this script, of which a connection came at moment 1.
@@ -162,7 +162,7 @@ fn connected(
     writes: usize,
     app: &mut Plain,
 ) -> Wire<Scripted> {
-    let mut wire = Wire::new();
+    let mut wire = Wire::new(0);
     let port = Scripted {
         gives,
         at: 0,
@@ -252,7 +252,7 @@ fn a_try_that_comes_to_nothing_or_takes_too_long_begins_nothing(
     ];
     for (ready, stands, now, failed, opened) in rows {
         let mut app = Plain::new(b"");
-        let mut wire = Wire::new();
+        let mut wire = Wire::new(0);
         let port = Scripted {
             gives: &[],
             at: 0,

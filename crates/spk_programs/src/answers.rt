@@ -1,5 +1,6 @@
 //! What a page answers.
 
+use crate::hosts::Roster;
 use crate::page::Page;
 use crate::shown::{down_of, metrics_of};
 use crate::watched;
@@ -75,10 +76,11 @@ impl Page {
     }
 
     /// The rows of all nodes.
-    fn rows<'a>(&self, entries: &'a [Entry], now: u64) -> Result<Vec<Node<'a>>, AllocError> {
+    fn rows<'a, R: Roster>(&self, roster: &'a R, now: u64) -> Result<Vec<Node<'a>>, AllocError> {
         let mut rows = Vec::new(self.alloc);
-        for (place, entry) in entries.iter().enumerate() {
-            if let Some(story) = self.board.stories().get(place) {
+        for place in 0..roster.count() {
+            let story = self.board.stories().get(place);
+            if let (Some(entry), Some(story)) = (roster.entry(place), story) {
                 rows.push(self.row(place, entry, story, now)?)?;
             }
         }
@@ -95,27 +97,27 @@ impl Page {
     }
 
     /// The view from a revision and a number on, as JSON.
-    fn view(
+    fn view<R: Roster>(
         &self,
-        entries: &[Entry],
+        roster: &R,
         revision: u64,
         number: u64,
         now: u64,
     ) -> Result<String, AllocError> {
-        let rows = self.rows(entries, now)?;
+        let rows = self.rows(roster, now)?;
         let log = self.entries()?;
         page::view_text(self.alloc, self.head(now), &rows, &log, revision, number)
     }
 
     /// The node at a place, whole, as JSON; None where there is none.
-    fn node(
+    fn node<R: Roster>(
         &self,
-        entries: &[Entry],
+        roster: &R,
         place: usize,
         now: u64,
     ) -> Result<Option<String>, AllocError> {
         let (Some(entry), Some(story), Some(told)) = (
-            entries.get(place),
+            roster.entry(place),
             self.board.stories().get(place),
             self.told.get(place),
         ) else {
@@ -145,17 +147,17 @@ impl Page {
     }
 
     /// The nodes as a board of text.
-    fn text(&mut self, entries: &[Entry], now: u64) -> io::Result<Vec<u8>> {
+    fn text<R: Roster>(&mut self, roster: &R, now: u64) -> io::Result<Vec<u8>> {
         let mut out = Vec::new(self.alloc);
         let board = &mut self.board;
-        watched::draw(self.alloc, board, &mut out, entries, self.patience, now)?;
+        watched::draw(self.alloc, board, &mut out, roster, self.patience, now)?;
         Ok(out)
     }
 
     /// Answers what a client asks for.
-    fn answer(
+    fn answer<R: Roster>(
         &mut self,
-        entries: &[Entry],
+        roster: &R,
         asked: Asked,
         client: &mut Client,
         now: u64,
@@ -164,23 +166,23 @@ impl Page {
             Asked::Nothing => Ok(()),
             Asked::Page => client.answer(200, HTML, page::page().as_bytes(), now),
             Asked::View => {
-                let text = self.view(entries, 0, 0, now)?;
+                let text = self.view(roster, 0, 0, now)?;
                 client.answer(200, JSON, text.as_bytes(), now)
             }
             Asked::Node(place) => {
                 let place = usize::try_from(place).unwrap_or(usize::MAX);
-                match self.node(entries, place, now)? {
+                match self.node(roster, place, now)? {
                     Some(text) => client.answer(200, JSON, text.as_bytes(), now),
                     None => client.answer(404, TEXT, b"no such node\n", now),
                 }
             }
             Asked::Events => client.stream(now),
             Asked::Metrics => {
-                let rows = self.rows(entries, now)?;
+                let rows = self.rows(roster, now)?;
                 let text = page::metrics_text(self.alloc, self.head(now), &rows)?;
                 client.answer(200, FIGURES, text.as_bytes(), now)
             }
-            Asked::Text => match self.text(entries, now) {
+            Asked::Text => match self.text(roster, now) {
                 Ok(text) => client.answer(200, TEXT, text.as_slice(), now),
                 Err(_) => Err(PageFault::NoMemory),
             },
@@ -192,8 +194,14 @@ impl Page {
     }
 
     /// Answers what a client asks for, if it can.
-    pub(crate) fn show(&mut self, entries: &[Entry], asked: Asked, client: &mut Client, now: u64) {
-        let _ = self.answer(entries, asked, client, now);
+    pub(crate) fn show<R: Roster>(
+        &mut self,
+        roster: &R,
+        asked: Asked,
+        client: &mut Client,
+        now: u64,
+    ) {
+        let _ = self.answer(roster, asked, client, now);
     }
 
     /// Whether there is something that a client wasn't told.
@@ -202,16 +210,16 @@ impl Page {
     }
 
     /// Tells a client what it wasn't told. Whether it may go on.
-    pub(crate) fn tell(
+    pub(crate) fn tell<R: Roster>(
         &mut self,
-        entries: &[Entry],
+        roster: &R,
         client: &mut Client,
         seen: &mut Seen,
         now: u64,
     ) -> bool {
         let revision = seen.revision.saturating_add(1);
         let number = seen.number.saturating_add(1);
-        let Ok(text) = self.view(entries, revision, number, now) else {
+        let Ok(text) = self.view(roster, revision, number, now) else {
             return false;
         };
         seen.revision = self.revision;

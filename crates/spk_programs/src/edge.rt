@@ -321,14 +321,14 @@ impl<C: EdgeCore, O: Write + Drop, N: Write + Drop> EdgeProgram<C, O, N> {
 }
 
 impl<C: EdgeCore, O: Write + Drop, N: Write + Drop> App for EdgeProgram<C, O, N> {
-    fn due(&self, now: u64) -> Due {
+    fn due(&self, _at: usize, now: u64) -> Due {
         match self.desk.core.due(now) {
             Due::Connect if self.is_early(now) || self.input == Input::Done => Due::Nothing,
             due => due,
         }
     }
 
-    fn pause(&self, now: u64) -> Option<u64> {
+    fn pause(&self, _at: usize, now: u64) -> Option<u64> {
         if self.desk.drains() {
             return Some(0);
         }
@@ -348,7 +348,7 @@ impl<C: EdgeCore, O: Write + Drop, N: Write + Drop> App for EdgeProgram<C, O, N>
         Some(until.min(self.report).saturating_sub(now))
     }
 
-    fn opened(&mut self, now: u64) {
+    fn opened(&mut self, _at: usize, now: u64) {
         self.desk.counts.connections = self.desk.counts.connections.saturating_add(1);
         if let Err(fault) = self.desk.core.opened(now) {
             self.shut = true;
@@ -357,16 +357,16 @@ impl<C: EdgeCore, O: Write + Drop, N: Write + Drop> App for EdgeProgram<C, O, N>
         }
     }
 
-    fn over(&mut self, now: u64) {
+    fn over(&mut self, _at: usize, now: u64) {
         self.shut = false;
         self.desk.core.over(now);
     }
 
-    fn may_read(&self) -> bool {
+    fn may_read(&self, _at: usize) -> bool {
         !self.shut && self.desk.core.unwritten().len() < MANY
     }
 
-    fn read(&mut self, piece: &[u8], now: u64) {
+    fn read(&mut self, _at: usize, piece: &[u8], now: u64) {
         if let Err(fault) = self.desk.core.read(piece, now) {
             let _ = write!(self.desk.notes, "sparkplug: from the broker: ");
             write_fault(&mut self.desk.notes, fault);
@@ -399,16 +399,16 @@ impl<C: EdgeCore, O: Write + Drop, N: Write + Drop> App for EdgeProgram<C, O, N>
         self.tell(now);
     }
 
-    fn unwritten(&self) -> &[u8] {
+    fn unwritten(&self, _at: usize) -> &[u8] {
         self.desk.core.unwritten()
     }
 
-    fn wrote(&mut self, count: usize, now: u64) {
+    fn wrote(&mut self, _at: usize, count: usize, now: u64) {
         self.desk.core.wrote(count, now);
         self.desk.mark();
     }
 
-    fn is_closing(&self) -> bool {
+    fn is_closing(&self, _at: usize) -> bool {
         self.shut || (self.desk.core.is_closing() && !self.desk.core.wants())
     }
 
@@ -416,7 +416,8 @@ impl<C: EdgeCore, O: Write + Drop, N: Write + Drop> App for EdgeProgram<C, O, N>
         self.input == Input::Done
     }
 
-    fn note(&mut self, note: &Note) {
+    fn note(&mut self, _at: usize, note: &Note) {
+        let _ = write!(self.desk.notes, "sparkplug: ");
         write_note(&mut self.desk.notes, note);
     }
 }

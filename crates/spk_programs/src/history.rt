@@ -1,5 +1,6 @@
 //! The history of a host's program: what is kept of its words, and the disk on which its parts are. Which events a word makes is `spk_host_history`'s.
 
+use crate::hosts::Seating;
 use crate::known::Nodes;
 use crate::part_disk::PartDisk;
 use crate::watched;
@@ -174,7 +175,8 @@ impl<P: PartDisk> History<P> {
         said: &Said,
         now: u64,
     ) -> io::Result<()> {
-        watched::hear(&mut self.board, places, entries, said, now)?;
+        let seating = Seating::own(entries.len());
+        watched::hear(&mut self.board, seating, places, entries, said, now)?;
         match said {
             Said::Consumed(message) => {
                 let place = places.place_of(message.group.as_str(), message.node.as_str())?;

@@ -22,11 +22,38 @@ const MINUTE: u64 = 60_000;
 /// How many bytes may wait to be written before nothing is read (own rule).
 const MANY: usize = 1_048_576;
 
-/// Which nodes of a group are asked for a rebirth once the host's subscription is granted.
+/// A group that is followed, and how its host's connection stands.
 #[derive(Drop)]
-pub struct Asks {
-    pub group: String,
-    pub nodes: Vec<String>,
+pub struct Followed {
+    group: String,
+    /// The nodes that are asked for a rebirth once the host's subscription is granted.
+    asks: Vec<String>,
+    /// There is a connection.
+    open: bool,
+    /// No session began with it: it is to be closed.
+    shut: bool,
+}
+
+impl Followed {
+    /// A group, and the nodes that are asked for a rebirth at the start of each of its host's sessions.
+    pub fn new(group: String, asks: Vec<String>) -> Followed {
+        Followed {
+            group,
+            asks,
+            open: false,
+            shut: false,
+        }
+    }
+}
+
+/// Begins a note: of the host of the group at a place, where there are several.
+fn write_head<N: Write>(notes: &mut N, groups: &[Followed], at: usize) {
+    let _ = match groups.get(at) {
+        Some(followed) if groups.len() > 1 => {
+            write!(notes, "sparkplug: group {}: ", followed.group)
+        }
+        _ => write!(notes, "sparkplug: "),
+    };
 }
 
 /// What was told so far.
@@ -39,11 +66,12 @@ struct Counts {
     connections: u64,
 }
 
-/// A host's program.
+/// The program of hosts, each of a group.
 #[derive(Drop)]
 pub struct HostProgram<C: HostCore, O: Write + Drop, N: Write + Drop> {
     core: C,
-    asks: Asks,
+    /// The groups, by the numbers of their hosts.
+    groups: Vec<Followed>,
     out: O,
     notes: N,
     counts: Counts,
@@ -51,10 +79,6 @@ pub struct HostProgram<C: HostCore, O: Write + Drop, N: Write + Drop> {
     left: Option<u64>,
     /// When it is looked next who is silent.
     look: u64,
-    /// There is a connection.
-    open: bool,
-    /// No session began with it: it is to be closed.
-    shut: bool,
     /// Its last moment.
     last: u64,
     /// When progress is told next; 0 before the first moment.
@@ -68,11 +92,17 @@ pub struct HostProgram<C: HostCore, O: Write + Drop, N: Write + Drop> {
 }
 
 impl<C: HostCore, O: Write + Drop, N: Write + Drop> HostProgram<C, O, N> {
-    /// A program that ends once so many messages were consumed, or never.
-    pub fn new(core: C, count: Option<u64>, asks: Asks, out: O, notes: N) -> HostProgram<C, O, N> {
+    /// A program that ends once so many messages were consumed, or never. The groups are those of the core's hosts, in their order.
+    pub fn new(
+        core: C,
+        count: Option<u64>,
+        groups: Vec<Followed>,
+        out: O,
+        notes: N,
+    ) -> HostProgram<C, O, N> {
         HostProgram {
             core,
-            asks,
+            groups,
             out,
             notes,
             counts: Counts {
@@ -84,8 +114,6 @@ impl<C: HostCore, O: Write + Drop, N: Write + Drop> HostProgram<C, O, N> {
             },
             left: count,
             look: 0,
-            open: false,
-            shut: false,
             last: 0,
             report: 0,
             done: false,
@@ -109,10 +137,33 @@ impl<C: HostCore, O: Write + Drop, N: Write + Drop> HostProgram<C, O, N> {
         &self.notes
     }
 
+    /// Whether a host has a connection.
+    fn is_open(&self, at: usize) -> bool {
+        self.groups.get(at).is_some_and(|followed| followed.open)
+    }
+
+    /// How many hosts have a connection.
+    fn count_open(&self) -> usize {
+        let mut count: usize = 0;
+        for followed in &self.groups {
+            if followed.open {
+                count = count.saturating_add(1);
+            }
+        }
+        count
+    }
+
+    /// Each host's session ends, with a farewell where there is one.
+    fn stop_all(&mut self, now: u64) {
+        for at in 0..self.core.hosts() {
+            self.core.stop(at, now);
+        }
+    }
+
     /// It ends, with a farewell where there is a session.
     fn end(&mut self, now: u64) {
         self.done = true;
-        self.core.stop(now);
+        self.stop_all(now);
     }
 
     /// Lines were written, or weren't.
@@ -169,9 +220,10 @@ impl<C: HostCore, O: Write + Drop, N: Write + Drop> HostProgram<C, O, N> {
         }
     }
 
-    /// Tells the board and the page whether there is a connection.
-    fn show_connection(&mut self, now: u64) {
-        let told = self.core.connect(self.open, now);
+    /// Tells the board and the page whether each connection stands.
+    fn show_connections(&mut self, now: u64) {
+        let are_open = self.count_open() == self.groups.len();
+        let told = self.core.connect(are_open, now);
         self.check(told, now);
     }
 
@@ -198,107 +250,134 @@ impl<C: HostCore, O: Write + Drop, N: Write + Drop> HostProgram<C, O, N> {
         }
     }
 
-    /// The node at a place of those that are to be asked for a rebirth is. Whether the next one may be.
-    fn ask(&mut self, place: usize, now: u64) -> bool {
-        let Some(node) = self.asks.nodes.get(place) else {
+    /// The node at a place of those of a group that are to be asked for a rebirth is. Whether the next one may be.
+    fn ask(&mut self, at: usize, place: usize, now: u64) -> bool {
+        let Some(followed) = self.groups.get(at) else {
             return false;
         };
-        match self.core.ask(self.asks.group.as_str(), node.as_str(), now) {
+        let Some(node) = followed.asks.get(place) else {
+            return false;
+        };
+        match self
+            .core
+            .ask(at, followed.group.as_str(), node.as_str(), now)
+        {
             Ok(true) => true,
             Ok(false) => {
-                let _ = writeln!(self.notes, "sparkplug: {node} can't be asked for a rebirth");
+                write_head(&mut self.notes, self.groups.as_slice(), at);
+                let _ = writeln!(self.notes, "{node} can't be asked for a rebirth");
                 true
             }
             Err(fault) => {
-                self.fault(fault);
+                self.fault(at, fault);
                 false
             }
         }
     }
 
-    /// The subscription is granted: the nodes that are to be asked for a rebirth are.
-    fn ask_all(&mut self, now: u64) {
-        for place in 0..self.asks.nodes.len() {
-            if !self.ask(place, now) {
+    /// A subscription is granted: the nodes of the group that are to be asked for a rebirth are.
+    fn ask_all(&mut self, at: usize, now: u64) {
+        let count = match self.groups.get(at) {
+            Some(followed) => followed.asks.len(),
+            None => 0,
+        };
+        for place in 0..count {
+            if !self.ask(at, place, now) {
                 return;
             }
         }
     }
 
     /// What a word is to the program itself, which showed it.
-    fn follow(&mut self, heard: Heard, now: u64) {
+    fn follow(&mut self, at: usize, heard: Heard, now: u64) {
         match heard {
             Heard::Consumed if self.left != Some(0) => self.count_down(now),
             Heard::Step(step) => self.count_step(step),
-            Heard::Granted => self.ask_all(now),
+            Heard::Granted => self.ask_all(at, now),
             Heard::Refused => self.counts.refused = self.counts.refused.saturating_add(1),
             Heard::Consumed | Heard::Other => {}
         }
     }
 
     /// A word is shown. Where enough was consumed, what is consumed then is no line.
-    fn show_word(&mut self, said: &C::Said, now: u64) {
-        let kept = self.core.keep(said, now);
+    fn show_word(&mut self, at: usize, said: &C::Said, now: u64) {
+        let kept = self.core.keep(at, said, now);
         self.check_history(kept, now);
-        let told = self.core.tell_page(said, now);
+        let told = self.core.tell_page(at, said, now);
         self.check(told, now);
         let heard = C::heard(said);
         let is_enough = heard == Heard::Consumed && self.left == Some(0);
         if !is_enough || self.core.has_board() {
-            let written = self.core.tell(&mut self.out, said, now);
+            let written = self.core.tell(&mut self.out, at, said, now);
             self.check(written, now);
         }
-        self.follow(heard, now);
+        self.follow(at, heard, now);
     }
 
-    /// Shows what is to be shown.
-    fn show_all(&mut self, now: u64) {
+    /// Shows what a host has to be shown.
+    fn show_all(&mut self, at: usize, now: u64) {
         for _ in 0..u64::MAX {
-            let Some(said) = self.core.next_said() else {
+            let Some(said) = self.core.next_said(at) else {
                 break;
             };
             if !self.failed {
-                self.show_word(&said, now);
+                self.show_word(at, &said, now);
             }
         }
     }
 
-    /// Tells of a fault of the connection.
-    fn fault(&mut self, fault: HostAppFault) {
+    /// Tells of a fault of a connection.
+    fn fault(&mut self, at: usize, fault: HostAppFault) {
         let number = fault.number();
-        let _ = writeln!(
-            self.notes,
-            "sparkplug: the session is given up: {fault} ({number})"
-        );
+        write_head(&mut self.notes, self.groups.as_slice(), at);
+        let _ = writeln!(self.notes, "the session is given up: {fault} ({number})");
     }
 
     /// Takes the packets that were read, and shows what comes of each.
-    fn hear_all(&mut self, now: u64) {
+    fn hear_all(&mut self, at: usize, now: u64) {
         for _ in 0..u64::MAX {
-            match self.core.hear(now) {
-                Ok(true) => self.show_all(now),
+            match self.core.hear(at, now) {
+                Ok(true) => self.show_all(at, now),
                 Ok(false) => return,
                 Err(fault) => {
-                    self.fault(fault);
-                    self.show_all(now);
+                    self.fault(at, fault);
+                    self.show_all(at, now);
                     return;
                 }
             }
         }
     }
 
-    /// Where it was told the moment too late, it may be the reader that was too slow, and what a broker dropped can't be told from order: its session
-    /// ends, and another begins.
-    fn renew_if_late(&mut self, now: u64) {
-        let late = now > self.last.saturating_add(TICK + LATE);
-        if self.open && late && !self.core.is_closing() {
+    /// Where it was told the moment too late, it may be the reader that was too slow, and what a broker dropped can't be told from order: the session of
+    /// a host that has a connection ends, and another begins.
+    fn renew(&mut self, at: usize, now: u64) {
+        if self.is_open(at) && !self.core.is_closing(at) {
+            write_head(&mut self.notes, self.groups.as_slice(), at);
             let _ = writeln!(
                 self.notes,
-                "sparkplug: it read too late: the session ends, and another begins"
+                "it read too late: the session ends, and another begins"
             );
-            self.core.stop(now);
+            self.core.stop(at, now);
+        }
+    }
+
+    /// The same of each host, where it was told the moment too late.
+    fn renew_if_late(&mut self, now: u64) {
+        let late = now > self.last.saturating_add(TICK + LATE);
+        if late {
+            for at in 0..self.core.hosts() {
+                self.renew(at, now);
+            }
         }
         self.last = now;
+    }
+
+    /// A moment comes to a host.
+    fn turn_host(&mut self, at: usize, now: u64) {
+        if let Err(fault) = self.core.moment(at, now) {
+            self.fault(at, fault);
+        }
+        self.show_all(at, now);
     }
 
     /// Looks who is silent, now and then.
@@ -358,59 +437,79 @@ impl<C: HostCore, O: Write + Drop, N: Write + Drop> HostProgram<C, O, N> {
 }
 
 impl<C: HostCore, O: Write + Drop, N: Write + Drop> App for HostProgram<C, O, N> {
-    fn due(&self, now: u64) -> Due {
-        match self.core.due(now) {
+    fn connections(&self) -> usize {
+        self.core.hosts()
+    }
+
+    fn due(&self, at: usize, now: u64) -> Due {
+        match self.core.due(at, now) {
             Due::Connect if self.done => Due::Nothing,
             due => due,
         }
     }
 
-    fn pause(&self, now: u64) -> Option<u64> {
-        let mut until = self.core.next_due().unwrap_or(u64::MAX).min(self.report);
-        if self.open {
+    fn pause(&self, at: usize, now: u64) -> Option<u64> {
+        let mut until = self.core.next_due(at).unwrap_or(u64::MAX);
+        if self.is_open(at) {
             until = until.min(self.last.saturating_add(TICK));
+        } else if self.done {
+            return None;
         }
+        Some(until.saturating_sub(now))
+    }
+
+    fn rest(&self, now: u64) -> Option<u64> {
+        let mut until = self.report;
         until = until.min(self.next_board().unwrap_or(u64::MAX));
         until = until.min(self.core.next_page().unwrap_or(u64::MAX));
         until = until.min(self.core.next_history().unwrap_or(u64::MAX));
         Some(until.saturating_sub(now))
     }
 
-    fn opened(&mut self, now: u64) {
-        self.open = true;
-        self.show_connection(now);
-        self.last = now;
+    fn opened(&mut self, at: usize, now: u64) {
+        if self.count_open() == 0 {
+            self.last = now;
+        }
+        if let Some(followed) = self.groups.get_mut(at) {
+            followed.open = true;
+        }
+        self.show_connections(now);
         self.counts.connections = self.counts.connections.saturating_add(1);
-        match self.core.opened(now) {
+        match self.core.opened(at, now) {
             Ok(()) => {
-                let kept = self.core.keep_session(now);
+                let kept = self.core.keep_session(at, now);
                 self.check_history(kept, now);
             }
             Err(fault) => {
-                self.shut = true;
-                self.fault(fault);
+                if let Some(followed) = self.groups.get_mut(at) {
+                    followed.shut = true;
+                }
+                self.fault(at, fault);
             }
         }
     }
 
-    fn over(&mut self, now: u64) {
-        self.open = false;
-        self.show_connection(now);
-        self.shut = false;
-        self.core.over(now);
-        self.show_all(now);
+    fn over(&mut self, at: usize, now: u64) {
+        if let Some(followed) = self.groups.get_mut(at) {
+            followed.open = false;
+            followed.shut = false;
+        }
+        self.show_connections(now);
+        self.core.over(at, now);
+        self.show_all(at, now);
         self.flush(now);
     }
 
-    fn may_read(&self) -> bool {
-        !self.done && !self.shut && self.core.unwritten().len() < MANY
+    fn may_read(&self, at: usize) -> bool {
+        let is_shut = self.groups.get(at).is_some_and(|followed| followed.shut);
+        !self.done && !is_shut && self.core.unwritten(at).len() < MANY
     }
 
-    fn read(&mut self, piece: &[u8], now: u64) {
+    fn read(&mut self, at: usize, piece: &[u8], now: u64) {
         self.renew_if_late(now);
-        match self.core.feed(piece, now) {
-            Ok(()) => self.hear_all(now),
-            Err(fault) => self.fault(fault),
+        match self.core.feed(at, piece, now) {
+            Ok(()) => self.hear_all(at, now),
+            Err(fault) => self.fault(at, fault),
         }
     }
 
@@ -424,10 +523,9 @@ impl<C: HostCore, O: Write + Drop, N: Write + Drop> App for HostProgram<C, O, N>
 
     fn turn(&mut self, now: u64) {
         self.renew_if_late(now);
-        if let Err(fault) = self.core.moment(now) {
-            self.fault(fault);
+        for at in 0..self.core.hosts() {
+            self.turn_host(at, now);
         }
-        self.show_all(now);
         self.look(now);
         self.core.turn_page(now);
         self.turn_history(now);
@@ -438,23 +536,25 @@ impl<C: HostCore, O: Write + Drop, N: Write + Drop> App for HostProgram<C, O, N>
         self.flush(now);
     }
 
-    fn unwritten(&self) -> &[u8] {
-        self.core.unwritten()
+    fn unwritten(&self, at: usize) -> &[u8] {
+        self.core.unwritten(at)
     }
 
-    fn wrote(&mut self, count: usize, now: u64) {
-        self.core.wrote(count, now);
+    fn wrote(&mut self, at: usize, count: usize, now: u64) {
+        self.core.wrote(at, count, now);
     }
 
-    fn is_closing(&self) -> bool {
-        self.shut || self.done || self.core.is_closing()
+    fn is_closing(&self, at: usize) -> bool {
+        let is_shut = self.groups.get(at).is_some_and(|followed| followed.shut);
+        is_shut || self.done || self.core.is_closing(at)
     }
 
     fn is_done(&self) -> bool {
         self.done
     }
 
-    fn note(&mut self, note: &Note) {
+    fn note(&mut self, at: usize, note: &Note) {
+        write_head(&mut self.notes, self.groups.as_slice(), at);
         write_note(&mut self.notes, note);
     }
 

@@ -22,79 +22,88 @@ pub enum Heard {
     Other,
 }
 
-/// A host's core, and what shows its nodes: lines or a board, a page, and a history.
+/// Hosts' cores, each of a group, by their numbers, which is what `at` is, and what shows their nodes: lines or a board, a page, and histories.
 pub trait HostCore: Drop {
-    /// A word of the core.
+    /// A word of a core.
     type Said: Drop;
 
-    /// What is due of the connection.
-    fn due(&self, now: u64) -> Due;
+    /// How many hosts there are.
+    fn hosts(&self) -> usize;
+
+    /// What is due of a connection.
+    fn due(&self, at: usize, now: u64) -> Due;
 
     /// When something of it is due next.
-    fn next_due(&self) -> Option<u64>;
+    fn next_due(&self, at: usize) -> Option<u64>;
 
     /// A connection stands.
-    fn opened(&mut self, now: u64) -> Result<(), HostAppFault>;
+    fn opened(&mut self, at: usize, now: u64) -> Result<(), HostAppFault>;
 
     /// The connection is over.
-    fn over(&mut self, now: u64);
+    fn over(&mut self, at: usize, now: u64);
 
     /// The session ends, where there is one.
-    fn stop(&mut self, now: u64);
+    fn stop(&mut self, at: usize, now: u64);
 
     /// A moment comes.
-    fn moment(&mut self, now: u64) -> Result<(), HostAppFault>;
+    fn moment(&mut self, at: usize, now: u64) -> Result<(), HostAppFault>;
 
     /// These bytes were read.
-    fn feed(&mut self, piece: &[u8], now: u64) -> Result<(), HostAppFault>;
+    fn feed(&mut self, at: usize, piece: &[u8], now: u64) -> Result<(), HostAppFault>;
 
     /// Takes the next packet of what was read, if there is one.
-    fn hear(&mut self, now: u64) -> Result<bool, HostAppFault>;
+    fn hear(&mut self, at: usize, now: u64) -> Result<bool, HostAppFault>;
 
     /// The next word.
-    fn next_said(&mut self) -> Option<Self::Said>;
+    fn next_said(&mut self, at: usize) -> Option<Self::Said>;
 
     /// A node is asked for a rebirth, if it can be.
-    fn ask(&mut self, group: &str, node: &str, now: u64) -> Result<bool, HostAppFault>;
+    fn ask(&mut self, at: usize, group: &str, node: &str, now: u64) -> Result<bool, HostAppFault>;
 
     /// The bytes that are to be written.
-    fn unwritten(&self) -> &[u8];
+    fn unwritten(&self, at: usize) -> &[u8];
 
     /// So many of them were written.
-    fn wrote(&mut self, count: usize, now: u64);
+    fn wrote(&mut self, at: usize, count: usize, now: u64);
 
     /// Whether the connection is to be closed.
-    fn is_closing(&self) -> bool;
+    fn is_closing(&self, at: usize) -> bool;
 
     /// What a word is to the program.
     fn heard(said: &Self::Said) -> Heard;
 
     /// A word comes to the page, if there is one.
-    fn tell_page(&mut self, said: &Self::Said, now: u64) -> io::Result<()>;
+    fn tell_page(&mut self, at: usize, said: &Self::Said, now: u64) -> io::Result<()>;
 
-    /// A word comes to the history, if there is one.
-    fn keep(&mut self, said: &Self::Said, now: u64) -> io::Result<()>;
+    /// A word comes to the host's history, if it keeps one.
+    fn keep(&mut self, at: usize, said: &Self::Said, now: u64) -> io::Result<()>;
 
-    /// A connection stands, and with it begins a session of the host: that comes to the history, if there is one.
-    fn keep_session(&mut self, now: u64) -> io::Result<()>;
+    /// A connection stands, and with it begins a session of the host: that comes to its history, if it keeps one.
+    fn keep_session(&mut self, at: usize, now: u64) -> io::Result<()>;
 
-    /// A moment comes to the history, if there is one: whether what is to be written of it could be, as far as it was tried.
+    /// A moment comes to the histories that are kept: whether what is to be written of them could be, as far as it was tried.
     fn turn_history(&mut self, now: u64) -> bool;
 
-    /// When something is to be done next of the history, if anything is.
+    /// When something is to be done next of the histories, if anything is.
     fn next_history(&self) -> Option<u64>;
 
-    /// The history is over, if there is one: whether all of it is on the disk.
+    /// The histories that are kept are over: whether all of them is on the disk.
     fn close_history(&mut self) -> bool;
 
     /// A word is printed as lines, or comes to the board, if there is one.
-    fn tell<W: Write>(&mut self, out: &mut W, said: &Self::Said, now: u64) -> io::Result<()>;
+    fn tell<W: Write>(
+        &mut self,
+        out: &mut W,
+        at: usize,
+        said: &Self::Said,
+        now: u64,
+    ) -> io::Result<()>;
 
     /// Prints which nodes are silent from now on, where lines are printed and somebody may be silent.
     fn tell_silence<W: Write>(&mut self, out: &mut W, now: u64) -> io::Result<()>;
 
-    /// Tells the board and the page whether there is a connection.
-    fn connect(&mut self, is_open: bool, now: u64) -> io::Result<()>;
+    /// Tells the board and the page whether each connection stands.
+    fn connect(&mut self, are_open: bool, now: u64) -> io::Result<()>;
 
     /// Whether there is a board in place of lines.
     fn has_board(&self) -> bool;

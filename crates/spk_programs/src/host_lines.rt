@@ -2,7 +2,8 @@
 
 use crate::known::{Known, Nodes, Stand, stand_of};
 use crate::printing::{
-    Cause, write_asked, write_death, write_lost, write_message, write_refused, write_stand,
+    Cause, write_asked, write_death, write_lost, write_message, write_refused, write_session_over,
+    write_stand, write_subscription, write_turned_away,
 };
 use spk_host::{DeviceView, Entry, Taken};
 use spk_host_app::Said;
@@ -209,10 +210,11 @@ fn asked<W: Write>(alloc: Global, out: &mut W, topic: &Spark, now: u64) -> io::R
     }
 }
 
-/// Prints a word. These are the nodes behind it.
+/// Prints a word. These are the nodes behind it. A line that is of none of them says the host's group, where there are several.
 pub(crate) fn print<W: Write>(
     alloc: Global,
     out: &mut W,
+    label: Option<&str>,
     nodes: &mut Nodes,
     entries: &[Entry],
     said: &Said,
@@ -237,17 +239,17 @@ pub(crate) fn print<W: Write>(
             write_lost(alloc, out, group.as_str(), node.as_str(), *loss, now)
         }
         Said::Asked(topic) => asked(alloc, out, topic, now),
-        Said::Refused { fault, topic } => write_refused(alloc, out, *fault, topic.as_str(), now),
+        Said::Refused { fault, topic } => {
+            write_refused(alloc, out, label, *fault, topic.as_str(), now)
+        }
         Said::TurnedAway(code) => {
-            writeln!(out, "{{\"turned_away\":{code},\"at\":{now}}}")?;
+            write_turned_away(alloc, out, label, *code, now)?;
             tell_all(alloc, out, nodes, entries, Cause::Session, now)
         }
-        Said::Granted => writeln!(out, "{{\"subscription\":\"granted\",\"at\":{now}}}"),
-        Said::SubscriptionRefused => {
-            writeln!(out, "{{\"subscription\":\"refused\",\"at\":{now}}}")
-        }
+        Said::Granted => write_subscription(alloc, out, label, "granted", now),
+        Said::SubscriptionRefused => write_subscription(alloc, out, label, "refused", now),
         Said::Ended => {
-            writeln!(out, "{{\"session\":\"over\",\"at\":{now}}}")?;
+            write_session_over(alloc, out, label, now)?;
             tell_all(alloc, out, nodes, entries, Cause::Session, now)
         }
     }

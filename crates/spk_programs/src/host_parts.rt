@@ -1,117 +1,141 @@
-//! A host's core, with what its program knows of the nodes, what shows them, and what keeps them.
+//! The cores of a program's hosts, with what it knows of the nodes, what shows them, and what keeps them.
 
 use crate::history::History;
 use crate::host_core::{Heard, HostCore};
-use crate::host_lines::{print, print_silence};
-use crate::known::Nodes;
+use crate::hosts::{GroupHost, Hosts, Roster};
 use crate::page::Page;
 use crate::part_disk::PartDisk;
 use crate::watched;
 use spk_board::Board;
-use spk_host_app::{HostApp, HostAppFault, Said};
+use spk_host_app::{HostAppFault, Said};
 use spk_link::Due;
 use spk_network::Seen;
 use spk_page::{Asked, Client};
 use std::alloc::Global;
 use std::io::{self, Write};
 
-/// A host's core, what its births named, and the board, the page and the history, if there are.
+/// Hosts, each of a group, and the board and the page of all, if there are.
 #[derive(Drop)]
 pub struct HostParts<P: PartDisk> {
     alloc: Global,
-    app: HostApp,
-    nodes: Nodes,
+    hosts: Hosts<P>,
     /// The board that is drawn in place of lines; None where lines are printed.
     board: Option<Board>,
     /// The page that is served beside; None where there is none.
     page: Option<Page>,
-    /// The history that is kept beside; None where none is.
-    history: Option<History<P>>,
     /// For how long nothing of a node may be consumed before its values are told to be stale, in milliseconds; None where for ever.
     silence: Option<u64>,
 }
 
 impl<P: PartDisk> HostParts<P> {
-    /// A core that says which nodes are silent, or doesn't. Where there is a board it is drawn in place of lines; where there are a page and a history these are
-    /// served and kept beside.
+    /// Hosts, of which it is said which nodes are silent, or isn't. Where there is a board it is drawn in place of lines; where there is a page it is
+    /// served beside.
     pub fn new(
         alloc: Global,
-        app: HostApp,
+        hosts: Vec<GroupHost<P>>,
         silence: Option<u64>,
         board: Option<Board>,
         page: Option<Page>,
-        history: Option<History<P>>,
     ) -> HostParts<P> {
         HostParts {
             alloc,
-            app,
-            nodes: Nodes::new(alloc),
+            hosts: Hosts::new(alloc, hosts),
             board,
             page,
-            history,
             silence,
         }
     }
 
-    /// The history that is kept, if one is.
-    pub fn history(&self) -> Option<&History<P>> {
-        self.history.as_ref()
+    /// The history that a host keeps, if it does.
+    pub fn history(&self, at: usize) -> Option<&History<P>> {
+        self.hosts.at(at)?.history.as_ref()
     }
 }
 
 impl<P: PartDisk> HostCore for HostParts<P> {
     type Said = Said;
 
-    fn due(&self, now: u64) -> Due {
-        self.app.due(now)
+    fn hosts(&self) -> usize {
+        self.hosts.len()
     }
 
-    fn next_due(&self) -> Option<u64> {
-        self.app.next_due()
+    fn due(&self, at: usize, now: u64) -> Due {
+        match self.hosts.at(at) {
+            Some(host) => host.app.due(now),
+            None => Due::Nothing,
+        }
     }
 
-    fn opened(&mut self, now: u64) -> Result<(), HostAppFault> {
-        self.app.opened(now)
+    fn next_due(&self, at: usize) -> Option<u64> {
+        self.hosts.at(at)?.app.next_due()
     }
 
-    fn over(&mut self, now: u64) {
-        self.app.over(now);
+    fn opened(&mut self, at: usize, now: u64) -> Result<(), HostAppFault> {
+        match self.hosts.at_mut(at) {
+            Some(host) => host.app.opened(now),
+            None => Ok(()),
+        }
     }
 
-    fn stop(&mut self, now: u64) {
-        let _ = self.app.stop(now);
+    fn over(&mut self, at: usize, now: u64) {
+        if let Some(host) = self.hosts.at_mut(at) {
+            host.app.over(now);
+        }
     }
 
-    fn moment(&mut self, now: u64) -> Result<(), HostAppFault> {
-        self.app.moment(now)
+    fn stop(&mut self, at: usize, now: u64) {
+        if let Some(host) = self.hosts.at_mut(at) {
+            let _ = host.app.stop(now);
+        }
     }
 
-    fn feed(&mut self, piece: &[u8], now: u64) -> Result<(), HostAppFault> {
-        self.app.feed(piece, now)
+    fn moment(&mut self, at: usize, now: u64) -> Result<(), HostAppFault> {
+        match self.hosts.at_mut(at) {
+            Some(host) => host.app.moment(now),
+            None => Ok(()),
+        }
     }
 
-    fn hear(&mut self, now: u64) -> Result<bool, HostAppFault> {
-        self.app.hear(now)
+    fn feed(&mut self, at: usize, piece: &[u8], now: u64) -> Result<(), HostAppFault> {
+        match self.hosts.at_mut(at) {
+            Some(host) => host.app.feed(piece, now),
+            None => Ok(()),
+        }
     }
 
-    fn next_said(&mut self) -> Option<Said> {
-        self.app.next_said()
+    fn hear(&mut self, at: usize, now: u64) -> Result<bool, HostAppFault> {
+        match self.hosts.at_mut(at) {
+            Some(host) => host.app.hear(now),
+            None => Ok(false),
+        }
     }
 
-    fn ask(&mut self, group: &str, node: &str, now: u64) -> Result<bool, HostAppFault> {
-        self.app.ask(group, node, now)
+    fn next_said(&mut self, at: usize) -> Option<Said> {
+        self.hosts.at_mut(at)?.app.next_said()
     }
 
-    fn unwritten(&self) -> &[u8] {
-        self.app.unwritten()
+    fn ask(&mut self, at: usize, group: &str, node: &str, now: u64) -> Result<bool, HostAppFault> {
+        match self.hosts.at_mut(at) {
+            Some(host) => host.app.ask(group, node, now),
+            None => Ok(false),
+        }
     }
 
-    fn wrote(&mut self, count: usize, now: u64) {
-        self.app.wrote(count, now);
+    fn unwritten(&self, at: usize) -> &[u8] {
+        match self.hosts.at(at) {
+            Some(host) => host.app.unwritten(),
+            None => &[],
+        }
     }
 
-    fn is_closing(&self) -> bool {
-        self.app.is_closing()
+    fn wrote(&mut self, at: usize, count: usize, now: u64) {
+        if let Some(host) = self.hosts.at_mut(at) {
+            host.app.wrote(count, now);
+        }
+    }
+
+    fn is_closing(&self, at: usize) -> bool {
+        self.hosts.at(at).is_some_and(|host| host.app.is_closing())
     }
 
     fn heard(said: &Said) -> Heard {
@@ -124,72 +148,76 @@ impl<P: PartDisk> HostCore for HostParts<P> {
         }
     }
 
-    fn keep(&mut self, said: &Said, now: u64) -> io::Result<()> {
-        match &mut self.history {
-            Some(history) => history.hear(&mut self.nodes, self.app.host().nodes(), said, now),
+    fn keep(&mut self, at: usize, said: &Said, now: u64) -> io::Result<()> {
+        match self.hosts.at_mut(at) {
+            Some(host) => host.keep(said, now),
             None => Ok(()),
         }
     }
 
-    fn keep_session(&mut self, now: u64) -> io::Result<()> {
-        match &mut self.history {
-            Some(history) => history.opened(now),
-            None => Ok(()),
-        }
-    }
-
-    fn turn_history(&mut self, now: u64) -> bool {
-        match &mut self.history {
-            Some(history) => history.turn(now),
-            None => true,
-        }
-    }
-
-    fn next_history(&self) -> Option<u64> {
-        self.history.as_ref().and_then(|history| history.due())
-    }
-
-    fn close_history(&mut self) -> bool {
-        match &mut self.history {
-            Some(history) => history.close(),
-            None => true,
-        }
-    }
-
-    fn tell_page(&mut self, said: &Said, now: u64) -> io::Result<()> {
-        if let Some(page) = &mut self.page {
-            page.hear(&mut self.nodes, self.app.host().nodes(), said, now)?;
+    fn keep_session(&mut self, at: usize, now: u64) -> io::Result<()> {
+        if let Some(host) = self.hosts.at_mut(at) {
+            if let Some(history) = &mut host.history {
+                history.opened(now)?;
+            }
         }
         Ok(())
     }
 
-    fn tell<W: Write>(&mut self, out: &mut W, said: &Said, now: u64) -> io::Result<()> {
-        let entries = self.app.host().nodes();
+    fn turn_history(&mut self, now: u64) -> bool {
+        self.hosts.turn_histories(now)
+    }
+
+    fn next_history(&self) -> Option<u64> {
+        self.hosts.next_history()
+    }
+
+    fn close_history(&mut self) -> bool {
+        self.hosts.close_histories()
+    }
+
+    fn tell_page(&mut self, at: usize, said: &Said, now: u64) -> io::Result<()> {
+        let Some(page) = &mut self.page else {
+            return Ok(());
+        };
+        self.hosts.follow(at)?;
+        let count = self.hosts.count();
+        if let Some(host) = self.hosts.at_mut(at) {
+            host.tell_page(page, count, said, now)?;
+        }
+        Ok(())
+    }
+
+    fn tell<W: Write>(&mut self, out: &mut W, at: usize, said: &Said, now: u64) -> io::Result<()> {
+        self.hosts.follow(at)?;
+        let count = self.hosts.count();
+        let Some(host) = self.hosts.at_mut(at) else {
+            return Ok(());
+        };
         match &mut self.board {
             Some(board) => {
-                watched::hear(board, &mut self.nodes, entries, said, now)?;
+                host.tell_board(board, count, said, now)?;
                 Ok(())
             }
-            None => print(self.alloc, out, &mut self.nodes, entries, said, now),
+            None => host.print(self.alloc, out, said, now),
         }
     }
 
     fn tell_silence<W: Write>(&mut self, out: &mut W, now: u64) -> io::Result<()> {
         match self.silence {
             Some(patience) if self.board.is_none() => {
-                let entries = self.app.host().nodes();
-                print_silence(self.alloc, out, &mut self.nodes, entries, patience, now)
+                self.hosts.print_silence(self.alloc, out, patience, now)
             }
             _ => Ok(()),
         }
     }
 
-    fn connect(&mut self, is_open: bool, now: u64) -> io::Result<()> {
+    fn connect(&mut self, are_open: bool, now: u64) -> io::Result<()> {
         if let Some(board) = &mut self.board {
-            board.connect(is_open);
+            board.connect(are_open);
         }
         if let Some(page) = &mut self.page {
-            page.connect(is_open, now)?;
+            page.connect(are_open, now)?;
         }
         Ok(())
     }
@@ -204,10 +232,7 @@ impl<P: PartDisk> HostCore for HostParts<P> {
 
     fn draw<W: Write>(&mut self, out: &mut W, now: u64) -> io::Result<()> {
         match &mut self.board {
-            Some(board) => {
-                let entries = self.app.host().nodes();
-                watched::draw(self.alloc, board, out, entries, self.silence, now)
-            }
+            Some(board) => watched::draw(self.alloc, board, out, &self.hosts, self.silence, now),
             None => Ok(()),
         }
     }
@@ -228,7 +253,7 @@ impl<P: PartDisk> HostCore for HostParts<P> {
 
     fn show(&mut self, asked: Asked, client: &mut Client, now: u64) {
         if let Some(page) = &mut self.page {
-            page.show(self.app.host().nodes(), asked, client, now);
+            page.show(&self.hosts, asked, client, now);
         }
     }
 
@@ -238,7 +263,7 @@ impl<P: PartDisk> HostCore for HostParts<P> {
 
     fn tell_client(&mut self, client: &mut Client, seen: &mut Seen, now: u64) -> bool {
         match &mut self.page {
-            Some(page) => page.tell(self.app.host().nodes(), client, seen, now),
+            Some(page) => page.tell(&self.hosts, client, seen, now),
             None => false,
         }
     }

@@ -32,6 +32,8 @@ pub(crate) fn stand_of(online: bool, stale: bool) -> Stand {
 /// A node.
 #[derive(Drop)]
 pub(crate) struct Known {
+    /// Its group and its name, with `/` between.
+    title: String,
     /// What the births among the consumed messages named.
     names: Watch,
     /// How it was told to stand.
@@ -79,8 +81,9 @@ fn learn(alloc: Global, names: &mut Watch, message: &Numbered) -> Result<(), All
 }
 
 impl Known {
-    fn new(alloc: Global) -> Known {
+    fn new(alloc: Global, title: String) -> Known {
         Known {
+            title,
             names: Watch::new(alloc),
             stand: Stand::Unborn,
             devices: Vec::new(alloc),
@@ -142,8 +145,9 @@ impl Nodes {
             self.write_key(entry.group(), entry.node())?;
             self.nodes.reserve(1)?;
             let key = String::from_str(self.alloc, self.key.as_str())?;
+            let title = String::from_str(self.alloc, self.key.as_str())?;
             self.places.insert(key, self.nodes.len())?;
-            self.nodes.push(Known::new(self.alloc))?;
+            self.nodes.push(Known::new(self.alloc, title))?;
         }
         Ok(())
     }
@@ -156,6 +160,11 @@ impl Nodes {
     ) -> Result<Option<usize>, AllocError> {
         self.write_key(group, node)?;
         Ok(self.places.get(self.key.as_str()).copied())
+    }
+
+    /// The group and the name of the node at a place, with `/` between.
+    pub(crate) fn title(&self, place: usize) -> Option<&str> {
+        Some(self.nodes.get(place)?.title.as_str())
     }
 
     /// How many there are.

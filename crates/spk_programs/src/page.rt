@@ -1,6 +1,7 @@
 //! The page of a host's program: what it knows of the nodes. What it answers stands in `answers.rt`.
 
 use crate::happened::{Event, Happened};
+use crate::hosts::Seating;
 use crate::known::Nodes;
 use crate::stories::Told;
 use crate::watched;
@@ -39,7 +40,7 @@ pub struct Page {
 }
 
 impl Page {
-    /// The page of a host of this group, at this port. A node is silent once nothing of it was consumed for so many milliseconds.
+    /// The page of hosts of this group, or of these groups, at this port. A node is silent once nothing of it was consumed for so many milliseconds.
     pub fn new(alloc: Global, port: u16, group: String, patience: Option<u64>) -> Page {
         Page {
             alloc,
@@ -115,15 +116,17 @@ impl Page {
     /// A message was consumed.
     fn consumed(
         &mut self,
+        seating: Seating<'_>,
         places: &mut Nodes,
         entries: &[Entry],
         message: &Taken,
         now: u64,
     ) -> Result<(), AllocError> {
-        let Some(place) = places.place_of(message.group.as_str(), message.node.as_str())? else {
+        let Some(own) = places.place_of(message.group.as_str(), message.node.as_str())? else {
             return Ok(());
         };
-        if let (Some(entry), Some(told)) = (entries.get(place), self.told.get_mut(place)) {
+        let place = seating.of(own);
+        if let (Some(entry), Some(told)) = (entries.get(own), self.told.get_mut(place)) {
             told.date(self.alloc, entry, message, now)?;
         }
         self.settle(place, now)?;
@@ -140,13 +143,20 @@ impl Page {
     }
 
     /// A rebirth was asked for: it is told once while the node stands as it does.
-    fn asked(&mut self, places: &mut Nodes, topic: &Spark, now: u64) -> Result<(), AllocError> {
+    fn asked(
+        &mut self,
+        seating: Seating<'_>,
+        places: &mut Nodes,
+        topic: &Spark,
+        now: u64,
+    ) -> Result<(), AllocError> {
         let Spark::Node { group, node, .. } = topic else {
             return Ok(());
         };
-        let Some(place) = places.place_of(group.as_str(), node.as_str())? else {
+        let Some(own) = places.place_of(group.as_str(), node.as_str())? else {
             return Ok(());
         };
+        let place = seating.of(own);
         self.settle(place, now)?;
         let since = match self.board.stories().get(place) {
             Some(story) => story.since(),
@@ -161,27 +171,28 @@ impl Page {
         self.note(Some(place), Happened::Plain(What::Asked), now)
     }
 
-    /// A word of the core comes to the page. These are the nodes behind it.
+    /// A word of a host's core comes to the page. These are the host's nodes behind it.
     pub(crate) fn hear(
         &mut self,
+        seating: Seating<'_>,
         places: &mut Nodes,
         entries: &[Entry],
         said: &Said,
         now: u64,
     ) -> Result<(), AllocError> {
-        watched::hear(&mut self.board, places, entries, said, now)?;
-        self.follow(entries.len())?;
+        watched::hear(&mut self.board, seating, places, entries, said, now)?;
+        self.follow(seating.count())?;
         match said {
-            Said::Consumed(message) => self.consumed(places, entries, message, now),
+            Said::Consumed(message) => self.consumed(seating, places, entries, message, now),
             Said::Step(Step::Gap) => self.settle_all(now),
             Said::Step(_) | Said::Granted => Ok(()),
             Said::Death { group, node } | Said::Lost { group, node, .. } => {
                 match places.place_of(group.as_str(), node.as_str())? {
-                    Some(place) => self.settle(place, now),
+                    Some(own) => self.settle(seating.of(own), now),
                     None => Ok(()),
                 }
             }
-            Said::Asked(topic) => self.asked(places, topic, now),
+            Said::Asked(topic) => self.asked(seating, places, topic, now),
             Said::Refused { fault, .. } => {
                 let what = What::Refused(fault.number());
                 self.note(None, Happened::Plain(what), now)
@@ -201,7 +212,7 @@ impl Page {
         }
     }
 
-    /// There is a connection with a broker, or there is none.
+    /// There is a connection with a broker for each group, or there isn't.
     pub(crate) fn connect(&mut self, is_connected: bool, now: u64) -> Result<(), AllocError> {
         if self.is_connected == is_connected {
             return Ok(());

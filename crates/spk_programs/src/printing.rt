@@ -139,16 +139,64 @@ pub(crate) fn write_asked<W: Write>(
 pub(crate) fn write_refused<W: Write>(
     alloc: Global,
     out: &mut W,
+    label: Option<&str>,
     fault: HostFault,
     topic: &str,
     now: u64,
 ) -> io::Result<()> {
     let topic = quoted(alloc, topic)?;
     let number = fault.number();
+    write_label(alloc, out, label)?;
     writeln!(
         out,
-        "{{\"refused\":{topic},\"fault\":\"{fault}\",\"number\":{number},\"at\":{now}}}"
+        "\"refused\":{topic},\"fault\":\"{fault}\",\"number\":{number},\"at\":{now}}}"
     )
+}
+
+/// Begins a line that is of no node: with the host's group, where there are several.
+fn write_label<W: Write>(alloc: Global, out: &mut W, label: Option<&str>) -> io::Result<()> {
+    match label {
+        Some(group) => {
+            let group = quoted(alloc, group)?;
+            write!(out, "{{\"group\":{group},")
+        }
+        None => write!(out, "{{"),
+    }
+}
+
+/// CONNACK said this code.
+pub(crate) fn write_turned_away<W: Write>(
+    alloc: Global,
+    out: &mut W,
+    label: Option<&str>,
+    code: u8,
+    now: u64,
+) -> io::Result<()> {
+    write_label(alloc, out, label)?;
+    writeln!(out, "\"turned_away\":{code},\"at\":{now}}}")
+}
+
+/// What the broker made of the subscription.
+pub(crate) fn write_subscription<W: Write>(
+    alloc: Global,
+    out: &mut W,
+    label: Option<&str>,
+    became: &str,
+    now: u64,
+) -> io::Result<()> {
+    write_label(alloc, out, label)?;
+    writeln!(out, "\"subscription\":\"{became}\",\"at\":{now}}}")
+}
+
+/// The host's own session is over.
+pub(crate) fn write_session_over<W: Write>(
+    alloc: Global,
+    out: &mut W,
+    label: Option<&str>,
+    now: u64,
+) -> io::Result<()> {
+    write_label(alloc, out, label)?;
+    writeln!(out, "\"session\":\"over\",\"at\":{now}}}")
 }
 
 /// The names that a message's metrics mean.

@@ -5,8 +5,9 @@ use crate::edge::EdgeProgram;
 use crate::edge_parts::EdgeParts;
 use crate::fault::{ProgramFault, told};
 use crate::history::History;
-use crate::host::{Asks, HostProgram};
+use crate::host::{Followed, HostProgram};
 use crate::host_parts::HostParts;
+use crate::hosts::GroupHost;
 use crate::journal::Journal;
 use crate::page::Page;
 use crate::part_disk::{PartDisk, PartDisks};
@@ -20,7 +21,7 @@ use spk_host::{Host, HostConfig};
 use spk_host_app as host;
 use spk_host_app::HostApp;
 use spk_network::run_app;
-use spk_program_plans::{EdgePlan, HostPlan, Words};
+use spk_program_plans::{EdgePlan, GroupPlan, HostPlan, Words};
 use spk_record::{Record, RecordFault};
 use std::alloc::{AllocError, Global};
 use std::io::{self, BufWriter, Read, Write};
@@ -273,57 +274,89 @@ pub fn host_app(
     Ok(HostApp::new(alloc, host, connection, login))
 }
 
-/// The board of a host whose plan asks for one.
-fn board_of(
-    alloc: Global,
-    watch: bool,
-    config: &HostConfig,
-    screen: Screen,
-) -> Result<Option<Board>, AllocError> {
-    if !watch {
-        return Ok(None);
-    }
-    let group = String::from_str(alloc, config.group.as_str())?;
-    Ok(Some(Board::new(alloc, group, screen)))
-}
-
-/// The page of a host whose plan asks for one.
-fn page_of(
-    alloc: Global,
-    port: Option<u16>,
-    config: &HostConfig,
-    silence: Option<u64>,
-) -> Result<Option<Page>, AllocError> {
-    let Some(port) = port else {
+/// The same user name and password.
+fn copied(alloc: Global, login: &Option<Words>) -> Result<Option<Words>, AllocError> {
+    let Some(words) = login else {
         return Ok(None);
     };
-    let group = String::from_str(alloc, config.group.as_str())?;
-    Ok(Some(Page::new(alloc, port, group, silence)))
+    let password = match &words.password {
+        Some(bytes) => Some(Vec::from_slice(alloc, bytes.as_slice())?),
+        None => None,
+    };
+    Ok(Some(Words {
+        user: String::from_str(alloc, words.user.as_str())?,
+        password,
+    }))
 }
 
-/// What a host's plan runs, but for its brokers: its core with what shows it, which nodes are asked, and after how many messages it ends.
+/// The names of the groups, as a board has them.
+fn title_of(alloc: Global, groups: &[GroupPlan]) -> Result<String, AllocError> {
+    let mut title = String::new(alloc);
+    for plan in groups {
+        if !title.is_empty() {
+            title.push_str(", ")?;
+        }
+        title.push_str(plan.config.group.as_str())?;
+    }
+    Ok(title)
+}
+
+/// A board and a page, if there are.
 #[derive(Drop)]
-struct Prepared<P: PartDisk> {
-    parts: HostParts<P>,
-    asks: Asks,
-    count: Option<u64>,
+struct Shows {
+    board: Option<Board>,
+    page: Option<Page>,
+}
+
+/// What shows hosts, as their plan asks.
+fn shows_of(alloc: Global, plan: &HostPlan, screen: Screen) -> Result<Shows, AllocError> {
+    let mut shows = Shows {
+        board: None,
+        page: None,
+    };
+    if plan.watch {
+        let title = title_of(alloc, plan.groups.as_slice())?;
+        shows.board = Some(Board::new(alloc, title, screen));
+    }
+    if let Some(port) = plan.page {
+        let title = title_of(alloc, plan.groups.as_slice())?;
+        shows.page = Some(Page::new(alloc, port, title, plan.silence));
+    }
+    Ok(shows)
+}
+
+/// The name of the history of a group: NAME, or NAME.GROUP where there are several.
+fn history_name(
+    alloc: Global,
+    name: &str,
+    group: &str,
+    is_alone: bool,
+) -> Result<String, AllocError> {
+    let mut text = String::from_str(alloc, name)?;
+    if !is_alone {
+        text.push_str(".")?;
+        text.push_str(group)?;
+    }
+    Ok(text)
 }
 
 /// The history of a host whose plan asks for one: its first part is begun.
 fn history_of<K: PartDisks>(
     alloc: Global,
     disks: &mut K,
-    history: Option<(String, usize)>,
+    history: &Option<(String, usize)>,
     group: &str,
+    is_alone: bool,
 ) -> Result<Option<History<K::Disk>>, ProgramFault> {
     let Some((name, most)) = history else {
         return Ok(None);
     };
+    let name = history_name(alloc, name.as_str(), group, is_alone)?;
     let Some(disk) = disks.parts(name.as_str()) else {
         return Err(ProgramFault::NoMemory);
     };
     let group = String::from_str(alloc, group)?;
-    let mut history = History::new(alloc, disk, most, group)?;
+    let mut history = History::new(alloc, disk, *most, group)?;
     if history.begin() {
         Ok(Some(history))
     } else {
@@ -331,66 +364,105 @@ fn history_of<K: PartDisks>(
     }
 }
 
-/// The core of a host's plan, with its board, its page and its history.
-fn parts_of<P: PartDisk>(
+/// The host of a group, with its history.
+fn group_host<K: PartDisks>(
     alloc: Global,
     config: HostConfig,
-    login: Option<Words>,
-    silence: Option<u64>,
-    board: Option<Board>,
-    page: Option<Page>,
-    history: Option<History<P>>,
-) -> Result<HostParts<P>, ProgramFault> {
+    login: &Option<Words>,
+    disks: &mut K,
+    history: &Option<(String, usize)>,
+    is_alone: bool,
+) -> Result<GroupHost<K::Disk>, ProgramFault> {
+    let login = copied(alloc, login)?;
+    let label = if is_alone {
+        None
+    } else {
+        Some(String::from_str(alloc, config.group.as_str())?)
+    };
+    let history = history_of(alloc, disks, history, config.group.as_str(), is_alone)?;
     match host_app(alloc, config, login) {
-        Ok(app) => Ok(HostParts::new(alloc, app, silence, board, page, history)),
+        Ok(app) => Ok(GroupHost::new(alloc, app, history, label)),
         Err(fault) => Err(fault),
     }
 }
 
-/// What shows a host, as its plan asks: a board, and a page.
-fn shows_of(
-    alloc: Global,
-    watch: bool,
-    page: Option<u16>,
-    silence: Option<u64>,
-    config: &HostConfig,
-    screen: Screen,
-) -> Result<(Option<Board>, Option<Page>), AllocError> {
-    let board = board_of(alloc, watch, config, screen)?;
-    let page = page_of(alloc, page, config, silence)?;
-    Ok((board, page))
+/// What a host's plan runs, but for its brokers: a host for each group, what shows them, and after how many messages it ends.
+#[derive(Drop)]
+pub struct Prepared<P: PartDisk> {
+    pub parts: HostParts<P>,
+    pub groups: Vec<Followed>,
+    pub count: Option<u64>,
 }
 
-/// What a plan runs. A board is drawn for this screen.
-fn prepare<K: PartDisks>(
+/// The hosts of a plan, and the groups that they follow.
+#[derive(Drop)]
+struct Groups<P: PartDisk> {
+    hosts: Vec<GroupHost<P>>,
+    followed: Vec<Followed>,
+}
+
+/// The host of a group comes behind the others.
+fn add_group<K: PartDisks>(
     alloc: Global,
-    plan: HostPlan,
+    groups: &mut Groups<K::Disk>,
+    plan: GroupPlan,
+    login: &Option<Words>,
+    disks: &mut K,
+    history: &Option<(String, usize)>,
+    is_alone: bool,
+) -> Result<(), ProgramFault> {
+    let GroupPlan { config, asks } = plan;
+    let group = String::from_str(alloc, config.group.as_str())?;
+    groups.followed.push(Followed::new(group, asks))?;
+    match group_host(alloc, config, login, disks, history, is_alone) {
+        Ok(host) => Ok(groups.hosts.push(host)?),
+        Err(fault) => Err(fault),
+    }
+}
+
+/// The hosts of a plan.
+fn groups_of<K: PartDisks>(
+    alloc: Global,
+    plans: Vec<GroupPlan>,
+    login: &Option<Words>,
+    disks: &mut K,
+    history: &Option<(String, usize)>,
+) -> Result<Groups<K::Disk>, ProgramFault> {
+    let mut groups = Groups {
+        hosts: Vec::new(alloc),
+        followed: Vec::new(alloc),
+    };
+    let is_alone = plans.len() < 2;
+    for plan in plans {
+        add_group(alloc, &mut groups, plan, login, disks, history, is_alone)?;
+    }
+    Ok(groups)
+}
+
+/// What a plan runs. A board is drawn for this screen. Refused with NoMemory (1), with BadConfig (63) where a host's names are none, and with NoHistory (127) where
+/// no part of a history can be begun.
+pub fn begin_host<K: PartDisks>(
+    alloc: Global,
+    mut plan: HostPlan,
     screen: Screen,
     disks: &mut K,
 ) -> Result<Prepared<K::Disk>, ProgramFault> {
-    let HostPlan {
-        config,
-        brokers: _brokers,
-        login,
-        count,
-        silence,
-        watch,
-        page,
-        history,
-        asks,
-    } = plan;
-    let group = String::from_str(alloc, config.group.as_str())?;
-    let (board, page) = shows_of(alloc, watch, page, silence, &config, screen)?;
-    let history = history_of(alloc, disks, history, group.as_str())?;
-    let parts = parts_of(alloc, config, login, silence, board, page, history)?;
-    Ok(Prepared {
-        parts,
-        asks: Asks { group, nodes: asks },
-        count,
-    })
+    let Shows { board, page } = shows_of(alloc, &plan, screen)?;
+    let plans = mem::replace(&mut plan.groups, Vec::new(alloc));
+    match groups_of(alloc, plans, &plan.login, disks, &plan.history) {
+        Ok(groups) => {
+            let Groups { hosts, followed } = groups;
+            Ok(Prepared {
+                parts: HostParts::new(alloc, hosts, plan.silence, board, page),
+                groups: followed,
+                count: plan.count,
+            })
+        }
+        Err(fault) => Err(fault),
+    }
 }
 
-/// Runs a host application until so many messages were consumed as its plan says, or for ever, and answers the status: 0, or 1 where a fault ended it, which
+/// Runs host applications, one for each group, until so many messages were consumed as its plan says, or for ever, and answers the status: 0, or 1 where a fault ended it, which
 /// is printed, or where a line or the history couldn't be written. A board is drawn for this screen. What goes over a socket, and what a disk keeps, no
 /// contract says.
 pub fn run_host<R, K, O, N>(
@@ -409,15 +481,19 @@ where
 {
     let alloc = rt.alloc();
     let brokers = mem::replace(&mut plan.brokers, Vec::new(alloc));
-    let prepared = match prepare(alloc, plan, screen, disks) {
+    let prepared = match begin_host(alloc, plan, screen, disks) {
         Ok(prepared) => prepared,
         Err(fault) => return told(&mut out, fault),
     };
     let Ok(buffered) = BufWriter::new(alloc, out) else {
         return 1;
     };
-    let Prepared { parts, asks, count } = prepared;
-    let mut program = HostProgram::new(parts, count, asks, buffered, notes);
+    let Prepared {
+        parts,
+        groups,
+        count,
+    } = prepared;
+    let mut program = HostProgram::new(parts, count, groups, buffered, notes);
     let ended = run_app(rt, alloc, brokers.as_slice(), Nothing, false, &mut program);
     program.finish(ended)
 }

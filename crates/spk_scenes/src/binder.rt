@@ -1,6 +1,6 @@
 //! The parts of a host's history, in memory.
 
-use spk_programs::PartDisk;
+use spk_programs::{PartDisk, PartDisks};
 use std::alloc::Global;
 
 /// How many writes fail first, one after the other (own rule).
@@ -45,5 +45,20 @@ impl PartDisk for Binder {
 
     fn sync(&mut self) -> bool {
         true
+    }
+}
+
+/// Where histories are, in memory.
+#[derive(Drop)]
+pub(crate) struct Binders {
+    pub(crate) alloc: Global,
+}
+
+impl PartDisks for Binders {
+    type Disk = Binder;
+
+    fn parts(&mut self, name: &str) -> Option<Binder> {
+        let name = String::from_str(self.alloc, name).ok()?;
+        Some(Binder::new(self.alloc, name))
     }
 }

@@ -26,7 +26,7 @@ impl Client {
 }
 
 impl App for Client {
-    fn due(&self, _now: u64) -> Due {
+    fn due(&self, _at: usize, _now: u64) -> Due {
         if self.waiting.is_empty() {
             Due::Nothing
         } else {
@@ -34,21 +34,21 @@ impl App for Client {
         }
     }
 
-    fn pause(&self, _now: u64) -> Option<u64> {
+    fn pause(&self, _at: usize, _now: u64) -> Option<u64> {
         None
     }
 
-    fn opened(&mut self, _now: u64) {}
+    fn opened(&mut self, _at: usize, _now: u64) {}
 
-    fn over(&mut self, _now: u64) {
+    fn over(&mut self, _at: usize, _now: u64) {
         self.waiting.clear();
     }
 
-    fn may_read(&self) -> bool {
+    fn may_read(&self, _at: usize) -> bool {
         true
     }
 
-    fn read(&mut self, piece: &[u8], _now: u64) {
+    fn read(&mut self, _at: usize, piece: &[u8], _now: u64) {
         self.heard = self.heard.saturating_add(piece.len());
     }
 
@@ -62,15 +62,15 @@ impl App for Client {
 
     fn turn(&mut self, _now: u64) {}
 
-    fn unwritten(&self) -> &[u8] {
+    fn unwritten(&self, _at: usize) -> &[u8] {
         self.waiting.as_slice()
     }
 
-    fn wrote(&mut self, count: usize, _now: u64) {
+    fn wrote(&mut self, _at: usize, count: usize, _now: u64) {
         self.waiting.drain(..count.min(self.waiting.len()));
     }
 
-    fn is_closing(&self) -> bool {
+    fn is_closing(&self, _at: usize) -> bool {
         false
     }
 
@@ -78,5 +78,5 @@ impl App for Client {
         false
     }
 
-    fn note(&mut self, _note: &Note) {}
+    fn note(&mut self, _at: usize, _note: &Note) {}
 }

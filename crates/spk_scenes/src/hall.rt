@@ -18,7 +18,8 @@ const ROUNDS: u32 = 1_000_000;
 pub(crate) struct Part<P: Plays + Drop> {
     name: String,
     pub(crate) program: P,
-    pub(crate) seat: Seat,
+    /// Its connections, by their numbers.
+    pub(crate) seats: Vec<Seat>,
     /// How many bytes of what it printed, and of its notes, stand on the page.
     shown: (usize, usize),
 }
@@ -53,6 +54,7 @@ fn show<P: Plays + Drop>(page: &mut Vec<u8>, part: &mut Part<P>) -> Option<()> {
 pub(crate) fn leave<P: Plays + Drop>(part: &mut Part<P>, shelf: &mut Shelf) -> Option<()> {
     part.program.put_back(shelf)?;
     part.program = P::gone();
+    part.seats.clear();
     part.shown = (0, 0);
     Some(())
 }
@@ -62,6 +64,7 @@ fn hand<S: Serves, P: Plays + Drop>(
     server: &mut S,
     conn: Conn,
     mut part: Option<&mut Part<P>>,
+    at: usize,
     batch: &mut Vec<u8>,
 ) -> Option<()> {
     for _ in 0..ROUNDS {
@@ -72,19 +75,24 @@ fn hand<S: Serves, P: Plays + Drop>(
             break;
         }
         if let Some(part) = &mut part {
-            part.seat.pipe.extend_from_slice(batch.as_slice()).ok()?;
+            if let Some(seat) = part.seats.get_mut(at) {
+                seat.pipe.extend_from_slice(batch.as_slice()).ok()?;
+            }
         }
         server.wrote(conn, count)?;
     }
     Some(())
 }
 
-/// The place of a connection, past the last one where nobody has it.
-fn place_at<P: Plays + Drop>(parts: &Vec<Part<P>>, conn: Conn) -> usize {
-    parts
-        .iter()
-        .position(|part| part.seat.conn == Some(conn))
-        .unwrap_or(usize::MAX)
+/// Whose a connection is, and which of its connections, past the last ones where nobody has it.
+fn places_of<P: Plays + Drop>(parts: &Vec<Part<P>>, conn: Conn) -> (usize, usize) {
+    for (place, part) in parts.iter().enumerate() {
+        let found = part.seats.iter().position(|seat| seat.conn == Some(conn));
+        if let Some(at) = found {
+            return (place, at);
+        }
+    }
+    (usize::MAX, usize::MAX)
 }
 
 impl<S: Serves + Drop, P: Plays + Drop> Hall<S, P> {
@@ -123,8 +131,8 @@ impl<S: Serves + Drop, P: Plays + Drop> Hall<S, P> {
         };
         let part = Part {
             name,
+            seats: program.seats(self.alloc)?,
             program,
-            seat: Seat::new(self.alloc),
             shown: (0, 0),
         };
         self.parts.push(part).ok()
@@ -132,8 +140,10 @@ impl<S: Serves + Drop, P: Plays + Drop> Hall<S, P> {
 
     /// Somebody comes, in place of who had the name and is gone, if anybody did.
     pub(crate) fn enter(&mut self, name: &str, program: P) -> Option<()> {
+        let alloc = self.alloc;
         match self.part(name) {
             Some(part) if part.program.is_gone() => {
+                part.seats = program.seats(alloc)?;
                 part.program = program;
                 Some(())
             }
@@ -161,9 +171,9 @@ impl<S: Serves + Drop, P: Plays + Drop> Hall<S, P> {
             let Some(conn) = self.server.next_to_write() else {
                 break;
             };
-            let place = place_at(&self.parts, conn);
+            let (place, at) = places_of(&self.parts, conn);
             let part = self.parts.get_mut(place);
-            hand(&mut self.server, conn, part, &mut self.batch)?;
+            hand(&mut self.server, conn, part, at, &mut self.batch)?;
             has_moved = true;
         }
         Some(has_moved)
@@ -176,9 +186,11 @@ impl<S: Serves + Drop, P: Plays + Drop> Hall<S, P> {
             let Some(conn) = self.server.next_to_shut() else {
                 break;
             };
-            let place = place_at(&self.parts, conn);
+            let (place, at) = places_of(&self.parts, conn);
             if let Some(part) = self.parts.get_mut(place) {
-                part.seat.is_shut = true;
+                if let Some(seat) = part.seats.get_mut(at) {
+                    seat.is_shut = true;
+                }
             }
             has_moved = true;
         }
@@ -192,8 +204,12 @@ impl<S: Serves + Drop, P: Plays + Drop> Hall<S, P> {
             let moves = if self.is_down {
                 part.program.round_alone(self.now)
             } else {
-                part.program
-                    .round(&mut part.seat, &mut self.server, self.most, self.now)?
+                part.program.round(
+                    part.seats.as_mut_slice(),
+                    &mut self.server,
+                    self.most,
+                    self.now,
+                )?
             };
             has_moved = has_moved || moves;
         }
@@ -222,7 +238,8 @@ impl<S: Serves + Drop, P: Plays + Drop> Hall<S, P> {
         let Some(part) = self.parts.get_mut(place) else {
             return Some(());
         };
-        if !part.program.is_done() || part.seat.conn.is_some() {
+        let is_on = part.seats.iter().any(|seat| seat.conn.is_some());
+        if !part.program.is_done() || is_on {
             return Some(());
         }
         let status = part.program.finish();

@@ -4,7 +4,7 @@ use crate::binder::Binder;
 use crate::client::Client;
 use crate::plays::Plays;
 use crate::runs::begun;
-use crate::seat::{Seat, refused};
+use crate::seat::{Seat, refused, round_at, seats_of};
 use crate::serves::Serves;
 use crate::shelf::{Paper, Shelf};
 use spk_network::App;
@@ -36,12 +36,14 @@ fn put_edge_back(app: &Edge, shelf: &mut Shelf) -> Option<()> {
     }
 }
 
-/// The parts of a host's history are on the shelf.
+/// The parts of hosts' histories are on the shelf.
 fn put_history_back(app: &Host, shelf: &mut Shelf) -> Option<()> {
-    match app.core().history() {
-        Some(history) => shelf.put_parts(history.disk()),
-        None => Some(()),
+    for at in 0..app.connections() {
+        if let Some(history) = app.core().history(at) {
+            shelf.put_parts(history.disk())?;
+        }
     }
+    Some(())
 }
 
 /// A line comes to an edge node, or the end of its input.
@@ -80,16 +82,25 @@ impl Plays for Program {
 
     fn round<S: Serves>(
         &mut self,
-        seat: &mut Seat,
+        seats: &mut [Seat],
         server: &mut S,
         most: usize,
         now: u64,
     ) -> Option<bool> {
         match self {
-            Program::Edge(app) => seat.round(app, server, most, now),
-            Program::Host(app) => seat.round(app, server, most, now),
-            Program::Client(app) => seat.round(app, server, most, now),
+            Program::Edge(app) => round_at(seats, app, server, most, now),
+            Program::Host(app) => round_at(seats, app, server, most, now),
+            Program::Client(app) => round_at(seats, app, server, most, now),
             Program::Gone => Some(false),
+        }
+    }
+
+    fn seats(&self, alloc: Global) -> Option<Vec<Seat>> {
+        match self {
+            Program::Edge(app) => seats_of(alloc, app),
+            Program::Host(app) => seats_of(alloc, app),
+            Program::Client(app) => seats_of(alloc, app),
+            Program::Gone => Some(Vec::new(alloc)),
         }
     }
 
@@ -102,11 +113,11 @@ impl Plays for Program {
         }
     }
 
-    fn over(&mut self, now: u64) {
+    fn over(&mut self, at: usize, now: u64) {
         match self {
-            Program::Edge(app) => app.over(now),
-            Program::Host(app) => app.over(now),
-            Program::Client(app) => app.over(now),
+            Program::Edge(app) => app.over(at, now),
+            Program::Host(app) => app.over(at, now),
+            Program::Client(app) => app.over(at, now),
             Program::Gone => {}
         }
     }

@@ -28,7 +28,7 @@ pub(crate) trait Plays {
     /// A round of the loop: whether something moved. None where the broker refused a call.
     fn round<S: Serves>(
         &mut self,
-        seat: &mut Seat,
+        seats: &mut [Seat],
         server: &mut S,
         most: usize,
         now: u64,
@@ -37,8 +37,11 @@ pub(crate) trait Plays {
     /// A round of the loop while there is no broker.
     fn round_alone(&mut self, now: u64) -> bool;
 
-    /// Its connection is over.
-    fn over(&mut self, now: u64);
+    /// Seats for its connections.
+    fn seats(&self, alloc: Global) -> Option<Vec<Seat>>;
+
+    /// A connection of it is over.
+    fn over(&mut self, at: usize, now: u64);
 
     /// Whether it is to end once there is no connection.
     fn is_done(&self) -> bool;

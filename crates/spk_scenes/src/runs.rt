@@ -1,13 +1,13 @@
 //! A program of the command line, run under a name.
 
-use crate::binder::Binder;
+use crate::binder::Binders;
 use crate::page::write_lines;
 use crate::part::Program;
 use crate::shelf::{Lent, Shelf};
-use spk_board::{Board, Screen};
+use spk_board::Screen;
 use spk_commands::{Outcome, run_with_notes};
 use spk_program_plans::{EdgePlan, HostPlan, Words};
-use spk_programs::{Asks, EdgeProgram, History, HostParts, HostProgram, begin_edge, host_app};
+use spk_programs::{EdgeProgram, HostProgram, Prepared, begin_edge, begin_host};
 use std::alloc::Global;
 use std::io::Write;
 
@@ -53,66 +53,39 @@ fn write_edge(page: &mut Vec<u8>, plan: &EdgePlan) -> Option<()> {
 
 /// Writes what a host's plan says.
 fn write_host(page: &mut Vec<u8>, plan: &HostPlan) -> Option<()> {
-    let config = &plan.config;
-    let (group, name, wait) = (config.group.as_str(), config.name.as_str(), config.wait);
-    let (width, keep) = (config.width.get(), config.keep);
+    write!(page, "host").ok()?;
+    for plan in &plan.groups {
+        let config = &plan.config;
+        let (group, name, wait) = (config.group.as_str(), config.name.as_str(), config.wait);
+        let (width, keep) = (config.width.get(), config.keep);
+        write!(
+            page,
+            " {group}/{name} wait {wait} width {width} keep {keep}"
+        )
+        .ok()?;
+    }
     let (count, silence) = (plan.count.unwrap_or(0), plan.silence.unwrap_or(0));
-    write!(
-        page,
-        "host {group}/{name} wait {wait} width {width} keep {keep} count {count} silence {silence} brokers"
-    )
-    .ok()?;
+    write!(page, " count {count} silence {silence} brokers").ok()?;
     write_brokers(page, plan.brokers.as_slice())?;
     write_login(page, &plan.login)
 }
 
-/// The board of a host that has one, without a terminal.
-fn board_of(alloc: Global, plan: &HostPlan) -> Option<Option<Board>> {
-    if !plan.watch {
-        return Some(None);
-    }
-    let group = String::from_str(alloc, plan.config.group.as_str()).ok()?;
-    Some(Some(Board::new(alloc, group, Screen::Plain)))
-}
-
-/// The history of a host that keeps one. A part has as many bytes at most as it has times 512 in MiB, so that several are begun.
-fn history_of(
-    alloc: Global,
-    history: Option<(String, usize)>,
-    group: &str,
-) -> Option<Option<History<Binder>>> {
-    let Some((name, most)) = history else {
-        return Some(None);
-    };
-    let group = String::from_str(alloc, group).ok()?;
-    let most = most / 1_048_576 * 512;
-    let kept = History::new(alloc, Binder::new(alloc, name), most, group).ok()?;
-    Some(Some(kept))
-}
-
-/// A host's program.
+/// A host's program, without a terminal and without a page. A part of a history has as many bytes at most as it has times 512 in MiB, so that several are
+/// begun.
 fn host(alloc: Global, plan: HostPlan) -> Option<Program> {
-    let board = board_of(alloc, &plan)?;
-    let HostPlan {
-        config,
-        brokers: _,
-        login,
+    let mut plan = plan;
+    plan.page = None;
+    if let Some((_name, most)) = &mut plan.history {
+        *most = *most / 1_048_576 * 512;
+    }
+    let mut binders = Binders { alloc };
+    let Prepared {
+        parts,
+        groups,
         count,
-        silence,
-        watch: _,
-        page: _,
-        history,
-        asks,
-    } = plan;
-    let history = history_of(alloc, history, config.group.as_str())?;
-    let asks = Asks {
-        group: String::from_str(alloc, config.group.as_str()).ok()?,
-        nodes: asks,
-    };
-    let app = host_app(alloc, config, login).ok()?;
+    } = begin_host(alloc, plan, Screen::Plain, &mut binders).ok()?;
     let (out, notes) = (Vec::new(alloc), Vec::new(alloc));
-    let parts = HostParts::new(alloc, app, silence, board, None, history);
-    Some(Program::Host(HostProgram::new(parts, count, asks, out, notes)))
+    Some(Program::Host(HostProgram::new(parts, count, groups, out, notes)))
 }
 
 /// An edge node's program, or why there is none.

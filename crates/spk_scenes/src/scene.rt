@@ -76,21 +76,22 @@ fn input<S: Serves + Drop, P: Plays + Drop>(
     hall.part(name)?.program.input(line, now)
 }
 
-/// `cut NAME`.
+/// `cut NAME`: of several connections the first that stands.
 fn cut<S: Serves + Drop, P: Plays + Drop>(hall: &mut Hall<S, P>, name: &str) -> Option<()> {
     let now = hall.now;
     let place = hall.place_of(name)?;
     let part = hall.parts.get_mut(place)?;
-    let conn = part.seat.conn?;
-    hall.server.gone(conn, now)?;
-    part.seat.leave();
-    part.program.over(now);
+    let on = part.seats.iter().position(|seat| seat.conn.is_some())?;
+    let seat = part.seats.get_mut(on)?;
+    hall.server.gone(seat.conn?, now)?;
+    seat.leave();
+    part.program.over(on, now);
     Some(())
 }
 
 /// `deny NAME`.
 fn deny<S: Serves + Drop, P: Plays + Drop>(hall: &mut Hall<S, P>, name: &str) -> Option<()> {
-    hall.part(name)?.seat.is_denied = true;
+    hall.part(name)?.seats.first_mut()?.is_denied = true;
     Some(())
 }
 
@@ -99,10 +100,12 @@ fn kill<S: Serves + Drop, P: Plays + Drop>(hall: &mut Hall<S, P>, name: &str) ->
     let now = hall.now;
     let place = hall.place_of(name)?;
     let part = hall.parts.get_mut(place)?;
-    if let Some(conn) = part.seat.conn {
-        hall.server.gone(conn, now)?;
+    for seat in part.seats.iter_mut() {
+        if let Some(conn) = seat.conn {
+            hall.server.gone(conn, now)?;
+        }
+        seat.leave();
     }
-    part.seat.leave();
     leave(part, &mut hall.shelf)
 }
 
@@ -111,9 +114,11 @@ fn end_broker<S: Serves + Drop, P: Plays + Drop>(hall: &mut Hall<S, P>) {
     let now = hall.now;
     hall.is_down = true;
     for part in &mut hall.parts {
-        if part.seat.conn.is_some() {
-            part.seat.leave();
-            part.program.over(now);
+        for seat in part.seats.iter_mut() {
+            if seat.conn.is_some() {
+                seat.leave();
+                part.program.over(seat.at, now);
+            }
         }
     }
 }

@@ -9,6 +9,8 @@ use std::alloc::Global;
 /// A connection, or none.
 #[derive(Drop)]
 pub(crate) struct Seat {
+    /// The program's number of it.
+    pub(crate) at: usize,
     /// The broker's number of it.
     pub(crate) conn: Option<Conn>,
     /// What the broker wrote.
@@ -25,8 +27,9 @@ pub(crate) struct Seat {
 const DENIED: [u8; 4] = [32, 2, 0, 5];
 
 impl Seat {
-    pub(crate) fn new(alloc: Global) -> Seat {
+    pub(crate) fn new(alloc: Global, at: usize) -> Seat {
         Seat {
+            at,
             conn: None,
             pipe: Vec::new(alloc),
             read: 0,
@@ -49,16 +52,16 @@ impl Seat {
         if rest.is_empty() {
             if self.is_shut {
                 self.leave();
-                app.over(now);
+                app.over(self.at, now);
                 return true;
             }
             return false;
         }
-        if !app.may_read() {
+        if !app.may_read(self.at) {
             return false;
         }
         let piece = rest.get(..most).unwrap_or(rest);
-        app.read(piece, now);
+        app.read(self.at, piece, now);
         self.read = self.read.saturating_add(piece.len());
         true
     }
@@ -72,14 +75,14 @@ impl Seat {
         most: usize,
         now: u64,
     ) -> Option<bool> {
-        let rest = app.unwritten();
+        let rest = app.unwritten(self.at);
         let piece = rest.get(..most).unwrap_or(rest);
         let count = piece.len();
         if count == 0 || self.is_shut || server.is_held(conn) {
             return Some(false);
         }
         server.read(conn, piece, now)?;
-        app.wrote(count, now);
+        app.wrote(self.at, count, now);
         Some(true)
     }
 
@@ -91,13 +94,13 @@ impl Seat {
         server: &mut S,
         now: u64,
     ) -> Option<bool> {
-        let is_written = app.unwritten().is_empty();
-        if !(app.is_closing() && is_written) && app.due(now) != Due::End {
+        let is_written = app.unwritten(self.at).is_empty();
+        if !(app.is_closing(self.at) && is_written) && app.due(self.at, now) != Due::End {
             return Some(false);
         }
         server.gone(conn, now)?;
         self.leave();
-        app.over(now);
+        app.over(self.at, now);
         Some(true)
     }
 
@@ -117,12 +120,12 @@ impl Seat {
         now: u64,
     ) -> Option<bool> {
         app.turn(now);
-        if app.is_done() || app.due(now) != Due::Connect {
+        if app.is_done() || app.due(self.at, now) != Due::Connect {
             return Some(false);
         }
         let conn = server.accepted(now)?;
         self.conn = Some(conn);
-        app.opened(now);
+        app.opened(self.at, now);
         if self.is_denied {
             self.deny(conn, server, now)?;
         }
@@ -151,12 +154,40 @@ impl Seat {
     }
 }
 
-/// A round in which a try to connect fails, where one is due.
+/// Seats for all connections of a program.
+pub(crate) fn seats_of<A: App>(alloc: Global, app: &A) -> Option<Vec<Seat>> {
+    let mut seats = Vec::new(alloc);
+    for at in 0..app.connections() {
+        seats.push(Seat::new(alloc, at)).ok()?;
+    }
+    Some(seats)
+}
+
+/// A round of the loop at each seat: whether something moved. None where the broker refused a call.
+pub(crate) fn round_at<A: App, S: Serves>(
+    seats: &mut [Seat],
+    app: &mut A,
+    server: &mut S,
+    most: usize,
+    now: u64,
+) -> Option<bool> {
+    let mut has_moved = false;
+    for seat in seats {
+        let moves = seat.round(app, server, most, now)?;
+        has_moved = has_moved || moves;
+    }
+    Some(has_moved)
+}
+
+/// A round in which each try to connect fails, where one is due.
 pub(crate) fn refused<A: App>(app: &mut A, now: u64) -> bool {
     app.turn(now);
-    let tries = !app.is_done() && app.due(now) == Due::Connect;
-    if tries {
-        app.over(now);
+    let mut has_tried = false;
+    for at in 0..app.connections() {
+        if !app.is_done() && app.due(at, now) == Due::Connect {
+            app.over(at, now);
+            has_tried = true;
+        }
     }
-    tries
+    has_tried
 }
