@@ -1,0 +1,4 @@
+pub mod Bools
+pub mod Cutting
+pub mod Covered
+pub mod Lists
