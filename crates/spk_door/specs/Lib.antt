@@ -1,0 +1,4 @@
+pub mod Broker
+pub mod Data
+pub mod Rules
+pub mod View
