@@ -1,0 +1,10 @@
+//! The user name and the password of a CONNECT (MQTT 3.1.1, section 3.1), which `spk_packets` reads and leaves out.
+#![tactic(auto)]
+
+mod credentials;
+pub mod laws;
+mod parts;
+#[cfg(test)]
+mod tests;
+
+pub use credentials::{Credentials, read};
