@@ -47,7 +47,8 @@ pub struct Door {
 /// The user name and the password of a CONNECT; a password that isn't there is empty.
 #[derive(Clone, Copy, Debug, PartialEq, Eq)]
 pub struct Login<'a> {
-    pub user: &'a str,
+    /// A text in UTF-8.
+    pub user: &'a [u8],
     pub password: &'a [u8],
 }
 
@@ -78,10 +79,10 @@ impl User {
 }
 
 /// The place of the first user of a name.
-fn place_of(users: &[User], name: &str) -> Option<usize>
+fn place_of(users: &[User], name: &[u8]) -> Option<usize>
     ensures { result ≡ position (λ u. bytes_eq (string_bytes u.name) name.now) users.now }
 {
-    users.iter().position(|user| user.name.as_str() == name)
+    users.iter().position(|user| user.name.as_bytes() == name)
 }
 
 /// The place of the user who has this name and this password.

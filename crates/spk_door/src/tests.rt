@@ -74,7 +74,10 @@ fn a_login_lets_its_user_in(rt: HostRuntime) -> Result<(), Fail> {
     let door = door(rt.alloc()).expect(&rt, "a door");
     for (login, wanted) in LOGINS {
         let login = match login {
-            Some((user, password)) => Some(Login { user, password }),
+            Some((user, password)) => Some(Login {
+                user: user.as_bytes(),
+                password,
+            }),
             None => None,
         };
         let entry = door
@@ -113,7 +116,7 @@ fn without_users_everybody_comes_in(rt: HostRuntime) -> Result<(), Fail> {
         guard: true,
     };
     let login = Some(Login {
-        user: "pump",
+        user: b"pump",
         password: b"secret",
     });
     let entry = door
