@@ -1,0 +1,4 @@
+pub mod Data
+pub mod Next
+pub mod Rules
+pub mod View
