@@ -32,8 +32,8 @@ next_fits : (level name part : List ℕ) (wide filter topic : List (List ℕ)) �
 next_fits level name part wide filter topic more covered fit ih = elim (or_cases (is_rest name filter) _ fit) [
   | inl rest ↦ cc
   | inr both ↦
-    let (one, others) = and_parts (bytes_eq name (43 ∷ []) || bytes_eq name part) (fits filter topic) both in
-    or_second (is_rest level wide) _ (and_both _ _ (level_fits level name part covered one) (ih others))
+      let (one, others) = and_parts (bytes_eq name (43 ∷ []) || bytes_eq name part) (fits filter topic) both in
+      or_second (is_rest level wide) _ (and_both _ _ (level_fits level name part covered one) (ih others))
 ]
 
 none_left : (filter : List (List ℕ)) → is_empty filter ≡ true → filter ≡ []
@@ -52,9 +52,9 @@ fits-covered (level ∷ wide) [] topic h fit = rest_fits level wide topic h
 fits-covered (level ∷ wide) (name ∷ filter) topic h fit = elim (or_cases (is_rest level wide) _ h) [
   | inl rest ↦ rest_fits level wide topic rest
   | inr both ↦
-    let (more, behind) = and_parts (not (is_rest name filter)) _ both in
-    let (covered, others) = and_parts (covers_level level name) (covers_levels wide filter) behind in
-    at level name wide filter topic more covered (λ parts. fits-covered wide filter parts others) fit
+      let (more, behind) = and_parts (not (is_rest name filter)) _ both in
+      let (covered, others) = and_parts (covers_level level name) (covers_levels wide filter) behind in
+      at level name wide filter topic more covered (λ parts. fits-covered wide filter parts others) fit
 ]
 
 -- ---- a topic name that begins with `$`

@@ -15,6 +15,6 @@ found p [] h = cc
 found p (x ∷ xs) h = elim (or_cases (p x) (list_any p xs) h) [
   | inl here ↦ (x, (0, omega arith, refl), here)
   | inr there ↦
-    let (y, (k, within, is), passes) = found p xs there in
-    (y, (suc k, omega (arith, within), is), passes)
+      let (y, (k, within, is), passes) = found p xs there in
+      (y, (suc k, omega (arith, within), is), passes)
 ]

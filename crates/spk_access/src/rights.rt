@@ -178,7 +178,10 @@ impl Rights {
         match topic {
             Spark::Node { group, kind, node } => self.owns(*kind, group.as_str(), node.as_str()),
             Spark::Device {
-                group, kind, node, ..
+                group,
+                kind,
+                node,
+                ..
             } => self.owns(*kind, group.as_str(), node.as_str()),
             Spark::State { host } => self.is_host(host.as_str()),
         }

@@ -11,7 +11,11 @@ static COVERED: [(&str, &str, bool); 24] = [
     ("#", "sport/+/player1/#", true),
     ("sport/tennis/player1/#", "sport/tennis/player1", true),
     ("sport/tennis/player1/#", "sport/tennis/player1/#", true),
-    ("sport/tennis/player1/#", "sport/tennis/player1/score/+", true),
+    (
+        "sport/tennis/player1/#",
+        "sport/tennis/player1/score/+",
+        true,
+    ),
     ("sport/tennis/player1/#", "sport/tennis/+", false),
     ("sport/tennis/player1/#", "sport/#", false),
     ("sport/tennis/+", "sport/tennis/player1", true),
@@ -75,9 +79,15 @@ static GUARDED: [(&str, &str, bool); 27] = [
 fn a_guard_knows_whose_topics_are_whose(rt: HostRuntime) -> Result<(), Fail> {
     for (client, topic, may) in GUARDED {
         let rights = Rights::of_client(rt.alloc(), client).expect(&rt, "rights");
-        let answer = rights.may_publish(rt.alloc(), true, topic).expect(&rt, "an answer");
+        let answer = rights
+            .may_publish(rt.alloc(), true, topic)
+            .expect(&rt, "an answer");
         assert_eq!(rt; answer, may, "{client} on {topic}");
-        assert!(rt; rights.may_publish(rt.alloc(), false, topic).expect(&rt, "an answer"));
+        assert!(rt;
+            rights
+                .may_publish(rt.alloc(), false, topic)
+                .expect(&rt, "an answer")
+        );
         assert!(rt; rights.may_subscribe("#"));
     }
     Ok(())
@@ -118,8 +128,18 @@ fn filters_and_a_guard_both_bind(rt: HostRuntime) -> Result<(), Fail> {
         ("other", false, false),
     ];
     for (topic, free, guarded) in rows {
-        assert_eq!(rt; rights.may_publish(rt.alloc(), false, topic).expect(&rt, "an answer"), free);
-        assert_eq!(rt; rights.may_publish(rt.alloc(), true, topic).expect(&rt, "an answer"), guarded);
+        assert_eq!(rt;
+            rights
+                .may_publish(rt.alloc(), false, topic)
+                .expect(&rt, "an answer"),
+            free
+        );
+        assert_eq!(rt;
+            rights
+                .may_publish(rt.alloc(), true, topic)
+                .expect(&rt, "an answer"),
+            guarded
+        );
     }
     assert!(rt; rights.may_subscribe("spBv1.0/G/NCMD/N"));
     assert!(rt; !rights.may_subscribe("spBv1.0/G/NCMD/+"));
@@ -135,7 +155,11 @@ fn no_filters_let_nothing_through(rt: HostRuntime) -> Result<(), Fail> {
         publish: Some(Vec::new(rt.alloc())),
         subscribe: Some(Vec::new(rt.alloc())),
     };
-    assert!(rt; !rights.may_publish(rt.alloc(), false, "a").expect(&rt, "an answer"));
+    assert!(rt;
+        !rights
+            .may_publish(rt.alloc(), false, "a")
+            .expect(&rt, "an answer")
+    );
     assert!(rt; !rights.may_subscribe("a"));
     Ok(())
 }

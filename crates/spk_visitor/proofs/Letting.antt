@@ -1,13 +1,13 @@
 -- What goes on is let.
-use Rattle.std.proofs.Common.{◌≡◌, ◌⊎◌, ◌∙◌, sym, ap, refl, subst, inl, inr, ℕ, List, [], ◌∷◌, map, Bool, true, false, Option, Some, None}
-use Rattle.std.specs.Prelude.{if◌then◌else◌, ◌&&◌}
+use Rattle.std.proofs.Common.{◌≡◌, ◌⊎◌, ◌∙◌, sym, ap, refl, subst, inl, inr, ℕ, List, [], ◌∷◌, Bool, true, false, Option, Some}
+use Rattle.std.specs.Prelude.{if◌then◌else◌}
 use Rattle.std.specs.List.{filter, list_all}
 use Rattle.std.proofs.lemmas.List.Folds.{list_all-map}
 use Rattle.spk_packets.specs.Message.{Message, WillData, Connect, ConnAck, Publish, PubAck, Subscribe, SubAck, Unsubscribe, UnsubAck, PingReq, PingResp, Disconnect}
 use Rattle.spk_access.specs.Rights.{RightsData, may_publish, may_subscribe}
 use Rattle.spk_door.specs.Data.{DoorData, EntryData, VerdictData}
 use Rattle.spk_door.specs.Data as door
-use Rattle.spk_door.specs.Rules.{allowed, cut, entry, judged, lets, lets_will}
+use Rattle.spk_door.specs.Rules.{allowed, entry, judged, lets, lets_will}
 use Rattle.spk_visitor.specs.Data.{Outcome, StageData, Outside, Inside, Over}
 use Rattle.spk_visitor.specs.Rules.{cut_off, entered, first, further, login_of, outcome, subscribe_of}
 use Rattle.spk_visitor.proofs.Outcomes.{some-same}

@@ -1,5 +1,5 @@
 -- What becomes of each packet of a client, and of bytes that are none (own rules over MQTT 3.1.1, chapter 3).
-use Rattle.std.specs.Prelude.{ℕ, Bool, true, false, List, [], ◌∷◌, Option, Some, None, unwrap_or, if◌then◌else◌}
+use Rattle.std.specs.Prelude.{ℕ, Bool, List, [], ◌∷◌, Option, Some, None, unwrap_or, if◌then◌else◌}
 use Rattle.std.specs.List.{filter}
 use Rattle.std.specs.Option.{option_map}
 use Rattle.spk_packets.specs.Message.{Message, WillData, Connect, Subscribe}

@@ -8,7 +8,10 @@ use std::process::Abort;
 use std::test::Fail;
 
 /// PBKDF2 with HMAC-SHA-256 of `secret`, with the salt `salt of pump`, in 3 rounds.
-static KEY: [u8; 32] = [0xe9, 0xaf, 0x2d, 0xcd, 0xc0, 0xba, 0x22, 0xbd, 0xfd, 0x0b, 0x6d, 0x47, 0x42, 0x83, 0x93, 0x2d, 0x52, 0x4b, 0xc0, 0x7a, 0x31, 0x6a, 0xcc, 0xb5, 0xca, 0x00, 0x5d, 0xe5, 0x11, 0x7a, 0x3c, 0xa7];
+static KEY: [u8; 32] = [
+    0xe9, 0xaf, 0x2d, 0xcd, 0xc0, 0xba, 0x22, 0xbd, 0xfd, 0x0b, 0x6d, 0x47, 0x42, 0x83, 0x93, 0x2d,
+    0x52, 0x4b, 0xc0, 0x7a, 0x31, 0x6a, 0xcc, 0xb5, 0xca, 0x00, 0x5d, 0xe5, 0x11, 0x7a, 0x3c, 0xa7,
+];
 
 /// A text with memory of its own.
 fn text(alloc: Global, text: &str) -> Option<String> {
@@ -53,7 +56,7 @@ fn sent(alloc: Global, door: &Door, bytes: &[u8], size: usize) -> Option<(Vec<u8
     let mut visitor = Visitor::new(alloc);
     let mut out = Vec::new(alloc);
     let mut answer = Answer::More;
-    for piece in bytes.chunks(size) {
+    for piece in bytes.chunks(size.max(1)) {
         visitor.feed(piece).ok()?;
         answer = Answer::Goes;
         for _ in 0..1_000 {
@@ -129,13 +132,7 @@ static ROWS: [(&str, bool, &[u8], &[u8], Result<bool, u8>); 13] = [
         b"\x107\x00\x04MQTT\x04\x06\x00<\x00\x0aPlant/Pump\x00\x19spBv1.0/Plant/NDEATH/Pump\x00\x04gone",
         Ok(false),
     ),
-    (
-        "no packet first closes",
-        false,
-        b"\xff\x00",
-        b"",
-        Ok(false),
-    ),
+    ("no packet first closes", false, b"\xff\x00", b"", Ok(false)),
     (
         "half a packet waits",
         false,
@@ -191,19 +188,30 @@ fn what_is_allowed_of_a_subscribe_goes_on(rt: HostRuntime) -> Result<(), Fail> {
     let door = door(rt.alloc(), true).expect(&rt, "a door");
     let mut visitor = Visitor::new(rt.alloc());
     let mut out = Vec::new(rt.alloc());
-    visitor.feed(b"\x10\x1d\x00\x04MQTT\x04\xc2\x00<\x00\x03any\x00\x04pump\x00\x06secret").expect(&rt, "room");
+    visitor
+        .feed(b"\x10\x1d\x00\x04MQTT\x04\xc2\x00<\x00\x03any\x00\x04pump\x00\x06secret")
+        .expect(&rt, "room");
     assert!(rt; visitor.next(&door, &mut out).expect(&rt, "an answer") == Answer::Goes);
-    visitor.feed(b"\x827\x00\x09\x00\x01#\x00\x00\x17spBv1.0/Plant/NCMD/Pump\x01\x00\x14spBv1.0/Plant/NCMD/+\x02").expect(&rt, "room");
+    visitor
+        .feed(
+            b"\x827\x00\x09\x00\x01#\x00\x00\x17spBv1.0/Plant/NCMD/Pump\x01\x00\x14spBv1.0/Plant/NCMD/+\x02",
+        )
+        .expect(&rt, "room");
     let answer = visitor.next(&door, &mut out).expect(&rt, "an answer");
     let (id, each) = cut(answer).expect(&rt, "a cut");
     assert_eq!(rt; id, 9);
     assert_eq!(rt; each.as_slice(), [false, true, false].as_slice());
-    visitor.feed(b"\x82\x06\x00\x0a\x00\x01#\x00").expect(&rt, "room");
+    visitor
+        .feed(b"\x82\x06\x00\x0a\x00\x01#\x00")
+        .expect(&rt, "room");
     let answer = visitor.next(&door, &mut out).expect(&rt, "an answer");
     let (id, each) = cut(answer).expect(&rt, "a cut");
     assert_eq!(rt; id, 10);
     assert_eq!(rt; each.as_slice(), [false].as_slice());
-    assert_eq!(rt; out.as_slice(), b"\x10\x0f\x00\x04MQTT\x04\x02\x00<\x00\x03any\x82\x1c\x00\x09\x00\x17spBv1.0/Plant/NCMD/Pump\x01".as_slice());
+    assert_eq!(rt;
+        out.as_slice(),
+        b"\x10\x0f\x00\x04MQTT\x04\x02\x00<\x00\x03any\x82\x1c\x00\x09\x00\x17spBv1.0/Plant/NCMD/Pump\x01".as_slice()
+    );
     Ok(())
 }
 

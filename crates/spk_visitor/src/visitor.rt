@@ -212,14 +212,7 @@ fn enter(
         out.old.items out.new.items) }
 {
     match decode(alloc, &unread) {
-        Ok((packet, size)) => let_in(
-            alloc,
-            door,
-            &packet,
-            &unread[..size],
-            &unread[size..],
-            out,
-        ),
+        Ok((packet, size)) => let_in(alloc, door, &packet, &unread[..size], &unread[size..], out),
         Err(PacketFault::NoMemory) => Err(AllocError),
         Err(PacketFault::More) => Ok((Stage::Outside(unread), Answer::More)),
         Err(PacketFault::BadLevel) => Ok((Stage::Over, Answer::Refuses(BAD_LEVEL))),

@@ -1,9 +1,8 @@
-use Rattle.std.proofs.Common.{◌≡◌, ◌∙◌, sym, ap}
+use Rattle.std.proofs.Common.{◌∙◌, sym, ap}
 use Rattle.std.specs.Option.{option_map}
-use Rattle.spk_packets.specs.View.{view, will_view}
+use Rattle.spk_packets.specs.View.{will_view}
 use Rattle.spk_access.specs.Rights.{rights_view}
 use Rattle.spk_door.specs.Rules.{lets_will}
-use Rattle.spk_visitor.specs.Data.{Outcome}
 use Rattle.spk_visitor.proofs.Outcomes.{some-same, turned-away}
 use Rattle.spk_visitor.proofs.visitor.admit.Goals as goal
 

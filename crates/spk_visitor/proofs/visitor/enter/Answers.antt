@@ -1,4 +1,4 @@
-use Rattle.std.proofs.Common.{◌≡◌, ◌∙◌, inl, inr, length, ◌-◌, subst, sym, ap, take, drop}
+use Rattle.std.proofs.Common.{◌∙◌, inl, inr, length, ◌-◌, subst, sym, ap, take, drop}
 use Rattle.std.proofs.lemmas.List.{take-append-drop}
 use Rattle.spk_packets.specs.Grammar.{Spells}
 use Rattle.spk_packets.specs.View.{view}

@@ -1,10 +1,10 @@
-use Rattle.std.proofs.Common.{◌≡◌, ◌∙◌, inl, inr, sym, ap, subst}
+use Rattle.std.proofs.Common.{inl, inr, sym, ap, subst}
 use Rattle.std.specs.Option.{option_map_or}
 use Rattle.spk_packets.specs.Stream.{TakesPacket}
 use Rattle.spk_packets.specs.View.{view}
 use Rattle.spk_access.specs.Rights.{rights_view}
 use Rattle.spk_door.specs.Rules.{judged}
-use Rattle.spk_door.specs.View.{door_view, rights_of}
+use Rattle.spk_door.specs.View.{door_view}
 use Rattle.spk_visitor.specs.Data.{Inside, Over}
 use Rattle.spk_visitor.specs.Next.{Comes}
 use Rattle.spk_visitor.specs.Rules.{further, outcome}
