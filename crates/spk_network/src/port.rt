@@ -16,6 +16,9 @@ pub trait Port: Drop {
     /// Whether a connection came of a try, where it may be written to for the first time.
     fn stands(&mut self) -> bool;
 
+    /// Writing is over: behind what was written the peer reads the end. It may still be read.
+    fn finish(&mut self);
+
     /// Reading and writing are over.
     fn shut(&mut self);
 }
@@ -34,6 +37,10 @@ impl Port for TcpStream {
             Ok(None) => self.peer_addr().is_ok(),
             _ => false,
         }
+    }
+
+    fn finish(&mut self) {
+        let _ = self.shutdown(Shutdown::Write);
     }
 
     fn shut(&mut self) {

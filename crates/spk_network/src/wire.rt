@@ -8,7 +8,7 @@ use std::net::SocketAddr;
 /// How long a try takes at most, in milliseconds (own rule).
 pub(crate) const TRY: u64 = 3_000;
 
-/// How long what is to be written at an end may take, in milliseconds (own rule).
+/// How long an end may take, in milliseconds (own rule): what is to be written, and then the peer's own end.
 const LAST: u64 = 5_000;
 
 /// How often is read, and written, in a round at most (own rule).
@@ -23,6 +23,9 @@ enum Stage {
     On,
     /// It is to be closed once nothing is to be written, and at this moment at the latest.
     Closing(u64),
+    /// All is written, and the peer was told so. What it sends is passed over until it ends the connection, and until this moment at the latest: a socket
+    /// that is closed while bytes lie unread resets its connection, and the peer may lose what it hadn't read.
+    Finished(u64),
 }
 
 /// A socket, and what it is ready for.
@@ -163,12 +166,18 @@ impl<P: Port> Wire<P> {
         let Some(socket) = &mut self.socket else {
             return false;
         };
-        if matches!(socket.stage, Stage::Trying(_)) || !socket.readable || !app.may_read(at) {
+        let may_read = match socket.stage {
+            Stage::Trying(_) => false,
+            Stage::On | Stage::Closing(_) => app.may_read(at),
+            Stage::Finished(_) => true,
+        };
+        if !socket.readable || !may_read {
             return false;
         }
+        let is_heard = !matches!(socket.stage, Stage::Finished(_));
         match socket.read(piece) {
             Went::Some(count) => {
-                if let Some(bytes) = piece.get(..count) {
+                if is_heard && let Some(bytes) = piece.get(..count) {
                     app.read(at, bytes, now);
                 }
                 true
@@ -196,7 +205,7 @@ impl<P: Port> Wire<P> {
         let Some(socket) = &mut self.socket else {
             return false;
         };
-        if matches!(socket.stage, Stage::Trying(_)) || !socket.writable {
+        if matches!(socket.stage, Stage::Trying(_) | Stage::Finished(_)) || !socket.writable {
             return false;
         }
         let bytes = app.unwritten(at);
@@ -227,23 +236,30 @@ impl<P: Port> Wire<P> {
         }
     }
 
-    /// Closes the connection where nothing is heard, or where its end was asked for and all is written, or is past its time.
+    /// Closes the connection where nothing is heard, or where its end was asked for and has come, or is past its time. Once all is written behind which an
+    /// end was asked for, the peer is told that nothing follows, and its own end is waited for.
     pub fn close<A: App>(&mut self, app: &mut A, silent: bool, now: u64) {
         let at = self.at;
         let Some(socket) = &mut self.socket else {
             return;
         };
-        let late = match socket.stage {
-            Stage::Trying(_) => return,
-            Stage::On if app.is_closing(at) => {
-                socket.stage = Stage::Closing(now.saturating_add(LAST));
-                false
-            }
-            Stage::On => false,
-            Stage::Closing(until) => now >= until,
+        if matches!(socket.stage, Stage::Trying(_)) {
+            return;
+        }
+        if socket.stage == Stage::On && app.is_closing(at) {
+            socket.stage = Stage::Closing(now.saturating_add(LAST));
+        }
+        if let Stage::Closing(until) = socket.stage
+            && app.unwritten(at).is_empty()
+        {
+            socket.port.finish();
+            socket.stage = Stage::Finished(until);
+        }
+        let is_late = match socket.stage {
+            Stage::Closing(until) | Stage::Finished(until) => now >= until,
+            _ => false,
         };
-        let closing = matches!(socket.stage, Stage::Closing(_));
-        if silent || late || (closing && app.unwritten(at).is_empty()) {
+        if silent || is_late {
             self.end(app, now, &Note::Over);
         }
     }
@@ -253,19 +269,21 @@ impl<P: Port> Wire<P> {
         let Some(socket) = &self.socket else {
             return false;
         };
-        if matches!(socket.stage, Stage::Trying(_)) {
-            return false;
-        }
         let is_written = app.unwritten(self.at).is_empty();
-        (socket.readable && app.may_read(self.at))
+        let may_go_on = (socket.readable && app.may_read(self.at))
             || (socket.writable && !is_written)
-            || (app.is_closing(self.at) && is_written)
+            || (app.is_closing(self.at) && is_written);
+        match socket.stage {
+            Stage::Trying(_) => false,
+            Stage::On | Stage::Closing(_) => may_go_on,
+            Stage::Finished(_) => socket.readable,
+        }
     }
 
     /// When a round is to begin at the latest on its account.
     pub fn until(&self) -> Option<u64> {
         match self.socket.as_ref()?.stage {
-            Stage::Trying(until) | Stage::Closing(until) => Some(until),
+            Stage::Trying(until) | Stage::Closing(until) | Stage::Finished(until) => Some(until),
             Stage::On => None,
         }
     }

@@ -17,6 +17,8 @@ enum Give {
     Interrupted,
     /// The peer sends no more.
     End,
+    /// The same, once it was told that nothing follows; until then nothing now.
+    EndBehind,
     /// It failed.
     Failed,
 }
@@ -29,6 +31,7 @@ struct Scripted {
     room: usize,
     writes: usize,
     stands: bool,
+    finished: bool,
 }
 
 impl Port for Scripted {
@@ -45,7 +48,11 @@ impl Port for Scripted {
             }
             Give::Nothing => Err(io::Error::from(ErrorKind::WouldBlock)),
             Give::Interrupted => Err(io::Error::from(ErrorKind::Interrupted)),
-            Give::End => Ok(0),
+            Give::EndBehind if !self.finished => {
+                self.at = self.at.saturating_sub(1);
+                Err(io::Error::from(ErrorKind::WouldBlock))
+            }
+            Give::End | Give::EndBehind => Ok(0),
             Give::Failed => Err(io::Error::from(ErrorKind::ConnectionReset)),
         }
     }
@@ -60,6 +67,10 @@ impl Port for Scripted {
 
     fn stands(&mut self) -> bool {
         self.stands
+    }
+
+    fn finish(&mut self) {
+        self.finished = true;
     }
 
     fn shut(&mut self) {}
@@ -169,6 +180,7 @@ fn connected(
         room,
         writes,
         stands: true,
+        finished: false,
     };
     let address = SocketAddr::new(IpAddr::V4(Ipv4Addr::LOCALHOST), 1883);
     wire.begin(port, address, 0);
@@ -259,6 +271,7 @@ fn a_try_that_comes_to_nothing_or_takes_too_long_begins_nothing(
             room: 1,
             writes: 1,
             stands,
+            finished: false,
         };
         wire.begin(port, address, 0);
         wire.note(false, ready);
@@ -272,7 +285,7 @@ fn a_try_that_comes_to_nothing_or_takes_too_long_begins_nothing(
 }
 
 #[test]
-fn a_connection_is_closed_once_all_is_written_or_five_seconds_later(
+fn a_connection_whose_end_was_asked_for_is_closed_five_seconds_later_at_the_latest(
     rt: HostRuntime,
 ) -> Result<(), Fail> {
     let mut app = Plain::new(b"1");
@@ -280,22 +293,61 @@ fn a_connection_is_closed_once_all_is_written_or_five_seconds_later(
     wire.close(&mut app, false, 2);
     assert_eq!(rt; app.over, 0);
     app.closing = true;
-    wire.close(&mut app, false, 10);
-    assert_eq!(rt; app.over, 0);
-    wire.close(&mut app, false, 5_009);
-    assert_eq!(rt; app.over, 0);
-    wire.close(&mut app, false, 5_010);
+    // first with something left to write, then with a peer that doesn't end
+    for _ in 0..2u8 {
+        wire.close(&mut app, false, 10);
+        assert_eq!(rt; app.over, 0);
+        wire.close(&mut app, false, 5_009);
+        assert_eq!(rt; app.over, 0);
+        assert_eq!(rt; wire.until(), Some(5_010));
+        wire.close(&mut app, false, 5_010);
+        assert_eq!(rt; app.over, 1);
+        app = Plain::new(b"1");
+        app.closing = true;
+        wire = connected(&[], 1, 1, &mut app);
+        wire.write(&mut app, 9);
+        assert_eq!(rt; app.written, 1);
+    }
+    wire.close(&mut app, true, 10);
     assert_eq!(rt; app.over, 1);
-    let mut app = Plain::new(b"1");
-    let mut wire = connected(&[], 1, 1, &mut app);
-    app.closing = true;
-    wire.close(&mut app, false, 10);
-    wire.write(&mut app, 11);
-    wire.close(&mut app, false, 12);
-    assert_eq!(rt; app.over, 1);
-    let mut app = Plain::new(b"1");
-    let mut wire = connected(&[], 1, 1, &mut app);
-    wire.close(&mut app, true, 2);
-    assert_eq!(rt; app.over, 1);
+    Ok(())
+}
+
+#[test]
+fn behind_what_was_written_last_the_end_of_the_peer_is_waited_for(
+    rt: HostRuntime,
+) -> Result<(), Fail> {
+    let gives: &'static [Give] = &[Give::EndBehind];
+    let more: &'static [Give] = &[
+        Give::Nothing,
+        Give::Bytes(b"7"),
+        Give::Interrupted,
+        Give::Bytes(b"8"),
+        Give::EndBehind,
+    ];
+    let failing: &'static [Give] = &[Give::Nothing, Give::Bytes(b"7"), Give::Failed];
+    for gives in [gives, more, failing] {
+        let mut app = Plain::new(b"1");
+        let mut wire = connected(gives, 1, 1, &mut app);
+        let mut piece = [0u8; 4];
+        app.closing = true;
+        wire.close(&mut app, false, 10);
+        wire.read(&mut app, &mut piece, 10);
+        wire.write(&mut app, 11);
+        assert_eq!(rt; (app.written, app.over), (1, 0));
+        assert!(rt; wire.goes_on(&app));
+        wire.close(&mut app, false, 12);
+        assert!(rt; !wire.is_off());
+        assert!(rt; !wire.goes_on(&app));
+        assert_eq!(rt; app.over, 0);
+        wire.note(true, true);
+        assert!(rt; wire.goes_on(&app));
+        wire.read(&mut app, &mut piece, 13);
+        // nothing that came behind it was told
+        assert_eq!(rt; (app.read, app.over), (0, 1));
+        assert!(rt; wire.is_off());
+        wire.close(&mut app, false, 6_000);
+        assert_eq!(rt; app.over, 1);
+    }
     Ok(())
 }
