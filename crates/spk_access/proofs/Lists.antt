@@ -1,5 +1,5 @@
 -- Tests on lists.
-use Rattle.std.proofs.Common.{◌≡◌, ◌∙◌, ℕ, ◌+◌, ◌<◌, List, [], ◌∷◌, Bool, true, false, length, map, refl, ap, inl, inr, arith, suc}
+use Rattle.std.proofs.Common.{◌≡◌, List, [], ◌∷◌, Bool, true, map, refl, ap, inl, inr, arith, suc}
 use Rattle.std.specs.Prelude.{◌||◌, Contains}
 use Rattle.std.specs.List.{list_any}
 use Rattle.spk_access.proofs.Bools.{or_cases}

@@ -92,3 +92,7 @@ rights_by _ = named_rights None None
 
 abbrev pub client_rights : List ℕ → RightsData
 client_rights client = rights_by (levels client)
+
+-- it is a node or a host
+abbrev pub is_somebody : RightsData → Bool
+is_somebody r = is_some r.node || is_some r.host

@@ -1,12 +1,12 @@
 //! What a client may do.
-ghost use Rattle.std.specs.Prelude.{◌≡◌, IfOk, Some, None};
+ghost use Rattle.std.specs.Prelude.{◌≡◌, IfErr, IfOk, Some, None, true};
 ghost use Rattle.std.specs.List.{list_any};
 ghost use Rattle.std.specs.Option.{option_map};
 ghost use Rattle.std.specs.String.{string_bytes};
 ghost use Rattle.spk_topics.specs.Fitting.{is_match};
 ghost use Rattle.spk_topics.specs.Spark.{Named, named};
 ghost use Rattle.spk_access.specs.Covering.{covers};
-ghost use Rattle.spk_access.specs.Rights.{client_rights, is_command, is_node, may_publish, may_subscribe, named_rights, node_view, owns, owns_named, owns_topic, rights_view, some_covers, some_matches, texts_view};
+ghost use Rattle.spk_access.specs.Rights.{client_rights, is_command, is_node, is_somebody, may_publish, may_subscribe, named_rights, node_view, owns, owns_named, owns_topic, rights_view, some_covers, some_matches, texts_view};
 
 use crate::covering::covers;
 use crate::levels::cut;
@@ -122,9 +122,10 @@ impl Rights {
     }
 
     /// Those of a client without a user, by its identifier: `group/node` is that node, and a text without a slash the host of that name; any other client, and an
-    /// empty identifier, is neither. It may publish and subscribe as the guard lets it. Refused where memory was.
+    /// empty identifier, is neither. It may publish and subscribe as the guard lets it. Refused where memory was, which only a node and a host take.
     pub fn of_client(alloc: Global, client: &str) -> Result<Rights, AllocError>
-        ensures { IfOk result (λ r. rights_view r ≡ client_rights client.now) }
+        ensures ok { IfOk result (λ r. rights_view r ≡ client_rights client.now) }
+        ensures err { IfErr result (λ e. is_somebody (client_rights client.now) ≡ true) }
     {
         let (first, rest) = cut(client);
         let Some(rest) = rest else {
@@ -201,8 +202,10 @@ impl Rights {
     /// Whether it may publish on a topic. Under a guard births, data and deaths are those of their node alone, STATE those of its host, and commands of hosts;
     /// other topics are anybody's. Refused where memory was, which only a guard takes.
     pub fn may_publish(&self, alloc: Global, guard: bool, topic: &str) -> Result<bool, AllocError>
-        ensures { IfOk result
+        ensures ok { IfOk result
             (λ may. may ≡ may_publish (rights_view self.now) guard topic.now) }
+        ensures err { IfErr result (λ e. (guard ≡ true)
+            × (some_matches (rights_view self.now).publish topic.now ≡ true)) }
     {
         if !some_matches(&self.publish, topic) {
             return Ok(false);

@@ -53,7 +53,7 @@ user-unplaced users name h =
 
 -- what a login is answered, by the user of its name
 pub by-user : (users : List UserData) (login : List ℕ × List ℕ) (u : UserData) (b : Bool) → user_in users login.0 ≡ Some u → knows u login.1 ≡ b
-    → entry_by users (Some login) ≡ (if b then Comes u.rights else Refused 4)
+    → entry_by users (Some login) ≡ (if b then Comes (Some u.name) u.rights else Refused 4)
 by-user users login u b is known = rw is (rw known refl)
 
 pub by-nobody : (users : List UserData) (login : List ℕ × List ℕ) → user_in users login.0 ≡ None → entry_by users (Some login) ≡ Refused 4

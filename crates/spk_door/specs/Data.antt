@@ -18,8 +18,8 @@ pub record DoorData : Type 0 where
 
 -- what a CONNECT is answered
 pub data EntryData : Type 0 where
-  -- it comes in, and may do this
-  Comes : (rights : RightsData) → EntryData
+  -- it comes in, as the user of this name, if it is one, and may do this
+  Comes : (user : Option (List ℕ)) (rights : RightsData) → EntryData
   -- CONNACK with this code, and its connection is closed
   Refused : (code : ℕ) → EntryData
 

@@ -1,5 +1,5 @@
 -- The rules of the door (own rules over MQTT 3.1.1, chapter 3): who comes in, and what becomes of a packet.
-use Rattle.std.specs.Prelude.{ℕ, Bool, true, List, map, Option, Some, None, if◌then◌else◌}
+use Rattle.std.specs.Prelude.{ℕ, Bool, true, false, List, map, Option, Some, None, if◌then◌else◌}
 use Rattle.std.specs.List.{find, list_all}
 use Rattle.std.specs.Option.{option_map_or}
 use Rattle.std.specs.Str.{bytes_eq}
@@ -21,11 +21,11 @@ user_in users name = find (λ (u : UserData). bytes_eq u.name name) users
 abbrev pub entry_by : List UserData → Option (List ℕ × List ℕ) → EntryData
 entry_by users None = Refused 5
 entry_by users (Some login) =
-    option_map_or (λ (u : UserData). if knows u login.1 then Comes u.rights else Refused 4) (user_in users login.0) (Refused 4)
+    option_map_or (λ (u : UserData). if knows u login.1 then Comes (Some u.name) u.rights else Refused 4) (user_in users login.0) (Refused 4)
 
 -- of a client identifier, and of a user name and a password, if they are there
 abbrev pub entry : DoorData → List ℕ → Option (List ℕ × List ℕ) → EntryData
-entry door client login = option_map_or (λ (users : List UserData). entry_by users login) door.users (Comes (client_rights client))
+entry door client login = option_map_or (λ (users : List UserData). entry_by users login) door.users (Comes None (client_rights client))
 
 -- ---- packets
 
@@ -38,6 +38,12 @@ abbrev pub lets : RightsData → Bool → Message → Bool
 lets r guard (Connect client clean keep will) = lets_will r guard will
 lets r guard (Publish dup qos retain topic id payload) = may_publish r guard topic
 lets r guard _ = true
+
+-- what is judged of a packet by a copy of its topic's names, or by a list: these alone take memory
+abbrev pub is_weighed : Bool → Message → Bool
+is_weighed guard (Publish dup qos retain topic id payload) = guard
+is_weighed guard (Subscribe id entries) = true
+is_weighed guard _ = false
 
 abbrev pub allowed : RightsData → List (List ℕ × ℕ) → List Bool
 allowed r entries = map (λ (e : List ℕ × ℕ). may_subscribe r e.0) entries

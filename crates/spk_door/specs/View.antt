@@ -1,5 +1,5 @@
 -- What contracts see of the crate's types.
-use Rattle.std.specs.Prelude.{◌≡◌, ℕ, List, [], map, Option, Some, slice_get}
+use Rattle.std.specs.Prelude.{◌≡◌, ℕ, List, [], map, Option, Some, None, slice_get}
 use Rattle.std.specs.Option.{option_map, option_map_or}
 use Rattle.std.specs.String.{string_bytes}
 use Rattle.spk_access.specs.Rights.{RightsData, rights_view}
@@ -31,11 +31,16 @@ abbrev pub rights_of : Door → Who → Option RightsData
 rights_of d (who.User place) = option_map (λ (u : UserData). u.rights) (slice_get (users_of d) place)
 rights_of d (who.Client rights) = Some (rights_view rights)
 
+-- the name of the user as which somebody came in; none of a client without a user
+abbrev pub user_of : Door → Who → Option (List ℕ)
+user_of d (who.User place) = option_map (λ (u : UserData). u.name) (slice_get (users_of d) place)
+user_of d (who.Client rights) = None
+
 -- an answer is that of the rules
 abbrev pub Answers : Door → Entry → EntryData → Type 0
-Answers d (entry.In w) (Comes rights) = rights_of d w ≡ Some rights
+Answers d (entry.In w) (Comes user rights) = (rights_of d w ≡ Some rights) × (user_of d w ≡ user)
 Answers d (entry.In w) (Refused code) = ⊥
-Answers d (entry.Refused code) (Comes rights) = ⊥
+Answers d (entry.Refused code) (Comes user rights) = ⊥
 Answers d (entry.Refused code) (Refused right) = code ≡ right
 
 abbrev pub verdict_view : Verdict → VerdictData

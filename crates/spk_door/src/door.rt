@@ -1,5 +1,5 @@
 //! Who comes in, and what becomes of their packets.
-ghost use Rattle.std.specs.Prelude.{◌≡◌, IfOk, IfSome, IfNone, Some, None, map, slice_get};
+ghost use Rattle.std.specs.Prelude.{◌≡◌, ◌≢◌, IfErr, IfOk, IfSome, IfNone, Some, None, map, slice_get, true};
 ghost use Rattle.std.specs.List.{list_all, position};
 ghost use Rattle.std.specs.Option.{option_copied, option_map};
 ghost use Rattle.std.specs.Str.{bytes_eq};
@@ -7,8 +7,8 @@ ghost use Rattle.std.specs.String.{string_bytes};
 ghost use Rattle.spk_packets.specs.View.{request_view, view, will_view};
 ghost use Rattle.spk_access.specs.Rights.{rights_view};
 ghost use Rattle.spk_door.specs.Data.{UserData, Comes, Refused};
-ghost use Rattle.spk_door.specs.Rules.{allowed, cut, entry, entry_by, judged, knows, lets_will};
-ghost use Rattle.spk_door.specs.View.{Answers, door_view, login_view, rights_of, user_view, verdict_view};
+ghost use Rattle.spk_door.specs.Rules.{allowed, cut, entry, entry_by, is_weighed, judged, knows, lets_will};
+ghost use Rattle.spk_door.specs.View.{Answers, door_view, login_view, rights_of, user_of, user_view, verdict_view};
 
 use crate::verdict::Verdict;
 use spk_access::Rights;
@@ -89,7 +89,7 @@ fn place_of(users: &[User], name: &[u8]) -> Option<usize>
 fn known(users: &[User], login: &Login<'_>) -> Option<usize>
     ensures some { IfSome result (λ k. (u : UserData)
         × (slice_get (map user_view users.now) k ≡ Some u)
-        × (entry_by (map user_view users.now) (Some (login_view login.now)) ≡ Comes u.rights)) }
+        × (entry_by (map user_view users.now) (Some (login_view login.now)) ≡ Comes (Some u.name) u.rights)) }
     ensures none { IfNone result
         (entry_by (map user_view users.now) (Some (login_view login.now)) ≡ Refused 4) }
 {
@@ -134,15 +134,16 @@ fn cut(alloc: Global, rights: &Rights, entries: &[Request]) -> Result<Verdict, A
 impl Door {
     /// What a CONNECT is answered, by its client identifier and its login, if it has one: whoever is known by name and password comes in as that user, and where
     /// nobody need be known everybody, as the node or the host that the client identifier names. An unknown name or a wrong password is refused with
-    /// code 4, no name with 5. Refused where memory was.
+    /// code 4, no name with 5. Refused where memory was, which only a client without a user takes.
     pub fn entry(
         &self,
         alloc: Global,
         client: &str,
         login: &Option<Login<'_>>,
     ) -> Result<Entry, AllocError>
-        ensures { IfOk result (λ e. Answers self.now e
+        ensures ok { IfOk result (λ e. Answers self.now e
             (entry (door_view self.now) client.now (option_map login_view login.now))) }
+        ensures err { IfErr result (λ e. (door_view self.now).users ≡ None) }
     {
         let Some(users) = &self.users else {
             let rights = Rights::of_client(alloc, client)?;
@@ -170,6 +171,19 @@ impl Door {
         }
     }
 
+    /// The name of the user as which somebody came in. None of a client without a user, and where no user of this number is there.
+    pub fn user<'a>(&'a self, who: &Who) -> Option<&'a str>
+        ensures { option_map (λ name. name.now) result ≡ user_of self.now who.now }
+    {
+        match who {
+            Who::User(place) => match &self.users {
+                Some(users) => users.get(*place).map(|user| user.name.as_str()),
+                None => None,
+            },
+            Who::Client(_) => None,
+        }
+    }
+
     /// Whether the will of a CONNECT is allowed: whether its message is. Refused where memory was, which only a guard takes.
     pub fn lets_will(
         &self,
@@ -177,8 +191,9 @@ impl Door {
         rights: &Rights,
         will: &Option<Will>,
     ) -> Result<bool, AllocError>
-        ensures { IfOk result (λ lets. lets
+        ensures ok { IfOk result (λ lets. lets
             ≡ lets_will (rights_view rights.now) self.now.guard (option_map will_view will.now)) }
+        ensures err { IfErr result (λ e. (self.now.guard ≡ true) × (will.now ≢ None)) }
     {
         match will {
             Some(will) => rights.may_publish(alloc, self.guard, will.topic.as_str()),
@@ -186,15 +201,17 @@ impl Door {
         }
     }
 
-    /// What becomes of a packet behind the CONNECT of somebody who may do this. Refused where memory was.
+    /// What becomes of a packet behind the CONNECT of somebody who may do this. Refused where memory was, which only a SUBSCRIBE and, under a guard, a PUBLISH
+    /// take.
     pub fn judge(
         &self,
         alloc: Global,
         rights: &Rights,
         packet: &Packet,
     ) -> Result<Verdict, AllocError>
-        ensures { IfOk result (λ v. verdict_view v
+        ensures ok { IfOk result (λ v. verdict_view v
             ≡ judged (rights_view rights.now) self.now.guard (view packet.now)) }
+        ensures err { IfErr result (λ e. is_weighed self.now.guard (view packet.now) ≡ true) }
     {
         match packet {
             Packet::Connect { .. } => Ok(Verdict::Close),

@@ -1,6 +1,6 @@
 -- What goes on is let.
 use Rattle.std.proofs.Common.{◌≡◌, ◌⊎◌, ◌∙◌, sym, ap, refl, subst, inl, inr, ℕ, List, [], ◌∷◌, Bool, true, false, Option, Some}
-use Rattle.std.specs.Prelude.{if◌then◌else◌}
+use Rattle.std.specs.Prelude.{if◌then◌else◌, length, nat_le}
 use Rattle.std.specs.List.{filter, list_all}
 use Rattle.std.proofs.lemmas.List.Folds.{list_all-map}
 use Rattle.spk_packets.specs.Message.{Message, WillData, Connect, ConnAck, Publish, PubAck, Subscribe, SubAck, Unsubscribe, UnsubAck, PingReq, PingResp, Disconnect}
@@ -8,8 +8,8 @@ use Rattle.spk_access.specs.Rights.{RightsData, may_publish, may_subscribe}
 use Rattle.spk_door.specs.Data.{DoorData, EntryData, VerdictData}
 use Rattle.spk_door.specs.Data as door
 use Rattle.spk_door.specs.Rules.{allowed, entry, judged, lets, lets_will}
-use Rattle.spk_visitor.specs.Data.{Outcome, StageData, Outside, Inside, Over}
-use Rattle.spk_visitor.specs.Rules.{cut_off, entered, first, further, login_of, outcome, subscribe_of}
+use Rattle.spk_visitor.specs.Data.{Outcome, StageData, Outside, Inside, Over, Goes, Closes, Refuses}
+use Rattle.spk_visitor.specs.Rules.{admitted, client_of, cut_off, ends, entered, first, further, login_of, outcome, subscribe_of}
 use Rattle.spk_visitor.proofs.Outcomes.{some-same}
 
 -- somebody whose outcome this is may do something by which this may be sent
@@ -17,14 +17,20 @@ abbrev pub IsLet : Bool → Outcome → Message → Type 0
 IsLet guard o q = (r : RightsData) × (o.stage ≡ Inside r) × (lets r guard q ≡ true)
 
 let-will : (b : Bool) (r : RightsData) (guard : Bool) (client : List ℕ) (clean : Bool) (keep : ℕ) (will : Option WillData) (q : Message) → lets_will r guard will ≡ b
-    → (if b then record { stage = Inside r; passes = Some (Connect client clean keep will); answer = Rattle.spk_visitor.specs.Data.Goes } else Rattle.spk_visitor.specs.Rules.ends Rattle.spk_visitor.specs.Data.Closes).passes ≡ Some q
-    → IsLet guard (if b then record { stage = Inside r; passes = Some (Connect client clean keep will); answer = Rattle.spk_visitor.specs.Data.Goes } else Rattle.spk_visitor.specs.Rules.ends Rattle.spk_visitor.specs.Data.Closes) q
+    → (if b then record { stage = Inside r; passes = Some (Connect client clean keep will); answer = Goes } else ends Closes).passes ≡ Some q
+    → IsLet guard (if b then record { stage = Inside r; passes = Some (Connect client clean keep will); answer = Goes } else ends Closes) q
 let-will true r guard client clean keep will q e h = (r, refl, subst (λ m. lets r guard m ≡ true) (some-same _ _ h) e)
 let-will false r guard client clean keep will q e h = cc
 
+let-named : (b : Bool) (r : RightsData) (guard : Bool) (client : List ℕ) (clean : Bool) (keep : ℕ) (will : Option WillData) (q : Message)
+    → (if b then admitted r guard client clean keep will else ends (Refuses 2)).passes ≡ Some q → IsLet guard (if b then admitted r guard client clean keep will else ends (Refuses 2)) q
+let-named true r guard client clean keep will q h = let-will (lets_will r guard will) r guard client clean keep will q refl h
+let-named false r guard client clean keep will q h = cc
+
 let-entered : (d : DoorData) (client : List ℕ) (clean : Bool) (keep : ℕ) (will : Option WillData) (e : EntryData) (q : Message)
-    → (entered d will (Connect client clean keep will) e).passes ≡ Some q → IsLet d.guard (entered d will (Connect client clean keep will) e) q
-let-entered d client clean keep will (door.Comes r) q h = let-will (lets_will r d.guard will) r d.guard client clean keep will q refl h
+    → (entered d client clean keep will e).passes ≡ Some q → IsLet d.guard (entered d client clean keep will e) q
+let-entered d client clean keep will (door.Comes user r) q h =
+    let-named (nat_le (length (client_of user client)) 65535) r d.guard (client_of user client) clean keep will q h
 let-entered d client clean keep will (door.Refused code) q h = cc
 
 let-first : (d : DoorData) (packet : List ℕ) (p q : Message) → (first d packet p).passes ≡ Some q → IsLet d.guard (first d packet p) q

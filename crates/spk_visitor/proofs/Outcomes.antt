@@ -78,3 +78,8 @@ pub stands-by : (d : Door) (who : Who) (rest : List ℕ) (r : RightsData) (p : M
     → a ≡ (further r p v).answer → IsBehind who rest a new → stage_view d new ≡ (further r p v).stage
 stands-by d who rest r p v is a new same behind =
     (stands-behind d who rest r is a new behind).0 ∙ ap (λ x. stage_by x r) same ∙ sym (further-stands r p v)
+
+-- the same of one whose client identifier isn't too long
+pub turned-away-named : (d : Door) (n l : Bool) (o p : Outcome) (out : List ℕ) → n ≡ true → l ≡ false → Comes d (if n then (if l then o else ends Closes) else p) answer.Closes stage.Over out out
+turned-away-named d true l o p out e h = turned-away d l o out h
+turned-away-named d false l o p out e h = cc

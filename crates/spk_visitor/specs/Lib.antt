@@ -1,4 +1,5 @@
 pub mod Data
 pub mod Next
+pub mod Replies
 pub mod Rules
 pub mod View

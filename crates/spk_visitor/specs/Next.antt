@@ -1,10 +1,11 @@
 -- What one call does (own rules).
-use Rattle.std.specs.Prelude.{◌≡◌, ◌≢◌, ◌⊎◌, ℕ, List, [], ◌++◌, Option, Some, None}
+use Rattle.std.specs.Prelude.{◌≡◌, ◌≢◌, ◌⊎◌, ◌<◌, ◌+◌, ℕ, List, [], ◌++◌, Option, Some, None, length}
 use Rattle.spk_packets.specs.Fault.{first_of}
 use Rattle.spk_packets.specs.Grammar.{Spells}
 use Rattle.spk_packets.specs.Message.{Message}
 use Rattle.spk_packets.specs.Refusals.{refusals}
 use Rattle.spk_packets.specs.Spelling.{spelling}
+use Rattle.spk_packets.specs.Stream.{most_waiting}
 use Rattle.spk_packets.specs.declared.fault.PacketFault.{PacketFault}
 use Rattle.spk_packets.specs.declared.fault.PacketFault.TheVariants as fault
 use Rattle.spk_door.specs.View.{door_view}
@@ -74,6 +75,19 @@ IsFed (stage.Outside first) piece (stage.Outside more) = more.items ≡ first.it
 IsFed (stage.Inside who feed) piece (stage.Inside same more) = (same ≡ who) × (more ≡ feed ++ piece)
 IsFed stage.Over piece stage.Over = Unit {0}
 IsFed _ piece _ = ⊥
+
+-- a client stands as before, and the same bytes wait
+abbrev pub Stays : Stage → Stage → Type 0
+Stays (stage.Outside first) (stage.Outside same) = same.items ≡ first.items
+Stays (stage.Outside first) _ = ⊥
+Stays (stage.Inside who feed) new = new ≡ stage.Inside who feed
+Stays stage.Over new = new ≡ stage.Over
+
+-- more bytes than may wait: 524,288 until somebody came in (own rule)
+abbrev pub IsTooMuch : Stage → List ℕ → Type 0
+IsTooMuch (stage.Outside first) piece = 524288 < length first.items + length piece
+IsTooMuch (stage.Inside who feed) piece = most_waiting < length feed + length piece
+IsTooMuch stage.Over piece = ⊥
 
 -- whoever is to be closed is over, anybody else goes on
 abbrev pub IsBehind : Who → List ℕ → AnswerData → Stage → Type 0

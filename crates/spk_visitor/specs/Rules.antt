@@ -1,5 +1,5 @@
 -- What becomes of each packet of a client, and of bytes that are none (own rules over MQTT 3.1.1, chapter 3).
-use Rattle.std.specs.Prelude.{ℕ, Bool, List, [], ◌∷◌, Option, Some, None, unwrap_or, if◌then◌else◌}
+use Rattle.std.specs.Prelude.{ℕ, Bool, false, is_some, List, [], ◌∷◌, ◌++◌, Option, Some, None, length, nat_le, unwrap_or, if◌then◌else◌}
 use Rattle.std.specs.List.{filter}
 use Rattle.std.specs.Option.{option_map}
 use Rattle.spk_packets.specs.Message.{Message, WillData, Connect, Subscribe}
@@ -22,14 +22,29 @@ ends answer = record { stage = Over; passes = None; answer = answer }
 abbrev pub login_of : List ℕ → Option (List ℕ × List ℕ)
 login_of packet = option_map (λ user. (user, unwrap_or (password_of packet) [])) (user_of packet)
 
+-- the client identifier under which the broker knows somebody: behind the name of its user, if it is one, and a colon, so that each user has sessions of its
+-- own; an empty one stays empty: the broker makes one (3.1.3.1)
+abbrev pub client_of : Option (List ℕ) → List ℕ → List ℕ
+client_of None client = client
+client_of (Some user) [] = []
+client_of (Some user) (c ∷ cs) = user ++ 58 ∷ c ∷ cs
+
 -- a CONNECT whose will isn't allowed closes its connection
-abbrev pub entered : DoorData → Option WillData → Message → EntryData → Outcome
-entered d will p (door.Comes r) = if lets_will r d.guard will then record { stage = Inside r; passes = Some p; answer = Goes } else ends Closes
-entered d will p (door.Refused code) = ends (Refuses code)
+abbrev pub admitted : RightsData → Bool → (client : List ℕ) → Bool → ℕ → Option WillData → Outcome
+admitted r guard client clean keep will =
+    if lets_will r guard will then record { stage = Inside r; passes = Some (Connect client clean keep will); answer = Goes } else ends Closes
+
+-- a client identifier that would be longer than a text may be is refused with code 2 (1.5.3, 3.2.2.3)
+abbrev pub named : RightsData → Bool → (client : List ℕ) → Bool → ℕ → Option WillData → Outcome
+named r guard client clean keep will = if nat_le (length client) 65535 then admitted r guard client clean keep will else ends (Refuses 2)
+
+abbrev pub entered : DoorData → (client : List ℕ) → Bool → ℕ → Option WillData → EntryData → Outcome
+entered d client clean keep will (door.Comes user r) = named r d.guard (client_of user client) clean keep will
+entered d client clean keep will (door.Refused code) = ends (Refuses code)
 
 -- by its bytes; any other first packet closes (3.1.0-1)
 abbrev pub first : DoorData → List ℕ → Message → Outcome
-first d packet (Connect client clean keep will) = entered d will (Connect client clean keep will) (entry d client (login_of packet))
+first d packet (Connect client clean keep will) = entered d client clean keep will (entry d client (login_of packet))
 first d packet _ = ends Closes
 
 -- ---- the others
@@ -49,6 +64,12 @@ abbrev pub further : RightsData → Message → VerdictData → Outcome
 further r p door.Passes = record { stage = Inside r; passes = Some p; answer = Goes }
 further r p (door.Cuts allowed) = cut_off r allowed p
 further r p door.Closes = ends Closes
+
+-- whether a filter of a SUBSCRIBE may be refused
+abbrev pub is_bounded : StageData → Bool
+is_bounded Outside = false
+is_bounded (Inside r) = is_some r.subscribe
+is_bounded Over = false
 
 -- ---- a packet, whose bytes these are
 

@@ -1,8 +1,9 @@
 //! Rows: bytes made by Python's struct as MQTT 3.1.1, chapter 3, says, and the key by its hashlib.
 
-use crate::{Answer, Visitor};
+use crate::{Answer, Replies, Visitor};
 use spk_access::{NodeName, Rights};
 use spk_door::{Door, User};
+use spk_packets::PacketFault;
 use std::alloc::Global;
 use std::process::Abort;
 use std::test::Fail;
@@ -82,7 +83,7 @@ fn said(answer: &Answer) -> Result<bool, u8> {
 }
 
 /// What it is, whether users are known, what is sent, what of it goes on, and the last answer: whether more may come, or the code of a refusal.
-static ROWS: [(&str, bool, &[u8], &[u8], Result<bool, u8>); 13] = [
+static ROWS: [(&str, bool, &[u8], &[u8], Result<bool, u8>); 14] = [
     (
         "its own packets go on",
         false,
@@ -144,7 +145,14 @@ static ROWS: [(&str, bool, &[u8], &[u8], Result<bool, u8>); 13] = [
         "a login is left out",
         true,
         b"\x10\x1d\x00\x04MQTT\x04\xc2\x00<\x00\x03any\x00\x04pump\x00\x06secret0\x1c\x00\x19spBv1.0/Plant/NBIRTH/Pump1",
-        b"\x10\x0f\x00\x04MQTT\x04\x02\x00<\x00\x03any0\x1c\x00\x19spBv1.0/Plant/NBIRTH/Pump1",
+        b"\x10\x14\x00\x04MQTT\x04\x02\x00<\x00\x08pump:any0\x1c\x00\x19spBv1.0/Plant/NBIRTH/Pump1",
+        Ok(true),
+    ),
+    (
+        "an empty client identifier stays empty",
+        true,
+        b"\x10\x1a\x00\x04MQTT\x04\xc2\x00<\x00\x00\x00\x04pump\x00\x06secret",
+        b"\x10\x0c\x00\x04MQTT\x04\x02\x00<\x00\x00",
         Ok(true),
     ),
     (
@@ -210,7 +218,7 @@ fn what_is_allowed_of_a_subscribe_goes_on(rt: HostRuntime) -> Result<(), Fail> {
     assert_eq!(rt; each.as_slice(), [false].as_slice());
     assert_eq!(rt;
         out.as_slice(),
-        b"\x10\x0f\x00\x04MQTT\x04\x02\x00<\x00\x03any\x82\x1c\x00\x09\x00\x17spBv1.0/Plant/NCMD/Pump\x01".as_slice()
+        b"\x10\x14\x00\x04MQTT\x04\x02\x00<\x00\x08pump:any\x82\x1c\x00\x09\x00\x17spBv1.0/Plant/NCMD/Pump\x01".as_slice()
     );
     Ok(())
 }
@@ -221,4 +229,140 @@ fn cut(answer: Answer) -> Option<(u16, Vec<bool>)> {
         Answer::Cuts(id, each) => Some((id, each)),
         _ => None,
     }
+}
+
+/// A CONNECT of the user with a client identifier of so many bytes.
+fn long_connect(alloc: Global, len: usize) -> Option<Vec<u8>> {
+    let rest = len.saturating_add(26);
+    let mut bytes = Vec::new(alloc);
+    bytes.push(0x10).ok()?;
+    bytes.push((rest % 128) as u8 | 128).ok()?;
+    bytes.push((rest / 128 % 128) as u8 | 128).ok()?;
+    bytes.push((rest / 16_384 % 128) as u8).ok()?;
+    bytes.extend_from_slice(b"\x00\x04MQTT\x04\xc2\x00<").ok()?;
+    bytes.push((len / 256 % 256) as u8).ok()?;
+    bytes.push((len % 256) as u8).ok()?;
+    for _ in 0..len {
+        bytes.push(b'a').ok()?;
+    }
+    bytes.extend_from_slice(b"\x00\x04pump\x00\x06secret").ok()?;
+    Some(bytes)
+}
+
+#[test]
+fn a_client_identifier_that_would_be_too_long_is_refused(rt: HostRuntime) -> Result<(), Fail> {
+    let door = door(rt.alloc(), true).expect(&rt, "a door");
+    // pump and a colon are five bytes, and a text has 65,535 at most
+    for (len, last, passes) in [(65_530, Ok(true), 65_551), (65_531, Err(2), 0)] {
+        let bytes = long_connect(rt.alloc(), len).expect(&rt, "a packet");
+        let (out, answer) = sent(rt.alloc(), &door, &bytes, 65_536).expect(&rt, "an answer");
+        assert_eq!(rt; said(&answer), last);
+        assert_eq!(rt; out.len(), passes);
+    }
+    Ok(())
+}
+
+#[test]
+fn before_it_came_in_no_more_than_half_a_mebibyte_waits(rt: HostRuntime) -> Result<(), Fail> {
+    let mut visitor = Visitor::new(rt.alloc());
+    let piece = [0u8; 4_096];
+    for _ in 0..128 {
+        assert!(rt; visitor.feed(&piece).is_ok());
+    }
+    assert!(rt; visitor.feed(&[]).is_ok());
+    assert!(rt; visitor.feed(&[0]) == Err(PacketFault::TooLarge));
+    assert!(rt; visitor.feed(&piece) == Err(PacketFault::TooLarge));
+    Ok(())
+}
+
+/// What a client gets of what a broker sends in pieces of so many bytes, where these SUBSCRIBEs were cut before.
+fn got(alloc: Global, cuts: &[(u16, &[bool])], bytes: &[u8], size: usize) -> Option<Vec<u8>> {
+    let mut replies = Replies::new(alloc);
+    let mut out = Vec::new(alloc);
+    for (id, allowed) in cuts {
+        let allowed = Vec::from_slice(alloc, allowed).ok()?;
+        replies.cut(*id, allowed, &mut out).ok()?;
+    }
+    for piece in bytes.chunks(size.max(1)) {
+        replies.feed(piece).ok()?;
+        for _ in 0..1_000 {
+            if !replies.next(&mut out).ok()? {
+                break;
+            }
+        }
+    }
+    Some(out)
+}
+
+/// What it is, which SUBSCRIBEs were cut, what the broker sends, and what the client gets (sections 3.9.2 and 3.9.3).
+static REPLIES: [(&str, &[(u16, &[bool])], &[u8], &[u8]); 7] = [
+    (
+        "without a cut all is as it was",
+        &[],
+        b"\x20\x02\x00\x00\x90\x04\x00\x09\x00\x80\x30\x04\x00\x01ab\xd0\x00",
+        b"\x20\x02\x00\x00\x90\x04\x00\x09\x00\x80\x30\x04\x00\x01ab\xd0\x00",
+    ),
+    (
+        "the entries that aren't allowed have 128",
+        &[(9, &[false, true, false])],
+        b"\x90\x03\x00\x09\x01",
+        b"\x90\x05\x00\x09\x80\x01\x80",
+    ),
+    (
+        "what the broker refuses stays refused",
+        &[(9, &[true, false, true])],
+        b"\x90\x04\x00\x09\x80\x01",
+        b"\x90\x05\x00\x09\x80\x80\x01",
+    ),
+    (
+        "each in its turn, and others as they are",
+        &[(9, &[false, true]), (10, &[true, true, false])],
+        b"\x30\x04\x00\x01ab\x90\x03\x00\x08\x01\x90\x03\x00\x09\x01\x40\x02\x00\x0a\x90\x04\x00\x0a\x00\x01\x90\x03\x00\x0a\x01",
+        b"\x30\x04\x00\x01ab\x90\x03\x00\x08\x01\x90\x04\x00\x09\x80\x01\x40\x02\x00\x0a\x90\x05\x00\x0a\x00\x01\x80\x90\x03\x00\x0a\x01",
+    ),
+    (
+        "where none is allowed it is said behind the broker's first packet",
+        &[(11, &[false, false])],
+        b"\x20\x02\x00\x00\xd0\x00",
+        b"\x20\x02\x00\x00\x90\x04\x00\x0b\x80\x80\xd0\x00",
+    ),
+    (
+        "one that is owed isn't awaited",
+        &[(11, &[false]), (12, &[true, false])],
+        b"\x20\x02\x00\x00\x90\x03\x00\x0c\x00",
+        b"\x20\x02\x00\x00\x90\x03\x00\x0b\x80\x90\x04\x00\x0c\x00\x80",
+    ),
+    (
+        "half a packet waits",
+        &[(9, &[false, true])],
+        b"\xd0\x00\x90\x03\x00\x09",
+        b"\xd0\x00",
+    ),
+];
+
+#[test]
+fn a_client_gets_128_at_each_entry_that_is_not_allowed(rt: HostRuntime) -> Result<(), Fail> {
+    for (what, cuts, bytes, gets) in REPLIES {
+        for size in [1, 7, 65_536] {
+            let out = got(rt.alloc(), cuts, bytes, size).expect(&rt, "an answer");
+            assert_eq!(rt; out.as_slice(), gets, "{what}");
+        }
+    }
+    Ok(())
+}
+
+#[test]
+fn behind_the_first_packet_it_is_said_at_once(rt: HostRuntime) -> Result<(), Fail> {
+    let mut replies = Replies::new(rt.alloc());
+    let mut out = Vec::new(rt.alloc());
+    replies.feed(b"\x20\x02\x00\x00").expect(&rt, "room");
+    assert!(rt; replies.next(&mut out).expect(&rt, "an answer"));
+    let allowed = Vec::from_slice(rt.alloc(), &[false, false]).expect(&rt, "memory");
+    replies.cut(11, allowed, &mut out).expect(&rt, "memory");
+    assert_eq!(rt;
+        out.as_slice(),
+        b"\x20\x02\x00\x00\x90\x04\x00\x0b\x80\x80".as_slice()
+    );
+    assert!(rt; !replies.next(&mut out).expect(&rt, "an answer"));
+    Ok(())
 }

@@ -1,5 +1,6 @@
 //! One client.
-ghost use Rattle.std.specs.Prelude.{◌≡◌, ◌≢◌, ◌++◌, [], List, ℕ, IfOk, OnOk, OnErr, map, Some};
+ghost use Rattle.std.specs.Prelude.{◌≡◌, ◌≢◌, ◌⊎◌, ◌++◌, [], List, ℕ, IfErr, IfOk, OnOk, OnErr, map, Some};
+ghost use Rattle.std.specs.String.{string_bytes};
 ghost use Rattle.std.specs.List.{filter};
 ghost use Rattle.std.specs.Option.{option_map};
 ghost use Rattle.spk_packets.specs.Spelling.{spelling};
@@ -8,10 +9,10 @@ ghost use Rattle.spk_packets.specs.View.{request_view, view, will_view};
 ghost use Rattle.spk_access.specs.Rights.{RightsData, may_subscribe, rights_view};
 ghost use Rattle.spk_door.specs.Data.{Comes as EntryComes};
 ghost use Rattle.spk_door.specs.Rules.{judged};
-ghost use Rattle.spk_door.specs.View.{door_view, login_view, rights_of, verdict_view};
+ghost use Rattle.spk_door.specs.View.{door_view, login_view, rights_of, user_of, verdict_view};
 ghost use Rattle.spk_visitor.specs.Data.{Outside};
-ghost use Rattle.spk_visitor.specs.Next.{Comes, IsBehind, IsFed, IsNext, Keeps, passed};
-ghost use Rattle.spk_visitor.specs.Rules.{cut_off, entered, first, further, login_of, subscribe_of};
+ghost use Rattle.spk_visitor.specs.Next.{Comes, IsBehind, IsFed, IsNext, IsTooMuch, Keeps, Stays, passed};
+ghost use Rattle.spk_visitor.specs.Rules.{client_of, cut_off, entered, first, further, is_bounded, login_of, subscribe_of};
 ghost use Rattle.spk_visitor.specs.declared.answer.Answer.TheVariants as Answer;
 ghost use Rattle.spk_visitor.specs.declared.visitor.Stage.TheVariants as Stage;
 ghost use Rattle.spk_visitor.specs.View.{answer_view, stage_view, unread_of};
@@ -26,6 +27,15 @@ use std::mem::replace;
 
 /// CONNACK: another level of the protocol (section 3.2.2.3).
 const BAD_LEVEL: u8 = 1;
+
+/// CONNACK: the client identifier isn't allowed.
+const BAD_CLIENT: u8 = 2;
+
+/// The longest text, in bytes (section 1.5.3).
+const LONGEST: usize = 65_535;
+
+/// How many bytes may wait until somebody came in (own rule). The longest CONNECT has 327,702.
+const MOST_OUTSIDE: usize = 524_288;
 
 /// How a client stands.
 #[derive(Drop)]
@@ -60,7 +70,7 @@ fn login_of(packet: &[u8]) -> Option<Login<'_>>
 }
 
 /// Appends a packet.
-fn put(alloc: Global, packet: &Packet, out: &mut Vec<u8>) -> Result<(), AllocError>
+pub(crate) fn put(alloc: Global, packet: &Packet, out: &mut Vec<u8>) -> Result<(), AllocError>
     ensures { OnOk result (out.new.items ≡ out.old.items ++ spelling (view packet.now)) }
 {
     let Ok(bytes) = encode(alloc, packet) else {
@@ -126,28 +136,59 @@ fn put_allowed(
     }
 }
 
-/// Somebody who came in: the will is judged, and CONNECT goes on. `rest` waits behind it.
+/// The client identifier under which the broker knows a client of this user, if it is one. Refused where memory was.
+fn client_of(alloc: Global, user: Option<&str>, client: &str) -> Result<String, AllocError>
+    ensures { IfOk result (λ own. string_bytes own
+        ≡ client_of (option_map (λ name. name.now) user.entry) client.now) }
+{
+    let mut own = String::new(alloc);
+    let Some(user) = user else {
+        own.push_str(client)?;
+        return Ok(own);
+    };
+    if !client.is_empty() {
+        own.push_str(user)?;
+        own.push_str(":")?;
+        own.push_str(client)?;
+    }
+    Ok(own)
+}
+
+/// Somebody who came in: the CONNECT goes on under the client identifier by which the broker knows its client, where its will is allowed. `rest` waits behind it.
 fn admit(
     alloc: Global,
     door: &Door,
     who: Who,
-    packet: &Packet,
-    will: &Option<Will>,
+    client: &str,
+    clean: bool,
+    keep: u16,
+    will: Option<Will>,
     rest: &[u8],
     out: &mut Vec<u8>,
 ) -> Result<(Stage, Answer), AllocError>
     ensures comes { IfOk result (λ x. (r : RightsData) → rights_of door.now who ≡ Some r
-        → Comes door.now (entered (door_view door.now) (option_map will_view will.now)
-        (view packet.now) (EntryComes r)) x.1 x.0 out.old.items out.new.items) }
+        → Comes door.now (entered (door_view door.now) client.now clean keep
+        (option_map will_view will) (EntryComes (user_of door.now who) r)) x.1 x.0
+        out.old.items out.new.items) }
     ensures keeps { IfOk result (λ x. Keeps x.0 rest.now) }
 {
     let Some(rights) = door.rights(&who) else {
         return Ok((Stage::Over, Answer::Closes));
     };
-    if !door.lets_will(alloc, rights, will)? {
+    let own = client_of(alloc, door.user(&who), client)?;
+    if own.as_str().len() > LONGEST {
+        return Ok((Stage::Over, Answer::Refuses(BAD_CLIENT)));
+    }
+    if !door.lets_will(alloc, rights, &will)? {
         return Ok((Stage::Over, Answer::Closes));
     }
-    put(alloc, packet, out)?;
+    let packet = Packet::Connect {
+        client: own,
+        clean,
+        keep,
+        will,
+    };
+    put(alloc, &packet, out)?;
     let mut feed = Feed::new(alloc);
     if feed.feed(rest).is_err() {
         return Err(AllocError);
@@ -159,20 +200,36 @@ fn admit(
 fn let_in(
     alloc: Global,
     door: &Door,
-    packet: &Packet,
+    packet: Packet,
     front: &[u8],
     rest: &[u8],
     out: &mut Vec<u8>,
 ) -> Result<(Stage, Answer), AllocError>
     ensures comes { IfOk result (λ x. Comes door.now
-        (first (door_view door.now) front.now (view packet.now)) x.1 x.0 out.old.items out.new.items) }
+        (first (door_view door.now) front.now (view packet)) x.1 x.0 out.old.items out.new.items) }
     ensures keeps { IfOk result (λ x. Keeps x.0 rest.now) }
 {
-    let Packet::Connect { client, will, .. } = packet else {
+    let Packet::Connect {
+        client,
+        clean,
+        keep,
+        will,
+    } = packet
+    else {
         return Ok((Stage::Over, Answer::Closes));
     };
     match door.entry(alloc, client.as_str(), &login_of(front))? {
-        Entry::In(who) => admit(alloc, door, who, packet, will, rest, out),
+        Entry::In(who) => admit(
+            alloc,
+            door,
+            who,
+            client.as_str(),
+            clean,
+            keep,
+            will,
+            rest,
+            out,
+        ),
         Entry::Refused(code) => Ok((Stage::Over, Answer::Refuses(code))),
     }
 }
@@ -212,7 +269,7 @@ fn enter(
         out.old.items out.new.items) }
 {
     match decode(alloc, &unread) {
-        Ok((packet, size)) => let_in(alloc, door, &packet, &unread[..size], &unread[size..], out),
+        Ok((packet, size)) => let_in(alloc, door, packet, &unread[..size], &unread[size..], out),
         Err(PacketFault::NoMemory) => Err(AllocError),
         Err(PacketFault::More) => Ok((Stage::Outside(unread), Answer::More)),
         Err(PacketFault::BadLevel) => Ok((Stage::Over, Answer::Refuses(BAD_LEVEL))),
@@ -278,13 +335,35 @@ impl Visitor {
         }
     }
 
-    /// Takes in bytes that the client sent, where something more of it is taken. Refused where memory was, or as `Feed::feed` refuses; then nothing is taken in.
+    /// Whether a SUBSCRIBE of it may be cut: whether it came in, and there are filters of its own.
+    pub fn may_be_cut(&self, door: &Door) -> bool
+        ensures { result ≡ is_bounded (stage_view door.now self.now.stage) }
+    {
+        match &self.stage {
+            Stage::Inside(who, _) => match door.rights(who) {
+                Some(rights) => rights.subscribe.is_some(),
+                None => false,
+            },
+            Stage::Outside(_) | Stage::Over => false,
+        }
+    }
+
+    /// Takes in bytes that the client sent, where something more of it is taken. Refused with NoMemory, and with TooLarge where more bytes would wait than may:
+    /// 524,288 until it came in (own rule), and 2,097,152 behind that. Then nothing is taken in.
     pub fn feed(&mut self, piece: &[u8]) -> Result<(), PacketFault>
         ensures ok { OnOk result (IsFed self.old.stage piece.now self.new.stage) }
-        ensures err { OnErr result (unread_of self.new.stage ≡ unread_of self.old.stage) }
+        ensures room { OnOk result (¬ (IsTooMuch self.old.stage piece.now)) }
+        ensures refused { IfErr result (λ e. (e ≡ PacketFault.NoMemory)
+            ⊎ ((e ≡ PacketFault.TooLarge) × IsTooMuch self.old.stage piece.now)) }
+        ensures err { OnErr result (Stays self.old.stage self.new.stage) }
     {
         match &mut self.stage {
-            Stage::Outside(unread) => unread.extend_from_slice(piece)?,
+            Stage::Outside(unread) => {
+                if unread.len().saturating_add(piece.len()) > MOST_OUTSIDE {
+                    return Err(PacketFault::TooLarge);
+                }
+                unread.extend_from_slice(piece)?;
+            }
             Stage::Inside(_, feed) => feed.feed(piece)?,
             Stage::Over => {}
         }
@@ -294,8 +373,10 @@ impl Visitor {
     /// Takes the next packet of what the client sent, if it is whole: what goes on to the broker is put behind `out`, as `specs/Rules.antt` says. Refused where memory
     /// was: then nothing more of this client is taken.
     pub fn next(&mut self, door: &Door, out: &mut Vec<u8>) -> Result<Answer, AllocError>
-        ensures { IfOk result (λ a. IsNext door.now self.old.stage a self.new.stage
+        ensures ok { IfOk result (λ a. IsNext door.now self.old.stage a self.new.stage
             out.old.items out.new.items) }
+        ensures err { OnErr result ((self.old.stage ≢ Stage.Over)
+            × (self.new.stage ≡ Stage.Over)) }
     {
         match replace(&mut self.stage, Stage::Over) {
             Stage::Outside(unread) => {

@@ -1,7 +1,4 @@
-use Rattle.std.proofs.Common.{◌≡◌, ℕ, List}
-use Rattle.spk_topics.specs.Fitting.{is_match}
 use Rattle.spk_access.specs.Covering.{covers}
-use Rattle.spk_access.specs.Rights.{may_subscribe}
 use Rattle.spk_access.proofs.Covered.{match-covered}
 use Rattle.spk_access.proofs.Lists.{found}
 use Rattle.spk_access.proofs.laws.subscribing.Goals as goal

@@ -1,4 +1,4 @@
-use Rattle.std.proofs.Common.{◌≡◌, ◌≢◌, ◌∙◌, ◌++◌, ◌∷◌, ◌<◌, ap, arith, length, get_or, ℕ}
+use Rattle.std.proofs.Common.{◌≡◌, ◌∙◌, ◌++◌, ◌∷◌, ap, arith}
 use Rattle.std.proofs.lemmas.Str.Pattern.{split_parts}
 use Rattle.spk_topics.specs.Levels.{levels}
 use Rattle.spk_access.proofs.Cutting.{HasNoSlash, levels-cut, levels-whole}
