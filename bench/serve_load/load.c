@@ -7,6 +7,7 @@
 // receipt, in microseconds.
 // Or: load PORT connects COUNT. COUNT times, by 8 threads: a TCP connection, CONNECT, CONNACK, DISCONNECT, and the server's end of the connection.
 // Prints how many of these there were in a second.
+// With LOAD_LOGIN=USER:PASSWORD in the environment each CONNECT says these.
 #include <arpa/inet.h>
 #include <netinet/tcp.h>
 #include <pthread.h>
@@ -65,9 +66,19 @@ static int join_with(int room) {
     if (room > 0) setsockopt(s, SOL_SOCKET, SO_RCVBUF, &room, sizeof room);
     if (connect(s, (struct sockaddr *)&a, sizeof a) != 0) die("nobody listens");
     setsockopt(s, IPPROTO_TCP, TCP_NODELAY, &one, sizeof one);
-    static const unsigned char hello[] = {0x10, 12, 0, 4, 'M', 'Q', 'T', 'T', 4, 2, 0, 0, 0, 0};
-    unsigned char answer[4];
-    put(s, hello, sizeof hello);
+    unsigned char hello[140] = {0x10, 12, 0, 4, 'M', 'Q', 'T', 'T', 4, 2, 0, 0, 0, 0}, answer[4];
+    size_t len = 14;
+    const char *login = getenv("LOAD_LOGIN"), *colon = login ? strchr(login, ':') : NULL;
+    if (colon) {
+        size_t user = (size_t)(colon - login), secret = strlen(colon + 1);
+        if (user + secret > 100) die("the login is too long");
+        hello[len++] = 0, hello[len++] = (unsigned char)user;
+        memcpy(hello + len, login, user), len += user;
+        hello[len++] = 0, hello[len++] = (unsigned char)secret;
+        memcpy(hello + len, colon + 1, secret), len += secret;
+        hello[1] = (unsigned char)(len - 2), hello[9] |= 0xc0;
+    }
+    put(s, hello, len);
     get(s, answer, 4);
     if (answer[0] != 0x20 || answer[3] != 0) die("CONNECT was refused");
     return s;

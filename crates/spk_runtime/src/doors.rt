@@ -1,10 +1,13 @@
 //! The listening socket: who comes is accepted, while there is room.
 
+use crate::client::Client;
 use crate::page::FIRST;
 use crate::rounds::Rounds;
 use mio::net::{TcpListener, TcpStream};
 use mio::{Interest, Poll, Token};
+use spk_door::Door;
 use spk_server::{Conn, ServerFault};
+use std::alloc::Global;
 use std::io;
 use std::io::ErrorKind;
 
@@ -14,10 +17,12 @@ const ROUND: usize = 64;
 /// How long nobody is accepted after accepting failed, in milliseconds (own rule).
 const REST: u64 = 1_000;
 
-/// The listening socket.
+/// The listening socket, and the door behind which those are who come, if there is one.
 #[derive(Drop)]
-pub(crate) struct Doors {
+pub(crate) struct Doors<'a> {
+    alloc: Global,
     pub(crate) listener: TcpListener,
+    door: Option<&'a Door>,
     /// Somebody may wait.
     pub(crate) knocked: bool,
     /// How many may come yet; none where as many as like.
@@ -38,10 +43,17 @@ fn is_passing(error: &io::Error) -> bool {
     )
 }
 
-impl Doors {
-    pub(crate) fn new(listener: TcpListener, left: Option<u32>) -> Doors {
+impl<'a> Doors<'a> {
+    pub(crate) fn new(
+        alloc: Global,
+        listener: TcpListener,
+        door: Option<&'a Door>,
+        left: Option<u32>,
+    ) -> Doors<'a> {
         Doors {
+            alloc,
             listener,
+            door,
             knocked: false,
             left,
             served: 0,
@@ -84,14 +96,14 @@ impl Doors {
     }
 
     /// Whether somebody may be accepted now.
-    pub(crate) fn may_accept(&self, rounds: &Rounds<TcpStream>, now: u64) -> bool {
+    pub(crate) fn may_accept(&self, rounds: &Rounds<Client<'a>>, now: u64) -> bool {
         self.knocked && !self.are_closed() && now >= self.from && !rounds.server.is_full()
     }
 
     /// Accepts who waits, while there is room. One for whom there is no memory is refused.
     pub(crate) fn accept(
         &mut self,
-        rounds: &mut Rounds<TcpStream>,
+        rounds: &mut Rounds<Client<'a>>,
         poll: &Poll,
         now: u64,
     ) -> Result<(), ServerFault> {
@@ -103,41 +115,51 @@ impl Doors {
                 break;
             };
             self.count();
-            admit(rounds, poll, stream, now)?;
+            self.admit(rounds, poll, stream, now)?;
         }
         Ok(())
     }
-}
 
-/// A client's socket is registered under the number of its connection, and kept.
-fn keep(rounds: &mut Rounds<TcpStream>, poll: &Poll, mut stream: TcpStream, conn: Conn) -> bool {
-    let token = match usize::try_from(conn) {
-        Ok(token) if token < FIRST => token,
-        _ => return false,
-    };
-    let interest = Interest::READABLE | Interest::WRITABLE;
-    poll.registry()
-        .register(&mut stream, Token(token), interest)
-        .is_ok()
-        && rounds.seat(conn, stream).is_ok()
-}
+    /// A client's socket is registered under the number of its connection, and kept.
+    fn keep(
+        &self,
+        rounds: &mut Rounds<Client<'a>>,
+        poll: &Poll,
+        mut stream: TcpStream,
+        conn: Conn,
+    ) -> bool {
+        let token = match usize::try_from(conn) {
+            Ok(token) if token < FIRST => token,
+            _ => return false,
+        };
+        let interest = Interest::READABLE | Interest::WRITABLE;
+        let registered = poll
+            .registry()
+            .register(&mut stream, Token(token), interest);
+        registered.is_ok()
+            && rounds
+                .seat(conn, Client::new(self.alloc, stream, self.door))
+                .is_ok()
+    }
 
-/// A client came.
-fn admit(
-    rounds: &mut Rounds<TcpStream>,
-    poll: &Poll,
-    stream: TcpStream,
-    now: u64,
-) -> Result<(), ServerFault> {
-    let _ = stream.set_nodelay(true);
-    if rounds.reserve().is_err() {
-        return Ok(());
+    /// A client came.
+    fn admit(
+        &self,
+        rounds: &mut Rounds<Client<'a>>,
+        poll: &Poll,
+        stream: TcpStream,
+        now: u64,
+    ) -> Result<(), ServerFault> {
+        let _ = stream.set_nodelay(true);
+        if rounds.reserve().is_err() {
+            return Ok(());
+        }
+        let Ok(conn) = rounds.server.accepted(now) else {
+            return Ok(());
+        };
+        if !self.keep(rounds, poll, stream, conn) {
+            rounds.turn_away(conn, now)?;
+        }
+        Ok(())
     }
-    let Ok(conn) = rounds.server.accepted(now) else {
-        return Ok(());
-    };
-    if !keep(rounds, poll, stream, conn) {
-        rounds.turn_away(conn, now)?;
-    }
-    Ok(())
 }

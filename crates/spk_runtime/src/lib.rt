@@ -2,8 +2,10 @@
 //! of the crates below are handed on, for those who run threads of their own.
 #![tactic(auto)]
 
+mod client;
 mod doors;
 mod fault;
+mod guarded;
 mod line;
 mod page;
 mod port;
@@ -11,6 +13,7 @@ mod rounds;
 mod server;
 
 pub use fault::ServeFault;
+pub use guarded::Guarded;
 pub use port::Port;
 pub use rounds::Rounds;
 pub use server::{Serving, serve, serve_at};

@@ -60,7 +60,7 @@ impl<P: Port> Line<P> {
                 Read::End
             }
             Ok(count) => {
-                self.ready = self.closing || count >= piece.len();
+                self.ready = self.closing || count >= piece.len() || self.port.may_take();
                 Read::Some(count)
             }
             Err(error) => match error.kind() {
@@ -77,21 +77,37 @@ impl<P: Port> Line<P> {
         }
     }
 
+    /// What came of a write that failed.
+    fn failed(&mut self, kind: ErrorKind) -> Written {
+        match kind {
+            ErrorKind::WouldBlock => {
+                self.writable = false;
+                Written::Nothing
+            }
+            ErrorKind::Interrupted => Written::Some(0),
+            _ => {
+                self.writable = false;
+                Written::Failed
+            }
+        }
+    }
+
     /// Writes once.
     pub(crate) fn write(&mut self, bytes: &[u8]) -> Written {
         match self.port.put(bytes) {
             Ok(count) => Written::Some(count),
-            Err(error) => match error.kind() {
-                ErrorKind::WouldBlock => {
-                    self.writable = false;
-                    Written::Nothing
-                }
-                ErrorKind::Interrupted => Written::Some(0),
-                _ => {
-                    self.writable = false;
-                    Written::Failed
-                }
-            },
+            Err(error) => self.failed(error.kind()),
+        }
+    }
+
+    /// Writes what waits at the socket itself. None where nothing is left there.
+    pub(crate) fn flush(&mut self) -> Option<Written> {
+        if !self.port.waits() {
+            return None;
+        }
+        match self.port.flush() {
+            Ok(()) => None,
+            Err(error) => Some(self.failed(error.kind())),
         }
     }
 }

@@ -13,6 +13,26 @@ pub trait Port: Drop {
     /// Writes some of these bytes.
     fn put(&mut self, bytes: &[u8]) -> io::Result<usize>;
 
+    /// Whether more may be taken at once, though the last piece wasn't a full one.
+    fn may_take(&self) -> bool {
+        false
+    }
+
+    /// Whether bytes wait here that were taken in by `put`, or come of nobody else.
+    fn waits(&self) -> bool {
+        false
+    }
+
+    /// Writes them, as far as it goes; `WouldBlock` where some are left.
+    fn flush(&mut self) -> io::Result<()> {
+        Ok(())
+    }
+
+    /// Whether a door ended it.
+    fn is_barred(&self) -> bool {
+        false
+    }
+
     /// Reading and writing are over.
     fn shut(&mut self);
 }

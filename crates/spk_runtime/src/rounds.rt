@@ -108,7 +108,7 @@ impl<P: Port> Rounds<P> {
         let Some(line) = self.lines.get_mut(&conn) else {
             return Ok(());
         };
-        if line.writable {
+        if line.writable && !line.port.waits() {
             return Ok(());
         }
         line.writable = true;
@@ -228,6 +228,9 @@ impl<P: Port> Rounds<P> {
         if !line.writable {
             return None;
         }
+        if let Some(written) = line.flush() {
+            return Some(written);
+        }
         self.batch.clear();
         self.server.gather(conn, &mut self.batch);
         if self.batch.is_empty() {
@@ -274,10 +277,13 @@ impl<P: Port> Rounds<P> {
         Ok(!self.more.is_empty())
     }
 
-    /// Shuts the socket of the next client who is done: whose, and why its end came.
+    /// Shuts the socket of the next client who is done: whose, and why its end came. One whom a door ended is refused.
     pub fn shut_next(&mut self) -> Option<(Conn, Cause)> {
-        let (conn, cause) = self.server.next_to_shut()?;
+        let (conn, mut cause) = self.server.next_to_shut()?;
         if let Some(mut line) = self.lines.remove(&conn) {
+            if line.port.is_barred() {
+                cause = Cause::Refused;
+            }
             line.port.shut();
         }
         self.closes.count(cause);

@@ -2,12 +2,14 @@
 ghost use Rattle.std.specs.Prelude.{◌≡◌, ◌≢◌, ◌≤◌, IfErr, IfOk, OnOk};
 ghost use Rattle.spk_runtime.specs.Fault.{IsCount, IsServing};
 
+use crate::client::Client;
 use crate::doors::Doors;
 use crate::fault::ServeFault;
 use crate::page::{FIRST, PAGE, Page};
 use crate::rounds::Rounds;
-use mio::net::{TcpListener, TcpStream};
+use mio::net::TcpListener;
 use mio::{Events, Interest, Poll, Token};
+use spk_door::Door;
 use spk_server::ServerFault;
 use spk_status::Telling;
 use std::alloc::Global;
@@ -51,8 +53,8 @@ fn moment<R: Clock>(rt: &R, start: &Option<Instant>, last: u64) -> u64 {
 
 /// When a round is to begin at the latest, if no socket does anything; the greatest number where it need not.
 fn due(
-    doors: &Doors,
-    rounds: &Rounds<TcpStream>,
+    doors: &Doors<'_>,
+    rounds: &Rounds<Client<'_>>,
     page: &Option<Page>,
     telling: &Telling,
     now: u64,
@@ -77,8 +79,8 @@ fn is_page_ready(page: &Option<Page>, now: u64) -> bool {
 
 /// How long may be waited for the sockets. None where nothing is due.
 fn pause(
-    doors: &Doors,
-    rounds: &Rounds<TcpStream>,
+    doors: &Doors<'_>,
+    rounds: &Rounds<Client<'_>>,
     page: &Option<Page>,
     telling: &Telling,
     more: bool,
@@ -102,7 +104,13 @@ fn note_page(page: &mut Option<Page>, token: usize) {
 }
 
 /// Reads and writes each of those who ask for the page once.
-fn show(alloc: Global, poll: &Poll, rounds: &Rounds<TcpStream>, page: &mut Option<Page>, now: u64) {
+fn show(
+    alloc: Global,
+    poll: &Poll,
+    rounds: &Rounds<Client<'_>>,
+    page: &mut Option<Page>,
+    now: u64,
+) {
     if let Some(page) = page {
         page.round(alloc, poll, &rounds.figures(), now);
     }
@@ -118,7 +126,7 @@ fn tell_rest<L: Write>(telling: &mut Telling, log: &mut L, now: u64) {
 /// Shuts the sockets of those who are done, and tells of them: a line for each, ten in a second, and behind it how many more there were. A
 /// log that fails changes nothing; one that takes nothing, as a full pipe, is waited for.
 fn shut_all<L: Write>(
-    rounds: &mut Rounds<TcpStream>,
+    rounds: &mut Rounds<Client<'_>>,
     telling: &mut Telling,
     log: &mut L,
     now: u64,
@@ -137,8 +145,8 @@ fn shut_all<L: Write>(
 /// Notes what is ready.
 fn note(
     events: &Events<Global>,
-    doors: &mut Doors,
-    rounds: &mut Rounds<TcpStream>,
+    doors: &mut Doors<'_>,
+    rounds: &mut Rounds<Client<'_>>,
     page: &mut Option<Page>,
 ) -> Result<(), ServerFault> {
     for event in events.iter() {
@@ -164,13 +172,13 @@ fn note(
 }
 
 /// Runs rounds until no more clients come and all have ended.
-fn run_all<R: Wait + Clock, L: Write>(
+fn run_all<'a, R: Wait + Clock, L: Write>(
     rt: &R,
     alloc: Global,
     poll: &mut Poll,
     events: &mut Events<Global>,
-    doors: &mut Doors,
-    rounds: &mut Rounds<TcpStream>,
+    doors: &mut Doors<'a>,
+    rounds: &mut Rounds<Client<'a>>,
     page: &mut Option<Page>,
     telling: &mut Telling,
     log: &mut L,
@@ -199,13 +207,13 @@ fn run_all<R: Wait + Clock, L: Write>(
 }
 
 /// Runs rounds until no more clients come and all have ended, and then tells of the closes that weren't told of.
-fn run<R: Wait + Clock, L: Write>(
+fn run<'a, R: Wait + Clock, L: Write>(
     rt: &R,
     alloc: Global,
     poll: &mut Poll,
     events: &mut Events<Global>,
-    doors: &mut Doors,
-    rounds: &mut Rounds<TcpStream>,
+    doors: &mut Doors<'a>,
+    rounds: &mut Rounds<Client<'a>>,
     page: &mut Option<Page>,
     log: &mut L,
 ) -> Result<(), ServeFault>
@@ -259,6 +267,7 @@ fn serve_on<R: Wait + Clock + Net, L: Write>(
     mut poll: Poll,
     mut listener: TcpListener,
     mut page: Option<Page>,
+    door: Option<&Door>,
     clients: Option<u32>,
     log: &mut L,
 ) -> Result<u32, ServeFault>
@@ -271,7 +280,7 @@ fn serve_on<R: Wait + Clock + Net, L: Write>(
         return Err(ServeFault::Device);
     }
     let mut events = Events::with_capacity(alloc, EVENTS)?;
-    let mut doors = Doors::new(listener, clients);
+    let mut doors = Doors::new(alloc, listener, door, clients);
     let mut rounds = Rounds::new(alloc)?;
     run(
         rt,
@@ -303,7 +312,8 @@ fn count_of(clients: Option<usize>) -> Result<Option<u32>, ServeFault>
 
 /// An MQTT 3.1.1 server (QoS 0 and 1). Once it listens it writes the line `listening N`, flushed. Where it is for so many
 /// clients (1 to 1,000) it ends when they were accepted and all have ended, and answers how many were served; else it
-/// stays, and serves 1,000 at once. What it does besides is `spk_server`'s. Where it has a port for it, `spk_status`' page is served on 127.0.0.1,
+/// stays, and serves 1,000 at once. What it does besides is `spk_server`'s. Where there is a door the server reads of each client what `spk_visitor` lets through
+/// with it, and the client gets what that makes of what the server writes; one whom the door ends is closed as refused. Where it has a port for it, `spk_status`' page is served on 127.0.0.1,
 /// to sixteen at once, for five seconds each. The log gets a line `closed CONN CAUSE` for each client whose socket is shut, ten in
 /// a second, and then `N more closed`; one that fails changes nothing, one that takes nothing is waited for. Refused with BadPlan (92) for another number of
 /// clients, and with Device (96) where listening, waiting, accepting or the writer failed. No contract says what goes over a
@@ -312,6 +322,7 @@ pub fn serve_at<R: Wait + Clock + Net, W: Write, L: Write>(
     rt: &R,
     alloc: Global,
     serving: &Serving,
+    door: Option<&Door>,
     writer: &mut W,
     log: &mut L,
 ) -> Result<u32, ServeFault>
@@ -338,7 +349,7 @@ pub fn serve_at<R: Wait + Clock + Net, W: Write, L: Write>(
     if writeln!(writer, "listening {port}").is_err() || writer.flush().is_err() {
         return Err(ServeFault::Device);
     }
-    serve_on(rt, alloc, poll, listener, page, clients, log)
+    serve_on(rt, alloc, poll, listener, page, door, clients, log)
 }
 
 /// `serve_at` 127.0.0.1 for so many clients, 1 to 1,000, without a status page and a log.
@@ -358,5 +369,5 @@ pub fn serve<R: Wait + Clock + Net, W: Write>(
         clients: Some(clients),
         status: None,
     };
-    serve_at(rt, alloc, &serving, writer, &mut sink())
+    serve_at(rt, alloc, &serving, None, writer, &mut sink())
 }
