@@ -1,5 +1,5 @@
-//! The program `sparkplug`: Sparkplug B payloads, MQTT packets, a broker, worlds and plants of edge nodes and hosts, and an edge node and a host
-//! application over any broker, on the command line.
+//! The program `sparkplug`: Sparkplug B payloads, MQTT packets, a broker and its users, worlds and plants of edge nodes and hosts, and an edge
+//! node and a host application over any broker, on the command line.
 #![tactic(auto)]
 
 mod histories;
@@ -9,7 +9,9 @@ mod records;
 use histories::read_history;
 use records::MachineDisks;
 use spk_board::Screen;
-use spk_commands::{Files, NOT_TEXT, Outcome, plant, run_with_notes, serve_clients};
+use spk_commands::{
+    Files, NOT_TEXT, Outcome, PasswdPlan, passwd, plant, run_with_notes, serve_clients,
+};
 use spk_programs::{run_edge, run_host};
 use std::alloc::{AllocError, Global};
 use std::env::VarError;
@@ -68,6 +70,29 @@ fn no_memory(rt: &HostRuntime) -> io::Result<u8> {
     Ok(1)
 }
 
+/// What the machine's random bytes are read from.
+const RANDOM: &str = "/dev/urandom";
+
+/// Makes a line of a users' file, of a password in standard input and of random bytes.
+fn make_line(rt: &HostRuntime, plan: PasswdPlan) -> io::Result<u8> {
+    let Ok(mut random) = File::open(rt, RANDOM) else {
+        println!(rt; "fault BadFile (98)")?;
+        return Ok(1);
+    };
+    let mut input = rt.stdin();
+    let mut writer = io::writer(rt);
+    let mut notes = rt.stderr();
+    let status = passwd(
+        rt.alloc(),
+        plan,
+        &mut input,
+        &mut random,
+        &mut writer,
+        &mut notes,
+    );
+    Ok(status)
+}
+
 fn main(rt: HostRuntime) -> io::Result<ExitCode> {
     let given = match given_words(&rt) {
         Ok(Some(given)) => given,
@@ -94,7 +119,21 @@ fn main(rt: HostRuntime) -> io::Result<ExitCode> {
             port,
             clients,
             status,
-        } => serve_clients(&rt, bind, port, clients, status, &mut writer, &mut notes),
+            door,
+        } => {
+            let door = door.as_ref();
+            serve_clients(
+                &rt,
+                bind,
+                port,
+                clients,
+                status,
+                door,
+                &mut writer,
+                &mut notes,
+            )
+        }
+        Outcome::Passwd(plan) => make_line(&rt, plan)?,
         Outcome::Plant(plan) => plant(&rt, plan, &mut writer),
         Outcome::Edge(plan) => {
             let mut disks = MachineDisks { rt: &rt };

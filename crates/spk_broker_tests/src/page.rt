@@ -102,7 +102,7 @@ fn figures_and_closes_are_told(rt: HostRuntime) {
     };
     let (served, ()) = join(
         &rt,
-        || serve_at(&rt, rt.alloc(), &serving, &mut out, &mut log),
+        || serve_at(&rt, rt.alloc(), &serving, None, &mut out, &mut log),
         || look(&rt, port, status),
     );
     assert_eq!(rt; served, Ok(1));

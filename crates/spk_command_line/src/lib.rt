@@ -50,8 +50,11 @@ prints
   listening 1883
 and mosquitto_sub prints 1.
 
-It has neither TLS nor passwords; what it holds is lost when it is ended. It ends by itself once that many
-clients have come and gone, and prints `served K`; with --stay it doesn't end.
+It has no TLS. Anybody may connect, publish and subscribe, unless --users or --guard is said: with --users
+FILE those alone come in whom a line of FILE names, with their password (`sparkplug passwd --help`), and do
+what it lets them; with --guard each node speaks for itself. docs/SERVE.md tells more.
+What it holds is lost when it is ended. It ends by itself once that many clients have come and gone, and
+prints `served K`; with --stay it doesn't end.
 
 For each client whose connection is shut a line `closed N CAUSE` stands on standard error, at most ten in a
 second, and then `K more closed`. CAUSE is `left`, `gone`, `silent`, `unreadable`, `refused`, `keep-alive`,
@@ -61,6 +64,22 @@ Standard error has to be read, or led to a file: where it is a pipe that is full
 
 Who publishes to a subscriber that reads too slowly is slowed, for less than 200 milliseconds at a time; a
 subscriber that loses 128 messages of QoS 0, or one of QoS 1, is closed. docs/SECURITY.md tells more.
+
+Status: 0 is done; 1 is a fault, printed as `fault NAME (number)`, or output that could not be written;
+2 is a command line that isn't one. docs/FAULTS.md tells each fault by its number.";
+
+const PASSWD: &str = "\
+Example:
+  printf secret | sparkplug passwd press --node plant/press --subscribe 'spBv1.0/plant/#' >> users
+and then
+  sparkplug serve --port 1883 --users users
+The password is the first line of standard input, of 1 to 65,535 bytes, without its line feed. The line that is
+printed has what PBKDF2 with HMAC-SHA-256 derives of it and of 16 random bytes, and not the password itself:
+  {\"user\":\"press\",\"password\":{\"rounds\":1000,\"salt\":\"..\",\"key\":\"..\"},\"node\":\"plant/press\",
+    \"subscribe\":[\"spBv1.0/plant/#\"]}
+(one line). Who guesses at it pays the rounds for each guess, and so does the broker at each CONNECT. Without
+--publish or --subscribe any topic will do there. Under `serve --guard` --node and --host say whose messages
+are the user's own.
 
 Status: 0 is done; 1 is a fault, printed as `fault NAME (number)`, or output that could not be written;
 2 is a command line that isn't one. docs/FAULTS.md tells each fault by its number.";
@@ -240,6 +259,25 @@ fn packets<'a>(alloc: Global) -> Result<Command<'a>, AllocError> {
     )
 }
 
+/// The words of a door in front of a broker.
+fn with_door<'a>(alloc: Global, command: Command<'a>) -> Result<Command<'a>, AllocError> {
+    let users = Arg::new(alloc, "users")
+        .long("users")
+        .value_name("FILE")
+        .help(
+            "Lets in who is named in this file, with a password; `sparkplug passwd` makes its lines",
+        )
+        .action(ArgAction::Set);
+    let command = command.arg(users)?;
+    let guard = Arg::new(alloc, "guard")
+        .long("guard")
+        .help(
+            "Lets a node's messages be published by that node alone, STATE by that host, commands by hosts",
+        )
+        .action(ArgAction::SetTrue);
+    command.arg(guard)
+}
+
 fn serve<'a>(alloc: Global) -> Result<Command<'a>, AllocError> {
     let command = Command::new(alloc, "serve");
     let port = Arg::new(alloc, "port")
@@ -279,9 +317,62 @@ fn serve<'a>(alloc: Global) -> Result<Command<'a>, AllocError> {
         .action(ArgAction::Set);
     let command = command.arg(status)?;
     Ok(
-        command
+        with_door(alloc, command)?
             .about("Runs an MQTT 3.1.1 broker (QoS 0 and 1)")
             .after_help(SERVE),
+    )
+}
+
+/// A word of `passwd` that names filters.
+fn filters<'a>(alloc: Global, word: &'a str, help: &'a str) -> Arg<'a> {
+    Arg::new(alloc, word)
+        .long(word)
+        .value_name("FILTER")
+        .help(help)
+        .action(ArgAction::Append)
+}
+
+/// The words of what a user may do.
+fn with_rights<'a>(alloc: Global, command: Command<'a>) -> Result<Command<'a>, AllocError> {
+    let node = Arg::new(alloc, "node")
+        .long("node")
+        .value_name("GROUP/NODE")
+        .help("The edge node that it is")
+        .action(ArgAction::Set);
+    let command = command.arg(node)?;
+    let host = Arg::new(alloc, "host")
+        .long("host")
+        .value_name("H")
+        .help("The host application that it is")
+        .action(ArgAction::Set);
+    let command = command.arg(host)?;
+    let help =
+        "A filter of topics on which it may publish; several may be given; any topic where none is";
+    let command = command.arg(filters(alloc, "publish", help))?;
+    let help =
+        "A filter that it may subscribe to, or to a part of it; several may be given; any where none is";
+    command.arg(filters(alloc, "subscribe", help))
+}
+
+fn passwd<'a>(alloc: Global) -> Result<Command<'a>, AllocError> {
+    let name = Arg::new(alloc, "name")
+        .value_name("NAME")
+        .help("The user's name: 1 to 256 bytes, without `:` and control characters")
+        .required(true)
+        .action(ArgAction::Set);
+    let command = Command::new(alloc, "passwd").arg(name)?;
+    let rounds = Arg::new(alloc, "rounds")
+        .long("rounds")
+        .value_name("N")
+        .help("In how many rounds the key is derived, 1 to 1000000")
+        .default_value("1000")
+        .value_parser(value_parser!(u32).range(1..=1_000_000))
+        .action(ArgAction::Set);
+    let command = command.arg(rounds)?;
+    Ok(
+        with_rights(alloc, command)?
+            .about("Makes a line of a users' file, of a password in standard input")
+            .after_help(PASSWD),
     )
 }
 
@@ -543,6 +634,7 @@ pub fn command_line<'a>(alloc: Global) -> Result<Command<'a>, AllocError> {
     let command = command.subcommand(world(alloc)?)?;
     let command = command.subcommand(plant(alloc)?)?;
     let command = command.subcommand(serve(alloc)?)?;
+    let command = command.subcommand(passwd(alloc)?)?;
     let command = command.subcommand(edge(alloc)?)?;
     let command = command.subcommand(host(alloc)?)?;
     command.subcommand(history(alloc)?)

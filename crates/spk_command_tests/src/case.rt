@@ -38,7 +38,7 @@ impl Around {
 }
 
 /// What a case may say.
-const KNOWN: [&str; 13] = [
+const KNOWN: [&str; 15] = [
     "run",
     "file",
     "front",
@@ -52,6 +52,8 @@ const KNOWN: [&str; 13] = [
     "room",
     "reads",
     "plant",
+    "password",
+    "salts",
 ];
 
 /// Whether a case says nothing else.

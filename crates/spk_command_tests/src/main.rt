@@ -25,8 +25,8 @@ use std::thread::Threads;
 use subjects::try_all;
 
 /// The files of cases.
-const SUBJECTS: [&str; 7] = [
-    "show", "packets", "words", "world", "events", "plant", "edge",
+const SUBJECTS: [&str; 8] = [
+    "show", "packets", "words", "world", "events", "plant", "edge", "users",
 ];
 
 /// The path of a file of cases.

@@ -1,6 +1,8 @@
 //! What a run came to, as a text.
 
-use spk_commands::{HistoryPlan, Outcome};
+use spk_commands::{HistoryPlan, Outcome, PasswdPlan};
+use spk_door::Door;
+use spk_files::user_line;
 use spk_plan::Plan;
 use spk_program_plans::{EdgePlan, HostPlan};
 use std::alloc::{AllocError, Global};
@@ -66,6 +68,34 @@ fn history_text(alloc: Global, plan: &HistoryPlan) -> Result<String, AllocError>
     )
 }
 
+/// Of a door, if there is one: whether it guards, and if users have to be known, how many, and the line of each.
+fn door_text(alloc: Global, door: &Option<Door>) -> Result<String, AllocError> {
+    let Some(door) = door else {
+        return Ok(String::new(alloc));
+    };
+    let guard = door.guard;
+    let mut text = format!(in alloc; " guard {guard}")?;
+    if let Some(users) = &door.users {
+        let count = users.len();
+        write!(text, " users {count}")?;
+        for user in users {
+            let line = user_line(alloc, user)?;
+            write!(text, " {line}")?;
+        }
+    }
+    Ok(text)
+}
+
+/// Of a user of whom a line is to be made.
+fn passwd_text(alloc: Global, plan: &PasswdPlan) -> Result<String, AllocError> {
+    let PasswdPlan {
+        name,
+        rounds,
+        rights,
+    } = plan;
+    format!(in alloc; "passwd {name} rounds {rounds} {rights:?}")
+}
+
 /// What a run came to.
 pub(crate) fn text_of(alloc: Global, outcome: &Outcome) -> Result<String, AllocError> {
     match outcome {
@@ -75,7 +105,12 @@ pub(crate) fn text_of(alloc: Global, outcome: &Outcome) -> Result<String, AllocE
             port,
             clients,
             status,
-        } => format!(in alloc; "serve {bind} {port} clients {clients:?} status {status:?}"),
+            door,
+        } => {
+            let door = door_text(alloc, door)?;
+            format!(in alloc; "serve {bind} {port} clients {clients:?} status {status:?}{door}")
+        }
+        Outcome::Passwd(plan) => passwd_text(alloc, plan),
         Outcome::Plant(plan) => plant_text(alloc, plan),
         Outcome::Edge(plan) => edge_text(alloc, plan),
         Outcome::Host(plan) => host_text(alloc, plan),

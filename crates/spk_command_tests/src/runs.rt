@@ -5,7 +5,7 @@ use crate::files::{Narrow, Texts};
 use crate::flaw::Flaw;
 use crate::outcomes;
 use serde_json::Value as Json;
-use spk_commands::run_with_notes;
+use spk_commands::{Files, Outcome, passwd, run_with_notes};
 use std::alloc::{AllocError, Global};
 
 /// The last line of a run that was refused memory.
@@ -22,20 +22,50 @@ struct Ran {
     end: String,
 }
 
-/// Runs the words of a case once, with a writer that has so much room.
-fn once<R: AllocGlobal>(
-    rt: &R,
-    words: &[&str],
-    file: Option<&str>,
+/// What is run.
+#[derive(Clone, Copy)]
+struct Asked<'a> {
+    words: &'a [&'a str],
+    /// The text of FILE.
+    file: Option<&'a str>,
+    /// How many bytes the writer takes.
     room: usize,
-) -> Result<Ran, AllocError> {
+    /// The files in which the standard input of `passwd` and its random bytes stand, where it is done.
+    password: Option<&'a str>,
+    salts: &'a str,
+}
+
+/// What becomes of a run: where a line is to be made of a password that stands in a file, it is.
+fn done(
+    alloc: Global,
+    asked: &Asked<'_>,
+    outcome: Outcome,
+    narrow: &mut Narrow,
+    notes: &mut Vec<u8>,
+) -> Outcome {
+    let mut files = Texts { file: asked.file };
+    let Some(input) = asked.password.and_then(|name| files.open(name)) else {
+        return outcome;
+    };
+    match (outcome, files.open(asked.salts)) {
+        (Outcome::Passwd(plan), Some(salts)) => {
+            let (mut input, mut salts) = (input, salts);
+            Outcome::Over(passwd(alloc, plan, &mut input, &mut salts, narrow, notes))
+        }
+        (outcome, _) => outcome,
+    }
+}
+
+/// Runs the words of a case once, with a writer that has so much room.
+fn once<R: AllocGlobal>(rt: &R, asked: &Asked<'_>) -> Result<Ran, AllocError> {
     let mut narrow = Narrow {
         held: Vec::with_capacity(rt.alloc(), ROOM)?,
-        room,
+        room: asked.room,
     };
     let mut notes = Vec::with_capacity(rt.alloc(), ROOM)?;
-    let mut files = Texts { file };
-    let outcome = run_with_notes(rt, words, &mut files, &mut narrow, &mut notes);
+    let mut files = Texts { file: asked.file };
+    let outcome = run_with_notes(rt, asked.words, &mut files, &mut narrow, &mut notes);
+    let outcome = done(rt.alloc(), asked, outcome, &mut narrow, &mut notes);
     let Narrow { held, room: _ } = narrow;
     let end = outcomes::text_of(rt.alloc(), &outcome)?;
     Ok(Ran { held, notes, end })
@@ -57,19 +87,14 @@ fn is_front(held: &[u8], whole: &[u8], room: usize) -> bool {
 }
 
 /// What a run comes to that isn't refused memory. Where one is, it is made again, and None where what it printed before isn't right.
-fn run<R: AllocGlobal>(
-    rt: &R,
-    words: &[&str],
-    file: Option<&str>,
-    room: usize,
-) -> Result<Option<Ran>, AllocError> {
-    let first = once(rt, words, file, room)?;
+fn run<R: AllocGlobal>(rt: &R, asked: &Asked<'_>) -> Result<Option<Ran>, AllocError> {
+    let first = once(rt, asked)?;
     if !is_refused(first.held.as_slice()) {
         return Ok(Some(first));
     }
-    let again = once(rt, words, file, room)?;
+    let again = once(rt, asked)?;
     let is_right = first.end.as_str() == "over 1"
-        && is_front(first.held.as_slice(), again.held.as_slice(), room);
+        && is_front(first.held.as_slice(), again.held.as_slice(), asked.room);
     Ok(if is_right { Some(again) } else { None })
 }
 
@@ -124,7 +149,14 @@ pub(crate) fn judge<R: AllocGlobal>(
     let file = around.file_of(alloc, case)?;
     let file = file.as_ref().map(|text| text.as_str());
     let room = usize::try_from(number_of(case, "room").unwrap_or(ROOM as u64)).unwrap_or(ROOM);
-    match run(rt, words.as_slice(), file, room)? {
+    let asked = Asked {
+        words: words.as_slice(),
+        file,
+        room,
+        password: text_of(case, "password"),
+        salts: text_of(case, "salts").unwrap_or("longest"),
+    };
+    match run(rt, &asked)? {
         Some(ran) => Ok(complaint(case, &ran)),
         None => Ok(Some(Flaw::Memory)),
     }

@@ -1,5 +1,6 @@
 //! `serve`: the broker over TCP.
 
+use spk_door::Door;
 use spk_runtime::{ServeFault, Serving, serve_at};
 use std::io;
 use std::io::Write;
@@ -24,14 +25,15 @@ pub fn said<W: Write>(out: &mut W, answer: Result<u32, ServeFault>) -> io::Resul
     Ok(status)
 }
 
-/// Serves clients at this address and port, so many or for ever, with a status page at the other port, where there is one, and answers the
-/// status. All texts go to the writer, but for the lines of closes, which go to the log.
+/// Serves clients at this address and port, so many or for ever, with a status page at the other port, where there is one, and behind a door,
+/// where there is one, and answers the status. All texts go to the writer, but for the lines of closes, which go to the log.
 pub fn serve_clients<R: AllocGlobal + Wait + Clock + Net, W: Write, L: Write>(
     rt: &R,
     bind: IpAddr,
     port: u16,
     clients: Option<u16>,
     status: Option<u16>,
+    door: Option<&Door>,
     out: &mut W,
     log: &mut L,
 ) -> u8 {
@@ -41,6 +43,6 @@ pub fn serve_clients<R: AllocGlobal + Wait + Clock + Net, W: Write, L: Write>(
         clients: clients.map(usize::from),
         status,
     };
-    let answer = serve_at(rt, rt.alloc(), &serving, out, log);
+    let answer = serve_at(rt, rt.alloc(), &serving, door, out, log);
     said(out, answer).unwrap_or(1)
 }

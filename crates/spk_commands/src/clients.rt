@@ -25,12 +25,20 @@ const NO_GROUP: &str =
     "error: --ask takes a node of the group, or GROUP/NODE with a group that is followed\n\nFor more information, try '--help'.\n";
 
 /// A text of its own.
-fn owned(alloc: Global, given: &ArgMatches<'_>, name: &str) -> Result<String, AllocError> {
+pub(crate) fn owned(
+    alloc: Global,
+    given: &ArgMatches<'_>,
+    name: &str,
+) -> Result<String, AllocError> {
     String::from_str(alloc, given.get_str(name).unwrap_or(""))
 }
 
 /// What a word that may come more than once was given, in order.
-fn all_of(alloc: Global, given: &ArgMatches<'_>, word: &str) -> Result<Vec<String>, AllocError> {
+pub(crate) fn all_of(
+    alloc: Global,
+    given: &ArgMatches<'_>,
+    word: &str,
+) -> Result<Vec<String>, AllocError> {
     let mut all = Vec::new(alloc);
     for text in given.get_strs(word).unwrap_or(&[]) {
         all.push(String::from_str(alloc, text)?)?;

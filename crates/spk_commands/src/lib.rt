@@ -1,5 +1,5 @@
-//! The commands of the program `sparkplug`: Sparkplug B payloads, MQTT packets, a broker, worlds and plants of edge nodes and hosts, and an edge
-//! node and a host application over any broker.
+//! The commands of the program `sparkplug`: Sparkplug B payloads, MQTT packets, a broker and its users, worlds and plants of edge nodes and hosts,
+//! and an edge node and a host application over any broker.
 //! Words, files and writers are the caller's.
 #![tactic(auto)]
 
@@ -9,9 +9,11 @@ mod fault;
 mod files;
 mod histories;
 mod packets;
+mod passwords;
 mod places;
 mod plants;
 mod running;
+mod serving;
 mod show;
 mod texts;
 mod world;
@@ -19,5 +21,6 @@ mod world;
 pub use broker::{said, serve_clients};
 pub use files::Files;
 pub use histories::{HistoryForm, HistoryPlan};
+pub use passwords::{PasswdPlan, passwd};
 pub use plants::{plant, told};
 pub use running::{NOT_TEXT, Outcome, run, run_with_notes};

@@ -5,12 +5,15 @@ use crate::fault::{Fault, Stop};
 use crate::files::{Files, text_of};
 use crate::histories::{HistoryPlan, history_plan};
 use crate::packets::packets;
+use crate::passwords::{PasswdPlan, passwd_plan};
 use crate::plants::plan_from;
+use crate::serving::serving;
 use crate::show::show;
 use crate::world::world;
 use clap::ArgMatches;
 use clap::error::ErrorKind;
 use spk_command_line::command_line;
+use spk_door::Door;
 use spk_payload::Values;
 use spk_plan::Plan;
 use spk_program_plans::{EdgePlan, HostPlan};
@@ -52,19 +55,24 @@ fn birth_of<F: Files>(
     }
 }
 
-/// The text of a world's or of a plan's file. Of one that isn't a text, or is too long, a note says so.
-fn noted_text_of<F: Files, N: Write>(
+/// The text of a file that is to be understood. Of one that isn't a text, or is too long, a note says so.
+pub(crate) fn noted_text_of<F: Files, N: Write>(
     alloc: Global,
-    matches: &ArgMatches<'_>,
+    name: &str,
     files: &mut F,
     notes: &mut N,
 ) -> Result<String, Stop> {
-    let answer = text_of(alloc, files, matches.get_str("file").unwrap_or(""));
+    let answer = text_of(alloc, files, name);
     if let Err(Stop::Fault(Fault::BadPlan)) = &answer {
         let what = "the file isn't UTF-8, or has more than 1,048,576 bytes";
         let _ = writeln!(notes, "sparkplug: BadPlan: {what}");
     }
     answer
+}
+
+/// The name of a command's file.
+fn file_of<'a>(given: &ArgMatches<'a>) -> &'a str {
+    given.get_str("file").unwrap_or("")
 }
 
 /// What clap says of the words: its text and status, or want of memory.
@@ -79,14 +87,6 @@ fn refusal(alloc: Global, error: &clap::Error) -> Result<Stop, Stop> {
 
 /// What is said of words that aren't UTF-8, like what clap says of others that it refuses.
 pub const NOT_TEXT: &str = "error: a word isn't UTF-8\n\nFor more information, try '--help'.\n";
-
-/// What is said of an address that is none, like what clap says of other words that it refuses.
-const NO_ADDRESS: &str =
-    "error: --bind takes an IP address\n\nFor more information, try '--help'.\n";
-
-/// What is said of a status port that is the broker's, like what clap says of other words that it refuses.
-const NO_STATUS: &str =
-    "error: --status takes another port than --port\n\nFor more information, try '--help'.\n";
 
 /// A writer that keeps nothing.
 #[derive(Drop)]
@@ -114,7 +114,11 @@ pub enum Outcome {
         clients: Option<u16>,
         /// The port of the status page, where there is to be one.
         status: Option<u16>,
+        /// Who comes in, and whose topics are whose; None where everybody may do everything.
+        door: Option<Door>,
     },
+    /// A line of a users' file is to be made.
+    Passwd(PasswdPlan),
     /// This plan is to be run.
     Plant(Plan),
     /// This edge node is to be run.
@@ -165,7 +169,7 @@ fn played<F: Files, W: Write, N: Write>(
     out: &mut W,
     notes: &mut N,
 ) -> Result<u8, Stop> {
-    let text = noted_text_of(alloc, given, files, notes)?;
+    let text = noted_text_of(alloc, file_of(given), files, notes)?;
     world(alloc, out, notes, text.as_str())
 }
 
@@ -184,54 +188,19 @@ fn planned<F: Files, N: Write>(
     files: &mut F,
     notes: &mut N,
 ) -> Result<Outcome, Stop> {
-    let text = noted_text_of(alloc, given, files, notes)?;
+    let text = noted_text_of(alloc, file_of(given), files, notes)?;
     match plan_from(alloc, notes, text.as_str()) {
         Ok(plan) => Ok(Outcome::Plant(plan)),
         Err(stop) => Err(stop),
     }
 }
 
-/// Says what it means to listen beyond the machine.
-fn warn<N: Write>(bind: IpAddr, notes: &mut N) {
-    if !bind.is_loopback() {
-        let what = "whoever reaches it is served, without TLS and without passwords";
-        let _ = writeln!(
-            notes,
-            "sparkplug: {bind} is reached from other machines: {what}"
-        );
+/// `passwd`: the user of whom a line is to be made.
+fn lined(alloc: Global, given: &ArgMatches<'_>) -> Result<Outcome, Stop> {
+    match passwd_plan(alloc, given) {
+        Ok(plan) => Ok(Outcome::Passwd(plan)),
+        Err(stop) => Err(stop),
     }
-}
-
-/// `serve`: where clients are to be served, how many, and where figures are told.
-fn serving<N: Write>(
-    alloc: Global,
-    given: &ArgMatches<'_>,
-    notes: &mut N,
-) -> Result<Outcome, Stop> {
-    let Ok(bind) = given
-        .get_str("bind")
-        .unwrap_or("127.0.0.1")
-        .parse::<IpAddr>()
-    else {
-        return Err(Stop::Words(String::from_str(alloc, NO_ADDRESS)?, 2));
-    };
-    let port = given.get_one::<u16>("port").unwrap_or(0);
-    let status = given.get_one::<u16>("status");
-    if status == Some(port) {
-        return Err(Stop::Words(String::from_str(alloc, NO_STATUS)?, 2));
-    }
-    warn(bind, notes);
-    let clients = if given.get_flag("stay") {
-        None
-    } else {
-        Some(given.get_one::<u16>("clients").unwrap_or(0))
-    };
-    Ok(Outcome::Serve {
-        bind,
-        port,
-        clients,
-        status,
-    })
 }
 
 /// `edge`: the edge node of a file, which is to be run.
@@ -241,7 +210,7 @@ fn edge<F: Files, N: Write>(
     files: &mut F,
     notes: &mut N,
 ) -> Result<Outcome, Stop> {
-    let text = noted_text_of(alloc, given, files, notes)?;
+    let text = noted_text_of(alloc, file_of(given), files, notes)?;
     match edge_plan(alloc, given, text.as_str(), files, notes) {
         Ok(plan) => Ok(Outcome::Edge(plan)),
         Err(stop) => Err(stop),
@@ -285,7 +254,10 @@ fn chosen<F: Files, W: Write, N: Write>(
         return planned(alloc, given, files, notes);
     }
     if let Some(given) = matches.subcommand_matches("serve") {
-        return serving(alloc, given, notes);
+        return serving(alloc, given, files, notes);
+    }
+    if let Some(given) = matches.subcommand_matches("passwd") {
+        return lined(alloc, given);
     }
     if let Some(given) = matches.subcommand_matches("edge") {
         return edge(alloc, given, files, notes);
@@ -313,7 +285,7 @@ fn command<F: Files, W: Write, N: Write>(
 }
 
 /// The last lines of a command, and its status.
-fn ending<W: Write>(out: &mut W, stop: Stop) -> io::Result<u8> {
+pub(crate) fn ending<W: Write>(out: &mut W, stop: Stop) -> io::Result<u8> {
     match stop {
         Stop::Words(text, status) => {
             write!(out, "{text}")?;
@@ -347,7 +319,8 @@ fn buffered<F: Files, W: Write + Drop, N: Write>(
 /// Runs the program on its words, the first of which is its own name, and answers its status: 0 where the work was
 /// done or help was asked for, 1 at a fault, which is printed as `fault NAME (number)`, or where the writer failed,
 /// 2 where the words aren't a command. All texts go to the writer. Words that ask to serve clients are answered with
-/// the port and the number of clients: `serve_clients` does that. Words that ask to run a plant, an edge node or a host application
+/// the port and the number of clients: `serve_clients` does that, and for words that ask to make a line of a users' file
+/// `passwd`. Words that ask to run a plant, an edge node or a host application
 /// are answered with its plan: `plant` and `spk_programs` do that. So are words that ask to read a history.
 pub fn run<R: AllocGlobal, F: Files, W: Write>(
     rt: &R,

@@ -37,11 +37,11 @@ all_push p (y ∷ xs) x all one =
     let parts = and_parts (p y) (list_all p xs) all in
     and_from (p y) (list_all p (xs ++ x ∷ [])) parts.0 (all_push p xs x parts.1 one)
 
-not_none : (b c : Bool) → not b ≡ true → c ≡ false → not (b || (c || false)) ≡ true
+pub not_none : (b c : Bool) → not b ≡ true → c ≡ false → not (b || (c || false)) ≡ true
 not_none false c n e = ap (λ d. not (d || false)) e
 not_none true c n e = n
 
-or-none : (b c : Bool) → b || c ≡ false → (b ≡ false) × (c ≡ false)
+pub or-none : (b c : Bool) → b || c ≡ false → (b ≡ false) × (c ≡ false)
 or-none false c e = (refl, e)
 or-none true c e = cc
 

@@ -1,5 +1,5 @@
-//! Files of the program (own format, JSON): a world's edge nodes, hosts and events, a plant's plan, an edge node, and the lines that tell of its
-//! values. What is wrong with one is told with its place.
+//! Files of the program (own format, JSON): a world's edge nodes, hosts and events, a plant's plan, an edge node, the lines that tell of its
+//! values, and the users of a broker. What is wrong with one is told with its place.
 #![tactic(auto)]
 
 mod edge;
@@ -15,6 +15,8 @@ mod reals;
 mod script;
 mod text;
 mod twice;
+mod user_lines;
+mod users;
 mod values;
 mod world;
 
@@ -24,4 +26,6 @@ pub use misfit::{Cause, Misfit, Place};
 pub use nodes::{MOST_NODES, Setup};
 pub use plan::{plan_of, read_plan};
 pub use reals::{double_json, float_json};
+pub use user_lines::user_line;
+pub use users::{user_of, users_of};
 pub use world::{MOST_HOSTS, read_world, world_of};

@@ -14,9 +14,19 @@ const DEEPEST: usize = 6;
 enum Turn {
     Member(&'static str),
     Item(usize),
+    Line(usize),
 }
 
-/// A place in a file, as `nodes[0].capacity`.
+/// What stands between a step, if there was one, and a member.
+fn link(before: Option<Turn>) -> &'static str {
+    match before {
+        None => "",
+        Some(Turn::Line(_)) => ": ",
+        Some(_) => ".",
+    }
+}
+
+/// A place in a file, as `nodes[0].capacity`, or `line 3: publish[1]` of one whose lines stand each for itself.
 #[derive(Clone, Copy, Debug, PartialEq, Eq)]
 pub struct Place {
     turns: [Option<Turn>; DEEPEST],
@@ -49,20 +59,29 @@ impl Place {
     pub(crate) fn item(self, index: usize) -> Place {
         self.then(Turn::Item(index))
     }
+
+    /// The same place in the line of this number, from 1.
+    fn in_line(self, number: usize) -> Place {
+        let mut place = Place::FILE.then(Turn::Line(number));
+        for turn in self.turns.iter().flatten() {
+            place = place.then(*turn);
+        }
+        place
+    }
 }
 
 impl fmt::Display for Place {
     fn fmt<W: fmt::Write>(&self, f: &mut fmt::Formatter<W>) -> fmt::Result {
-        let mut is_first = true;
+        let mut last = None;
         for turn in self.turns.iter().flatten() {
             match turn {
-                Turn::Member(name) if is_first => write!(f, "{name}")?,
-                Turn::Member(name) => write!(f, ".{name}")?,
+                Turn::Line(number) => write!(f, "line {number}")?,
+                Turn::Member(name) => write!(f, "{}{name}", link(last))?,
                 Turn::Item(index) => write!(f, "[{index}]")?,
             }
-            is_first = false;
+            last = Some(*turn);
         }
-        if is_first {
+        if last.is_none() {
             write!(f, "the file")?;
         }
         Ok(())
@@ -100,6 +119,8 @@ pub enum Cause {
     NoMetric,
     /// An earlier node has its group and name.
     Namesake,
+    /// An earlier user has it for a name.
+    SameUser,
     /// The registry refuses it.
     Registry(Refusal),
     /// No world is made of it.
@@ -131,6 +152,7 @@ impl fmt::Display for Cause {
                 "isn't the name of a metric of the node or of that device"
             ),
             Cause::Namesake => write!(f, "has the group and name of an earlier node"),
+            Cause::SameUser => write!(f, "is the name of an earlier user"),
             Cause::Registry(refusal) => {
                 let number = refusal.number();
                 write!(f, "is refused: {refusal} ({number})")
@@ -161,6 +183,18 @@ impl Misfit {
         let line = error.line();
         let column = error.column();
         Misfit::Wrong(Place::FILE, Cause::NoJson { line, column })
+    }
+
+    /// The same of a text that is the line of this number, from 1, of a file.
+    pub(crate) fn in_line(self, number: usize) -> Misfit {
+        match self {
+            Misfit::NoMemory => Misfit::NoMemory,
+            Misfit::Wrong(place, Cause::NoJson { line: _, column }) => {
+                let line = number;
+                Misfit::Wrong(place, Cause::NoJson { line, column })
+            }
+            Misfit::Wrong(place, cause) => Misfit::Wrong(place.in_line(number), cause),
+        }
     }
 
     /// What the registry says of the device or the metric there.

@@ -20,7 +20,7 @@ fn has(text: &str, byte: u8) -> bool
 }
 
 /// Whether a text may be a name in a topic.
-fn is_name(text: &str) -> bool
+pub(crate) fn is_name(text: &str) -> bool
     ensures { result ≡ is_name text.now }
 {
     !text.is_empty() && !has(text, b'/') && !has(text, b'+') && !has(text, b'#') && !has(text, 0)

@@ -130,7 +130,8 @@ fn begin(
             write_host(page, &plan)?;
             Some(Some(host(alloc, plan)?))
         }
-        Outcome::Serve { .. } | Outcome::Plant(_) | Outcome::History(_) => None,
+        Outcome::Serve { .. } | Outcome::Passwd(_) | Outcome::Plant(_) | Outcome::History(_) =>
+            None,
     }
 }
 

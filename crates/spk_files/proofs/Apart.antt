@@ -1,0 +1,23 @@
+-- One user more, whose name none has.
+use Rattle.std.proofs.Common.{◌≡◌, ◌∙◌, ap, refl, Bool, true, false, not, ◌&&◌, ◌||◌, List, [], ◌∷◌, ◌++◌}
+use Rattle.std.specs.List.{list_any}
+use Rattle.std.specs.Str.{bytes_eq}
+use Rattle.std.specs.String.{string_bytes}
+use Rattle.std.proofs.lemmas.Bool.{and_parts, and_from}
+use Rattle.std.proofs.lemmas.List.Folds.{list_any-append}
+use Rattle.spk_door.specs.declared.door.User.{User}
+use Rattle.spk_files.specs.Users.{are_apart}
+use Rattle.spk_files.proofs.Limits.{not_none, or-none}
+
+pub apart_push : (us : List User) (x : User) → are_apart us ≡ true
+    → list_any (λ (u : User). bytes_eq (string_bytes x.name) (string_bytes u.name)) us ≡ false → are_apart (us ++ x ∷ []) ≡ true
+apart_push [] x apart none = refl
+apart_push (u ∷ us) x apart none =
+    let same : User → Bool = λ (v : User). bytes_eq (string_bytes v.name) (string_bytes u.name) in
+    let is : User → Bool = λ (v : User). bytes_eq (string_bytes x.name) (string_bytes v.name) in
+    let parts = and_parts (not (list_any same us)) (are_apart us) apart in
+    let nones = or-none (is u) (list_any is us) none in
+    let here : not (list_any same us || list_any same (x ∷ [])) ≡ true = not_none (list_any same us) (same x) parts.0 nones.0 in
+    and_from (not (list_any same (us ++ x ∷ []))) (are_apart (us ++ x ∷ []))
+    (ap not (list_any-append same us (x ∷ [])) ∙ here)
+    (apart_push us x parts.1 nones.1)

@@ -1,0 +1,43 @@
+-- What a users' file gives (own rules).
+use Rattle.std.specs.Prelude.{ℕ, List, [], ◌∷◌, Bool, true, not, ◌&&◌, Option, Vec, String, is_none}
+use Rattle.std.specs.List.{list_all, list_any}
+use Rattle.std.specs.Option.{option_map_or}
+use Rattle.std.specs.Str.{bytes_eq}
+use Rattle.std.specs.String.{string_bytes}
+use Rattle.std.specs.declared.alloc.Global.{Global}
+use Rattle.spk_access.specs.declared.rights.NodeName.{NodeName}
+use Rattle.spk_door.specs.declared.door.User.{User}
+use Rattle.spk_host_session.specs.Data.{is_short_name}
+use Rattle.spk_topics.specs.Spark.{is_name}
+use Rattle.spk_topics.specs.Text.{filter_refusal}
+
+-- a topic filter (MQTT 3.1.1, section 4.7)
+abbrev pub is_filter : String Global → Bool
+is_filter text = is_none (filter_refusal (string_bytes text))
+
+abbrev pub are_filters : Vec (String Global) Global → Bool
+are_filters texts = list_all is_filter texts.items
+
+-- filters, or nothing is said
+abbrev pub some_are_filters : Option (Vec (String Global) Global) → Bool
+some_are_filters texts = option_map_or are_filters texts true
+
+-- a node's group and name are names
+abbrev pub is_node : NodeName → Bool
+is_node n = is_name (string_bytes n.group) && is_name (string_bytes n.node)
+
+-- that, or nothing is said
+abbrev pub some_is_node : Option NodeName → Bool
+some_is_node node = option_map_or is_node node true
+
+-- the name of a host, or nothing is said
+abbrev pub some_is_host : Option (String Global) → Bool
+some_is_host host = option_map_or (λ h. is_short_name (string_bytes h)) host true
+
+abbrev pub has_name : List ℕ → User → Bool
+has_name name u = bytes_eq (string_bytes u.name) name
+
+-- no two users have one name
+abbrev pub are_apart : List User → Bool
+are_apart [] = true
+are_apart (u ∷ us) = not (list_any (has_name (string_bytes u.name)) us) && are_apart us
