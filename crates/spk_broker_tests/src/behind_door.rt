@@ -17,36 +17,36 @@ static KEY: [u8; 32] = [
 ];
 
 /// The node Pump of the group Plant, with a will on its death.
-static NODE: &[u8] =
+const NODE: &[u8] =
     b"\x107\x00\x04MQTT\x04\x06\x00<\x00\x0aPlant/Pump\x00\x19spBv1.0/Plant/NDEATH/Pump\x00\x04gone";
 
 /// The same with a will on another node's death.
-static FOREIGN: &[u8] =
+const FOREIGN: &[u8] =
     b"\x104\x00\x04MQTT\x04\x06\x00<\x00\x0aPlant/Pump\x00\x1aspBv1.0/Plant/NDEATH/Valve\x00\x00";
 
-static HOST: &[u8] = b"\x10\x10\x00\x04MQTT\x04\x02\x00<\x00\x04Host";
+const HOST: &[u8] = b"\x10\x10\x00\x04MQTT\x04\x02\x00<\x00\x04Host";
 
 /// SUBSCRIBE to births, data and deaths of the group's nodes.
-static WATCH: &[u8] =
+const WATCH: &[u8] =
     b"\x82L\x00\x01\x00\x16spBv1.0/Plant/NBIRTH/+\x00\x00\x15spBv1.0/Plant/NDATA/+\x00\x00\x16spBv1.0/Plant/NDEATH/+\x00";
 
-static BIRTH: &[u8] = b"0\x1c\x00\x19spBv1.0/Plant/NBIRTH/Pump1";
+const BIRTH: &[u8] = b"0\x1c\x00\x19spBv1.0/Plant/NBIRTH/Pump1";
 
 /// Data of another node.
-static OTHER: &[u8] = b"0\x1c\x00\x19spBv1.0/Plant/NDATA/Valve2";
+const OTHER: &[u8] = b"0\x1c\x00\x19spBv1.0/Plant/NDATA/Valve2";
 
-static USER: &[u8] = b"\x10\x1d\x00\x04MQTT\x04\xc2\x00<\x00\x03any\x00\x04pump\x00\x06secret";
+const USER: &[u8] = b"\x10\x1d\x00\x04MQTT\x04\xc2\x00<\x00\x03any\x00\x04pump\x00\x06secret";
 
-static WRONG: &[u8] = b"\x10\x1d\x00\x04MQTT\x04\xc2\x00<\x00\x03any\x00\x04pump\x00\x06Secret";
+const WRONG: &[u8] = b"\x10\x1d\x00\x04MQTT\x04\xc2\x00<\x00\x03any\x00\x04pump\x00\x06Secret";
 
-static NOBODY: &[u8] = b"\x10\x0f\x00\x04MQTT\x04\x02\x00<\x00\x03any";
+const NOBODY: &[u8] = b"\x10\x0f\x00\x04MQTT\x04\x02\x00<\x00\x03any";
 
 /// SUBSCRIBE to three filters, of which the user may subscribe to the second.
-static THREE: &[u8] =
+const THREE: &[u8] =
     b"\x827\x00\x09\x00\x01#\x00\x00\x17spBv1.0/Plant/NCMD/Pump\x01\x00\x14spBv1.0/Plant/NCMD/+\x02";
 
 /// The user's CONNECT, a SUBSCRIBE to everything, to which he may not subscribe, those three, and PINGREQ, in one piece.
-static ALL: &[u8] =
+const ALL: &[u8] =
     b"\x10\x1d\x00\x04MQTT\x04\xc2\x00<\x00\x03any\x00\x04pump\x00\x06secret\x82\x06\x00\x0a\x00\x01#\x00\x827\x00\x09\x00\x01#\x00\x00\x17spBv1.0/Plant/NCMD/Pump\x01\x00\x14spBv1.0/Plant/NCMD/+\x02\xc0\x00";
 
 /// A socket in memory.
