@@ -1,5 +1,5 @@
 -- What a users' file gives (own rules).
-use Rattle.std.specs.Prelude.{ℕ, List, [], ◌∷◌, Bool, true, not, ◌&&◌, Option, Vec, String, is_none}
+use Rattle.std.specs.Prelude.{ℕ, List, [], ◌∷◌, Bool, true, not, ◌&&◌, ◌==◌, Option, Vec, String, is_none}
 use Rattle.std.specs.List.{list_all, list_any}
 use Rattle.std.specs.Option.{option_map_or}
 use Rattle.std.specs.Str.{bytes_eq}
@@ -33,6 +33,13 @@ some_is_node node = option_map_or is_node node true
 -- the name of a host, or nothing is said
 abbrev pub some_is_host : Option (String Global) → Bool
 some_is_host host = option_map_or (λ h. is_short_name (string_bytes h)) host true
+
+-- no colon is in it: what stands before the first colon of a text tells the name
+abbrev pub is_plain : List ℕ → Bool
+is_plain name = not (list_any (λ c. c == 58) name)
+
+abbrev pub are_plain : List User → Bool
+are_plain users = list_all (λ (u : User). is_plain (string_bytes u.name)) users
 
 abbrev pub has_name : List ℕ → User → Bool
 has_name name u = bytes_eq (string_bytes u.name) name

@@ -4,7 +4,7 @@ ghost use Rattle.std.specs.List.{list_any};
 ghost use Rattle.std.specs.Str.{bytes_eq};
 ghost use Rattle.std.specs.String.{string_bytes};
 ghost use Rattle.spk_door.specs.declared.door.User.{User};
-ghost use Rattle.spk_files.specs.Users.{are_apart, are_filters, is_filter, is_node, some_are_filters, some_is_host, some_is_node};
+ghost use Rattle.spk_files.specs.Users.{are_apart, are_filters, are_plain, is_filter, is_node, is_plain, some_are_filters, some_is_host, some_is_node};
 
 use crate::misfit::{Cause, Misfit, Place};
 use crate::names::{is_name, short_name_of};
@@ -32,18 +32,26 @@ const USER: [&str; 6] = ["user", "password", "node", "host", "publish", "subscri
 
 const PASSWORD: [&str; 3] = ["rounds", "salt", "key"];
 
-/// Whether a text has neither `:` nor a control character.
-fn is_plain(text: &str) -> bool {
-    !text.chars().any(|c| c == ':' || c.is_control())
+/// Whether a text has no colon.
+fn is_plain(text: &str) -> bool
+    ensures { result ≡ is_plain text.now }
+{
+    !text.as_bytes().iter().any(|byte| *byte == b':')
+}
+
+/// Whether a text has a control character.
+fn has_control(text: &str) -> bool {
+    text.chars().any(|c| c.is_control())
 }
 
 /// A user's name.
 fn user_name_of(alloc: Global, part: Part<'_>) -> Result<String, Misfit>
     ensures some { IfOk result (λ name. 1 ≤ length (string_bytes name)) }
     ensures most { IfOk result (λ name. length (string_bytes name) ≤ 256) }
+    ensures plain { IfOk result (λ name. is_plain (string_bytes name) ≡ true) }
 {
     let text = part.text()?;
-    if text.is_empty() || text.len() > MOST_BYTES || !is_plain(text) {
+    if text.is_empty() || text.len() > MOST_BYTES || !is_plain(text) || has_control(text) {
         return Err(part.wrong(Cause::Not(
             "a user's name: 1 to 256 bytes, without `:` and control characters",
         )));
@@ -168,6 +176,7 @@ fn rights_of(alloc: Global, part: Part<'_>) -> Result<Rights, Misfit>
 pub fn user_of(alloc: Global, line: &str) -> Result<User, Misfit>
     ensures some { IfOk result (λ u. 1 ≤ length (string_bytes u.name)) }
     ensures most { IfOk result (λ u. length (string_bytes u.name) ≤ 256) }
+    ensures plain { IfOk result (λ u. is_plain (string_bytes u.name) ≡ true) }
     ensures salted { IfOk result (λ u. 1 ≤ length u.salt.items) }
     ensures salt { IfOk result (λ u. length u.salt.items ≤ 64) }
     ensures least_rounds { IfOk result (λ u. 1 ≤ u.rounds) }
@@ -206,8 +215,9 @@ fn is_there(users: &[User], name: &str) -> bool
 
 /// The user of a line behind others, whose name none of these has.
 fn another_of(alloc: Global, users: &[User], line: &str) -> Result<User, Misfit>
-    ensures { IfOk result (λ another. list_any
+    ensures apart { IfOk result (λ another. list_any
         (λ (u : User). bytes_eq (string_bytes another.name) (string_bytes u.name)) users.now ≡ false) }
+    ensures plain { IfOk result (λ another. is_plain (string_bytes another.name) ≡ true) }
 {
     let user = user_of(alloc, line)?;
     if is_there(users, user.name.as_str()) {
@@ -219,9 +229,10 @@ fn another_of(alloc: Global, users: &[User], line: &str) -> Result<User, Misfit>
 
 /// The users that a file says, a line for each, no two of one name: none where it has no lines. Empty lines, and those that begin with `#`, are
 /// passed over (own rules).
-#[tactic(auto, using(crate::proofs::Apart::apart_push))]
+#[tactic(auto, using(crate::proofs::Apart::apart_push, crate::proofs::Apart::plain_push))]
 pub fn users_of(alloc: Global, text: &str) -> Result<Vec<User>, Misfit>
-    ensures { IfOk result (λ users. are_apart users.items ≡ true) }
+    ensures apart { IfOk result (λ users. are_apart users.items ≡ true) }
+    ensures plain { IfOk result (λ users. are_plain users.items ≡ true) }
 {
     let mut users = Vec::new(alloc);
     for (place, line) in text.lines().enumerate() {
