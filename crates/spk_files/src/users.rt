@@ -1,5 +1,5 @@
 //! A users' file: who comes in, a line for each.
-ghost use Rattle.std.specs.Prelude.{◌≡◌, ◌≤◌, true, false, IfOk, length};
+ghost use Rattle.std.specs.Prelude.{◌≡◌, ◌≤◌, ◌==◌, true, false, IfOk, length};
 ghost use Rattle.std.specs.List.{list_any};
 ghost use Rattle.std.specs.Str.{bytes_eq};
 ghost use Rattle.std.specs.String.{string_bytes};
@@ -32,11 +32,18 @@ const USER: [&str; 6] = ["user", "password", "node", "host", "publish", "subscri
 
 const PASSWORD: [&str; 3] = ["rounds", "salt", "key"];
 
+/// Whether a colon is among these bytes.
+fn has_colon(bytes: &[u8]) -> bool
+    ensures { result ≡ list_any (λ c. c == 58) bytes.now }
+{
+    bytes.iter().any(|byte| *byte == b':')
+}
+
 /// Whether a text has no colon.
 fn is_plain(text: &str) -> bool
     ensures { result ≡ is_plain text.now }
 {
-    !text.as_bytes().iter().any(|byte| *byte == b':')
+    !has_colon(text.as_bytes())
 }
 
 /// Whether a text has a control character.
