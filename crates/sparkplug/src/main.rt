@@ -16,7 +16,7 @@ use spk_programs::{run_edge, run_host};
 use std::alloc::{AllocError, Global};
 use std::env::VarError;
 use std::fs::File;
-use std::io::IsTerminal;
+use std::io::{IsTerminal, Write};
 use std::process::ExitCode;
 use std::{env, io};
 
@@ -75,13 +75,13 @@ const RANDOM: &str = "/dev/urandom";
 
 /// Makes a line of a users' file, of a password in standard input and of random bytes.
 fn make_line(rt: &HostRuntime, plan: PasswdPlan) -> io::Result<u8> {
+    let mut notes = rt.stderr();
     let Ok(mut random) = File::open(rt, RANDOM) else {
-        println!(rt; "fault BadFile (98)")?;
+        let _ = writeln!(notes, "fault BadFile (98)");
         return Ok(1);
     };
     let mut input = rt.stdin();
     let mut writer = io::writer(rt);
-    let mut notes = rt.stderr();
     let status = passwd(
         rt.alloc(),
         plan,

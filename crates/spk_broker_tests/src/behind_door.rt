@@ -311,3 +311,53 @@ fn two_clients_behind_a_door_get_what_is_theirs(rt: HostRuntime) -> Result<(), F
     }
     Ok(())
 }
+
+/// The user's CONNECT under another client identifier.
+const FIRST: &[u8] = b"\x10\x1d\x00\x04MQTT\x04\xc2\x00<\x00\x03one\x00\x04pump\x00\x06secret";
+
+/// How many of three clients were told something by now.
+fn told(loops: &mut Behind<'_>, conns: &[Conn; 3]) -> Option<usize> {
+    let mut count = 0usize;
+    for conn in conns {
+        if !loops.rounds.port(*conn)?.port().got.is_empty() {
+            count = count.saturating_add(1);
+        }
+    }
+    Some(count)
+}
+
+/// A client who came in sends PINGREQ, its socket takes writes, and a round goes by: how many bytes it got by then.
+fn pings(loops: &mut Behind<'_>, conn: Conn) -> Option<usize> {
+    loops.rounds.port(conn)?.port().writes = 0;
+    loops.send(conn, b"\xc0\x00");
+    loops.turn(conn)?;
+    Some(loops.rounds.port(conn)?.port().got.len())
+}
+
+#[test]
+fn of_those_who_log_in_one_is_read_in_a_round(rt: HostRuntime) -> Result<(), Fail> {
+    let alloc = rt.alloc();
+    let door = door(alloc, true).expect(&rt, "a door");
+    let mut loops = Behind {
+        door: &door,
+        rounds: Rounds::new(alloc).expect(&rt, "a loop"),
+    };
+    let inside = loops.come(alloc, 100).expect(&rt, "a client");
+    loops.send(inside, FIRST);
+    loops.turn(inside).expect(&rt, "a round");
+    let mut conns = [inside; 3];
+    for conn in conns.iter_mut() {
+        *conn = loops.come(alloc, 100).expect(&rt, "a client");
+        loops.send(*conn, WRONG);
+        loops.rounds.may_read(*conn, false);
+    }
+    for round in 1..=3usize {
+        assert_eq!(rt;
+            pings(&mut loops, inside),
+            Some(4 + 2 * round),
+            "in round {round}"
+        );
+        assert_eq!(rt; told(&mut loops, &conns), Some(round), "in round {round}");
+    }
+    Ok(())
+}

@@ -89,12 +89,14 @@ fn is_front(held: &[u8], whole: &[u8], room: usize) -> bool {
 /// What a run comes to that isn't refused memory. Where one is, it is made again, and None where what it printed before isn't right.
 fn run<R: AllocGlobal>(rt: &R, asked: &Asked<'_>) -> Result<Option<Ran>, AllocError> {
     let first = once(rt, asked)?;
-    if !is_refused(first.held.as_slice()) {
+    // that of `passwd` is noted
+    let is_noted = first.held.is_empty() && first.notes.ends_with(REFUSED);
+    if !is_noted && !is_refused(first.held.as_slice()) {
         return Ok(Some(first));
     }
     let again = once(rt, asked)?;
     let is_right = first.end.as_str() == "over 1"
-        && is_front(first.held.as_slice(), again.held.as_slice(), asked.room);
+        && (is_noted || is_front(first.held.as_slice(), again.held.as_slice(), asked.room));
     Ok(if is_right { Some(again) } else { None })
 }
 

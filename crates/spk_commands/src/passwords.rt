@@ -227,7 +227,7 @@ fn print<W: Write>(out: &mut W, line: &str) -> io::Result<u8> {
 
 /// Makes the line of a users' file of this user, of a password, which is the first line of the input, without its line feed and a carriage return before
 /// that (1 to 65,535 bytes), and of a salt, which is 16 bytes that `salts` gives, and prints it; answers the status. A password that is empty or
-/// too long is BadPlan, and noted; a reader that fails is BadFile.
+/// too long is BadPlan, a reader that fails is BadFile. A fault is noted, so that nothing of it stands among the lines.
 pub fn passwd<I: Read, S: Read, W: Write, N: Write>(
     alloc: Global,
     plan: PasswdPlan,
@@ -236,9 +236,11 @@ pub fn passwd<I: Read, S: Read, W: Write, N: Write>(
     out: &mut W,
     notes: &mut N,
 ) -> u8 {
-    let ended = match made(alloc, plan, input, salts, notes) {
-        Ok(line) => print(out, line.as_str()),
-        Err(stop) => ending(out, stop),
-    };
-    ended.unwrap_or(1)
+    match made(alloc, plan, input, salts, notes) {
+        Ok(line) => print(out, line.as_str()).unwrap_or(1),
+        Err(stop) => {
+            let _ = ending(notes, stop);
+            1
+        }
+    }
 }

@@ -195,11 +195,26 @@ fn planned<F: Files, N: Write>(
     }
 }
 
+/// Whether these words ask for a line of a users' file.
+fn makes_line(words: &[&str]) -> bool {
+    words.get(1).copied() == Some("passwd")
+}
+
+/// The end of a command whose lines are all for a file: why there is none is noted.
+fn noted<N: Write>(notes: &mut N, stop: Stop) -> Outcome {
+    let status = match &stop {
+        Stop::Words(_, status) => *status,
+        Stop::Fault(_) | Stop::Writer => 1,
+    };
+    let _ = ending(notes, stop);
+    Outcome::Over(status)
+}
+
 /// `passwd`: the user of whom a line is to be made.
-fn lined(alloc: Global, given: &ArgMatches<'_>) -> Result<Outcome, Stop> {
+fn lined<N: Write>(alloc: Global, given: &ArgMatches<'_>, notes: &mut N) -> Outcome {
     match passwd_plan(alloc, given) {
-        Ok(plan) => Ok(Outcome::Passwd(plan)),
-        Err(stop) => Err(stop),
+        Ok(plan) => Outcome::Passwd(plan),
+        Err(stop) => noted(notes, stop),
     }
 }
 
@@ -257,7 +272,7 @@ fn chosen<F: Files, W: Write, N: Write>(
         return serving(alloc, given, files, notes);
     }
     if let Some(given) = matches.subcommand_matches("passwd") {
-        return lined(alloc, given);
+        return Ok(lined(alloc, given, notes));
     }
     if let Some(given) = matches.subcommand_matches("edge") {
         return edge(alloc, given, files, notes);
@@ -280,7 +295,10 @@ fn command<F: Files, W: Write, N: Write>(
 ) -> Result<Outcome, Stop> {
     match command_line(alloc)?.try_get_matches_from(words) {
         Ok(matches) => chosen(alloc, &matches, files, out, notes),
-        Err(error) => Err(refusal(alloc, &error)?),
+        Err(error) => match refusal(alloc, &error)? {
+            Stop::Words(text, 2) if makes_line(words) => Ok(noted(notes, Stop::Words(text, 2))),
+            stop => Err(stop),
+        },
     }
 }
 
@@ -318,7 +336,7 @@ fn buffered<F: Files, W: Write + Drop, N: Write>(
 
 /// Runs the program on its words, the first of which is its own name, and answers its status: 0 where the work was
 /// done or help was asked for, 1 at a fault, which is printed as `fault NAME (number)`, or where the writer failed,
-/// 2 where the words aren't a command. All texts go to the writer. Words that ask to serve clients are answered with
+/// 2 where the words aren't a command. All texts go to the writer, but for what refuses words of `passwd`, whose lines are for a file: that is noted. Words that ask to serve clients are answered with
 /// the port and the number of clients: `serve_clients` does that, and for words that ask to make a line of a users' file
 /// `passwd`. Words that ask to run a plant, an edge node or a host application
 /// are answered with its plan: `plant` and `spk_programs` do that. So are words that ask to read a history.

@@ -10,9 +10,11 @@ use Rattle.spk_history.specs.declared.entry.SessionEvent.TheVariants as sessions
 use Rattle.spk_history.specs.declared.entry.Ending.{Ending}
 use Rattle.spk_history.specs.declared.entry.Ending.TheVariants as endings
 use Rattle.spk_history.specs.Entry.{KindData, NodeData, DeviceBirth, DeviceData, DeviceDeath, EntryData, Session, Node, Birth, Death, Gap, Hole, Message}
-use Rattle.spk_history.specs.Reading.{◌>>=◌, birth_at, death_at, eight_at, ended, entry_at, entry_of, four_at, gap_at, head_at, hole_at, kind_at, message_at, name_at, name_of, node_at, one_at, pair_at, session_at, two_at}
-use Rattle.spk_history.specs.Record.{HasDevice, HasTexts, HasWords, IsText, content, counted, device_part, eight, four, hole_code, kind_code, session_code, two}
-use Rattle.spk_history.proofs.Numbers.{IsBytes, IsBytes-behind, IsBytes-rest, eight_again, eight_takes, four_again, four_takes, two_again, two_takes}
+use Rattle.spk_frames.specs.Reading.{◌>>=◌, eight_at, ended, four_at, name_at, name_of, one_at, two_at}
+use Rattle.spk_history.specs.Reading.{birth_at, death_at, entry_at, entry_of, gap_at, head_at, hole_at, kind_at, message_at, node_at, pair_at, session_at}
+use Rattle.spk_frames.specs.Numbers.{counted, eight, four, two}
+use Rattle.spk_history.specs.Record.{HasDevice, HasTexts, HasWords, IsText, content, device_part, hole_code, kind_code, session_code}
+use Rattle.spk_frames.proofs.Numbers.{IsBytes, IsBytes-behind, IsBytes-rest, eight_again, eight_takes, four_again, four_takes, two_again, two_takes}
 
 bind : {A B : Type 0} (o : Option A) (f : A → Option B) (y : B) → (o >>= f) ≡ Some y → (x : A) × (o ≡ Some x) × (f x ≡ Some y)
 bind None f y e = absurd cc

@@ -4,12 +4,14 @@ use Rattle.spk_history.specs.Entry.{EntryData}
 use Rattle.spk_history.specs.File.{HasNoRecord, IsTorn}
 use Rattle.spk_history.specs.Frame.{IsFramed}
 use Rattle.spk_history.specs.Reading.{entry_at}
-use Rattle.spk_history.specs.Record.{IsEntry, content, four, framed, most, record_of}
-use Rattle.spk_history.specs.Sum.{crc32}
+use Rattle.spk_frames.specs.Numbers.{four}
+use Rattle.spk_frames.specs.Frame.{framed}
+use Rattle.spk_history.specs.Record.{IsEntry, content, most, record_of}
+use Rattle.spk_frames.specs.Sum.{crc32}
 use Rattle.spk_history.proofs.Contents.{entry_again, entry_takes}
 use Rattle.spk_history.proofs.Framing.{framed_parts, framed_same, framed_stands}
-use Rattle.spk_history.proofs.Lengths.{length-framed}
-use Rattle.spk_history.proofs.Numbers.{IsBytes, IsBytes-before, IsBytes-behind}
+use Rattle.spk_frames.proofs.Lengths.{length-framed}
+use Rattle.spk_frames.proofs.Numbers.{IsBytes, IsBytes-before, IsBytes-behind}
 
 content_fits : (bytes c : List ℕ) → IsBytes bytes → IsFramed bytes c → IsBytes c
 content_fits bytes c fits f =

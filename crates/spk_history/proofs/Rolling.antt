@@ -5,7 +5,7 @@ use Rattle.spk_history.specs.Entry.{EntryData, Session, Node, Birth, Death, Gap,
 use Rattle.spk_history.specs.File.{AreEntries, file_of, head, records_of}
 use Rattle.spk_history.specs.Parts.{AreNamed, PartsData, Stands, is_full, is_over, named}
 use Rattle.spk_history.specs.Record.{IsEntry, content, record_of}
-use Rattle.spk_history.proofs.Lengths.{length-framed}
+use Rattle.spk_frames.proofs.Lengths.{length-framed}
 use Rattle.spk_history.proofs.Walks.{fit_more}
 use Rattle.spk_history.proofs.Whole.{records_join}
 

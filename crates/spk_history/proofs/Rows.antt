@@ -5,8 +5,10 @@ use Rattle.spk_history.specs.declared.entry.Ending.TheVariants as endings
 use Rattle.spk_history.specs.declared.entry.SessionEvent.TheVariants as sessions
 use Rattle.spk_history.specs.Entry.{NodeData, DeviceData, Session, Node, Birth, Death, Gap, Hole, Message}
 use Rattle.spk_history.specs.File.{file_of, head}
-use Rattle.spk_history.specs.Record.{content, counted, eight, four, framed, record_of, two}
-use Rattle.spk_history.specs.Sum.{crc32, eight_steps}
+use Rattle.spk_frames.specs.Numbers.{counted, eight, four, two}
+use Rattle.spk_frames.specs.Frame.{framed}
+use Rattle.spk_history.specs.Record.{content, record_of}
+use Rattle.spk_frames.specs.Sum.{crc32, eight_steps}
 
 -- the check value of CRC-32 in catalogues of sums, and those of nothing, of `a`, and of 32 bytes 255
 pub sums : (crc32 (codes "123456789") ≡ 0xcbf4_3926) × (crc32 [] ≡ 0) × (crc32 (codes "a") ≡ 0xe8b7_be43) × (crc32 (replicate 32 255) ≡ 0xff6c_ab0b)

@@ -1,8 +1,9 @@
 -- How long a content is.
 use Rattle.std.proofs.Common.{◌<◌, ◌≤◌, ◌^◌, [], ◌∷◌, ◌++◌, length, length-append, arith}
 use Rattle.spk_history.specs.Entry.{KindData, NodeData, DeviceBirth, DeviceData, DeviceDeath, EntryData, Session, Node, Birth, Death, Gap, Hole, Message}
-use Rattle.spk_history.specs.Record.{HasDevice, HasTexts, content, counted, device_part, eight, four, most, payload_of}
-use Rattle.spk_history.proofs.Lengths.{length-counted, length-eight, length-four}
+use Rattle.spk_frames.specs.Numbers.{counted, eight, four}
+use Rattle.spk_history.specs.Record.{HasDevice, HasTexts, content, device_part, most, payload_of}
+use Rattle.spk_frames.proofs.Lengths.{length-counted, length-eight, length-four}
 
 device_short : (kind : KindData) → HasDevice kind → length (device_part kind) ≤ 65537
 device_short NodeData has = omega arith

@@ -8,7 +8,7 @@ use Rattle.spk_history.specs.Reading.{entry_at}
 use Rattle.spk_history.specs.Record.{IsEntry, content, record_of}
 use Rattle.spk_history.proofs.Contents.{entry_again}
 use Rattle.spk_history.proofs.Framing.{framed_same}
-use Rattle.spk_history.proofs.Lengths.{length-framed}
+use Rattle.spk_frames.proofs.Lengths.{length-framed}
 
 -- one entry at the front of bytes
 pub record_is : (e f : EntryData) (x y : List ℕ) → IsEntry e → IsEntry f → record_of e ++ x ≡ record_of f ++ y → (e ≡ f) × (x ≡ y)

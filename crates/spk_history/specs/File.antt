@@ -1,13 +1,14 @@
 -- What the bytes of a history are, and what stands at the front of bytes that may have been cut off or spoiled (own rules). A file is a head, a line of
 -- text, and then records one behind the other (Record.antt).
-use Rattle.std.specs.Prelude.{◌≡◌, ◌⊎◌, ℕ, ◌+◌, ◌<◌, ◌≤◌, List, [], ◌∷◌, ◌++◌, codes, length}
+use Rattle.std.specs.Prelude.{◌≡◌, ◌⊎◌, ℕ, ◌<◌, List, [], ◌∷◌, ◌++◌, codes, length}
 use Rattle.std.specs.List.{flat_map}
+use Rattle.spk_frames.specs.Frame as frames
 use Rattle.spk_history.specs.declared.reading.Front.{Front}
 use Rattle.spk_history.specs.declared.reading.Front.TheVariants as fronts
 use Rattle.spk_history.specs.declared.reading.Beginning.{Beginning}
 use Rattle.spk_history.specs.declared.reading.Beginning.TheVariants as beginnings
 use Rattle.spk_history.specs.Entry.{EntryData, said}
-use Rattle.spk_history.specs.Record.{IsEntry, four, most, record_of}
+use Rattle.spk_history.specs.Record.{IsEntry, most, record_of}
 
 -- the line that a file begins with, and its end
 unfoldable pub head : List ℕ
@@ -30,9 +31,9 @@ HasNoRecord bytes = (e : EntryData) (rest : List ℕ) → IsEntry e → bytes �
 
 -- ---- the front of bytes behind the head
 
--- A record is cut off: too few bytes for its length, or for its content and sum behind a length that a content may have.
+-- a record is cut off: too few bytes for its length, or for its content and sum behind a length that a content may have
 abbrev pub IsTorn : List ℕ → Type 0
-IsTorn bytes = (0 < length bytes) × ((length bytes < 4) ⊎ ((n : ℕ) × (rest : List ℕ) × (n ≤ most) × (bytes ≡ four n ++ rest) × (length rest < n + 4)))
+IsTorn bytes = frames.IsTorn most bytes
 
 -- What stands at the front: the record of an entry, with as many bytes as it has; nothing; a torn record; or something else.
 abbrev pub IsFront : List ℕ → Front → Type 0

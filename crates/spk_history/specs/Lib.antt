@@ -6,4 +6,3 @@ pub mod Frame
 pub mod Parts
 pub mod Reading
 pub mod Record
-pub mod Sum

@@ -18,29 +18,14 @@
 --
 -- A text is UTF-8, behind its length in two bytes.
 use Rattle.std.specs.Prelude.{ℕ, ◌<◌, ◌≤◌, ◌^◌, List, [], ◌∷◌, ◌++◌, length}
-use Rattle.std.specs.Int.{w16, w32, w64, to_le_bytes}
 use Rattle.std.specs.Str.{IsUtf8}
 use Rattle.spk_history.specs.declared.entry.SessionEvent.{SessionEvent}
 use Rattle.spk_history.specs.declared.entry.SessionEvent.TheVariants as sessions
 use Rattle.spk_history.specs.declared.entry.Ending.{Ending}
 use Rattle.spk_history.specs.declared.entry.Ending.TheVariants as endings
 use Rattle.spk_history.specs.Entry.{KindData, NodeData, DeviceBirth, DeviceData, DeviceDeath, EntryData, Session, Node, Birth, Death, Gap, Hole, Message}
-use Rattle.spk_history.specs.Sum.{crc32}
-
--- ---- parts
-
-unfoldable pub two : ℕ → List ℕ
-two n = to_le_bytes w16 n
-
-unfoldable pub four : ℕ → List ℕ
-four n = to_le_bytes w32 n
-
-unfoldable pub eight : ℕ → List ℕ
-eight n = to_le_bytes w64 n
-
--- bytes behind their length
-unfoldable pub counted : List ℕ → List ℕ
-counted bytes = two (length bytes) ++ bytes
+use Rattle.spk_frames.specs.Frame.{framed}
+use Rattle.spk_frames.specs.Numbers.{counted, eight, four}
 
 -- ---- a content
 
@@ -80,10 +65,6 @@ content (Message at node kind seq payload) = kind_code kind ∷ (eight at ++ (fo
 -- the most bytes of a content: a DDATA with a device's name of 65,535 bytes and a payload of 268,435,455
 abbrev pub most : ℕ
 most = 268501006
-
--- a content with its length and its sum
-unfoldable pub framed : List ℕ → List ℕ
-framed bytes = four (length bytes) ++ (bytes ++ four (crc32 bytes))
 
 abbrev pub record_of : EntryData → List ℕ
 record_of e = framed (content e)

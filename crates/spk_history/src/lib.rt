@@ -8,11 +8,8 @@ mod fault;
 pub mod laws;
 mod parse;
 mod parts;
-mod pieces;
 mod reading;
 mod size;
-mod sum;
-mod table;
 #[cfg(test)]
 mod tests;
 mod write;

@@ -1,12 +1,13 @@
 //! The entry that a content is (`specs/Record.antt`).
 ghost use Rattle.std.specs.Prelude.{◌≡◌, ◌<◌, ◌≤◌};
 ghost use Rattle.spk_history.specs.Entry.{kind_of, said};
-ghost use Rattle.spk_history.specs.Reading.{Gives, birth_at, death_at, entry_at, entry_of, gap_at, head_at, hole_at, kind_at, message_at, node_at, pair_at, session_at};
+ghost use Rattle.spk_frames.specs.Reading.{Gives};
+ghost use Rattle.spk_history.specs.Reading.{birth_at, death_at, entry_at, entry_of, gap_at, head_at, hole_at, kind_at, message_at, node_at, pair_at, session_at};
 
 use crate::entry::{Ending, Entry, Kind, SessionEvent};
-use crate::pieces::{eight, four, name, one};
+use spk_frames::{eight, four, name, one};
 
-#[tactic(auto, unfolding(crate::specs::Reading::session_at, crate::specs::Reading::ended))]
+#[tactic(auto, unfolding(crate::specs::Reading::session_at, spk_frames::specs::Reading::ended))]
 fn session(what: SessionEvent, bytes: &[u8]) -> Option<Entry<'_>>
     ensures { Gives said result (session_at what bytes.now) }
 {
@@ -14,7 +15,7 @@ fn session(what: SessionEvent, bytes: &[u8]) -> Option<Entry<'_>>
     rest.is_empty().then_some(Entry::Session { at, what })
 }
 
-#[tactic(auto, unfolding(crate::specs::Reading::node_at, crate::specs::Reading::ended))]
+#[tactic(auto, unfolding(crate::specs::Reading::node_at, spk_frames::specs::Reading::ended))]
 fn node(bytes: &[u8]) -> Option<Entry<'_>>
     ensures { Gives said result (node_at bytes.now) }
 {
@@ -50,7 +51,7 @@ fn birth(bytes: &[u8]) -> Option<Entry<'_>>
     })
 }
 
-#[tactic(auto, unfolding(crate::specs::Reading::death_at, crate::specs::Reading::ended))]
+#[tactic(auto, unfolding(crate::specs::Reading::death_at, spk_frames::specs::Reading::ended))]
 fn death(bytes: &[u8]) -> Option<Entry<'_>>
     ensures { Gives said result (death_at bytes.now) }
 {
@@ -69,7 +70,7 @@ fn pair(bytes: &[u8]) -> Option<((u64, u64), &[u8])>
     Some(((first, second), rest))
 }
 
-#[tactic(auto, unfolding(crate::specs::Reading::gap_at, crate::specs::Reading::ended))]
+#[tactic(auto, unfolding(crate::specs::Reading::gap_at, spk_frames::specs::Reading::ended))]
 fn gap(bytes: &[u8]) -> Option<Entry<'_>>
     ensures { Gives said result (gap_at bytes.now) }
 {
@@ -83,7 +84,7 @@ fn gap(bytes: &[u8]) -> Option<Entry<'_>>
     })
 }
 
-#[tactic(auto, unfolding(crate::specs::Reading::hole_at, crate::specs::Reading::ended))]
+#[tactic(auto, unfolding(crate::specs::Reading::hole_at, spk_frames::specs::Reading::ended))]
 fn hole(ended_by: Ending, bytes: &[u8]) -> Option<Entry<'_>>
     ensures { Gives said result (hole_at ended_by bytes.now) }
 {

@@ -65,7 +65,7 @@ fn len_with(len: usize, size: usize, most: usize, has_record: bool) -> Option<us
 }
 
 /// Makes room for the record of an entry, of this size, if it names a node.
-#[tactic(auto, using(crate::proofs::Lengths::lengths))]
+#[tactic(auto, using(spk_frames::proofs::Lengths::lengths))]
 fn reserve_named(nodes: &mut Vec<u8>, entry: &Entry, size: usize) -> Result<(), AllocError>
     requires { size ≡ length (record_of (said entry.now)) }
     ensures items { nodes.new.items ≡ nodes.old.items }

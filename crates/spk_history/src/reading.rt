@@ -1,13 +1,11 @@
 //! What stands at the front of bytes that may have been cut off or spoiled.
 ghost use Rattle.std.specs.Prelude.{◌≡◌, ◌<◌, ◌≤◌};
 ghost use Rattle.spk_history.specs.File.{IsFront, IsBeginning, head};
-ghost use Rattle.spk_history.specs.Frame.{IsFrame};
 
 use crate::entry::Entry;
 use crate::parse::entry;
-use crate::pieces::four;
 use crate::size::MOST_CONTENT;
-use crate::sum::crc32;
+use spk_frames::{Framed, frame};
 
 /// The line that a history file begins with, and its end.
 pub const HEAD: &[u8; 19] = b"Juldremm history 1\n";
@@ -36,15 +34,6 @@ pub enum Front<'a> {
     Broken,
 }
 
-/// A content with its length and its sum, as `Front`.
-#[derive(Clone, Copy)]
-pub(crate) enum Framed<'a> {
-    Content(&'a [u8]),
-    End,
-    Torn,
-    Broken,
-}
-
 /// Whether bytes begin with the head, and what stands behind it.
 pub fn head(bytes: &[u8]) -> Beginning<'_>
     ensures { IsBeginning bytes.now result }
@@ -58,40 +47,12 @@ pub fn head(bytes: &[u8]) -> Beginning<'_>
     }
 }
 
-/// The content at the front.
-fn frame(bytes: &[u8]) -> Framed<'_>
-    ensures { IsFrame bytes.now result }
-{
-    if bytes.is_empty() {
-        return Framed::End;
-    }
-    let Some((len, rest)) = four(bytes) else {
-        return Framed::Torn;
-    };
-    let len = len as usize;
-    if len > MOST_CONTENT {
-        return Framed::Broken;
-    }
-    if rest.len() < len + 4 {
-        return Framed::Torn;
-    }
-    let (content, behind) = rest.split_at(len);
-    let Some((sum, _)) = four(behind) else {
-        unreachable!()
-    };
-    if sum == crc32(content) {
-        Framed::Content(content)
-    } else {
-        Framed::Broken
-    }
-}
-
 /// What stands at the front of bytes behind the head: the record of an entry, which is borrowed from them, nothing, a record that is cut off, or
 /// something else. Linear in the record.
 pub fn read(bytes: &[u8]) -> Front<'_>
     ensures { IsFront bytes.now result }
 {
-    match frame(bytes) {
+    match frame(bytes, MOST_CONTENT as u32) {
         Framed::Content(content) => match entry(content) {
             Some(entry) => Front::Record {
                 entry,

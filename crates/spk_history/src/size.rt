@@ -27,7 +27,7 @@ fn name_size(name: &str) -> Result<usize, HistoryFault>
 }
 
 /// How many bytes the device's name takes, where there is one.
-#[tactic(auto, using(crate::proofs::Lengths::lengths))]
+#[tactic(auto, using(spk_frames::proofs::Lengths::lengths))]
 fn device_size(kind: &Kind) -> Result<usize, HistoryFault>
     ensures size { IfOk result (λ n. (n ≡ length (device_part (kind_of kind.now))) × (n < 65538)) }
     ensures fits { OnOk result (HasDevice (kind_of kind.now)) }
@@ -58,7 +58,7 @@ fn whole_size(front: usize, payload: &[u8]) -> Result<usize, HistoryFault>
 }
 
 /// How many bytes the content of an entry has. Refused as `append` says.
-#[tactic(auto, using(crate::proofs::Lengths::lengths), unfolding(crate::specs::Record::content, crate::specs::Record::HasTexts, crate::specs::Fault::has_long_name))]
+#[tactic(auto, using(spk_frames::proofs::Lengths::lengths), unfolding(crate::specs::Record::content, crate::specs::Record::HasTexts, crate::specs::Fault::has_long_name))]
 pub(crate) fn content_size(entry: &Entry) -> Result<usize, HistoryFault>
     ensures size { IfOk result (λ n. (n ≡ length (content (said entry.now))) × (n ≤ most)) }
     ensures texts { OnOk result (HasTexts (said entry.now)) }

@@ -1,8 +1,8 @@
-use crate::sum::crc32;
 use crate::{
     Beginning, Ending, Entries, Entry, Front, HEAD, HistoryFault, Kind, Parts, SessionEvent,
     append, head, read,
 };
+use spk_frames::crc32;
 use std::alloc::Global;
 use std::test::Fail;
 

@@ -2,12 +2,13 @@
 ghost use Rattle.std.specs.Prelude.{◌≡◌, ◌<◌, ◌≤◌, ◌^◌, ◌+◌, ◌++◌, [], ◌∷◌, length, IfErr, OnOk, OnErr, vec_len, vec_capacity};
 ghost use Rattle.spk_history.specs.Entry.{kind_of, said};
 ghost use Rattle.spk_history.specs.Fault.{IsRefusedFor};
-ghost use Rattle.spk_history.specs.Record.{HasDevice, HasTexts, HasWords, IsEntry, content, counted, device_part, eight, four, hole_code, kind_code, record_of, session_code, two};
+ghost use Rattle.spk_frames.specs.Numbers.{counted, eight, four, two};
+ghost use Rattle.spk_history.specs.Record.{HasDevice, HasTexts, HasWords, IsEntry, content, device_part, hole_code, kind_code, record_of, session_code};
 
 use crate::entry::{Ending, Entry, Kind, SessionEvent};
 use crate::fault::HistoryFault;
 use crate::size::content_size;
-use crate::sum::crc32;
+use spk_frames::crc32;
 
 /// Bytes at the end, where there is room for them.
 #[inline(always)]
@@ -35,7 +36,7 @@ fn put_one(out: &mut Vec<u8>, n: u8)
 }
 
 #[inline(always)]
-#[tactic(auto, unfolding(crate::specs::Record::two))]
+#[tactic(auto, unfolding(spk_frames::specs::Numbers::two))]
 fn put_two(out: &mut Vec<u8>, n: u16)
     requires { vec_len out.old + 2 ≤ vec_capacity out.old }
     ensures items { out.new.items ≡ out.old.items ++ two n }
@@ -46,7 +47,7 @@ fn put_two(out: &mut Vec<u8>, n: u16)
 }
 
 #[inline(always)]
-#[tactic(auto, unfolding(crate::specs::Record::four))]
+#[tactic(auto, unfolding(spk_frames::specs::Numbers::four))]
 fn put_four(out: &mut Vec<u8>, n: u32)
     requires { vec_len out.old + 4 ≤ vec_capacity out.old }
     ensures items { out.new.items ≡ out.old.items ++ four n }
@@ -58,7 +59,7 @@ fn put_four(out: &mut Vec<u8>, n: u32)
 }
 
 #[inline(always)]
-#[tactic(auto, unfolding(crate::specs::Record::eight))]
+#[tactic(auto, unfolding(spk_frames::specs::Numbers::eight))]
 fn put_eight(out: &mut Vec<u8>, n: u64)
     requires { vec_len out.old + 8 ≤ vec_capacity out.old }
     ensures items { out.new.items ≡ out.old.items ++ eight n }
@@ -70,7 +71,7 @@ fn put_eight(out: &mut Vec<u8>, n: u64)
 }
 
 /// A name behind its length.
-#[tactic(auto, unfolding(crate::specs::Record::counted))]
+#[tactic(auto, unfolding(spk_frames::specs::Numbers::counted))]
 fn put_name(out: &mut Vec<u8>, name: &str)
     requires short { length name.now < 2 ^ 16 }
     requires room { vec_len out.old + (2 + length name.now) ≤ vec_capacity out.old }
@@ -96,7 +97,7 @@ fn put_head(out: &mut Vec<u8>, code: u8, at: u64, node: u32)
 }
 
 /// The device's name, where there is one.
-#[tactic(auto, using(crate::proofs::Lengths::lengths))]
+#[tactic(auto, using(spk_frames::proofs::Lengths::lengths))]
 fn put_device(out: &mut Vec<u8>, kind: &Kind)
     requires short { HasDevice (kind_of kind.now) }
     requires room { vec_len out.old + length (device_part (kind_of kind.now)) ≤ vec_capacity out.old }
@@ -160,7 +161,7 @@ fn put_hole(out: &mut Vec<u8>, node: u32, from: u64, to: u64, missing: u64, unus
 }
 
 /// The content of an entry.
-#[tactic(auto, using(crate::proofs::Lengths::lengths), unfolding(crate::specs::Record::content, crate::specs::Record::HasWords, crate::specs::Record::HasTexts))]
+#[tactic(auto, using(spk_frames::proofs::Lengths::lengths), unfolding(crate::specs::Record::content, crate::specs::Record::HasWords, crate::specs::Record::HasTexts))]
 fn put_content(out: &mut Vec<u8>, entry: &Entry)
     requires texts { HasTexts (said entry.now) }
     requires room { vec_len out.old + length (content (said entry.now)) ≤ vec_capacity out.old }
@@ -234,7 +235,7 @@ fn put_content(out: &mut Vec<u8>, entry: &Entry)
 
 /// Puts the record of an entry behind what stands in `out`, which grows once at most. Refused with LongName (123) where a name has more than 65,535
 /// bytes, else with LongRecord (124) where the content would have more than 268,501,006; then, and where memory is refused, `out` is as it was.
-#[tactic(auto, unfolding(crate::specs::Record::framed))]
+#[tactic(auto, unfolding(spk_frames::specs::Frame::framed))]
 pub fn append(entry: &Entry, out: &mut Vec<u8>) -> Result<(), HistoryFault>
     ensures put { OnOk result (out.new.items ≡ out.old.items ++ record_of (said entry.now)) }
     ensures fits { OnOk result (IsEntry (said entry.now)) }

@@ -67,6 +67,13 @@ impl Port for Client<'_> {
         }
     }
 
+    fn may_log_in(&self) -> bool {
+        match self {
+            Client::Plain(_) => false,
+            Client::Guarded(guarded) => guarded.may_log_in(),
+        }
+    }
+
     fn shut(&mut self) {
         match self {
             Client::Plain(stream) => stream.shut(),

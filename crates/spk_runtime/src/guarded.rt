@@ -247,6 +247,10 @@ impl<P: Port> Port for Guarded<'_, P> {
         self.barred
     }
 
+    fn may_log_in(&self) -> bool {
+        !self.inside && !self.barred && self.door.users.is_some()
+    }
+
     fn shut(&mut self) {
         let _ = self.flush();
         self.port.shut();

@@ -33,6 +33,11 @@ pub trait Port: Drop {
         false
     }
 
+    /// Whether what it sends next may be a password, which takes a while to try.
+    fn may_log_in(&self) -> bool {
+        false
+    }
+
     /// Reading and writing are over.
     fn shut(&mut self);
 }

@@ -140,18 +140,35 @@ impl<P: Port> Rounds<P> {
         }
     }
 
-    /// Reads each client that is ready once; who waits for another stays ready. Whether one is left that may be read at once.
+    /// Whether what a client sends next may be a password.
+    fn may_log_in(&self, conn: Conn) -> bool {
+        match self.lines.get(&conn) {
+            Some(line) => line.port.may_log_in(),
+            None => false,
+        }
+    }
+
+    /// Reads each client that is ready once; who waits for another stays ready. Of those who may log in one is read, so that however many
+    /// come, the others wait for one password at most (own rule). Whether one is left that may be read at once.
     pub(crate) fn read_all(&mut self, now: u64) -> Result<bool, ServerFault> {
         let mut left = false;
+        let mut logs_in = false;
         for _ in 0..self.ready.len() {
             let Some(conn) = self.ready.pop_front() else {
                 break;
             };
+            let is_login = self.may_log_in(conn);
             if self.server.is_held(conn) {
                 let _ = self.ready.push_back(conn);
-            } else if self.read(conn, now)? {
+            } else if is_login && logs_in {
                 left = true;
                 let _ = self.ready.push_back(conn);
+            } else {
+                logs_in = logs_in || is_login;
+                if self.read(conn, now)? {
+                    left = true;
+                    let _ = self.ready.push_back(conn);
+                }
             }
         }
         Ok(left)

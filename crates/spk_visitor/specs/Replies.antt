@@ -65,6 +65,12 @@ said_later greeted id allowed = if greeted then [] else passed (said_at_once id 
 abbrev pub cuts_of : Replies → List CutData
 cuts_of r = cuts_view r.cuts.items
 
+-- a SUBSCRIBE that was cut is taken back
+pub record IsAsBefore (old new : Replies) (out more : List ℕ) : Type 0 where
+  pub cuts : cuts_of new ≡ cuts_of old
+  pub owes : new.owed.items ≡ old.owed.items
+  pub nothing : more ≡ out
+
 pub record IsPassed (old new : Replies) (out more : List ℕ) : Type 0 where
   pub packet : Message
   pub takes : TakesPacket old.feed packet new.feed

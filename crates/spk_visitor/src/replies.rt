@@ -1,9 +1,12 @@
 //! What goes back to a client.
-ghost use Rattle.std.specs.Prelude.{◌≡◌, ◌++◌, ◌∷◌, [], Bool, List, IfOk, OnErr, OnOk, false};
+ghost use Rattle.std.specs.Prelude.{◌≡◌, ◌≢◌, ◌++◌, ◌∷◌, [], Bool, List, IfErr, IfOk, OnErr, OnOk, false};
 ghost use Rattle.std.specs.Option.{option_map};
+ghost use Rattle.spk_packets.specs.Fault.{IsNamed, first_of};
 ghost use Rattle.spk_packets.specs.Message.{SubAck};
+ghost use Rattle.spk_packets.specs.Refusals.{refusals};
 ghost use Rattle.spk_packets.specs.View.{view};
-ghost use Rattle.spk_visitor.specs.Replies.{IsReplied, awaited, awaited_too, cuts_of, cuts_view, is_any, reply, said_later, said_now, woven, woven_for};
+ghost use Rattle.spk_packets.specs.declared.fault.PacketFault.TheVariants as PacketFault;
+ghost use Rattle.spk_visitor.specs.Replies.{IsAsBefore, IsReplied, awaited, awaited_too, cuts_of, cuts_view, is_any, reply, said_later, said_now, woven, woven_for};
 
 use crate::visitor::put;
 use spk_packets::{Feed, Packet, PacketFault};
@@ -129,13 +132,14 @@ impl Replies {
     }
 
     /// A SUBSCRIBE of this identifier was cut: which of its entries are allowed. Its SUBACK is awaited; where none is allowed the broker sends none, and it is put behind
-    /// `out` at once, or is owed until the broker's first packet went on, which is its CONNACK (section 3.2.0-1). Refused where memory was.
+    /// `out` at once, or is owed until the broker's first packet went on, which is its CONNACK (section 3.2.0-1). Refused where memory was; then all is as before.
     pub fn cut(&mut self, id: u16, allowed: Vec<bool>, out: &mut Vec<u8>) -> Result<(), AllocError>
         ensures out { OnOk result (out.new.items
             ≡ out.old.items ++ said_now self.old.greeted id allowed.items) }
         ensures owes { OnOk result (self.new.owed.items
             ≡ self.old.owed.items ++ said_later self.old.greeted id allowed.items) }
         ensures cuts { OnOk result (cuts_of self.new ≡ awaited_too (cuts_of self.old) id allowed.items) }
+        ensures err { OnErr result (IsAsBefore self.old self.new out.old.items out.new.items) }
         ensures feed { self.new.feed ≡ self.old.feed }
         ensures greeted { self.new.greeted ≡ self.old.greeted }
     {
@@ -153,9 +157,12 @@ impl Replies {
     }
 
     /// Takes the next packet of what the broker sent, if it is whole, and puts what the client gets of it behind `out`: the SUBACK of a SUBSCRIBE that was cut has code
-    /// 128 at the entries that aren't allowed. Behind it stands what is owed. Whether there was one. Refused where memory was, and where no packet stands there.
+    /// 128 at the entries that aren't allowed. Behind it stands what is owed. Whether there was one. Refused where memory was, and where no packet stands there, as
+    /// `Feed::next` refuses; then its client is to be closed.
     pub fn next(&mut self, out: &mut Vec<u8>) -> Result<bool, PacketFault>
-        ensures { IfOk result (λ whole. IsReplied self.old self.new out.old.items out.new.items whole) }
+        ensures ok { IfOk result (λ whole. IsReplied self.old self.new out.old.items out.new.items whole) }
+        ensures refused { IfErr result (λ e. IsNamed e (first_of (refusals self.old.feed))
+            × (e ≢ PacketFault.More)) }
     {
         let Some(packet) = self.feed.next()? else {
             return Ok(false);

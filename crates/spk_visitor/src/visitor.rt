@@ -71,7 +71,8 @@ fn login_of(packet: &[u8]) -> Option<Login<'_>>
 
 /// Appends a packet.
 pub(crate) fn put(alloc: Global, packet: &Packet, out: &mut Vec<u8>) -> Result<(), AllocError>
-    ensures { OnOk result (out.new.items ≡ out.old.items ++ spelling (view packet.now)) }
+    ensures ok { OnOk result (out.new.items ≡ out.old.items ++ spelling (view packet.now)) }
+    ensures err { OnErr result (out.new.items ≡ out.old.items) }
 {
     let Ok(bytes) = encode(alloc, packet) else {
         return Err(AllocError);

@@ -1,0 +1,13 @@
+//! Laws of the definitions alone: functions that do nothing, whose contracts speak of definitions.
+ghost use Rattle.std.specs.Prelude.{◌≡◌, List, ℕ};
+ghost use Rattle.spk_broker_rules.specs.Plan.{Event};
+ghost use Rattle.spk_broker_events.specs.Record.{Says};
+
+use spk_packets::laws;
+
+/// No content says two events.
+pub fn one_event()
+    ensures { (bytes : List ℕ) (e f : Event) → Says bytes e → Says bytes f → e ≡ f }
+{
+    laws::prefix_free();
+}

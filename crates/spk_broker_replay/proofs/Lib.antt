@@ -1,0 +1,6 @@
+mod Bare
+mod Ends
+mod Follow
+mod Late
+mod Plans
+mod Timed

@@ -1,0 +1,6 @@
+pub mod Fronts
+pub mod Lengths
+mod Names
+pub mod Numbers
+mod Sums
+mod Whole
