@@ -168,10 +168,13 @@ module _ (step-lawful : (b : Broker) (e : Event) → IsLawful b → IsLawful (st
       cancel (journal b n early) (journal (run b early) (run n (journal b n early)) others) (left ++ lost)
       (sym (journal-append early others b n) ∙ is ∙ append_assoc (journal b n early) left lost) in
       let more : Front (run b early) (run n (journal b n early)) others left =
-      front-from others (run b early) (run n (journal b n early)) left lost (run-lawful early b lawful) (all-from early b n lawful fine) behind in
-      (more.0, more.1, more.2,
+      front-from others (run b early) (run n (journal b n early)) left lost (run-lawful early b lawful) (all-from early b n lawful fine) behind in (
+        more.0,
+        more.1,
+        more.2,
         subst (λ x. Follows x (run n (journal b n early ++ left))) (sym (run-append b early more.0))
-        (subst (Follows (run (run b early) more.0)) (sym (run-append n (journal b n early) left)) more.3))
+            (subst (Follows (run (run b early) more.0)) (sym (run-append n (journal b n early) left)) more.3),
+      )
 
   -- ---- the end of all connections
 
