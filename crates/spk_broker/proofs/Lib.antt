@@ -28,6 +28,7 @@ pub mod Places
 pub mod Quiet
 pub mod Refilled
 pub mod Requested
+pub mod Restores
 pub mod Retained
 pub mod Rounds
 pub mod Routes

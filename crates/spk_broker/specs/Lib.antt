@@ -14,10 +14,13 @@ pub mod Filing
 pub mod Filters
 pub mod Fronts
 pub mod Granting
+pub mod Kept
 pub mod Letters
+pub mod Looking
 pub mod Offering
 pub mod Parts
 pub mod Plain
+pub mod Restoring
 pub mod Rounds
 pub mod Seats
 pub mod Sendable

@@ -4,3 +4,4 @@ mod Follow
 mod Late
 mod Plans
 mod Timed
+mod Together

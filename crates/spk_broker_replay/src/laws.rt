@@ -1,9 +1,11 @@
 //! Laws of the definitions alone: functions that do nothing, whose contracts speak of definitions.
 ghost use Rattle.std.specs.Prelude.{◌≡◌, ℕ, List, [], ◌++◌};
+ghost use Rattle.std.specs.List.{fold};
 ghost use Rattle.spk_broker_rules.specs.Data.{Broker, fresh_broker};
 ghost use Rattle.spk_broker_rules.specs.Lawful.{IsLawful};
 ghost use Rattle.spk_broker_rules.specs.Plan.{Event};
 ghost use Rattle.spk_broker_rules.specs.Step.{step};
+ghost use Rattle.spk_broker_replay.specs.Parts.{begun, parts, with_part};
 ghost use Rattle.spk_broker_replay.specs.Replay.{Follows, bare, connections, ends, journal, notes, restored, run};
 
 use spk_broker_rules::laws;
@@ -51,3 +53,10 @@ pub fn ended()
     laws::lawful();
     laws::knowing();
 }
+
+/// What a replay begins with, instead of at the first event, is put together of parts: each connection without CONNECT, each session, each retained
+/// message, behind those that are there.
+pub fn parts()
+    ensures { (limit : ℕ) (b : Broker)
+        → fold with_part (begun limit b.given b.made) (parts b) ≡ restored limit b }
+{}
