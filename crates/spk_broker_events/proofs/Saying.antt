@@ -1,6 +1,7 @@
 -- What a content says, and that it says nothing else.
-use Rattle.std.proofs.Common.{◌≡◌, ℕ, ◌<◌, ◌≤◌, ◌+◌, ◌^◌, List, [], ◌∷◌, ◌++◌, length, refl, sym, ap, ◌∙◌, subst, append_assoc, append-nil, length-append, arith, Bool, true, false, cond, eqb, true≢false, get_or, drop, Option, Some, None}
+use Rattle.std.proofs.Common.{◌≡◌, ℕ, ◌<◌, ◌≤◌, ◌^◌, List, [], ◌∷◌, ◌++◌, length, refl, sym, ap, ◌∙◌, subst, append_assoc, append-nil, length-append, arith, Bool, true, false, cond, eqb, true≢false, get_or, drop, take, Some, None, Result, Ok, Err, ◌≢◌}
 use Rattle.std.proofs.lemmas.Bool.{eqb-true}
+use Rattle.std.proofs.lemmas.List.{take_all}
 use Rattle.std.proofs.lemmas.Option.{same_Some}
 use Rattle.spk_frames.specs.Numbers.{eight}
 use Rattle.spk_frames.specs.Reading.{eight_at}
@@ -8,7 +9,7 @@ use Rattle.spk_frames.proofs.Lengths.{length-eight}
 use Rattle.spk_frames.proofs.Numbers.{IsBytes, eight_again, eight_takes}
 use Rattle.spk_packets.specs.declared.fault.PacketFault.{PacketFault}
 use Rattle.spk_packets.specs.declared.fault.PacketFault.TheVariants as fault
-use Rattle.spk_packets.specs.Fault.{number_of}
+use Rattle.spk_packets.specs.Fault.{Fails, number_of}
 use Rattle.spk_packets.specs.Grammar.{Spells}
 use Rattle.spk_packets.specs.Message.{Message}
 use Rattle.spk_session.specs.declared.answer.Sort.{Sort}
@@ -34,8 +35,8 @@ Behind (plan.Tick moment) rest = rest ≡ eight moment
 Behind (plan.Refused conn which moment) rest = rest ≡ eight conn ++ (eight moment ++ [])
 
 pub record Parts (bytes : List ℕ) (e : plan.Event) : Type 0 where
-  rest : List ℕ
-  is : bytes ≡ code_of e ∷ rest
+  pub rest : List ℕ
+  pub is : bytes ≡ code_of e ∷ rest
   behind : Behind e rest
 
 nil-behind : (conn moment : ℕ) → eight conn ++ eight moment ≡ eight conn ++ (eight moment ++ [])
@@ -410,3 +411,29 @@ module _ (free : (a b x y : List ℕ) (p q : Message) → Spells a p → Spells 
       let q = parts bytes f t in
       let heads : code_of e ∷ p.rest ≡ code_of f ∷ q.rest = sym p.is ∙ q.is in
       same-behind p.rest e f s.words t.words p.behind (subst (Behind f) (sym (tail-is (code_of e) (code_of f) p.rest q.rest heads)) q.behind) (head-is (code_of e) (code_of f) p.rest q.rest heads)
+
+-- ---- what `decode` says
+
+pub all-of : (bytes : List ℕ) (n : ℕ) → n ≡ length bytes → take n bytes ≡ bytes
+all-of bytes n e = take_all n bytes (omega arith)
+
+abbrev pub SameOk : (p q : Message) (n m : ℕ) → Type 0
+SameOk p q n m = let x : Result (Message × ℕ) PacketFault = Ok (p, n) in let y : Result (Message × ℕ) PacketFault = Ok (q, m) in x ≡ y
+
+pub ok-len : (p q : Message) (n m : ℕ) → SameOk p q n m → n ≡ m
+ok-len p q n m e = let both : (p, n) ≡ (q, m) = cc in ap (λ (x : Message × ℕ). x.1) both
+
+ok-err : {X : Type 0} {x : X} {e : PacketFault} → Ok x ≡ Err e → ⊥
+ok-err h = cc
+
+pub fails-not : {X : Type 0} (x : X) (e : PacketFault) → e ≢ fault.NoMemory → Fails e (Ok x) → ⊥
+fails-not x fault.NoMemory apart f = apart refl
+fails-not x fault.More apart f = ok-err f
+fails-not x fault.BadLength apart f = ok-err f
+fails-not x fault.BadFlags apart f = ok-err f
+fails-not x fault.BadType apart f = ok-err f
+fails-not x fault.BadText apart f = ok-err f
+fails-not x fault.BadBody apart f = ok-err f
+fails-not x fault.TooLarge apart f = ok-err f
+fails-not x fault.QosTwo apart f = ok-err f
+fails-not x fault.BadLevel apart f = ok-err f

@@ -24,7 +24,7 @@ fn moment_in(bytes: &[u8]) -> Option<u64>
 }
 
 /// A connection and a moment, and what follows.
-fn front_in(bytes: &[u8]) -> Option<(u64, u64, &[u8])>
+pub(crate) fn front_in(bytes: &[u8]) -> Option<(u64, u64, &[u8])>
     ensures some { IfSome result (λ x. (x.0 < 2 ^ 64) × (x.1 < 2 ^ 64)
         × (bytes.now ≡ eight x.0 ++ (eight x.1 ++ x.2.now))) }
     ensures none { IfNone result ((conn moment : ℕ) (rest : List ℕ) → conn < 2 ^ 64 → moment < 2 ^ 64

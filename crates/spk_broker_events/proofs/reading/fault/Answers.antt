@@ -1,5 +1,4 @@
-use Rattle.std.proofs.Common.{◌≡◌, ◌∷◌, [], ℕ, length, get_or, sym, ap, ◌∙◌, arith}
-use Rattle.spk_packets.specs.Fault.{number_of}
+use Rattle.std.proofs.Common.{◌∷◌, [], length, get_or, sym, ap, ◌∙◌}
 use Rattle.spk_broker_events.proofs.Saying.{fault-not, fault-said, nothing-fault, one-there}
 use Rattle.spk_broker_events.proofs.reading.fault.Goals as goal
 

@@ -1,4 +1,4 @@
-use Rattle.std.proofs.Common.{◌≤◌, ◌<◌, length, sym, ap, ◌∙◌, subst, arith}
+use Rattle.std.proofs.Common.{◌<◌, length, ap, subst, arith}
 use Rattle.spk_frames.specs.Fault.{IsRefusedFor}
 use Rattle.spk_broker_events.specs.Record.{content, said}
 use Rattle.spk_broker_events.proofs.Saying.{small-said}
