@@ -2,6 +2,8 @@
 #![tactic(auto)]
 
 #[cfg(test)]
+mod again;
+#[cfg(test)]
 mod behind_door;
 #[cfg(test)]
 mod beside_twin;
