@@ -208,7 +208,7 @@ fn alike(
     broker: &mut Broker,
     other: &mut Broker,
 ) -> Result<(usize, usize), AllocError> {
-    let mut same = 0;
+    let mut same = 0_usize;
     let mut sent = 0_usize;
     for step in AFTER {
         let ours = does(alloc, broker, step)?;
@@ -217,7 +217,7 @@ fn alike(
             sent = sent.saturating_add(out.sends.len());
         }
         if ours == theirs {
-            same += 1;
+            same = same.saturating_add(1);
         }
     }
     Ok((same, sent))
