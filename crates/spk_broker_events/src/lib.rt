@@ -12,4 +12,4 @@ pub use event::Event;
 pub use line::{Kind, Line, append_line};
 pub use line_reading::read_line;
 pub use reading::read;
-pub use writing::{MOST, append};
+pub use writing::{MOST, append, append_packet};

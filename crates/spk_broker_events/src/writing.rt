@@ -2,11 +2,15 @@
 ghost use Rattle.std.specs.Prelude.{◌≡◌, ◌≤◌, ◌<◌, ◌++◌, ◌∷◌, [], length, None, IfErr, IfOk, OnErr, OnOk};
 ghost use Rattle.spk_frames.specs.Numbers.{eight};
 ghost use Rattle.spk_packets.specs.Fault.{IsNamed, number_of};
+ghost use Rattle.spk_packets.specs.View.{view};
+ghost use Rattle.spk_packets.specs.declared.fault.PacketFault.TheVariants as PacketFault;
+ghost use Rattle.spk_broker_rules.specs.Plan as plan;
+ghost use Rattle.spk_frames.specs.Frame.{framed};
 ghost use Rattle.spk_broker_events.specs.Record.{Says, content, front, most, record_of, refusal, said, sort_code};
 
 use crate::event::Event;
 use spk_frames::FrameFault;
-use spk_packets::{PacketFault, encode};
+use spk_packets::{Packet, PacketFault, encode};
 use spk_session::Sort;
 use std::alloc::{AllocError, Global};
 
@@ -63,6 +67,25 @@ fn fronted(alloc: Global, code: u8, conn: u64, moment: u64) -> Result<Vec<u8>, A
     Ok(out)
 }
 
+/// The content of a packet that came. Refused where it can't be written, as `encode` refuses it.
+#[tactic(auto, unfolding(crate::specs::Record::content, crate::specs::Record::HasWords, crate::specs::Record::Spelled))]
+fn packet_content(
+    alloc: Global,
+    conn: u64,
+    packet: &Packet,
+    moment: u64,
+) -> Result<Vec<u8>, PacketFault>
+    ensures is { IfOk result (λ v. v.items ≡ content (plan.Packet conn (view packet.now) moment)) }
+    ensures says { OnOk result (Says (content (plan.Packet conn (view packet.now) moment)) (plan.Packet conn (view packet.now) moment)) }
+    ensures writable { OnOk result (refusal (plan.Packet conn (view packet.now) moment) ≡ None) }
+    ensures refused { IfErr result (λ e. IsNamed e (refusal (plan.Packet conn (view packet.now) moment))) }
+{
+    let spelled = encode(alloc, packet)?;
+    let mut out = fronted(alloc, 2, conn, moment)?;
+    out.extend_from_slice(&spelled)?;
+    Ok(out)
+}
+
 /// The content of an event. Refused where its packet can't be written, as `encode` refuses it.
 #[tactic(auto, unfolding(crate::specs::Record::content, crate::specs::Record::HasWords, crate::specs::Record::Spelled))]
 fn content_of(alloc: Global, event: &Event) -> Result<Vec<u8>, PacketFault>
@@ -77,12 +100,7 @@ fn content_of(alloc: Global, event: &Event) -> Result<Vec<u8>, PacketFault>
             conn,
             packet,
             moment,
-        } => {
-            let spelled = encode(alloc, packet)?;
-            let mut out = fronted(alloc, 2, *conn, *moment)?;
-            out.extend_from_slice(&spelled)?;
-            Ok(out)
-        }
+        } => packet_content(alloc, *conn, packet, *moment),
         Event::Fault {
             conn,
             fault,
@@ -100,6 +118,20 @@ fn content_of(alloc: Global, event: &Event) -> Result<Vec<u8>, PacketFault>
     }
 }
 
+/// The frame of a content behind what stands in `out`.
+fn put(content: &[u8], out: &mut Vec<u8>) -> Result<(), PacketFault>
+    requires few { length content.now ≤ most }
+    ensures put { OnOk result (out.new.items ≡ out.old.items ++ framed content.now) }
+    ensures refused { IfErr result (λ e. e ≡ PacketFault.NoMemory) }
+    ensures err { OnErr result (out.new.items ≡ out.old.items) }
+{
+    match spk_frames::append(content, MOST, out) {
+        Ok(()) => Ok(()),
+        Err(FrameFault::NoMemory) => Err(PacketFault::NoMemory),
+        Err(FrameFault::LongContent) => unreachable!(),
+    }
+}
+
 /// Puts the record of an event behind what stands in `out`. Refused where its packet can't be written, as `encode` refuses it; then, and where memory is
 /// refused, `out` is as it was. Linear in the packet.
 pub fn append(alloc: Global, event: &Event, out: &mut Vec<u8>) -> Result<(), PacketFault>
@@ -110,9 +142,23 @@ pub fn append(alloc: Global, event: &Event, out: &mut Vec<u8>) -> Result<(), Pac
     ensures err { OnErr result (out.new.items ≡ out.old.items) }
 {
     let content = content_of(alloc, event)?;
-    match spk_frames::append(&content, MOST, out) {
-        Ok(()) => Ok(()),
-        Err(FrameFault::NoMemory) => Err(PacketFault::NoMemory),
-        Err(FrameFault::LongContent) => unreachable!(),
-    }
+    put(&content, out)
+}
+
+/// The same of a packet that came, which is lent.
+pub fn append_packet(
+    alloc: Global,
+    conn: u64,
+    packet: &Packet,
+    moment: u64,
+    out: &mut Vec<u8>,
+) -> Result<(), PacketFault>
+    ensures put { OnOk result (out.new.items ≡ out.old.items ++ record_of (plan.Packet conn (view packet.now) moment)) }
+    ensures says { OnOk result (Says (content (plan.Packet conn (view packet.now) moment)) (plan.Packet conn (view packet.now) moment)) }
+    ensures writable { OnOk result (refusal (plan.Packet conn (view packet.now) moment) ≡ None) }
+    ensures refused { IfErr result (λ e. IsNamed e (refusal (plan.Packet conn (view packet.now) moment))) }
+    ensures err { OnErr result (out.new.items ≡ out.old.items) }
+{
+    let content = packet_content(alloc, conn, packet, moment)?;
+    put(&content, out)
 }

@@ -1,0 +1,5 @@
+pub mod Ends
+pub mod Fits
+pub mod Records
+pub mod Replaying
+pub mod Restart

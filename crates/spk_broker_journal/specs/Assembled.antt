@@ -1,0 +1,36 @@
+-- What contracts see of a broker that is put together.
+use Rattle.std.specs.Prelude.{Option}
+use Rattle.std.specs.Option.{option_map_or}
+use Rattle.spk_broker_rules.specs.Data.{Seat, Broker}
+use Rattle.spk_broker_replay.specs.Parts as part
+use Rattle.spk_broker_replay.specs.Parts.{with_part}
+use Rattle.spk_broker_events.specs.Line.{Kept}
+use Rattle.spk_broker_events.specs.declared.line.Kind.{Kind}
+use Rattle.spk_broker_events.specs.declared.line.Kind.TheVariants as kind
+use Rattle.spk_broker_snapshot.specs.Together.{Sent, Stand, apart, copied, gave, granted, in_use, sits}
+use Rattle.spk_broker_journal.specs.declared.assembly.Assembly.{Assembly}
+
+abbrev pub stand : Assembly → Stand
+stand a = record { broker = a.broker; session = a.session }
+
+-- a session behind a line that speaks of it
+abbrev pub in_kind : Kept → Seat → Kind → Seat
+in_kind l s kind.Sits = sits l s
+in_kind l s kind.Grant = granted l s
+in_kind l s kind.InUse = in_use l s
+in_kind l s kind.Last = gave l s
+in_kind l s kind.Unacknowledged = copied l s
+in_kind l s kind.Numbers = s
+in_kind l s kind.Waiting = s
+in_kind l s kind.Session = s
+in_kind l s kind.Retained = s
+
+abbrev pub in_line : Kept → Seat → Seat
+in_line l s = in_kind l s l.kind
+
+-- a retained message more, where there is one
+abbrev pub with_message : Broker → Sent → Broker
+with_message b x = with_part b (part.Retained x.post.topic (record { payload = x.post.payload; qos = x.post.qos }))
+
+abbrev pub with_retained : Broker → Option Sent → Stand
+with_retained b x = apart (option_map_or (with_message b) x b)
