@@ -1,4 +1,5 @@
 //! A broker that is put together of what another one lends goes on as that one does; and each part that doesn't fit is refused.
+use crate::broker::Talks;
 use spk_broker::{Broker, BrokerFault, Message, MessageRef, Out, PartFault, Session, SessionRef};
 use spk_packets::{Packet, Request, Will};
 use std::alloc::{AllocError, Global};
@@ -7,11 +8,11 @@ use std::test::Fail;
 /// More than there are of anything.
 const MOST: usize = 1_000;
 
-fn text(alloc: Global, from: &str) -> Result<String, AllocError> {
+pub(crate) fn text(alloc: Global, from: &str) -> Result<String, AllocError> {
     String::from_str(alloc, from)
 }
 
-fn bytes(alloc: Global, from: &[u8]) -> Result<Vec<u8>, AllocError> {
+pub(crate) fn bytes(alloc: Global, from: &[u8]) -> Result<Vec<u8>, AllocError> {
     let mut out = Vec::new(alloc);
     out.extend_from_slice(from)?;
     Ok(out)
@@ -84,7 +85,7 @@ fn again(alloc: Global, broker: &Broker) -> Result<Broker, PartFault> {
 
 /// What comes to a broker.
 #[derive(Clone, Copy)]
-enum Step {
+pub(crate) enum Step {
     Open,
     /// A CONNECT of this client, clean or not, with a will of this payload, retained, where it isn't empty.
     Join(u64, &'static str, bool, &'static str),
@@ -136,19 +137,23 @@ fn publish(alloc: Global, topic: &str, qos: u8, retain: bool) -> Result<Packet, 
 }
 
 /// What a packet gives; the call is made again where memory was refused.
-fn heard(broker: &mut Broker, conn: u64, packet: &Packet) -> Option<Out> {
-    match broker.packet(conn, packet, 0) {
-        Err(BrokerFault::NoMemory) => broker.packet(conn, packet, 0).ok(),
+fn heard(broker: &mut impl Talks, conn: u64, packet: &Packet) -> Option<Out> {
+    match broker.heard(conn, packet, 0) {
+        Err(BrokerFault::NoMemory) => broker.heard(conn, packet, 0).ok(),
         answer => answer.ok(),
     }
 }
 
 /// What a step gives.
-fn does(alloc: Global, broker: &mut Broker, step: Step) -> Result<Option<Out>, AllocError> {
+pub(crate) fn does(
+    alloc: Global,
+    broker: &mut impl Talks,
+    step: Step,
+) -> Result<Option<Out>, AllocError> {
     Ok(match step {
         Step::Open => {
-            if broker.open(0).is_err() {
-                let _ = broker.open(0);
+            if broker.opened(0).is_err() {
+                let _ = broker.opened(0);
             }
             None
         }
@@ -161,15 +166,15 @@ fn does(alloc: Global, broker: &mut Broker, step: Step) -> Result<Option<Out>, A
         }
         Step::Ack(conn, id) => heard(broker, conn, &Packet::PubAck { id }),
         Step::Leave(conn) => heard(broker, conn, &Packet::Disconnect),
-        Step::Close(conn) => match broker.closed(conn, 0) {
-            Err(BrokerFault::NoMemory) => broker.closed(conn, 0).ok(),
+        Step::Close(conn) => match broker.ended(conn, 0) {
+            Err(BrokerFault::NoMemory) => broker.ended(conn, 0).ok(),
             answer => answer.ok(),
         },
     })
 }
 
 /// A kept session that is away with two messages, one of them handed out; a connection with a will; one without CONNECT; retained messages.
-const BEFORE: [Step; 15] = [
+pub(crate) const BEFORE: [Step; 15] = [
     Step::Open,
     Step::Join(1, "away", false, ""),
     Step::Subscribe(1, "t/+", 1),
@@ -187,7 +192,7 @@ const BEFORE: [Step; 15] = [
     Step::Open,
 ];
 
-const AFTER: [Step; 12] = [
+pub(crate) const AFTER: [Step; 12] = [
     Step::Join(3, "new", false, ""),
     Step::Subscribe(3, "#", 1),
     Step::Publish(3, "t/1", 1, false),
@@ -203,10 +208,10 @@ const AFTER: [Step; 12] = [
 ];
 
 /// How many of the later steps gave the same with both, and how many packets they gave.
-fn alike(
+pub(crate) fn alike(
     alloc: Global,
-    broker: &mut Broker,
-    other: &mut Broker,
+    broker: &mut impl Talks,
+    other: &mut impl Talks,
 ) -> Result<(usize, usize), AllocError> {
     let mut same = 0_usize;
     let mut sent = 0_usize;

@@ -16,6 +16,8 @@ mod hostile;
 #[cfg(test)]
 mod indexed;
 #[cfg(test)]
+mod kept;
+#[cfg(test)]
 mod limits;
 #[cfg(test)]
 mod page;
