@@ -17,4 +17,11 @@ impl Broker {
     {
         self.desk.retained.len()
     }
+
+    /// The broker's clock, in milliseconds: the greatest moment of a call so far.
+    pub fn clock(&self) -> u64
+        ensures { result ≡ self.now.clock }
+    {
+        self.desk.clock
+    }
 }

@@ -52,6 +52,19 @@ impl NotedBroker {
         }
     }
 
+    /// This broker, of whose events nothing is noted yet.
+    pub fn of(alloc: Global, broker: Broker) -> NotedBroker
+        ensures { result ≡ record { broker = broker; notes = None } }
+    {
+        let now = broker.clock();
+        NotedBroker {
+            alloc,
+            broker,
+            now,
+            log: None,
+        }
+    }
+
     /// What the broker keeps.
     pub fn broker(&self) -> &Broker
         ensures { result.now ≡ self.entry.now.broker }
