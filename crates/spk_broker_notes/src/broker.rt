@@ -44,12 +44,7 @@ impl NotedBroker {
     pub fn new(alloc: Global, limit: u16) -> NotedBroker
         ensures { result ≡ record { broker = fresh_broker limit; notes = None } }
     {
-        NotedBroker {
-            alloc,
-            broker: Broker::new(alloc, limit),
-            now: 0,
-            log: None,
-        }
+        NotedBroker::of(alloc, Broker::new(alloc, limit))
     }
 
     /// This broker, of whose events nothing is noted yet.

@@ -1,6 +1,6 @@
 -- Which deeds are allowed where.
 use Rattle.std.proofs.Common.{◌≡◌, ℕ, ◌==◌, ◌&&◌, Bool, true, false, refl}
-use Rattle.spk_server.specs.Data.{Deed, Why, Timed, Joined, Fed, Skipped, Took, Came, Broke, Left, Ticked, Handed, Shut, Told, Cut, Tried, Waited, Freed, Dropped, Wrote, Blocked, Named, Forgot}
+use Rattle.spk_server.specs.Data.{Deed, Why, Timed, Joined, Fed, Skipped, Took, Came, Broke, Left, Ticked, Handed, Shut, Told, Cut, Tried, Waited, Freed, Dropped, Wrote, Blocked, Named, Forgot, Kept, Begun}
 use Rattle.spk_server.specs.Log.{calls, follows, goes_on, is_want, takes}
 
 no : {A : Type 0} → false ≡ true → A
@@ -27,6 +27,8 @@ follows_takes conn (Dropped c) e = no e
 follows_takes conn (Wrote c n) e = no e
 follows_takes conn (Blocked c) e = no e
 follows_takes conn (Named c) e = no e
+follows_takes conn (Kept b) e = no e
+follows_takes conn Begun e = no e
 follows_takes conn (Forgot c) e = no e
 
 pub follows_calls : (d : Deed) → follows d ≡ true → calls d ≡ true
@@ -50,6 +52,8 @@ follows_calls (Dropped c) e = refl
 follows_calls (Wrote c n) e = no e
 follows_calls (Blocked c) e = no e
 follows_calls (Named c) e = no e
+follows_calls (Kept b) e = no e
+follows_calls Begun e = no e
 follows_calls (Forgot c) e = no e
 
 -- whatever takes the packets of a client goes on
@@ -78,4 +82,6 @@ takes_goes_on conn (Dropped c) e = no e
 takes_goes_on conn (Wrote c n) e = no e
 takes_goes_on conn (Blocked c) e = no e
 takes_goes_on conn (Named c) e = no e
+takes_goes_on conn (Kept b) e = no e
+takes_goes_on conn Begun e = no e
 takes_goes_on conn (Forgot c) e = no e

@@ -13,7 +13,7 @@ use Rattle.spk_clients.specs.declared.client.Offered.{Offered}
 use Rattle.spk_clients.specs.declared.client.Offered.TheVariants.{Taken, Refused, Passed}
 use Rattle.spk_clients.specs.declared.client.Phase.TheVariants.{Over, Done}
 use Rattle.spk_clients.specs.Client.{after_hearing, awaited, cut_off, fresh_client, given_up, is_leaving, is_over, leaves, may_be_awaited, over_until, refused_with, settled, settles, takes_in, told, untouched, waiting_for, written_to}
-use Rattle.spk_server.specs.Data.{Deed, Offer, Room, Slow, Timed, Joined, Fed, Skipped, Took, Came, Broke, Left, Ticked, Handed, Shut, Told, Cut, Tried, Waited, Freed, Dropped, Wrote, Blocked, Named, Forgot}
+use Rattle.spk_server.specs.Data.{Deed, Offer, Room, Slow, Timed, Joined, Fed, Skipped, Took, Came, Broke, Left, Ticked, Handed, Shut, Told, Cut, Tried, Waited, Freed, Dropped, Wrote, Blocked, Named, Forgot, Kept, Begun}
 use Rattle.spk_server.specs.Step.{after, behind, cause_why, change, changed, freed_from, grace, is_slow, later, left, offered, placed, quiet, set_free, slow_of, tried, tried_at}
 use Rattle.spk_server.specs.Log.{IsRun, any_deed}
 use Rattle.spk_server.specs.Past.{IsEndedBy, joins}
@@ -118,6 +118,8 @@ ended_step x k (Dropped conn) r j s = ended_at x given_up keeps_given_up conn k 
 ended_step x k (Wrote conn n) r j s = ended_at x (written_to n) (λ c e. keeps_settled (record c { outbox = written n c.outbox }) e) conn k r.clients s
 ended_step x k (Blocked conn) r j s = ended_at x cut_off (λ c e. keeps_settled (record c { cut = true }) e) conn k r.clients s
 ended_step x k (Named conn) r j s = ended_at x untouched (λ c e. (e, refl)) conn k r.clients s
+ended_step x k (Kept b) r j s = s
+ended_step x k Begun r j s = s
 ended_step x k (Forgot conn) r j s = forgot_ended x k conn r.clients s
 
 pub cause_stays : (log : List Deed) (r s : Room) (k : ℕ) (x : Cause) → IsRun any_deed r log s → list_all (λ d. not (joins k d)) log ≡ true

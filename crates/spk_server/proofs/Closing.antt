@@ -19,9 +19,10 @@ use Rattle.spk_clients.specs.declared.client.Offered.{Offered}
 use Rattle.spk_clients.specs.declared.client.Offered.TheVariants.{Taken, Refused, Passed}
 use Rattle.spk_clients.specs.Client.{after_hearing, awaited, cut_off, fresh_client, given_up, has_ended, has_moment, heard_phase, is_done, is_due, is_leaving, is_over, is_shut, is_to_shut, leaves, may_be_awaited, over_until, refused_with, settled, settles, takes_in, told, untouched, waiting_for, written_to}
 use Rattle.spk_clients.specs.Data.{NobodyIsDue}
-use Rattle.spk_server.specs.Data.{Deed, InHand, Offer, Room, Slow, Timed, Joined, Fed, Skipped, Took, Came, Broke, Left, Ticked, Handed, Shut, Told, Cut, Tried, Waited, Freed, Dropped, Wrote, Blocked, Named, Forgot}
+use Rattle.spk_server.specs.Data.{Deed, InHand, Offer, Room, Slow, Timed, Joined, Fed, Skipped, Took, Came, Broke, Left, Ticked, Handed, Shut, Told, Cut, Tried, Waited, Freed, Dropped, Wrote, Blocked, Named, Forgot, Kept, Begun}
 use Rattle.spk_server.specs.Step.{after, behind, called, called_on, came, cause_why, change, changed, freed_from, grace, is_slow, later, left, offered, placed, quiet, set_free, slow_of, tried, tried_at}
-use Rattle.spk_server.specs.Calls.{AreDone, fresh_room, shut_calls}
+use Rattle.spk_broker_notes.specs.Noted.{Noted}
+use Rattle.spk_server.specs.Calls.{AreDone, room_with, shut_calls}
 use Rattle.spk_server.specs.Log.{IsRun, any_deed}
 use Rattle.spk_server.specs.Past.{joins}
 use Rattle.spk_server.proofs.Ends.{both, heard_over, not_true}
@@ -200,12 +201,14 @@ kept_step P k (Wrote conn n) r st j s = moved_at r.now P st (written_to n)
 kept_step P k (Blocked conn) r st j s = moved_at r.now P st cut_off
     (λ c. settles_so r.now c (record c { cut = true }) (record { over = λ e. (e, refl); leaving = λ l. inl l })) conn k r.clients s
 kept_step P k (Named conn) r st j s = moved_at r.now P st untouched (λ c. same_so r.now c _ (λ e. e) (λ l. l) refl refl) conn k r.clients s
+kept_step P k (Kept b) r st j s = s
+kept_step P k Begun r st j s = s
 kept_step P k (Forgot conn) r st j s = forgot_step P k conn r.clients s
 
 -- ---- time goes on
 
 called_now : (by : Option ℕ) (conn : ℕ) (e : Event) (r : Room) → (called_on by conn e r).now ≡ r.now
-called_now by conn e r = go (knows r.broker conn)
+called_now by conn e r = go (knows r.noted.broker conn)
   where
     go : (b : Bool) → (if b then called by e r else r).now ≡ r.now
     go true = refl
@@ -247,6 +250,8 @@ time_goes (Dropped conn) r = omega arith
 time_goes (Wrote conn n) r = omega arith
 time_goes (Blocked conn) r = omega arith
 time_goes (Named conn) r = omega arith
+time_goes (Kept b) r = omega arith
+time_goes Begun r = omega arith
 time_goes (Forgot conn) r = omega arith
 
 -- ---- who leaves isn't done, and has five seconds at most
@@ -299,6 +304,8 @@ order_step k (Dropped conn) r true j s = nobody j
 order_step k (Wrote conn n) r true j s = nobody j
 order_step k (Blocked conn) r true j s = nobody j
 order_step k (Named conn) r true j s = nobody j
+order_step k (Kept b) r true j s = nobody j
+order_step k Begun r true j s = nobody j
 order_step k (Forgot conn) r true j s = nobody j
 
 in_order : (log : List Deed) (r s : Room) (k : ℕ) → IsRun any_deed r log s → IfSome (r.clients k) (InOrder r.now) → IfSome (s.clients k) (InOrder s.now)
@@ -339,10 +346,10 @@ at_client : (P : Client → Type 0) (o : Option Client) (c : Client) → o ≡ S
 at_client P o c e s = subst (λ (q : Option Client). IfSome q P) e s
 
 -- nothing waits for it, or its socket takes no more
-pub done_shut : (log : List Deed) (r : Room) (k : ℕ) (c : Client) → IsRun any_deed fresh_room log r → r.clients k ≡ Some c
+pub done_shut : (x : Noted) (log : List Deed) (r : Room) (k : ℕ) (c : Client) → IsRun any_deed (room_with x) log r → r.clients k ≡ Some c
     → is_over c ≡ true → is_done c ≡ true → is_to_shut c ≡ true
-done_shut log r k c run is over done =
-    let order : InOrder r.now c = at_client (InOrder r.now) (r.clients k) c is (in_order log fresh_room r k run tt) in
+done_shut x log r k c run is over done =
+    let order : InOrder r.now c = at_client (InOrder r.now) (r.clients k) c is (in_order log (room_with x) r k run tt) in
     over_shut c.phase over (λ l. not_both (is_done c) (order.0 l) done)
 
 due_when : (now until : ℕ) (p : Phase) → until ≤ now → is_leaving p ≡ true → (has_moment p && nat_le until now) ≡ false → ⊥
@@ -352,12 +359,12 @@ due_when now until Over less l e = not_both (nat_le until now) e (le-leb until n
 due_when now until Done less l e = cc
 
 -- its five seconds are over, and nobody's moment has come any more
-pub late_shut : (before behind : List Deed) (q r : Room) (k : ℕ) (c : Client) → IsRun any_deed fresh_room before q → IfSome (q.clients k) (λ b. is_over b ≡ true)
+pub late_shut : (x : Noted) (before behind : List Deed) (q r : Room) (k : ℕ) (c : Client) → IsRun any_deed (room_with x) before q → IfSome (q.clients k) (λ b. is_over b ≡ true)
     → IsRun any_deed q behind r → list_all (λ d. not (joins k d)) behind ≡ true → r.clients k ≡ Some c → NobodyIsDue r.now r.clients → later grace q.now ≤ r.now
     → is_to_shut c ≡ true
-late_shut before behind q r k c run over more none is nobody_due late =
+late_shut x before behind q r k c run over more none is nobody_due late =
     let ended : EndedBy (later grace q.now) c = at_client (EndedBy (later grace q.now)) (r.clients k) c is
-    (stays_ended (later grace q.now) behind q r k more none (ended_at (q.clients k) over (in_order before fresh_room q k run tt))) in
+    (stays_ended (later grace q.now) behind q r k more none (ended_at (q.clients k) over (in_order before (room_with x) q k run tt))) in
     over_shut c.phase ended.0 (λ l. due_when r.now c.until c.phase (le_trans (ended.1 l) late) l
     (ap (λ o. option_map_or (is_due r.now) o false) (sym is) ∙ nobody_due k))
   where

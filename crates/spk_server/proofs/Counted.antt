@@ -9,17 +9,18 @@ use Rattle.spk_clients.specs.declared.client.Offered.TheVariants.{Taken, Refused
 use Rattle.spk_clients.specs.declared.cause.Cause.TheVariants as cause
 use Rattle.spk_clients.specs.Client.{awaited, leaves, most_number, told}
 use Rattle.spk_server.specs.declared.tally.Tally.{Tally}
-use Rattle.spk_server.specs.Data.{Deed, InHand, Room, Slow, Timed, Joined, Fed, Skipped, Took, Came, Broke, Left, Ticked, Handed, Shut, Told, Cut, Tried, Waited, Freed, Dropped, Wrote, Blocked, Named, Forgot}
-use Rattle.spk_server.specs.Calls.{fresh_room}
+use Rattle.spk_server.specs.Data.{Deed, InHand, Room, Slow, Timed, Joined, Fed, Skipped, Took, Came, Broke, Left, Ticked, Handed, Shut, Told, Cut, Tried, Waited, Freed, Dropped, Wrote, Blocked, Named, Forgot, Kept, Begun}
+use Rattle.spk_broker_notes.specs.Noted.{Noted}
+use Rattle.spk_server.specs.Calls.{room_with}
 use Rattle.spk_server.specs.Step.{after, behind, called, called_on, came, cause_why, changed, freed_from, grace, is_slow, later, slow_of, tried, tried_at}
 use Rattle.spk_server.specs.Log.{IsRun, any_deed}
 use Rattle.spk_server.specs.Past.{drops, hears_publish, how_many, sends_publish, stalls_at, stalls_from}
-use Rattle.spk_server.specs.Tallies.{handed_with, heard_with, is_message, is_publish, one_more, stalled}
+use Rattle.spk_server.specs.Tallies.{fresh_tally, handed_with, heard_with, is_message, is_publish, one_more, stalled}
 
 -- ---- what a deed leaves of the counts
 
 called_tally : (by : Option ℕ) (conn : ℕ) (e : Event) (r : Room) → (called_on by conn e r).tally ≡ r.tally
-called_tally by conn e r = go (knows r.broker conn)
+called_tally by conn e r = go (knows r.noted.broker conn)
   where
     go : (b : Bool) → (if b then called by e r else r).tally ≡ r.tally
     go true = refl
@@ -68,6 +69,8 @@ tally_step (Dropped c) r = refl
 tally_step (Wrote c n) r = refl
 tally_step (Blocked c) r = refl
 tally_step (Named c) r = refl
+tally_step (Kept b) r = refl
+tally_step Begun r = refl
 tally_step (Forgot c) r = refl
 
 -- ---- each count by itself
@@ -114,6 +117,8 @@ heard_at (Dropped c) r = refl
 heard_at (Wrote c n) r = refl
 heard_at (Blocked c) r = refl
 heard_at (Named c) r = refl
+heard_at (Kept b) r = refl
+heard_at Begun r = refl
 heard_at (Forgot c) r = refl
 
 sent_at : (d : Deed) (r : Room) → (tally_at r d).sent ≡ stepped (sends_publish d) r.tally.sent
@@ -139,6 +144,8 @@ sent_at (Dropped c) r = refl
 sent_at (Wrote c n) r = refl
 sent_at (Blocked c) r = refl
 sent_at (Named c) r = refl
+sent_at (Kept b) r = refl
+sent_at Begun r = refl
 sent_at (Forgot c) r = refl
 
 dropped_at : (d : Deed) (r : Room) → (tally_at r d).dropped ≡ stepped (drops d) r.tally.dropped
@@ -164,6 +171,8 @@ dropped_at (Dropped c) r = refl
 dropped_at (Wrote c n) r = refl
 dropped_at (Blocked c) r = refl
 dropped_at (Named c) r = refl
+dropped_at (Kept b) r = refl
+dropped_at Begun r = refl
 dropped_at (Forgot c) r = refl
 
 stalls_in : (d : Deed) (r : Room) → (tally_at r d).stalls ≡ stepped (stalls_at r d) r.tally.stalls
@@ -189,6 +198,8 @@ stalls_in (Dropped c) r = refl
 stalls_in (Wrote c n) r = refl
 stalls_in (Blocked c) r = refl
 stalls_in (Named c) r = refl
+stalls_in (Kept b) r = refl
+stalls_in Begun r = refl
 stalls_in (Forgot c) r = refl
 
 -- ---- a run
@@ -227,22 +238,22 @@ stalls_are (d ∷ ds) r = ap (λ k. (if stalls_at r d then 1 else 0) + k) (stall
 plus_none : (n : ℕ) → 0 + n ≡ n
 plus_none n = omega arith
 
-count_of : (g : Tally → ℕ) (f : Deed → Bool) → ((d : Deed) (r : Room) → g (tally_at r d) ≡ stepped (f d) (g r.tally)) → g fresh_room.tally ≡ 0
-    → (log : List Deed) (r : Room) → IsRun any_deed fresh_room log r → g r.tally ≡ min (how_many f log) most_number
-count_of g f at none log r run =
-    counts_from g (λ q d. f d) (λ d q. ap g (tally_step d q) ∙ at d q) log fresh_room r 0 run none
-    ∙ ap (λ k. min k most_number) (plus_none (count_from (λ q d. f d) fresh_room log) ∙ many_is f log fresh_room)
+count_of : (g : Tally → ℕ) (f : Deed → Bool) → ((d : Deed) (r : Room) → g (tally_at r d) ≡ stepped (f d) (g r.tally)) → g fresh_tally ≡ 0
+    → (x : Noted) (log : List Deed) (r : Room) → IsRun any_deed (room_with x) log r → g r.tally ≡ min (how_many f log) most_number
+count_of g f at none x log r run =
+    counts_from g (λ q d. f d) (λ d q. ap g (tally_step d q) ∙ at d q) log (room_with x) r 0 run none
+    ∙ ap (λ k. min k most_number) (plus_none (count_from (λ q d. f d) (room_with x) log) ∙ many_is f log (room_with x))
 
-pub heard_is : (log : List Deed) (r : Room) → IsRun any_deed fresh_room log r → r.tally.heard ≡ min (how_many hears_publish log) most_number
+pub heard_is : (x : Noted) (log : List Deed) (r : Room) → IsRun any_deed (room_with x) log r → r.tally.heard ≡ min (how_many hears_publish log) most_number
 heard_is = count_of (λ (t : Tally). t.heard) hears_publish heard_at refl
 
-pub sent_is : (log : List Deed) (r : Room) → IsRun any_deed fresh_room log r → r.tally.sent ≡ min (how_many sends_publish log) most_number
+pub sent_is : (x : Noted) (log : List Deed) (r : Room) → IsRun any_deed (room_with x) log r → r.tally.sent ≡ min (how_many sends_publish log) most_number
 sent_is = count_of (λ (t : Tally). t.sent) sends_publish sent_at refl
 
-pub dropped_is : (log : List Deed) (r : Room) → IsRun any_deed fresh_room log r → r.tally.dropped ≡ min (how_many drops log) most_number
+pub dropped_is : (x : Noted) (log : List Deed) (r : Room) → IsRun any_deed (room_with x) log r → r.tally.dropped ≡ min (how_many drops log) most_number
 dropped_is = count_of (λ (t : Tally). t.dropped) drops dropped_at refl
 
-pub stalls_is : (log : List Deed) (r : Room) → IsRun any_deed fresh_room log r → r.tally.stalls ≡ min (stalls_from fresh_room log) most_number
-stalls_is log r run =
-    counts_from (λ (t : Tally). t.stalls) stalls_at (λ d q. ap (λ (t : Tally). t.stalls) (tally_step d q) ∙ stalls_in d q) log fresh_room r 0 run refl
-    ∙ ap (λ k. min k most_number) (plus_none (count_from stalls_at fresh_room log) ∙ stalls_are log fresh_room)
+pub stalls_is : (x : Noted) (log : List Deed) (r : Room) → IsRun any_deed (room_with x) log r → r.tally.stalls ≡ min (stalls_from (room_with x) log) most_number
+stalls_is x log r run =
+    counts_from (λ (t : Tally). t.stalls) stalls_at (λ d q. ap (λ (t : Tally). t.stalls) (tally_step d q) ∙ stalls_in d q) log (room_with x) r 0 run refl
+    ∙ ap (λ k. min k most_number) (plus_none (count_from stalls_at (room_with x) log) ∙ stalls_are log (room_with x))

@@ -14,7 +14,7 @@ use Rattle.spk_clients.specs.declared.client.Phase.TheVariants.{Quiet, Open, Ove
 use Rattle.spk_clients.specs.declared.client.Offered.{Offered}
 use Rattle.spk_clients.specs.declared.client.Offered.TheVariants.{Taken, Refused, Passed}
 use Rattle.spk_clients.specs.Client.{after_hearing, awaited, cut_off, fresh_client, given_up, has_ended, heard_phase, is_leaving, is_over, leaves, may_be_awaited, over_until, refused_with, settled, settles, takes_in, told, untouched, waiting_for, written_to}
-use Rattle.spk_server.specs.Data.{Deed, Offer, Room, Slow, Timed, Joined, Skipped, Took, Came, Broke, Left, Ticked, Handed, Shut, Told, Cut, Tried, Waited, Freed, Dropped, Wrote, Blocked, Named, Forgot}
+use Rattle.spk_server.specs.Data.{Deed, Offer, Room, Slow, Timed, Joined, Skipped, Took, Came, Broke, Left, Ticked, Handed, Shut, Told, Cut, Tried, Waited, Freed, Dropped, Wrote, Blocked, Named, Forgot, Kept, Begun}
 use Rattle.spk_server.specs.Data as deed
 use Rattle.spk_server.specs.Step.{after, behind, cause_why, change, changed, freed_from, grace, is_slow, later, offered, placed, quiet, set_free, slow_of, tried, tried_at}
 use Rattle.spk_server.specs.Log.{IsRun, May, any_deed, is_open}
@@ -127,6 +127,8 @@ closed_step k (Dropped conn) r j e = closed_at given_up ends_given_up conn k r.c
 closed_step k (Wrote conn n) r j e = closed_at (written_to n) (λ c x. ends_settled (record c { outbox = written n c.outbox }) x) conn k r.clients e
 closed_step k (Blocked conn) r j e = closed_at cut_off (λ c x. ends_settled (record c { cut = true }) x) conn k r.clients e
 closed_step k (Named conn) r j e = closed_at untouched (λ c x. x) conn k r.clients e
+closed_step k (Kept b) r j e = e
+closed_step k Begun r j e = e
 closed_step k (Forgot conn) r j e = forgot_closed k conn r.clients e
 
 -- who isn't open sends nothing that is taken
@@ -158,6 +160,8 @@ silent_step k (Dropped c) r may e = refl
 silent_step k (Wrote c n) r may e = refl
 silent_step k (Blocked c) r may e = refl
 silent_step k (Named c) r may e = refl
+silent_step k (Kept b) r may e = refl
+silent_step k Begun r may e = refl
 silent_step k (Forgot c) r may e = refl
 
 pub both : (a b : Bool) → (a && b) ≡ true → (a ≡ true) × (b ≡ true)

@@ -17,7 +17,7 @@ use Rattle.spk_clients.specs.declared.client.Offered.{Offered}
 use Rattle.spk_clients.specs.declared.client.Offered.TheVariants.{Taken, Refused, Passed}
 use Rattle.spk_clients.specs.Client.{after_hearing, awaited, cut_off, fresh_client, given_up, is_over, leaves, over_until, takes_in, told, untouched, waiting_for, written_to}
 use Rattle.spk_outbox.specs.Step.{written}
-use Rattle.spk_server.specs.Data.{Deed, InHand, Offer, Room, Slow, Timed, Joined, Skipped, Took, Came, Broke, Left, Ticked, Handed, Shut, Told, Cut, Tried, Waited, Freed, Dropped, Wrote, Blocked, Named, Forgot}
+use Rattle.spk_server.specs.Data.{Deed, InHand, Offer, Room, Slow, Timed, Joined, Skipped, Took, Came, Broke, Left, Ticked, Handed, Shut, Told, Cut, Tried, Waited, Freed, Dropped, Wrote, Blocked, Named, Forgot, Kept, Begun}
 use Rattle.spk_server.specs.Data as deed
 use Rattle.spk_server.specs.Step.{after, behind, cause_why, change, changed, freed_from, grace, is_slow, later, offered, placed, publisher, quiet, set_free, slow_of, tried, tried_at}
 use Rattle.spk_server.specs.Log.{HasClient, IsRun, May, is_open}
@@ -136,6 +136,8 @@ feed_step k (Dropped conn) r x may j e = unfed k (Dropped conn) r x refl (kept (
 feed_step k (Wrote conn n) r x may j e = unfed k (Wrote conn n) r x refl (kept (λ (c : Client). c.feed) (written_to n) (λ c. steady_feed.settled (record c { outbox = written n c.outbox })) conn k r.clients) e
 feed_step k (Blocked conn) r x may j e = unfed k (Blocked conn) r x refl (kept (λ (c : Client). c.feed) cut_off (λ c. steady_feed.settled (record c { cut = true })) conn k r.clients) e
 feed_step k (Named conn) r x may j e = unfed k (Named conn) r x refl (kept (λ (c : Client). c.feed) untouched steady_feed.untouched conn k r.clients) e
+feed_step k (Kept b) r x may j e = unfed k (Kept b) r x refl refl e
+feed_step k Begun r x may j e = unfed k Begun r x refl refl e
 feed_step k (Forgot conn) r x may j e = (x, gone_none x conn k r.clients e, refl)
 
 -- ---- what a deed was to the events of a stream, put together
@@ -177,6 +179,8 @@ first_stream k (Dropped c) r may j = cc
 first_stream k (Wrote c n) r may j = cc
 first_stream k (Blocked c) r may j = cc
 first_stream k (Named c) r may j = cc
+first_stream k (Kept b) r may j = cc
+first_stream k Begun r may j = cc
 first_stream k (Forgot c) r may j = cc
 
 next_stream : (k : ℕ) (d : Deed) (r : Room) (past : List Deed) → May d r → joins k d ≡ false → Streams k r past → Streams k (after d r) (past ++ d ∷ [])
@@ -249,6 +253,8 @@ outbox_step k (Dropped conn) r x j e = unowed k (Dropped conn) r x refl (kept (�
 outbox_step k (Wrote conn n) r x j e = moved k conn (written_to n) (outbox.Wrote n ∷ []) r x (λ c. steady_outbox.settled (record c { outbox = written n c.outbox })) e
 outbox_step k (Blocked conn) r x j e = unowed k (Blocked conn) r x refl (kept (λ (c : Client). c.outbox) cut_off (λ c. steady_outbox.settled (record c { cut = true })) conn k r.clients) e
 outbox_step k (Named conn) r x j e = unowed k (Named conn) r x refl (kept (λ (c : Client). c.outbox) untouched steady_outbox.untouched conn k r.clients) e
+outbox_step k (Kept b) r x j e = unowed k (Kept b) r x refl refl e
+outbox_step k Begun r x j e = unowed k Begun r x refl refl e
 outbox_step k (Forgot conn) r x j e = (x, gone_outbox x conn k r.clients e, refl)
 
 abbrev pub Owes : ℕ → Room → List Deed → Type 0
@@ -275,6 +281,8 @@ first_owes k (Dropped c) r may j = cc
 first_owes k (Wrote c n) r may j = cc
 first_owes k (Blocked c) r may j = cc
 first_owes k (Named c) r may j = cc
+first_owes k (Kept b) r may j = cc
+first_owes k Begun r may j = cc
 first_owes k (Forgot c) r may j = cc
 
 outbox_joined : (es fs : List outbox.Call) (o : Outbox) → outbox.after (es ++ fs) o ≡ outbox.after fs (outbox.after es o)
@@ -305,11 +313,11 @@ freed_pending : (o : Option ℕ) (conn : ℕ) (r : Room) → (freed_from o conn 
 freed_pending None conn r = refl
 freed_pending (Some slow) conn r = refl
 
-came_pending : (h : Option InHand) (r : Room) → r.pending ++ sends_at r.broker (of_hand r h) ≡ (after Came (record r { in_hand = h })).pending
+came_pending : (h : Option InHand) (r : Room) → r.pending ++ sends_at r.noted.broker (of_hand r h) ≡ (after Came (record r { in_hand = h })).pending
 came_pending None r = append-nil r.pending
 came_pending (Some h) r = sym (sends_called (publisher h) h.conn (event.Packet h.conn h.packet r.now) (record r { in_hand = None }))
 
-sends_step : (d : Deed) (r : Room) → May d r → r.pending ++ sends_at r.broker (event_at r d) ≡ handed_in d ++ (after d r).pending
+sends_step : (d : Deed) (r : Room) → May d r → r.pending ++ sends_at r.noted.broker (event_at r d) ≡ handed_in d ++ (after d r).pending
 sends_step (Timed m) r may = append-nil r.pending
 sends_step (Joined c) r may = append-nil r.pending
 sends_step (deed.Fed c p) r may = append-nil r.pending
@@ -330,13 +338,15 @@ sends_step (Dropped c) r may = append-nil r.pending
 sends_step (Wrote c n) r may = append-nil r.pending
 sends_step (Blocked c) r may = append-nil r.pending
 sends_step (Named c) r may = append-nil r.pending
+sends_step (Kept b) r may = append-nil r.pending
+sends_step Begun r may = append-nil r.pending
 sends_step (Forgot c) r may = append-nil r.pending
 
 -- what is to be offered, and what the rules send then, is what is offered and what is left to be
 pub sends_run : (f : Deed → Bool) (log : List Deed) (r s : Room) → IsRun f r log s → r.pending ++ sends_from r log ≡ handed_of log ++ s.pending
 sends_run f [] r s a = append-nil r.pending ∙ ap (λ (x : Room). x.pending) a
 sends_run f (d ∷ ds) r s a =
-    sym (append_assoc r.pending (sends_at r.broker (event_at r d)) (sends_from (after d r) ds))
+    sym (append_assoc r.pending (sends_at r.noted.broker (event_at r d)) (sends_from (after d r) ds))
     ∙ ap (λ ps. ps ++ sends_from (after d r) ds) (sends_step d r a.1)
     ∙ append_assoc (handed_in d) (after d r).pending (sends_from (after d r) ds)
     ∙ ap (λ ps. handed_in d ++ ps) (sends_run f ds (after d r) s a.2)

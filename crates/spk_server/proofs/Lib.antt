@@ -8,6 +8,7 @@ pub mod Histories
 pub mod Lives
 pub mod Logs
 pub mod Looking
+pub mod Notes
 pub mod Rooms
 pub mod Runs
 pub mod Shutting

@@ -105,7 +105,7 @@ steady_outbox = record {
 -- ---- an event leaves the clients
 
 pub called_keeps : (by : Option ℕ) (conn : ℕ) (e : Event) (r : Room) → (called_on by conn e r).clients ≡ r.clients
-called_keeps by conn e r = go (knows r.broker conn)
+called_keeps by conn e r = go (knows r.noted.broker conn)
   where
     go : (b : Bool) → (if b then called by e r else r).clients ≡ r.clients
     go true = refl
@@ -117,9 +117,9 @@ came_keeps (Some h) r = called_keeps _ h.conn _ (record r { in_hand = None })
 
 -- ---- sends
 
-pub sends_called : (by : Option ℕ) (conn : ℕ) (e : Event) (r : Room) → (called_on by conn e r).pending ≡ r.pending ++ sends_at r.broker (on_conn r.broker conn by e)
-sends_called by conn e r = go (knows r.broker conn)
+pub sends_called : (by : Option ℕ) (conn : ℕ) (e : Event) (r : Room) → (called_on by conn e r).pending ≡ r.pending ++ sends_at r.noted.broker (on_conn r.noted.broker conn by e)
+sends_called by conn e r = go (knows r.noted.broker conn)
   where
-    go : (b : Bool) → (if b then called by e r else r).pending ≡ r.pending ++ sends_at r.broker (if b then Some (by, e) else None)
+    go : (b : Bool) → (if b then called by e r else r).pending ≡ r.pending ++ sends_at r.noted.broker (if b then Some (by, e) else None)
     go true = refl
     go false = sym (append-nil r.pending)

@@ -1,11 +1,12 @@
 -- The deeds of calls, one call behind the other.
-use Rattle.std.proofs.Common.{◌≡◌, ◌⊎◌, inl, inr, ℕ, ◌&&◌, Bool, true, List, [], ◌∷◌, ◌++◌, Some, None, refl, sym, ◌∙◌, ap}
+use Rattle.std.proofs.Common.{◌≡◌, ◌⊎◌, inl, inr, ℕ, ◌&&◌, if◌then◌else◌, Bool, true, false, List, [], ◌∷◌, ◌++◌, Some, None, refl, sym, ◌∙◌, ap}
 use Rattle.std.specs.List.{list_all}
+use Rattle.spk_broker_notes.specs.Noted.{Noted}
 use Rattle.spk_server.specs.Data.{Deed, Room, Want}
 use Rattle.spk_server.specs.Data as deed
 use Rattle.spk_server.specs.Step.{after}
-use Rattle.spk_server.specs.Calls.{AreDone, Call, Accepted, TurnedAway, Read, Gone, GoOn, Moment, Wrote, Cut, NextToWrite, NextToShut, IsDone, IsLogOf, LogOf, PassedOver, RanOut, TookUp, WasEnded, fresh_room, timed}
-use Rattle.spk_server.specs.Log.{IsRested, IsRun, any_deed, calls, follows, goes_on, takes}
+use Rattle.spk_server.specs.Calls.{AreDone, Call, Accepted, TurnedAway, Read, Gone, GoOn, Moment, Wrote, Cut, NextToWrite, NextToShut, Kept, Begun, IsDone, IsLogOf, LogOf, PassedOver, RanOut, TookUp, WasEnded, room_with, timed}
+use Rattle.spk_server.specs.Log.{IsRested, IsRun, any_deed, calls, follows, goes_on, is_all_kept, takes}
 use Rattle.spk_server.proofs.Allowed.{follows_takes}
 use Rattle.spk_server.proofs.Runs.{joined, widened}
 
@@ -45,6 +46,10 @@ gone_log conn now r m rest (inl t) = (
 )
 gone_log conn now r m rest (inr p) = (deed.Timed now ∷ [], ([], refl, inl refl), (refl, rest, sym p.same))
 
+wrote_log : (conn count : ℕ) (r m : Room) → IsRested r → (b : Bool) → is_all_kept r ≡ b → m ≡ (if b then after (deed.Wrote conn count) r else r) → HasLog (Wrote conn count) r m
+wrote_log conn count r m rest true kept d = (deed.Wrote conn count ∷ [], inl refl, (refl, (rest, kept), sym d))
+wrote_log conn count r m rest false kept d = ([], inr refl, sym d)
+
 done_log : (c : Call) (r m : Room) → IsRested r → IsDone c r m → HasLog c r m
 done_log (Accepted conn now) r m rest d = (deed.Timed now ∷ deed.Joined conn ∷ [], refl, (refl, rest, (refl, (rest, d.0, d.1), sym d.2)))
 done_log (TurnedAway now) r m rest d = (deed.Timed now ∷ [], refl, (refl, rest, sym d))
@@ -52,12 +57,14 @@ done_log (Read conn piece now) r m rest d = read_log conn piece now r m rest d
 done_log (Gone conn now) r m rest d = gone_log conn now r m rest d
 done_log (GoOn now) r m rest d = (deed.Timed now ∷ d.0, (d.0, refl, all_of goes_on d.0 (timed now r) m d.1), (refl, rest, any_of goes_on d.0 (timed now r) m d.1))
 done_log (Moment now) r m rest d = (deed.Timed now ∷ d.0.0, (d.0.0, refl, all_of calls d.0.0 (timed now r) m d.0.1), (refl, rest, any_of calls d.0.0 (timed now r) m d.0.1))
-done_log (Wrote conn count) r m rest d = (deed.Wrote conn count ∷ [], refl, (refl, rest, sym d))
+done_log (Wrote conn count) r m rest d = wrote_log conn count r m rest (is_all_kept r) refl d
 done_log (Cut conn) r m rest d = (deed.Blocked conn ∷ [], refl, (refl, rest, sym d))
 done_log (NextToWrite None) r m rest d = ([], refl, sym d)
 done_log (NextToWrite (Some conn)) r m rest d = (deed.Named conn ∷ [], refl, (refl, rest, sym d))
 done_log (NextToShut None) r m rest d = ([], refl, sym d.0)
 done_log (NextToShut (Some shut)) r m rest d = (deed.Forgot shut.0 ∷ [], refl, (refl, (rest, (d.0.0, d.0.1, d.0.2.0)), sym d.1))
+done_log (Kept bytes) r m rest d = (deed.Kept bytes ∷ [], refl, (refl, (rest, d.0), sym d.1))
+done_log Begun r m rest d = (deed.Begun ∷ [], refl, (refl, rest, sym d))
 
 pub calls_log : (cs : List Call) (r s : Room) → IsRested r → AreDone r cs s → (log : List Deed) × LogOf cs log × IsRun any_deed r log s
 calls_log [] r s rest a = ([], refl, a)
@@ -66,5 +73,5 @@ calls_log (c ∷ cs) r s rest a =
     let more = calls_log cs a.0 s a.2 a.3 in
     (own.0 ++ more.0, (own.0, more.0, refl, own.1, more.1), joined any_deed own.0 more.0 r a.0 s own.2 more.2)
 
-pub fresh_rested : IsRested fresh_room
-fresh_rested = ((refl, (refl, refl)), λ k. tt)
+pub first_rested : (x : Noted) → IsRested (room_with x)
+first_rested x = ((refl, (refl, refl)), λ k. tt)

@@ -6,7 +6,7 @@ use Rattle.spk_broker_rules.specs.Step.{knows}
 use Rattle.spk_broker_rules.specs.Plan as event
 use Rattle.spk_clients.specs.declared.cause.Cause.TheVariants as cause
 use Rattle.spk_clients.specs.Client.{awaited, leaves, told}
-use Rattle.spk_server.specs.Data.{Deed, InHand, Room, Slow, Timed, Joined, Fed, Skipped, Took, Came, Broke, Left, Ticked, Handed, Shut, Told, Cut, Tried, Waited, Freed, Dropped, Wrote, Blocked, Named, Forgot}
+use Rattle.spk_server.specs.Data.{Deed, InHand, Room, Slow, Timed, Joined, Fed, Skipped, Took, Came, Broke, Left, Ticked, Handed, Shut, Told, Cut, Tried, Waited, Freed, Dropped, Wrote, Blocked, Named, Forgot, Kept, Begun}
 use Rattle.spk_server.specs.Step.{after, behind, called, called_on, came, cause_why, changed, freed_from, grace, is_slow, later, tried, tried_at}
 use Rattle.spk_server.specs.Log.{IsRun, LooksAt, May, goes_on, looked_at, looks_at, takes}
 use Rattle.spk_server.proofs.Runs.{joined}
@@ -21,7 +21,7 @@ freed_held None conn r = refl
 freed_held (Some slow) conn r = refl
 
 pub called_held : (by : Option ℕ) (conn : ℕ) (e : Event) (r : Room) → (called_on by conn e r).held ≡ r.held
-called_held by conn e r = go (knows r.broker conn)
+called_held by conn e r = go (knows r.noted.broker conn)
   where
     go : (b : Bool) → (if b then called by e r else r).held ≡ r.held
     go true = refl
@@ -70,6 +70,8 @@ grows (Dropped c) r e may = no e
 grows (Wrote c n) r e may = no e
 grows (Blocked c) r e may = no e
 grows (Named c) r e may = no e
+grows (Kept b) r e may = no e
+grows Begun r e may = no e
 grows (Forgot c) r e may = no e
 
 -- whom a run looked at and who waits behind it are those who waited, and maybe others behind them
@@ -113,6 +115,8 @@ takes_nobody conn (Dropped c) e = refl
 takes_nobody conn (Wrote c n) e = refl
 takes_nobody conn (Blocked c) e = refl
 takes_nobody conn (Named c) e = refl
+takes_nobody conn (Kept b) e = refl
+takes_nobody conn Begun e = refl
 takes_nobody conn (Forgot c) e = refl
 
 pub looked_none : (conn : ℕ) (ds : List Deed) (r s : Room) → IsRun (takes conn) r ds s → looked_at ds ≡ []

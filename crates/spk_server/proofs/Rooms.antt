@@ -9,7 +9,8 @@ use Rattle.spk_session.specs.declared.answer.Sort.{Sort}
 use Rattle.spk_session.specs.declared.answer.Sort.TheVariants as sort
 use Rattle.spk_broker.specs.Sent.{Sent, outgoing}
 use Rattle.spk_broker.specs.declared.out.Out.{Out}
-use Rattle.spk_broker_rules.specs.Data.{Broker}
+use Rattle.spk_broker_notes.specs.Noted.{Noted}
+use Rattle.spk_broker_notes.specs.Noted as note
 use Rattle.spk_broker_rules.specs.Plan.{Event}
 use Rattle.spk_broker_rules.specs.Plan as event
 use Rattle.spk_broker_rules.specs.Step.{step}
@@ -61,16 +62,16 @@ same_after conn old new here others = fun_ext λ k.
 
 -- ---- an answer of the broker
 
-pub answered_is : (by : Option ℕ) (conn : ℕ) (old new : Broker) (e : Event) (o : Option Out) (r : Room) → AnswersOn conn old new e o
-    → called_on by conn e (record r { broker = old; pending = []; closing = [] }) ≡ record r { broker = new; pending = offers_in by o; closing = closes_in (packet_of e) (cause_of e) o }
+pub answered_is : (by : Option ℕ) (conn : ℕ) (old new : Noted) (e : Event) (o : Option Out) (r : Room) → AnswersOn conn old new e o
+    → called_on by conn e (record r { noted = old; pending = []; closing = [] }) ≡ record r { noted = new; pending = offers_in by o; closing = closes_in (packet_of e) (cause_of e) o }
 answered_is by conn old new e None r a =
-    ap (λ b. if b then called by e (record r { broker = old; pending = []; closing = [] }) else (record r { broker = old; pending = []; closing = [] })) a.0
-    ∙ ap (λ b. record r { broker = b; pending = []; closing = [] }) (sym a.1)
+    ap (λ b. if b then called by e (record r { noted = old; pending = []; closing = [] }) else (record r { noted = old; pending = []; closing = [] })) a.0
+    ∙ ap (λ b. record r { noted = b; pending = []; closing = [] }) (sym a.1)
 answered_is by conn old new e (Some out) r a =
-    ap (λ b. if b then called by e (record r { broker = old; pending = []; closing = [] }) else (record r { broker = old; pending = []; closing = [] })) a.0
-    ∙ ap (λ b. record r { broker = b; pending = map (offer_of by) (map outgoing (step old e).sends); closing = closes_of (packet_of e) (cause_of e) (step old e).closes }) (sym a.1.done)
-    ∙ ap (λ ss. record r { broker = new; pending = map (offer_of by) ss; closing = closes_of (packet_of e) (cause_of e) (step old e).closes }) (sym a.1.sends)
-    ∙ ap (λ cs. record r { broker = new; pending = offers_of by out.sends.items; closing = closes_of (packet_of e) (cause_of e) cs }) (sym a.1.closes)
+    ap (λ b. if b then called by e (record r { noted = old; pending = []; closing = [] }) else (record r { noted = old; pending = []; closing = [] })) a.0
+    ∙ ap (λ b. record r { noted = b; pending = map (offer_of by) (map outgoing (step old.broker e).sends); closing = closes_of (packet_of e) (cause_of e) (step old.broker e).closes }) (sym a.1.done)
+    ∙ ap (λ ss. record r { noted = new; pending = map (offer_of by) ss; closing = closes_of (packet_of e) (cause_of e) (step old.broker e).closes }) (sym a.1.sends)
+    ∙ ap (λ cs. record r { noted = new; pending = offers_of by out.sends.items; closing = closes_of (packet_of e) (cause_of e) cs }) (sym a.1.closes)
 
 -- ---- handing out
 
@@ -147,13 +148,13 @@ shut_is old new q rest slow e =
 
 -- ---- ends
 
-pub left_is : (old new : Server) (b : Broker) (conn : ℕ) (why : Cause) (o : Option Out) (before : Option Slow)
+pub left_is : (old new : Server) (b : Noted) (conn : ℕ) (why : Cause) (o : Option Out) (before : Option Slow)
     → room_of new ≡ changed (leaves (later grace old.now) why) conn (room_of old)
-    → AnswersOn conn new.broker b (event.Closed conn new.now) o
-    → left conn why (amid old [] [] before) ≡ amid (record new { broker = b }) (offers_in None o) (closes_in None cause.Slow o) before
+    → AnswersOn conn new.noted b (event.Closed conn new.now) o
+    → left conn why (amid old [] [] before) ≡ amid (record new { noted = b }) (offers_in None o) (closes_in None cause.Slow o) before
 left_is old new b conn why o before e a =
     ap {A = Room} {B = Room} (λ r. called_on None conn (event.Closed conn r.now) (record r { pending = []; closing = []; slow = before })) (sym e)
-    ∙ answered_is None conn new.broker b (event.Closed conn new.now) o (amid new [] [] before) a
+    ∙ answered_is None conn new.noted b (event.Closed conn new.now) o (amid new [] [] before) a
 
 -- ---- the broker is told
 
@@ -221,12 +222,12 @@ nothing_left [] e = refl
 nothing_left (x ∷ xs) e = absurd (omega arith)
 
 -- a client came
-pub joined_is : (old : Server) (m n : Clients) (b : Broker) (h : List ℕ) (conn until : ℕ) (c : Client)
-    → b ≡ (step old.broker (event.Open old.now)).broker → ((k : ℕ) → client_at m k ≡ client_at old.clients k)
+pub joined_is : (old : Server) (m n : Clients) (b : Noted) (h : List ℕ) (conn until : ℕ) (c : Client)
+    → b ≡ note.after (event.Open old.now) old.noted → ((k : ℕ) → client_at m k ≡ client_at old.clients k)
     → client_at n conn ≡ Some c → OthersStay conn m n → c ≡ fresh_client until → h ≡ old.held.items
-    → record (room_of old) { broker = b; clients = client_at n; held = h } ≡ joined conn until (room_of old)
+    → record (room_of old) { noted = b; clients = client_at n; held = h } ≡ joined conn until (room_of old)
 joined_is old m n b h conn until c done stay here others fresh held =
-    ap {B = Room} (λ x. record (room_of old) { broker = x; clients = client_at n; held = h }) done
-    ∙ ap {B = Room} (λ cs. record (room_of old) { broker = (step old.broker (event.Open old.now)).broker; clients = cs; held = h })
+    ap {B = Room} (λ x. record (room_of old) { noted = x; clients = client_at n; held = h }) done
+    ∙ ap {B = Room} (λ cs. record (room_of old) { noted = note.after (event.Open old.now) old.noted; clients = cs; held = h })
     (placed_is conn (Some (fresh_client until)) (client_at old.clients) (client_at n) (here ∙ ap Some fresh) (λ k ne. others k ne ∙ stay k))
     ∙ ap {B = Room} (λ x. record (joined conn until (room_of old)) { held = x }) held

@@ -12,7 +12,7 @@ use Rattle.spk_packets.specs.declared.fault.PacketFault.{PacketFault}
 use Rattle.spk_packets.specs.declared.fault.PacketFault.TheVariants as fault
 use Rattle.spk_packets.specs.declared.packet.Packet.{Packet}
 use Rattle.spk_broker.specs.declared.out.Out.{Out}
-use Rattle.spk_broker_rules.specs.Data.{Broker}
+use Rattle.spk_broker_notes.specs.Noted.{Noted}
 use Rattle.spk_broker_rules.specs.Plan as event
 use Rattle.spk_clients.specs.declared.cause.Cause.{Cause}
 use Rattle.spk_clients.specs.declared.cause.Cause.TheVariants as cause
@@ -39,16 +39,16 @@ own_want conn = ap (λ b. b && true) (eq-eqb conn conn refl)
 -- ---- a packet in hand
 
 -- there is no memory for it
-pub came_to_end : (old : Server) (n : Clients) (b : Broker) (t : Tally) (conn : ℕ) (p : Message) (new : Server) → Becomes (after_hearing p) conn old.clients n → b ≡ old.broker
+pub came_to_end : (old : Server) (n : Clients) (b : Noted) (t : Tally) (conn : ℕ) (p : Message) (new : Server) → Becomes (after_hearing p) conn old.clients n → b ≡ old.noted
     → t ≡ heard_with p old.tally
-    → Reaches follows (left conn cause.Memory (amid (record old { broker = b; clients = n; tally = t }) [] [] None)) (room_of new)
+    → Reaches follows (left conn cause.Memory (amid (record old { noted = b; clients = n; tally = t }) [] [] None)) (room_of new)
     → Reaches (takes conn) (with_packet conn p (room_of old)) (room_of new)
 came_to_end old n b t conn p new h same heard run =
     begins (takes conn) (deed.Left conn Want) (with_packet conn p (room_of old)) (room_of new) (own_want conn) ((refl, refl), tt)
     (wider follows (takes conn) (follows_takes conn) _ _
     (subst (λ cs. Reaches follows (left conn cause.Memory (record (room_of old) { clients = cs; tally = heard_with p old.tally })) (room_of new)) (change_is (after_hearing p) conn old.clients n h)
-    (subst (λ (x : Broker). Reaches follows (left conn cause.Memory (record (room_of old) { broker = x; clients = client_at n; tally = heard_with p old.tally })) (room_of new)) same
-    (subst (λ (x : Tally). Reaches follows (left conn cause.Memory (record (room_of old) { broker = b; clients = client_at n; tally = x })) (room_of new)) heard run))))
+    (subst (λ (x : Noted). Reaches follows (left conn cause.Memory (record (room_of old) { noted = x; clients = client_at n; tally = heard_with p old.tally })) (room_of new)) same
+    (subst (λ (x : Tally). Reaches follows (left conn cause.Memory (record (room_of old) { noted = b; clients = client_at n; tally = x })) (room_of new)) heard run))))
 
 pressed_for : (b : Bool) (conn : ℕ) (slow : Option ℕ) → pressed (if b then Some conn else None) slow None ≡ slow_for conn (if b then slow else None)
 pressed_for true conn None = refl
@@ -57,12 +57,12 @@ pressed_for false conn None = refl
 pressed_for false conn (Some s) = refl
 
 -- it comes to the broker
-pub came_on : (old : Server) (n : Clients) (b : Broker) (t : Tally) (conn : ℕ) (p : Message) (other : Cause) (o : Option Out) (slow r : Option ℕ) (mid new : Server)
+pub came_on : (old : Server) (n : Clients) (b : Noted) (t : Tally) (conn : ℕ) (p : Message) (other : Cause) (o : Option Out) (slow r : Option ℕ) (mid new : Server)
     → other ≡ cause_other p
     → Becomes (after_hearing p) conn old.clients n
     → t ≡ heard_with p old.tally
-    → AnswersOn conn old.broker b (event.Packet conn p old.now) o
-    → ((by : Option ℕ) (more : List Close) (before : Option Slow) → Reaches follows (amid (record old { broker = b; clients = n; tally = t }) (offers_in by o) (closes_in (Some (conn, other)) cause.Refused o ++ more) before) (amid mid [] more (pressed by slow before)))
+    → AnswersOn conn old.noted b (event.Packet conn p old.now) o
+    → ((by : Option ℕ) (more : List Close) (before : Option Slow) → Reaches follows (amid (record old { noted = b; clients = n; tally = t }) (offers_in by o) (closes_in (Some (conn, other)) cause.Refused o ++ more) before) (amid mid [] more (pressed by slow before)))
     → ((before : Option Slow) → Reaches follows (amid mid [] (ends_behind (record { conn = conn; packet = p })) before) (amid new [] [] before))
     → r ≡ (if is_publish p then slow else None)
     → Reaches (takes conn) (with_packet conn p (room_of old)) (amid new [] [] (slow_for conn r))
@@ -70,11 +70,11 @@ came_on old n b t conn p other o slow r mid new is_other h heard a hands ends is
     let by : Option ℕ = publisher (record { conn = conn; packet = p }) in
     let gone : List Close = ends_behind (record { conn = conn; packet = p }) in
     let answer : called_on by conn (event.Packet conn p old.now) (record (room_of old) { clients = change (after_hearing p) conn (client_at old.clients); tally = heard_with p old.tally })
-    ≡ record (room_of old) { broker = b; clients = client_at n; pending = offers_in by o; closing = closes_in (Some (conn, other)) cause.Refused o; tally = t } =
+    ≡ record (room_of old) { noted = b; clients = client_at n; pending = offers_in by o; closing = closes_in (Some (conn, other)) cause.Refused o; tally = t } =
     ap {A = ℕ → Option Client} {B = Room} (λ cs. called_on by conn (event.Packet conn p old.now) (record (room_of old) { clients = cs; tally = heard_with p old.tally })) (sym (change_is (after_hearing p) conn old.clients n h))
     ∙ ap {A = Tally} {B = Room} (λ x. called_on by conn (event.Packet conn p old.now) (record (room_of old) { clients = client_at n; tally = x })) (sym heard)
-    ∙ answered_is by conn old.broker b (event.Packet conn p old.now) o (record (room_of old) { clients = client_at n; tally = t }) a
-    ∙ ap {A = Cause} {B = Room} (λ w. record (room_of old) { broker = b; clients = client_at n; pending = offers_in by o; closing = closes_in (Some (conn, w)) cause.Refused o; tally = t }) (sym is_other) in
+    ∙ answered_is by conn old.noted b (event.Packet conn p old.now) o (record (room_of old) { clients = client_at n; tally = t }) a
+    ∙ ap {A = Cause} {B = Room} (λ w. record (room_of old) { noted = b; clients = client_at n; pending = offers_in by o; closing = closes_in (Some (conn, w)) cause.Refused o; tally = t }) (sym is_other) in
     begins (takes conn) deed.Came (with_packet conn p (room_of old)) _ refl ((record { conn = conn; packet = p }, refl), (refl, refl))
     (at_start (takes conn) _ _ _ (ap {A = Room} {B = Room} (ended_behind gone) answer)
     (wider follows (takes conn) (follows_takes conn) _ _
@@ -83,14 +83,14 @@ came_on old n b t conn p other o slow r mid new is_other h heard a hands ends is
 
 -- ---- what is no packet
 
-pub broke_on : (old : Server) (b : Broker) (conn : ℕ) (f : PacketFault) (why : Cause) (o : Option Out) (r : Option ℕ) (mid new : Server) → why ≡ cause_fault f
-    → AnswersOn conn old.broker b (event.Fault conn f old.now) o
-    → Reaches follows (amid (record old { broker = b }) (offers_in None o) (closes_in (Some (conn, cause.Slow)) why o ++ one_close conn why) None) (amid mid [] (one_close conn why) (pressed None r None))
+pub broke_on : (old : Server) (b : Noted) (conn : ℕ) (f : PacketFault) (why : Cause) (o : Option Out) (r : Option ℕ) (mid new : Server) → why ≡ cause_fault f
+    → AnswersOn conn old.noted b (event.Fault conn f old.now) o
+    → Reaches follows (amid (record old { noted = b }) (offers_in None o) (closes_in (Some (conn, cause.Slow)) why o ++ one_close conn why) None) (amid mid [] (one_close conn why) (pressed None r None))
     → room_of new ≡ changed (leaves (later grace mid.now) why) conn (room_of mid)
     → Reaches follows (broke conn (event.Fault conn f old.now) (room_of old)) (room_of new)
 broke_on old b conn f why o r mid new is a hands ended =
-    at_start follows _ _ _ (ap {A = Room} {B = Room} (ended_behind (one_close conn (cause_fault f))) (answered_is None conn old.broker b (event.Fault conn f old.now) o (room_of old) a)
-    ∙ ap {A = Cause} {B = Room} (λ w. ended_behind (one_close conn w) (record (room_of old) { broker = b; pending = offers_in None o; closing = closes_in (Some (conn, cause.Slow)) w o })) (sym is))
+    at_start follows _ _ _ (ap {A = Room} {B = Room} (ended_behind (one_close conn (cause_fault f))) (answered_is None conn old.noted b (event.Fault conn f old.now) o (room_of old) a)
+    ∙ ap {A = Cause} {B = Room} (λ w. ended_behind (one_close conn w) (record (room_of old) { noted = b; pending = offers_in None o; closing = closes_in (Some (conn, cause.Slow)) w o })) (sym is))
     (and_then follows _ _ _ (at_end follows _ _ _ hands (ap {A = Option Slow} {B = Room} (amid mid [] (one_close conn why)) (pressed_none r None)))
     (shut_is mid new (record { conn = conn; cause = why }) [] None ended))
 

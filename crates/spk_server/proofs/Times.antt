@@ -3,7 +3,7 @@ use Rattle.std.proofs.Common.{◌≡◌, ℕ, ◌<◌, nat_le, ◌&&◌, Bool, t
 use Rattle.std.specs.Option.{option_map_or}
 use Rattle.spk_broker.specs.Sent.{outgoing}
 use Rattle.spk_broker.specs.declared.out.Out.{Out}
-use Rattle.spk_broker_rules.specs.Data.{Broker}
+use Rattle.spk_broker_notes.specs.Noted.{Noted}
 use Rattle.spk_broker_rules.specs.Plan as event
 use Rattle.spk_broker_rules.specs.Step.{step}
 use Rattle.spk_clients.specs.declared.cause.Cause.TheVariants as cause
@@ -25,16 +25,16 @@ use Rattle.spk_server.proofs.Rooms.{change_is, rested}
 use Rattle.spk_server.proofs.Looking.{looked_none}
 use Rattle.spk_server.proofs.Runs.{at_end, at_start, begins, stays, widened, wider}
 
-pub ticked_is : (old : Server) (b : Broker) (out : Out) (before : Option Slow) → Answers old.broker b (event.Tick old.now) out
-    → record (called None (event.Tick old.now) (amid old [] [] before)) { ticked = old.now } ≡ amid (record old { broker = b; ticked = old.now }) (offers_in None (Some out)) (closes_in None cause.KeepAlive (Some out)) before
+pub ticked_is : (old : Server) (b : Noted) (out : Out) (before : Option Slow) → Answers old.noted b (event.Tick old.now) out
+    → record (called None (event.Tick old.now) (amid old [] [] before)) { ticked = old.now } ≡ amid (record old { noted = b; ticked = old.now }) (offers_in None (Some out)) (closes_in None cause.KeepAlive (Some out)) before
 ticked_is old b out before a =
     let r : Room = record (amid old [] [] before) { ticked = old.now } in
-    ap {B = Room} (λ x. record r { broker = x; pending = map (offer_of None) (map outgoing (step old.broker (event.Tick old.now)).sends); closing = closes_of None cause.KeepAlive (step old.broker (event.Tick old.now)).closes }) (sym a.done)
-    ∙ ap {B = Room} (λ ss. record r { broker = b; pending = map (offer_of None) ss; closing = closes_of None cause.KeepAlive (step old.broker (event.Tick old.now)).closes }) (sym a.sends)
-    ∙ ap {B = Room} (λ cs. record r { broker = b; pending = offers_of None out.sends.items; closing = closes_of None cause.KeepAlive cs }) (sym a.closes)
+    ap {B = Room} (λ x. record r { noted = x; pending = map (offer_of None) (map outgoing (step old.noted.broker (event.Tick old.now)).sends); closing = closes_of None cause.KeepAlive (step old.noted.broker (event.Tick old.now)).closes }) (sym a.done)
+    ∙ ap {B = Room} (λ ss. record r { noted = b; pending = map (offer_of None) ss; closing = closes_of None cause.KeepAlive (step old.noted.broker (event.Tick old.now)).closes }) (sym a.sends)
+    ∙ ap {B = Room} (λ cs. record r { noted = b; pending = offers_of None out.sends.items; closing = closes_of None cause.KeepAlive cs }) (sym a.closes)
 
-pub ticks_is : (old : Server) (b : Broker) (out : Out) (s : Room) (before : Option Slow) → IsSettled old.clients → old.ticked < old.now → Answers old.broker b (event.Tick old.now) out
-    → Reaches follows (amid (record old { broker = b; ticked = old.now }) (offers_in None (Some out)) (closes_in None cause.KeepAlive (Some out)) before) s
+pub ticks_is : (old : Server) (b : Noted) (out : Out) (s : Room) (before : Option Slow) → IsSettled old.clients → old.ticked < old.now → Answers old.noted b (event.Tick old.now) out
+    → Reaches follows (amid (record old { noted = b; ticked = old.now }) (offers_in None (Some out)) (closes_in None cause.KeepAlive (Some out)) before) s
     → Reaches follows (amid old [] [] before) s
 ticks_is old b out s before settled less a t =
     begins follows deed.Ticked (amid old [] [] before) s refl (rested old before settled, less)

@@ -11,7 +11,7 @@ use Rattle.spk_clients.specs.declared.client.Client.{Client}
 use Rattle.spk_clients.specs.declared.clients.Clients.{Clients}
 use Rattle.spk_clients.specs.Client.{has_moment, is_due, leaves, told}
 use Rattle.spk_clients.specs.Data.{AreNoted, NobodyIsDue, client_at}
-use Rattle.spk_server.specs.Data.{Deed, Room, Timed, Joined, Fed, Skipped, Took, Came, Broke, Left, Ticked, Handed, Shut, Told, Cut, Tried, Waited, Freed, Dropped, Wrote, Blocked, Named, Forgot}
+use Rattle.spk_server.specs.Data.{Deed, Room, Timed, Joined, Fed, Skipped, Took, Came, Broke, Left, Ticked, Handed, Shut, Told, Cut, Tried, Waited, Freed, Dropped, Wrote, Blocked, Named, Forgot, Kept, Begun}
 use Rattle.spk_server.specs.Calls.{IsTold}
 use Rattle.spk_server.specs.Step.{after, called, called_on, cause_why, changed, grace, later, left}
 use Rattle.spk_server.specs.Log.{IsRun, Reaches, calls, follows}
@@ -23,7 +23,7 @@ either_told true x y s t = s
 either_told false x y s t = t
 
 called_told : (conn : ℕ) (e : Event) (r : Room) → IsTold r → IsTold (called_on None conn e r)
-called_told conn e r t = either_told (knows r.broker conn) (called None e r) r t t
+called_told conn e r t = either_told (knows r.noted.broker conn) (called None e r) r t t
 
 left_told : (conn : ℕ) (why : Cause) (r : Room) → IsTold r → IsTold (left conn why r)
 left_told conn why r t = called_told conn (event.Closed conn r.now) (record (changed (leaves (later grace r.now) why) conn r) { in_hand = None }) t
@@ -49,6 +49,8 @@ after_told (Dropped conn) r ok t = t
 after_told (Wrote conn count) r ok t = cc
 after_told (Blocked conn) r ok t = cc
 after_told (Named conn) r ok t = cc
+after_told (Kept bytes) r ok t = cc
+after_told Begun r ok t = cc
 after_told (Forgot conn) r ok t = cc
 
 along : (ds : List Deed) (r s : Room) → IsRun calls r ds s → IsTold r → IsTold s

@@ -14,7 +14,7 @@ use Rattle.spk_outbox.specs.Step.{written}
 use Rattle.spk_broker_rules.specs.Plan.{Event}
 use Rattle.spk_broker_rules.specs.Plan as event
 use Rattle.spk_broker.specs.Sent.{Sent}
-use Rattle.spk_server.specs.Data.{Deed, InHand, Room, Slow, Timed, Joined, Fed, Skipped, Took, Came, Broke, Left, Ticked, Handed, Shut, Told, Cut, Tried, Waited, Freed, Dropped, Wrote, Blocked, Named, Forgot}
+use Rattle.spk_server.specs.Data.{Deed, InHand, Room, Slow, Timed, Joined, Fed, Skipped, Took, Came, Broke, Left, Ticked, Handed, Shut, Told, Cut, Tried, Waited, Freed, Dropped, Wrote, Blocked, Named, Forgot, Kept, Begun}
 use Rattle.spk_server.specs.Step.{after, awaits, behind, called_on, came, cause_why, change, changed, freed_from, grace, is_among, is_slow, later, offered, placed, quiet, set_free, slow_of, tried, tried_at}
 use Rattle.spk_server.specs.Log.{IsRun, May}
 use Rattle.spk_server.proofs.Lives.{called_keeps, came_keeps, either}
@@ -197,6 +197,8 @@ seen_after (Dropped c) r may seen = kept given_up w_given_up c r.clients r.held 
 seen_after (Wrote c n) r may seen = kept (written_to n) (λ x. w_settled (record x { outbox = written n x.outbox })) c r.clients r.held seen
 seen_after (Blocked c) r may seen = kept cut_off (λ x. w_settled (record x { cut = true })) c r.clients r.held seen
 seen_after (Named c) r may seen = kept untouched (λ x. refl) c r.clients r.held seen
+seen_after (Kept b) r may seen = seen
+seen_after Begun r may seen = seen
 seen_after (Forgot c) r may seen = joined_seen c None r.clients r.held refl seen
 
 pub seen_run : (f : Deed → Bool) (ds : List Deed) (r s : Room) → IsRun f r ds s → Seen r.clients r.held → Seen s.clients s.held

@@ -1,10 +1,10 @@
 -- The calls of a server (own rules): what each did, as a run of deeds, and lists of calls.
-use Rattle.std.specs.Prelude.{◌≡◌, ◌⊎◌, ℕ, ◌+◌, ◌<◌, nat_lt, Bool, true, false, List, [], ◌∷◌, ◌++◌, Option, Some, None}
+use Rattle.std.specs.Prelude.{◌≡◌, ◌⊎◌, ℕ, ◌+◌, ◌<◌, nat_lt, Bool, true, false, if◌then◌else◌, List, [], ◌∷◌, ◌++◌, Option, Some, None}
 use Rattle.std.specs.List.{list_all}
 use Rattle.spk_packets.specs.Fault.{first_of}
 use Rattle.spk_packets.specs.Refusals.{refusals}
 use Rattle.spk_packets.specs.declared.fault.PacketFault.TheVariants.{More}
-use Rattle.spk_broker_rules.specs.Data.{fresh_broker}
+use Rattle.spk_broker_notes.specs.Noted.{Noted, bytes_of}
 use Rattle.spk_broker_rules.specs.Step.{is_full}
 use Rattle.spk_clients.specs.declared.cause.Cause.{Cause}
 use Rattle.spk_clients.specs.declared.client.Client.{Client}
@@ -15,7 +15,7 @@ use Rattle.spk_server.specs.Data.{Deed, Room, Want}
 use Rattle.spk_server.specs.Data as deed
 use Rattle.spk_server.specs.Step.{after, second}
 use Rattle.spk_server.specs.Tallies.{fresh_tally}
-use Rattle.spk_server.specs.Log.{HasClient, IsRested, LooksAt, Reaches, calls, follows, goes_on, is_open, takes}
+use Rattle.spk_server.specs.Log.{HasClient, IsRested, LooksAt, Reaches, calls, follows, goes_on, is_all_kept, is_open, takes}
 
 -- a call, with what the loop told the server or was told by it
 pub data Call : Type 0 where
@@ -30,6 +30,9 @@ pub data Call : Type 0 where
   Cut : (conn : ℕ) → Call
   NextToWrite : (conn : Option ℕ) → Call
   NextToShut : (shut : Option (ℕ × Cause)) → Call
+  -- these bytes were kept
+  Kept : (bytes : List ℕ) → Call
+  Begun : Call
 
 abbrev pub IsHeld : Option ℕ → Type 0
 IsHeld None = ⊥
@@ -75,27 +78,29 @@ is_told r = nat_lt r.now (r.ticked + second)
 
 abbrev pub IsDone : Call → Room → Room → Type 0
 IsDone (Accepted conn now) r s =
-    (is_full r.broker ≡ false) × (conn ≡ r.broker.given + 1) × (s ≡ after (deed.Joined conn) (timed now r))
+    (is_full r.noted.broker ≡ false) × (conn ≡ r.noted.broker.given + 1) × (s ≡ after (deed.Joined conn) (timed now r))
 IsDone (TurnedAway now) r s = s ≡ timed now r
 IsDone (Read conn piece now) r s =
     TookUp conn piece (timed now r) s ⊎ (PassedOver conn (timed now r) s ⊎ RanOut conn (timed now r) s)
 IsDone (Gone conn now) r s = WasEnded conn (timed now r) s ⊎ PassedOver conn (timed now r) s
 IsDone (GoOn now) r s = LooksAt r.held (timed now r) s
 IsDone (Moment now) r s = Reaches calls (timed now r) s × NobodyIsDue s.now s.clients
-IsDone (Wrote conn count) r s = s ≡ after (deed.Wrote conn count) r
+IsDone (Wrote conn count) r s = s ≡ (if is_all_kept r then after (deed.Wrote conn count) r else r)
 IsDone (Cut conn) r s = s ≡ after (deed.Blocked conn) r
 IsDone (NextToWrite None) r s = s ≡ r
 IsDone (NextToWrite (Some conn)) r s = s ≡ after (deed.Named conn) r
 IsDone (NextToShut None) r s = (s ≡ r) × NobodyIsToShut r.clients
 IsDone (NextToShut (Some shut)) r s = HasClient (λ c. (c.phase ≡ Done) × (c.cause ≡ shut.1)) shut.0 r × (s ≡ after (deed.Forgot shut.0) r)
+IsDone (Kept bytes) r s = (bytes ≡ bytes_of r.noted.notes) × (s ≡ after (deed.Kept bytes) r)
+IsDone Begun r s = s ≡ after deed.Begun r
 
--- a new server
-abbrev pub fresh_room : Room
-fresh_room = record {
-  broker = fresh_broker 128;
+-- a server without clients, over a broker: its time goes on from that one's clock
+abbrev pub room_with : Noted → Room
+room_with x = record {
+  noted = x;
   clients = λ k. None;
-  now = 0;
-  ticked = 0;
+  now = x.broker.clock;
+  ticked = x.broker.clock;
   held = [];
   in_hand = None;
   pending = [];
@@ -130,12 +135,14 @@ IsLogOf (Gone conn now) log = (ds : List Deed) × (log ≡ deed.Timed now ∷ ds
     × (ds ≡ deed.Left conn deed.Gone ∷ es) × (list_all follows es ≡ true)))
 IsLogOf (GoOn now) log = (ds : List Deed) × (log ≡ deed.Timed now ∷ ds) × (list_all goes_on ds ≡ true)
 IsLogOf (Moment now) log = (ds : List Deed) × (log ≡ deed.Timed now ∷ ds) × (list_all calls ds ≡ true)
-IsLogOf (Wrote conn count) log = log ≡ deed.Wrote conn count ∷ []
+IsLogOf (Wrote conn count) log = (log ≡ deed.Wrote conn count ∷ []) ⊎ (log ≡ [])
 IsLogOf (Cut conn) log = log ≡ deed.Blocked conn ∷ []
 IsLogOf (NextToWrite None) log = log ≡ []
 IsLogOf (NextToWrite (Some conn)) log = log ≡ deed.Named conn ∷ []
 IsLogOf (NextToShut None) log = log ≡ []
 IsLogOf (NextToShut (Some shut)) log = log ≡ deed.Forgot shut.0 ∷ []
+IsLogOf (Kept bytes) log = log ≡ deed.Kept bytes ∷ []
+IsLogOf Begun log = log ≡ deed.Begun ∷ []
 
 -- the deeds of these calls, one call behind the other
 abbrev pub LogOf : List Call → List Deed → Type 0

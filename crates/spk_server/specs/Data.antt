@@ -4,7 +4,7 @@ use Rattle.spk_packets.specs.Message.{Message}
 use Rattle.spk_packets.specs.declared.fault.PacketFault.{PacketFault}
 use Rattle.spk_session.specs.declared.answer.Sort.{Sort}
 use Rattle.spk_broker.specs.Sent.{Sent}
-use Rattle.spk_broker_rules.specs.Data.{Broker}
+use Rattle.spk_broker_notes.specs.Noted.{Noted}
 use Rattle.spk_clients.specs.declared.cause.Cause.{Cause}
 use Rattle.spk_clients.specs.declared.client.Client.{Client}
 use Rattle.spk_clients.specs.declared.client.Offered.{Offered}
@@ -32,7 +32,8 @@ pub record Close : Type 0 where
   pub cause : Cause
 
 pub record Room : Type 0 where
-  pub broker : Broker
+  -- the broker, and what is noted of what came to it
+  pub noted : Noted
   -- by the numbers of their connections
   pub clients : ℕ → Option Client
   -- the greatest moment so far
@@ -104,3 +105,7 @@ pub data Deed : Type 0 where
   Named : (conn : ℕ) → Deed
   -- its socket was shut, and it was forgotten
   Forgot : (conn : ℕ) → Deed
+  -- what was noted and wasn't kept, which is these bytes, is kept now
+  Kept : (bytes : List ℕ) → Deed
+  -- what the broker keeps was kept as a whole, and notes begin behind that
+  Begun : Deed

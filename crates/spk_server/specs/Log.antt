@@ -7,13 +7,14 @@ use Rattle.spk_packets.specs.Refusals.{refusals}
 use Rattle.spk_packets.specs.Stream.{TakesPacket}
 use Rattle.spk_packets.specs.declared.fault.PacketFault.TheVariants.{More, NoMemory}
 use Rattle.spk_broker_rules.specs.Step.{is_full}
+use Rattle.spk_broker_notes.specs.Noted.{bytes_of}
 use Rattle.spk_outbox.specs.Data.{first_room}
 use Rattle.spk_clients.specs.declared.client.Client.{Client}
 use Rattle.spk_clients.specs.declared.client.Offered.{Offered}
 use Rattle.spk_clients.specs.declared.client.Offered.TheVariants.{Taken, Refused, Passed}
 use Rattle.spk_clients.specs.declared.client.Phase.TheVariants.{Quiet, Over, Done}
 use Rattle.spk_clients.specs.Client.{is_due, is_over, is_untold, sort_untold}
-use Rattle.spk_server.specs.Data.{Deed, InHand, Room, Slow, Why, Gone, Silent, Want, Timed, Joined, Fed, Skipped, Took, Came, Broke, Left, Ticked, Handed, Shut, Told, Cut, Tried, Waited, Freed, Dropped, Wrote, Blocked, Named, Forgot}
+use Rattle.spk_server.specs.Data.{Deed, InHand, Room, Slow, Why, Gone, Silent, Want, Timed, Joined, Fed, Skipped, Took, Came, Broke, Left, Ticked, Handed, Shut, Told, Cut, Tried, Waited, Freed, Dropped, Wrote, Blocked, Named, Forgot, Kept, Begun}
 use Rattle.spk_server.specs.Step.{after, still_waits}
 
 -- ---- what a deed must find
@@ -46,6 +47,14 @@ MayFall Taken None = ⊥
 MayFall Refused None = ⊥
 MayFall Passed None = Unit {0}
 
+abbrev pub is_empty : List ℕ → Bool
+is_empty [] = true
+is_empty (b ∷ bs) = false
+
+-- all that was noted is kept: now what came of it may be written
+abbrev pub is_all_kept : Room → Bool
+is_all_kept r = is_empty (bytes_of r.noted.notes)
+
 abbrev pub IsFirst : {X : Type 0} → X → List X → Type 0
 IsFirst {X} x xs = (rest : List X) × (xs ≡ x ∷ rest)
 
@@ -57,7 +66,7 @@ MayLeave Want conn r = Unit {0}
 
 abbrev pub May : Deed → Room → Type 0
 May (Timed moment) r = IsRested r
-May (Joined conn) r = IsRested r × (is_full r.broker ≡ false) × (conn ≡ r.broker.given + 1)
+May (Joined conn) r = IsRested r × (is_full r.noted.broker ≡ false) × (conn ≡ r.noted.broker.given + 1)
 May (Fed conn piece) r = IsRested r × (is_open r conn ≡ true)
 May (Skipped conn piece) r = IsRested r × (is_open r conn ≡ false)
 May (Took conn p rest) r = IsRested r × HasClient (λ c. (is_over c ≡ false) × TakesPacket c.feed p rest) conn r
@@ -74,10 +83,12 @@ May Tried r = IsRested r × ((s : Slow) × (r.slow ≡ Some s))
 May (Waited conn) r = IsRested r × IsFirst conn r.held × (still_waits r.now r.clients conn ≡ true)
 May (Freed conn) r = IsRested r × IsFirst conn r.held × (still_waits r.now r.clients conn ≡ false)
 May (Dropped conn) r = IsRested r × HasClient (λ c. (c.phase ≡ Over) × (is_due r.now c ≡ true)) conn r
-May (Wrote conn count) r = IsRested r
+May (Wrote conn count) r = IsRested r × (is_all_kept r ≡ true)
 May (Blocked conn) r = IsRested r
 May (Named conn) r = IsRested r
 May (Forgot conn) r = IsRested r × HasClient (λ c. c.phase ≡ Done) conn r
+May (Kept bytes) r = IsRested r × (bytes ≡ bytes_of r.noted.notes)
+May Begun r = IsRested r
 
 -- these deeds, each of them of those that are allowed, lead from the one to the other
 abbrev pub IsRun : (Deed → Bool) → Room → List Deed → Room → Type 0

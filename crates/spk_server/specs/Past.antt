@@ -14,7 +14,7 @@ use Rattle.spk_clients.specs.declared.cause.Cause.{Cause}
 use Rattle.spk_clients.specs.declared.client.Client.{Client}
 use Rattle.spk_clients.specs.Client.{is_over}
 use Rattle.spk_clients.specs.declared.client.Offered.TheVariants.{Taken, Refused}
-use Rattle.spk_server.specs.Data.{Deed, InHand, Offer, Room, Timed, Joined, Skipped, Took, Came, Broke, Left, Ticked, Handed, Shut, Told, Cut, Tried, Waited, Freed, Dropped, Wrote, Blocked, Named, Forgot}
+use Rattle.spk_server.specs.Data.{Deed, InHand, Offer, Room, Timed, Joined, Skipped, Took, Came, Broke, Left, Ticked, Handed, Shut, Told, Cut, Tried, Waited, Freed, Dropped, Wrote, Blocked, Named, Forgot, Kept, Begun}
 use Rattle.spk_server.specs.Data as deed
 use Rattle.spk_server.specs.Step.{after, is_slow, offer_of, publisher}
 use Rattle.spk_server.specs.Tallies.{is_message, is_publish}
@@ -62,15 +62,15 @@ on_conn b conn by e = if knows b conn then Some (by, e) else None
 
 abbrev pub of_hand : Room → Option InHand → Option (Option ℕ × Event)
 of_hand r None = None
-of_hand r (Some h) = on_conn r.broker h.conn (publisher h) (event.Packet h.conn h.packet r.now)
+of_hand r (Some h) = on_conn r.noted.broker h.conn (publisher h) (event.Packet h.conn h.packet r.now)
 
 abbrev pub event_at : Room → Deed → Option (Option ℕ × Event)
 event_at r Came = of_hand r r.in_hand
-event_at r (Broke conn fault) = on_conn r.broker conn None (event.Fault conn fault r.now)
-event_at r (Left conn why) = on_conn r.broker conn None (event.Closed conn r.now)
+event_at r (Broke conn fault) = on_conn r.noted.broker conn None (event.Fault conn fault r.now)
+event_at r (Left conn why) = on_conn r.noted.broker conn None (event.Closed conn r.now)
 event_at r Ticked = Some (None, event.Tick r.now)
-event_at r (Told conn s) = on_conn r.broker conn None (event.Refused conn s r.now)
-event_at r (Cut conn s) = on_conn r.broker conn None (event.Closed conn r.now)
+event_at r (Told conn s) = on_conn r.noted.broker conn None (event.Refused conn s r.now)
+event_at r (Cut conn s) = on_conn r.noted.broker conn None (event.Closed conn r.now)
 event_at r _ = None
 
 -- what the rules send for an event, in order
@@ -81,7 +81,7 @@ sends_at b (Some e) = map (offer_of e.0) (map outgoing (step b e.1).sends)
 -- what the rules send for a run of deeds, in order
 abbrev pub sends_from : Room → List Deed → List Offer
 sends_from r [] = []
-sends_from r (d ∷ ds) = sends_at r.broker (event_at r d) ++ sends_from (after d r) ds
+sends_from r (d ∷ ds) = sends_at r.noted.broker (event_at r d) ++ sends_from (after d r) ds
 
 -- a send that was offered
 abbrev pub handed_in : Deed → List Offer
@@ -102,6 +102,35 @@ hears k _ = false
 -- its end came, for this cause
 abbrev pub IsEndedBy : Cause → Client → Type 0
 IsEndedBy why c = (is_over c ≡ true) × (c.cause ≡ why)
+
+-- ---- what is noted
+
+abbrev pub events_in : Option (Option ℕ × Event) → List Event
+events_in None = []
+events_in (Some e) = e.1 ∷ []
+
+-- what comes to the broker by a deed: an event of those above, or that a connection is opened
+abbrev pub comes_at : Room → Deed → List Event
+comes_at r (Joined conn) = event.Open r.now ∷ []
+comes_at r d = events_in (event_at r d)
+
+-- what comes to the broker by a run of deeds, in order
+abbrev pub comes_from : Room → List Deed → List Event
+comes_from r [] = []
+comes_from r (d ∷ ds) = comes_at r d ++ comes_from (after d r) ds
+
+abbrev pub kept_in : Deed → List ℕ
+kept_in (Kept bytes) = bytes
+kept_in _ = []
+
+-- what was kept by a run of deeds, in order
+abbrev pub kept_of : List Deed → List ℕ
+kept_of log = flat_map kept_in log
+
+-- notes begin anew
+abbrev pub begins_anew : Deed → Bool
+begins_anew Begun = true
+begins_anew _ = false
 
 -- ---- what is counted
 

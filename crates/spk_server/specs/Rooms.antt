@@ -8,16 +8,17 @@ use Rattle.spk_broker.specs.declared.out.Out.{Out}
 use Rattle.spk_broker.specs.declared.out.Outgoing.{Outgoing}
 use Rattle.spk_clients.specs.declared.cause.Cause.{Cause}
 use Rattle.spk_clients.specs.Client.{after_hearing}
-use Rattle.spk_clients.specs.Data.{NobodyIsDue, client_at, client_count}
+use Rattle.spk_clients.specs.Data.{NobodyIsDue, client_at, client_count, waiting_at}
 use Rattle.spk_server.specs.declared.server.Server.{Server}
 use Rattle.spk_server.specs.Data.{Close, Offer, Room, Slow}
+use Rattle.spk_server.specs.Log.{is_all_kept}
 use Rattle.spk_server.specs.Tallies.{heard_with}
 use Rattle.spk_server.specs.Step.{changed, closes_of, first_wait, later, offer_of, second, still_waits}
 
 -- between two calls
 abbrev pub room_of : Server → Room
 room_of s = record {
-  broker = s.broker;
+  noted = s.noted;
   clients = client_at s.clients;
   now = s.now;
   ticked = s.ticked;
@@ -32,6 +33,10 @@ room_of s = record {
 -- in the midst of one
 abbrev pub amid : Server → List Offer → List Close → Option Slow → Room
 amid s pending closing slow = record (room_of s) { pending = pending; closing = closing; slow = slow }
+
+-- what may be written to a client: what waits for it, once all that was noted is kept
+abbrev pub waiting_of : Server → ℕ → List ℕ
+waiting_of s conn = if is_all_kept (room_of s) then waiting_at s.clients conn else []
 
 -- the sends of an answer, as offers
 abbrev pub offers_of : Option ℕ → List Outgoing → List Offer

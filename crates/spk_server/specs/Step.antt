@@ -8,6 +8,7 @@ use Rattle.spk_packets.specs.declared.fault.PacketFault.{PacketFault}
 use Rattle.spk_broker_rules.specs.Plan.{Event, is_bad_level}
 use Rattle.spk_broker_rules.specs.Plan as event
 use Rattle.spk_broker_rules.specs.Step.{Turn, step, knows}
+use Rattle.spk_broker_notes.specs.Noted as note
 use Rattle.spk_outbox.specs.Waits.{until}
 use Rattle.spk_clients.specs.declared.cause.Cause.{Cause}
 use Rattle.spk_clients.specs.declared.cause.Cause.TheVariants as cause
@@ -19,7 +20,7 @@ use Rattle.spk_clients.specs.declared.client.Offered.TheVariants.{Taken, Refused
 use Rattle.spk_clients.specs.Client.{after_hearing, awaited, cut_off, freed, fresh_client, given_up, has_many, has_some, is_awaited, leaves, most_number, refused_with, takes_in, taken_in, told, untouched, waiting_for, written_to}
 use Rattle.spk_server.specs.Tallies.{handed_with, heard_with, is_message, is_publish, stalled}
 use Rattle.spk_server.specs.Data as deed
-use Rattle.spk_server.specs.Data.{Close, Deed, InHand, Offer, Room, Slow, Timed, Joined, Fed, Skipped, Took, Came, Broke, Left, Ticked, Handed, Shut, Told, Cut, Tried, Waited, Freed, Dropped, Wrote, Blocked, Named, Forgot}
+use Rattle.spk_server.specs.Data.{Close, Deed, InHand, Offer, Room, Slow, Timed, Joined, Fed, Skipped, Took, Came, Broke, Left, Ticked, Handed, Shut, Told, Cut, Tried, Waited, Freed, Dropped, Wrote, Blocked, Named, Forgot, Kept, Begun}
 
 -- how long a client may send nothing
 abbrev pub quiet : ℕ
@@ -116,20 +117,20 @@ close_of own why conn = record { conn = conn; cause = cause_for own why conn }
 abbrev pub closes_of : Option (ℕ × Cause) → Cause → List ℕ → List Close
 closes_of own why conns = map (close_of own why) conns
 
--- its sends are to be offered, and then those whom it closes are ended
+-- it is noted, its sends are to be offered, and then those whom it closes are ended
 abbrev pub answered : Option ℕ → Event → Turn → Room → Room
 answered by e t r = record r {
-  broker = t.broker;
+  noted = note.after e r.noted;
   pending = r.pending ++ map (offer_of by) (map outgoing t.sends);
   closing = r.closing ++ closes_of (packet_of e) (cause_of e) t.closes;
 }
 
 abbrev pub called : Option ℕ → Event → Room → Room
-called by e r = answered by e (step r.broker e) r
+called by e r = answered by e (step r.noted.broker e) r
 
 -- an event of a connection, where the broker knows it
 abbrev pub called_on : Option ℕ → ℕ → Event → Room → Room
-called_on by conn e r = if knows r.broker conn then called by e r else r
+called_on by conn e r = if knows r.noted.broker conn then called by e r else r
 
 abbrev pub is_disconnect : Message → Bool
 is_disconnect Disconnect = true
@@ -262,7 +263,7 @@ tried (Some s) r = record (tried_at (is_slow s r) s (changed (awaited (s.client 
 -- a connection is opened, and its client is to be shut then, if it sent nothing
 abbrev pub joined : ℕ → ℕ → Room → Room
 joined conn until r = record r {
-  broker = (step r.broker (event.Open r.now)).broker;
+  noted = note.after (event.Open r.now) r.noted;
   clients = placed (Some (fresh_client until)) conn r.clients;
 }
 
@@ -294,3 +295,5 @@ after (Wrote conn count) r = changed (written_to count) conn r
 after (Blocked conn) r = changed cut_off conn r
 after (Named conn) r = changed untouched conn r
 after (Forgot conn) r = record r { clients = placed None conn r.clients }
+after (Kept bytes) r = record r { noted = note.emptied r.noted }
+after Begun r = record r { noted = note.begun r.noted }

@@ -159,7 +159,7 @@ impl Server {
         ensures noted { OnOk result (AreNoted self.old.clients → AreNoted self.new.clients) }
     {
         self.over(conn, cause)?;
-        let left = closed_on(&mut self.broker, conn, self.now)?;
+        let left = closed_on(&mut self.noted, conn, self.now)?;
         self.hand_on(left, None, Cause::Slow)?;
         Ok(())
     }
@@ -174,7 +174,7 @@ impl Server {
             (amid self.new [] [] before)) }
         ensures noted { OnOk result (AreNoted self.old.clients → AreNoted self.new.clients) }
     {
-        let Ok(answer) = refused_on(&mut self.broker, conn, sort, self.now) else {
+        let Ok(answer) = refused_on(&mut self.noted, conn, sort, self.now) else {
             self.end(conn, Cause::Memory)?;
             return Ok(());
         };

@@ -6,6 +6,7 @@ mod answers;
 mod fault;
 mod handing;
 mod holding;
+mod keeping;
 pub mod laws;
 mod moments;
 mod reading;

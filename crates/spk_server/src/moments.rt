@@ -29,7 +29,7 @@ impl Server {
         if self.now <= self.ticked {
             return Ok(true);
         }
-        let Ok(out) = self.broker.tick(self.now) else {
+        let Ok(out) = self.noted.tick(self.now) else {
             return Ok(false);
         };
         self.ticked = self.now;

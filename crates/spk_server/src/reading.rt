@@ -84,7 +84,7 @@ impl Server {
         let other = cause_other(packet);
         self.clients.heard(conn, packet);
         self.tally.hear(packet);
-        let Ok(answer) = packet_on(&mut self.broker, conn, packet, self.now) else {
+        let Ok(answer) = packet_on(&mut self.noted, conn, packet, self.now) else {
             self.end(conn, Cause::Memory)?;
             return Ok(None);
         };
@@ -116,7 +116,7 @@ impl Server {
             ⊎ Reaches follows (left conn Cause.Memory (room_of self.old)) (room_of self.new)) }
         ensures noted { OnOk result (AreNoted self.old.clients → AreNoted self.new.clients) }
     {
-        let Ok(answer) = fault_on(&mut self.broker, conn, fault, self.now) else {
+        let Ok(answer) = fault_on(&mut self.noted, conn, fault, self.now) else {
             self.end(conn, Cause::Memory)?;
             return Ok(());
         };

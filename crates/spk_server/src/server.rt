@@ -1,16 +1,19 @@
 //! The server, and how clients come.
 
-ghost use Rattle.std.specs.Prelude.{◌≡◌, ◌+◌, ◌<◌, nat_le, length, IfOk, OnOk, OnErr, false};
+ghost use Rattle.std.specs.Prelude.{◌≡◌, ◌+◌, ◌<◌, nat_le, length, None, IfOk, OnOk, OnErr, false};
 ghost use Rattle.spk_broker_rules.specs.Step.{is_full};
 ghost use Rattle.spk_clients.specs.Data.{AreNoted, IsSettled, client_count};
-ghost use Rattle.spk_server.specs.Calls.{IsDone, fresh_room, timed};
+ghost use Rattle.spk_broker_notes.specs.Noted as note;
+ghost use Rattle.spk_broker_rules.specs.Data.{fresh_broker};
+ghost use Rattle.spk_server.specs.Calls.{IsDone, room_with, timed};
 ghost use Rattle.spk_server.specs.Calls as call;
 ghost use Rattle.spk_server.specs.Rooms.{room_of};
 ghost use Rattle.spk_server.specs.Step.{joined};
 
 use crate::fault::ServerFault;
 use crate::tally::Tally;
-use spk_broker::{Broker, BrokerFault, Conn};
+use spk_broker::{Broker, Conn};
+use spk_broker_notes::{NoteFault, NotedBroker};
 use spk_clients::Clients;
 use std::alloc::Global;
 use std::collections::VecDeque;
@@ -28,7 +31,7 @@ const QUIET: u64 = 10_000;
 /// The broker and its clients. Moments are in milliseconds; one that is less than the last counts as that.
 #[derive(Drop)]
 pub struct Server {
-    pub(crate) broker: Broker,
+    pub(crate) noted: NotedBroker,
     pub(crate) clients: Clients,
     /// Who isn't read, since it waits for another, each once.
     pub(crate) held: VecDeque<Conn>,
@@ -46,17 +49,26 @@ impl fmt::Debug for Server {
 }
 
 impl Server {
-    /// A broker without clients.
+    /// A broker without clients, of which nothing is noted.
     pub fn new(alloc: Global) -> Server
-        ensures fresh { room_of result ≡ fresh_room }
+        ensures fresh { room_of result ≡ room_with (record { broker = fresh_broker 128; notes = None }) }
         ensures settled { IsSettled result.clients }
     {
+        Server::over_broker(alloc, NotedBroker::new(alloc, LIMIT))
+    }
+
+    /// This broker without clients, as one that was kept is once its connections ended. Time goes on from its clock; what comes to it is noted where it notes.
+    pub fn over_broker(alloc: Global, noted: NotedBroker) -> Server
+        ensures fresh { room_of result ≡ room_with noted }
+        ensures settled { IsSettled result.clients }
+    {
+        let now = noted.broker().clock();
         Server {
-            broker: Broker::new(alloc, LIMIT),
+            noted,
             clients: Clients::new(alloc),
             held: VecDeque::new(alloc),
-            now: 0,
-            ticked: 0,
+            now,
+            ticked: now,
             tally: Tally {
                 heard: 0,
                 sent: 0,
@@ -75,16 +87,16 @@ impl Server {
 
     /// How many sessions the broker has, clean and kept ones, with and without a connection (section 3.1.2.4).
     pub fn sessions(&self) -> usize
-        ensures { result ≡ length self.entry.now.broker.seats }
+        ensures { result ≡ length self.entry.now.noted.broker.seats }
     {
-        self.broker.sessions()
+        self.noted.broker().sessions()
     }
 
     /// How many topics have a retained message (section 3.3.1.3).
     pub fn retained(&self) -> usize
-        ensures { result ≡ length self.entry.now.broker.retained }
+        ensures { result ≡ length self.entry.now.noted.broker.retained }
     {
-        self.broker.retained()
+        self.noted.broker().retained()
     }
 
     /// What came and went since the server began, in numbers.
@@ -111,8 +123,8 @@ impl Server {
 
     /// Opens a connection, and keeps its client. Where it fails nothing has changed.
     fn open(&mut self, until: u64) -> Result<Conn, ServerFault>
-        ensures joins { IfOk result (λ conn. (is_full self.old.broker ≡ false)
-            × (conn ≡ self.old.broker.given + 1)
+        ensures joins { IfOk result (λ conn. (is_full self.old.noted.broker ≡ false)
+            × (conn ≡ self.old.noted.broker.given + 1)
             × (room_of self.new ≡ joined conn until (room_of self.old))) }
         ensures err { OnErr result (room_of self.new ≡ room_of self.old) }
         ensures settled { IsSettled self.old.clients → IsSettled self.new.clients }
@@ -120,9 +132,9 @@ impl Server {
         self.held.reserve(self.clients.len().saturating_add(1))?;
         self.clients.reserve()?;
         let client = self.clients.client(until)?;
-        let conn = match self.broker.open(self.now) {
+        let conn = match self.noted.open(self.now) {
             Ok(conn) => conn,
-            Err(BrokerFault::NoMemory) => return Err(ServerFault::NoMemory),
+            Err(NoteFault::NoMemory) => return Err(ServerFault::NoMemory),
             Err(_) => return Err(ServerFault::Limit),
         };
         match self.clients.insert(conn, client) {

@@ -1,11 +1,12 @@
 //! What is to be written, and whose sockets are to be shut.
 
-ghost use Rattle.std.specs.Prelude.{◌≡◌, ◌++◌, ◌∷◌, [], ◌-◌, OnOk, length, take, IfSome, IfNone, Some};
+ghost use Rattle.std.specs.Prelude.{◌≡◌, ◌++◌, ◌∷◌, [], ◌-◌, OnOk, length, take, IfSome, IfNone, Some, true};
 ghost use Rattle.spk_outbox.specs.Data.{rest_of_first};
-ghost use Rattle.spk_clients.specs.Data.{IsSettled, client_at, waiting_at};
+ghost use Rattle.spk_clients.specs.Data.{IsSettled, client_at};
 ghost use Rattle.spk_server.specs.Calls.{IsDone};
 ghost use Rattle.spk_server.specs.Calls as call;
-ghost use Rattle.spk_server.specs.Rooms.{room_of};
+ghost use Rattle.spk_server.specs.Log.{is_all_kept};
+ghost use Rattle.spk_server.specs.Rooms.{room_of, waiting_of};
 
 use crate::fault::ServerFault;
 use crate::server::Server;
@@ -13,42 +14,55 @@ use spk_broker::Conn;
 use spk_clients::Cause;
 
 impl Server {
-    /// The next client to whom something is to be written: each that is named, once. None exactly where nobody is named.
+    /// The next client to whom something is to be written: each that is named, once. None exactly where nobody is named, or something that was noted isn't kept.
     pub fn next_to_write(&mut self) -> Option<Conn>
         ensures done { IsDone (call.NextToWrite result) (room_of self.old) (room_of self.new) }
         ensures first { IfSome result
             (λ k. self.old.clients.touched.items ≡ k ∷ self.new.clients.touched.items) }
-        ensures nobody { IfNone result (self.old.clients.touched.items ≡ []) }
+        ensures kept { IfSome result (λ k. is_all_kept (room_of self.old) ≡ true) }
+        ensures nobody { IfNone result (is_all_kept (room_of self.old) ≡ true → self.old.clients.touched.items ≡ []) }
         ensures settled { IsSettled self.old.clients → IsSettled self.new.clients }
     {
+        if !self.is_all_kept() {
+            return None;
+        }
         self.clients.next_to_write()
     }
 
-    /// Joins a front of what waits for a client behind these bytes, up to 65,536 bytes.
+    /// Joins a front of what waits for a client behind these bytes, up to 65,536 bytes; nothing where something that was noted isn't kept.
     pub fn gather(&self, conn: Conn, batch: &mut Vec<u8>)
         ensures { batch.new.items ≡ batch.old.items
-            ++ take (length batch.new.items - length batch.old.items) (waiting_at self.entry.now.clients conn) }
+            ++ take (length batch.new.items - length batch.old.items) (waiting_of self.entry.now conn) }
     {
-        self.clients.gather(conn, batch);
+        if self.is_all_kept() {
+            self.clients.gather(conn, batch);
+        }
     }
 
-    /// What is left of the first packet that waits for a client.
+    /// What is left of the first packet that waits for a client. None exactly where nothing waits, or something that was noted isn't kept.
     pub fn first(&self, conn: Conn) -> Option<&[u8]>
         ensures some { IfSome result (λ s. IfSome (client_at self.entry.now.clients conn)
             (λ c. s.now ≡ rest_of_first c.outbox)) }
-        ensures none { IfNone result (IfSome (client_at self.entry.now.clients conn)
-            (λ c. length c.outbox.packets ≡ 0)) }
+        ensures kept { IfSome result (λ s. is_all_kept (room_of self.entry.now) ≡ true) }
+        ensures none { IfNone result (is_all_kept (room_of self.entry.now) ≡ true
+            → IfSome (client_at self.entry.now.clients conn) (λ c. length c.outbox.packets ≡ 0)) }
     {
-        self.clients.first(conn)
+        if self.is_all_kept() {
+            return self.clients.first(conn);
+        }
+        None
     }
 
     /// So many bytes of what waits for a client were written. The socket of one whose end came is to be shut where nothing is
-    /// left.
+    /// left. Nothing happens where something that was noted isn't kept: then nothing was to be written.
     pub fn wrote(&mut self, conn: Conn, count: usize) -> Result<(), ServerFault>
         ensures done { OnOk result
             (IsDone (call.Wrote conn count) (room_of self.old) (room_of self.new)) }
         ensures settled { OnOk result (IsSettled self.old.clients → IsSettled self.new.clients) }
     {
+        if !self.is_all_kept() {
+            return Ok(());
+        }
         self.clients.wrote(conn, count)?;
         Ok(())
     }

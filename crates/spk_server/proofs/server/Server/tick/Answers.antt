@@ -12,13 +12,13 @@ returns-clause-ticks c settled before =
     let less : c.args.self.now.ticked < c.args.self.now.now = omega arith in
     ticks_is c.args.self.now c.tick.new.self c.in-Ok.out _ before settled less (record { done = c.in-Ok.ensures.done; sends = c.in-Ok.ensures.sends; closes = c.in-Ok.ensures.closes })
     (and_then follows _ _ _
-    (hands_none (record c.args.self.now { broker = c.tick.new.self; ticked = c.args.self.now.now }) c.hand_on.new.self cause.KeepAlive (Some c.in-Ok.out) c.in_ok-hand_on.field-0 before (c.in_ok-hand_on.ensures.hands None [] before))
+    (hands_none (record c.args.self.now { noted = c.tick.new.self; ticked = c.args.self.now.now }) c.hand_on.new.self cause.KeepAlive (Some c.in-Ok.out) c.in_ok-hand_on.field-0 before (c.in_ok-hand_on.ensures.hands None [] before))
     (c.in_ok-tell_all.ensures.tells before))
 
 pub returns-clause-told : goal.returns-clause-told
 returns-clause-told c is settled =
     told_behind _ _
     (and_then follows _ _ _
-    (hands_none (record c.args.self.now { broker = c.tick.new.self; ticked = c.args.self.now.now }) c.hand_on.new.self cause.KeepAlive (Some c.in-Ok.out) c.in_ok-hand_on.field-0 None (c.in_ok-hand_on.ensures.hands None [] None))
+    (hands_none (record c.args.self.now { noted = c.tick.new.self; ticked = c.args.self.now.now }) c.hand_on.new.self cause.KeepAlive (Some c.in-Ok.out) c.in_ok-hand_on.field-0 None (c.in_ok-hand_on.ensures.hands None [] None))
     (c.in_ok-tell_all.ensures.tells None))
     (omega arith)
