@@ -1,0 +1,4 @@
+pub mod Data
+pub mod Fault
+pub mod Kept
+pub mod Step
