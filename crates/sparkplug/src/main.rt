@@ -5,20 +5,21 @@
 mod histories;
 mod parts;
 mod records;
+mod store;
 
 use histories::read_history;
 use records::MachineDisks;
 use spk_board::Screen;
-use spk_commands::{
-    Files, NOT_TEXT, Outcome, PasswdPlan, passwd, plant, run_with_notes, serve_clients,
-};
+use spk_commands::{Files, NOT_TEXT, Outcome, PasswdPlan, passwd, plant, run_with_notes};
 use spk_programs::{run_edge, run_host};
+use spk_serving::serve_clients;
 use std::alloc::{AllocError, Global};
 use std::env::VarError;
 use std::fs::File;
 use std::io::{IsTerminal, Write};
 use std::process::ExitCode;
 use std::{env, io};
+use store::store_of;
 
 /// The machine's files.
 #[derive(Drop)]
@@ -120,18 +121,23 @@ fn main(rt: HostRuntime) -> io::Result<ExitCode> {
             clients,
             status,
             door,
+            store,
         } => {
             let door = door.as_ref();
-            serve_clients(
-                &rt,
-                bind,
-                port,
-                clients,
-                status,
-                door,
-                &mut writer,
-                &mut notes,
-            )
+            match store_of(&rt, &store, &mut writer, &mut notes) {
+                Ok(kept) => serve_clients(
+                    &rt,
+                    bind,
+                    port,
+                    clients,
+                    status,
+                    door,
+                    kept,
+                    &mut writer,
+                    &mut notes,
+                ),
+                Err(status) => status,
+            }
         }
         Outcome::Passwd(plan) => make_line(&rt, plan)?,
         Outcome::Plant(plan) => plant(&rt, plan, &mut writer),

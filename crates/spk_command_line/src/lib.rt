@@ -53,8 +53,10 @@ and mosquitto_sub prints 1.
 It has no TLS. Anybody may connect, publish and subscribe, unless --users or --guard is said: with --users
 FILE those alone come in whom a line of FILE names, with their password (`sparkplug passwd --help`), and do
 what it lets them; with --guard each node speaks for itself. docs/SERVE.md tells more.
-What it holds is lost when it is ended. It ends by itself once that many clients have come and gone, and
-prints `served K`; with --stay it doesn't end.
+What it holds is lost when it is ended, unless --store FOLDER is said: then retained messages and kept
+sessions are in a file there before anything is answered, and the next start goes on with them. A kill costs
+nothing that was answered; a power cut may cost its last 10 milliseconds, with --sync each nothing.
+It ends by itself once that many clients have come and gone, and prints `served K`; with --stay it doesn't.
 
 For each client whose connection is shut a line `closed N CAUSE` stands on standard error, at most ten in a
 second, and then `K more closed`. CAUSE is `left`, `gone`, `silent`, `unreadable`, `refused`, `keep-alive`,
@@ -278,6 +280,26 @@ fn with_door<'a>(alloc: Global, command: Command<'a>) -> Result<Command<'a>, All
     command.arg(guard)
 }
 
+/// The words of what of a broker survives its end.
+fn with_store<'a>(alloc: Global, command: Command<'a>) -> Result<Command<'a>, AllocError> {
+    let store = Arg::new(alloc, "store")
+        .long("store")
+        .value_name("FOLDER")
+        .help(
+            "Keeps retained messages and kept sessions in this folder, over the end of the process",
+        )
+        .action(ArgAction::Set);
+    let command = command.arg(store)?;
+    let sync = Arg::new(alloc, "sync")
+        .long("sync")
+        .value_name("WHEN")
+        .help("each: nothing is answered before it is on the disk; else it is 10 milliseconds late")
+        .value_parser(["each"].as_slice())
+        .requires_arg("store")?
+        .action(ArgAction::Set);
+    command.arg(sync)
+}
+
 fn serve<'a>(alloc: Global) -> Result<Command<'a>, AllocError> {
     let command = Command::new(alloc, "serve");
     let port = Arg::new(alloc, "port")
@@ -316,6 +338,7 @@ fn serve<'a>(alloc: Global) -> Result<Command<'a>, AllocError> {
         .value_parser(value_parser!(u16).range(1..=65535))
         .action(ArgAction::Set);
     let command = command.arg(status)?;
+    let command = with_store(alloc, command)?;
     Ok(
         with_door(alloc, command)?
             .about("Runs an MQTT 3.1.1 broker (QoS 0 and 1)")

@@ -1,8 +1,9 @@
 //! How serving went, and how a plant ended, as they are said.
 
-use spk_commands::{said, told};
+use spk_commands::told;
 use spk_plan::PlantFault;
 use spk_runtime::ServeFault;
+use spk_serving::said;
 use std::io::{self, Write};
 
 /// How serving can go.

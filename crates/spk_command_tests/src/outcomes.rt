@@ -1,6 +1,6 @@
 //! What a run came to, as a text.
 
-use spk_commands::{HistoryPlan, Outcome, PasswdPlan};
+use spk_commands::{HistoryPlan, Outcome, PasswdPlan, StorePlan};
 use spk_door::Door;
 use spk_files::user_line;
 use spk_plan::Plan;
@@ -86,6 +86,14 @@ fn door_text(alloc: Global, door: &Option<Door>) -> Result<String, AllocError> {
     Ok(text)
 }
 
+/// Of a store, if there is one: its folder, and whether each answer is synced.
+fn store_text(alloc: Global, store: &Option<StorePlan>) -> Result<String, AllocError> {
+    match store {
+        Some(StorePlan { folder, each }) => format!(in alloc; " store {folder} each {each}"),
+        None => Ok(String::new(alloc)),
+    }
+}
+
 /// Of a user of whom a line is to be made.
 fn passwd_text(alloc: Global, plan: &PasswdPlan) -> Result<String, AllocError> {
     let PasswdPlan {
@@ -106,9 +114,13 @@ pub(crate) fn text_of(alloc: Global, outcome: &Outcome) -> Result<String, AllocE
             clients,
             status,
             door,
+            store,
         } => {
             let door = door_text(alloc, door)?;
-            format!(in alloc; "serve {bind} {port} clients {clients:?} status {status:?}{door}")
+            let store = store_text(alloc, store)?;
+            format!(in alloc;
+                "serve {bind} {port} clients {clients:?} status {status:?}{door}{store}"
+            )
         }
         Outcome::Passwd(plan) => passwd_text(alloc, plan),
         Outcome::Plant(plan) => plant_text(alloc, plan),

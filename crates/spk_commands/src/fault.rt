@@ -2,7 +2,6 @@
 
 use spk_packets::PacketFault;
 use spk_payload::PayloadFault;
-use spk_runtime::ServeFault;
 use std::alloc::{AllocError, AllocFailed};
 use std::io;
 use thiserror::Error;
@@ -17,8 +16,6 @@ pub(crate) enum Fault {
     Payload(PayloadFault),
     #[error(transparent)]
     Packet(PacketFault),
-    #[error(transparent)]
-    Serve(ServeFault),
     /// A file is longer than 1,048,576 bytes, or isn't UTF-8.
     #[error("BadPlan")]
     BadPlan,
@@ -36,7 +33,6 @@ impl Fault {
             Fault::NoMemory => 1,
             Fault::Payload(fault) => fault.number(),
             Fault::Packet(fault) => fault.number(),
-            Fault::Serve(fault) => fault.number(),
             Fault::BadPlan => 92,
             Fault::BadHex => 97,
             Fault::BadFile => 98,
@@ -75,12 +71,6 @@ impl From<PayloadFault> for Stop {
 impl From<PacketFault> for Stop {
     fn from(fault: PacketFault) -> Stop {
         Stop::Fault(Fault::Packet(fault))
-    }
-}
-
-impl From<ServeFault> for Stop {
-    fn from(fault: ServeFault) -> Stop {
-        Stop::Fault(Fault::Serve(fault))
     }
 }
 

@@ -3,7 +3,6 @@
 //! Words, files and writers are the caller's.
 #![tactic(auto)]
 
-mod broker;
 mod clients;
 mod fault;
 mod files;
@@ -18,9 +17,9 @@ mod show;
 mod texts;
 mod world;
 
-pub use broker::{said, serve_clients};
 pub use files::Files;
 pub use histories::{HistoryForm, HistoryPlan};
 pub use passwords::{PasswdPlan, passwd};
 pub use plants::{plant, told};
 pub use running::{NOT_TEXT, Outcome, run, run_with_notes};
+pub use serving::StorePlan;

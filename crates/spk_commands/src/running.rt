@@ -7,7 +7,7 @@ use crate::histories::{HistoryPlan, history_plan};
 use crate::packets::packets;
 use crate::passwords::{PasswdPlan, passwd_plan};
 use crate::plants::plan_from;
-use crate::serving::serving;
+use crate::serving::{StorePlan, serving};
 use crate::show::show;
 use crate::world::world;
 use clap::ArgMatches;
@@ -116,6 +116,8 @@ pub enum Outcome {
         status: Option<u16>,
         /// Who comes in, and whose topics are whose; None where everybody may do everything.
         door: Option<Door>,
+        /// Where what the broker holds is kept; None where it is lost at the end.
+        store: Option<StorePlan>,
     },
     /// A line of a users' file is to be made.
     Passwd(PasswdPlan),
@@ -337,7 +339,7 @@ fn buffered<F: Files, W: Write + Drop, N: Write>(
 /// Runs the program on its words, the first of which is its own name, and answers its status: 0 where the work was
 /// done or help was asked for, 1 at a fault, which is printed as `fault NAME (number)`, or where the writer failed,
 /// 2 where the words aren't a command. All texts go to the writer, but for what refuses words of `passwd`, whose lines are for a file: that is noted. Words that ask to serve clients are answered with
-/// the port and the number of clients: `serve_clients` does that, and for words that ask to make a line of a users' file
+/// the port and the number of clients: `spk_serving` does that, and for words that ask to make a line of a users' file
 /// `passwd`. Words that ask to run a plant, an edge node or a host application
 /// are answered with its plan: `plant` and `spk_programs` do that. So are words that ask to read a history.
 pub fn run<R: AllocGlobal, F: Files, W: Write>(

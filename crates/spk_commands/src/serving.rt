@@ -6,7 +6,7 @@ use crate::running::{Outcome, noted_text_of};
 use clap::ArgMatches;
 use spk_door::{Door, User};
 use spk_files::{Misfit, users_of};
-use std::alloc::Global;
+use std::alloc::{AllocError, Global};
 use std::io::Write;
 use std::net::IpAddr;
 
@@ -71,6 +71,15 @@ fn warn<N: Write>(bind: IpAddr, has_users: bool, notes: &mut N) {
     );
 }
 
+/// Where what a broker holds is kept.
+#[derive(Debug, Drop)]
+pub struct StorePlan {
+    /// The folder of its files.
+    pub folder: String,
+    /// All that is answered is on the disk before the answer goes out.
+    pub each: bool,
+}
+
 /// Where is to be served.
 #[derive(Clone, Copy)]
 struct Address {
@@ -105,7 +114,17 @@ fn clients_of(given: &ArgMatches<'_>) -> Option<u16> {
     }
 }
 
-/// `serve`: where clients are to be served, how many and who, and where figures are told. What is wrong with the users' file, and where, is noted.
+/// Where what the broker holds is to be kept, if it is.
+fn store_of(alloc: Global, given: &ArgMatches<'_>) -> Result<Option<StorePlan>, AllocError> {
+    let Some(folder) = given.get_str("store") else {
+        return Ok(None);
+    };
+    let folder = String::from_str(alloc, folder)?;
+    let each = given.get_str("sync").is_some();
+    Ok(Some(StorePlan { folder, each }))
+}
+
+/// `serve`: where clients are to be served, how many and who, where figures are told, and where what it holds is kept. What is wrong with the users' file, and where, is noted.
 pub(crate) fn serving<F: Files, N: Write>(
     alloc: Global,
     given: &ArgMatches<'_>,
@@ -113,6 +132,7 @@ pub(crate) fn serving<F: Files, N: Write>(
     notes: &mut N,
 ) -> Result<Outcome, Stop> {
     let Address { bind, port, status } = address_of(alloc, given)?;
+    let store = store_of(alloc, given)?;
     match users_in(alloc, given, files, notes) {
         Ok(users) => {
             warn(bind, users.is_some(), notes);
@@ -122,6 +142,7 @@ pub(crate) fn serving<F: Files, N: Write>(
                 clients: clients_of(given),
                 status,
                 door: door_of(users, given.get_flag("guard")),
+                store,
             })
         }
         Err(stop) => Err(stop),

