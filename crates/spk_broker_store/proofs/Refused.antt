@@ -1,5 +1,5 @@
 -- What the refusal of one call says of the next one's.
-use Rattle.std.proofs.Common.{ℕ, List, Result, Ok, Err, IfErr, inl, inr}
+use Rattle.std.proofs.Common.{ℕ, List, Result, Ok, Err, IfErr, inr}
 use Rattle.spk_broker_rules.specs.Data.{Broker}
 use Rattle.spk_broker_snapshot.specs.Lines.{lines}
 use Rattle.spk_broker_journal.specs.Adding.{first_refusal}

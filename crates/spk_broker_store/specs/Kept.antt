@@ -1,5 +1,6 @@
 -- The broker that a journal kept (own rules).
-use Rattle.std.specs.Prelude.{◌≡◌, ◌⊎◌, ℕ, ◌-◌, true, false, Bool, List, [], length, Some, None, is_some}
+use Rattle.std.specs.Prelude.{◌≡◌, ◌⊎◌, ℕ, ◌-◌, ◌==◌, true, false, Bool, List, [], ◌++◌, length, Some, None, is_some}
+use Rattle.std.specs.List.{list_all}
 use Rattle.spk_broker_rules.specs.Data.{Broker}
 use Rattle.spk_broker_replay.specs.Replay.{ends, run}
 use Rattle.spk_broker_snapshot.specs.Lines.{lines}
@@ -15,11 +16,26 @@ use Rattle.spk_broker_store.specs.declared.fault.StoreFault.TheVariants.{NoMemor
 abbrev pub limit : ℕ
 limit = 128
 
+abbrev pub are_zeros : List ℕ → Bool
+are_zeros bytes = list_all (λ b. b == 0) bytes
+
+-- Behind these bytes, which are the front of those, stand zeros alone: so a file ends that grew before its bytes came.
+pub record HasZeros (seen bytes : List ℕ) : Type 0 where
+  pub behind : List ℕ
+  pub are : bytes ≡ seen ++ behind
+  pub zeros : are_zeros behind ≡ true
+
+-- The bytes of which the broker is read: all, or, where these aren't a broker's, those in front of zeros.
+abbrev pub IsSeen : (seen bytes : List ℕ) → Type 0
+IsSeen seen bytes = (seen ≡ bytes) ⊎ (IsUnread limit bytes part.Unfit × HasZeros seen bytes)
+
 -- The broker that bytes say, behind the ends of all its connections, and how many of them weren't read.
 pub record IsKept (bytes : List ℕ) (b : Broker) (cut : ℕ) : Type 0 where
+  pub seen : List ℕ
   pub whole : ℕ
   pub read : Broker
-  pub replayed : IsReplayed limit bytes whole read
+  pub of_bytes : IsSeen seen bytes
+  pub replayed : IsReplayed limit seen whole read
   pub is : b ≡ run read (ends read)
   pub left : cut ≡ length bytes - whole
 

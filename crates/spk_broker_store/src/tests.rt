@@ -215,6 +215,23 @@ fn what_was_kept_comes_back_and_whoever_was_there_is_gone(rt: HostRuntime) -> Re
 }
 
 #[test]
+fn zeros_behind_a_journal_are_cut(rt: HostRuntime) -> Result<(), Fail> {
+    let alloc = rt.alloc();
+    let mut bytes = life(alloc, disk_of(alloc, Vec::new(alloc), 9), false)?.bytes;
+    bytes.extend_from_slice(&[0; 100])?;
+    let kept = broker_of(alloc, bytes.as_slice())?;
+    assert_eq!(rt; kept.cut, 100);
+    assert_eq!(rt; counts(&kept.broker), (1, 2, 2));
+    // where something else stands behind them, nobody knows what these bytes are
+    bytes.push(1)?;
+    match broker_of(alloc, bytes.as_slice()) {
+        Ok(_restart) => assert!(rt; false),
+        Err(fault) => assert_eq!(rt; fault.number(), 139),
+    }
+    Ok(())
+}
+
+#[test]
 fn a_journal_begins_anew(rt: HostRuntime) -> Result<(), Fail> {
     let alloc = rt.alloc();
     let broker = Broker::new(alloc, 128);
@@ -229,7 +246,7 @@ fn a_journal_begins_anew(rt: HostRuntime) -> Result<(), Fail> {
     store.begin(alloc, &broker)?;
     let small = store.disk.bytes.len();
     assert!(rt; !store.is_long());
-    let many = Vec::from_elem(alloc, 0u8, 1_048_576 - small)?;
+    let many = Vec::from_elem(alloc, 0u8, 1_048_576usize.saturating_sub(small))?;
     store.put(many.as_slice(), 1)?;
     assert!(rt; store.is_long());
     // the next one fails, and so does each behind it, until it begins anew

@@ -1,7 +1,8 @@
 //! The refusals of `serve`.
 ghost use Rattle.std.specs.Prelude.{◌≡◌};
-ghost use Rattle.spk_runtime.specs.Fault.{number_of};
+ghost use Rattle.spk_runtime.specs.Fault.{number_of, of_store};
 
+use spk_broker_store::StoreFault;
 use spk_server::ServerFault;
 use std::alloc::{AllocError, AllocFailed};
 use thiserror::Error;
@@ -18,6 +19,9 @@ pub enum ServeFault {
     /// Listening, accepting or the writer failed.
     #[error("Device")]
     Device = 96,
+    /// What came to the broker can't be kept: its disk failed.
+    #[error("Unkept")]
+    Unkept = 141,
 }
 
 impl ServeFault {
@@ -59,5 +63,16 @@ impl From<ServerFault> for ServeFault {
 
     fn from(_failed: ServerFault) -> ServeFault {
         ServeFault::NoMemory
+    }
+}
+
+/// What ends a server whose store refused.
+pub(crate) fn of_store(fault: StoreFault) -> ServeFault
+    ensures { result ≡ of_store fault }
+{
+    match fault {
+        StoreFault::NoMemory => ServeFault::NoMemory,
+        StoreFault::Unfit => ServeFault::Unkept,
+        StoreFault::Unkept => ServeFault::Unkept,
     }
 }

@@ -16,7 +16,7 @@ pub use fault::ServeFault;
 pub use guarded::Guarded;
 pub use port::Port;
 pub use rounds::Rounds;
-pub use server::{Serving, serve, serve_at};
+pub use server::{Serving, serve, serve_at, serve_kept};
 pub use spk_engines::{Counted, EngineFault, Failures, read_frames, write_items};
 pub use spk_ingress::{
     Closed, Frame, FrameFault, Gone, Ingress, Message, OpenFault, PutPass, Refused, SettleFault,

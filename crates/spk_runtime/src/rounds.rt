@@ -1,7 +1,11 @@
-//! One round of the loop: what is ready is read once, and what came of it is written.
+//! One round of the loop: what is ready is read once, what came of it is kept, where it is to be, and then written.
+ghost use Rattle.std.specs.Prelude.{◌≢◌, IfErr};
 
+use crate::fault::{ServeFault, of_store};
 use crate::line::{Line, Read, Written};
 use crate::port::Port;
+use spk_broker_notes::NotedBroker;
+use spk_broker_store::{Disk, Store, StoreFault};
 use spk_server::{Cause, Conn, Server, ServerFault};
 use spk_status::{Closes, Figures};
 use std::alloc::{AllocError, Global};
@@ -20,6 +24,7 @@ const AGAIN: u64 = 10;
 /// The server and its clients' sockets, by the numbers of their connections. `serve` runs it over TCP.
 #[derive(Drop)]
 pub struct Rounds<P: Port> {
+    alloc: Global,
     pub(crate) server: Server,
     lines: HashMap<Conn, Line<P>>,
     /// Who is to be read.
@@ -37,10 +42,20 @@ pub struct Rounds<P: Port> {
 }
 
 impl<P: Port> Rounds<P> {
-    /// Nobody came yet. Refused only where memory is.
+    /// Nobody came yet, and nothing is kept. Refused only where memory is.
     pub fn new(alloc: Global) -> Result<Rounds<P>, AllocError> {
+        Rounds::around(alloc, Server::new(alloc))
+    }
+
+    /// Nobody came yet, to this broker. Refused only where memory is.
+    pub fn over_broker(alloc: Global, noted: NotedBroker) -> Result<Rounds<P>, AllocError> {
+        Rounds::around(alloc, Server::over_broker(alloc, noted))
+    }
+
+    fn around(alloc: Global, server: Server) -> Result<Rounds<P>, AllocError> {
         Ok(Rounds {
-            server: Server::new(alloc),
+            alloc,
+            server,
             lines: HashMap::new(alloc),
             ready: VecDeque::new(alloc),
             more: VecDeque::new(alloc),
@@ -197,7 +212,7 @@ impl<P: Port> Rounds<P> {
     }
 
     /// Where others wait, writes are tried again now and then.
-    fn try_all_again(&mut self, now: u64) -> Result<(), ServerFault> {
+    pub(crate) fn try_all_again(&mut self, now: u64) -> Result<(), ServerFault> {
         if !self.server.is_waiting() || now < self.again {
             return Ok(());
         }
@@ -282,8 +297,8 @@ impl<P: Port> Rounds<P> {
         Ok(())
     }
 
-    /// Writes to each client for whom something waits. Whether more is to be written at once.
-    pub(crate) fn write_all(&mut self) -> Result<bool, ServerFault> {
+    /// Writes to each client for whom something waits, once all is kept that is to be. Whether more is to be written at once.
+    pub fn write_all(&mut self) -> Result<bool, ServerFault> {
         self.write_more()?;
         for _ in 0..u64::MAX {
             let Some(conn) = self.server.next_to_write() else {
@@ -328,13 +343,63 @@ impl<P: Port> Rounds<P> {
         self.server.cut(conn)
     }
 
-    /// What is to be done before sockets are waited for, with what is ready; those who are done are shut behind it. Whether more is ready at
-    /// once.
-    pub fn round(&mut self, now: u64) -> Result<bool, ServerFault> {
+    /// What time brings, and what is ready is read once. Whether one is left that may be read at once.
+    pub fn take(&mut self, now: u64) -> Result<bool, ServerFault> {
         self.server.moment(now)?;
-        self.try_all_again(now)?;
         self.server.go_on(now)?;
-        let more_to_read = self.read_all(now)?;
+        self.read_all(now)
+    }
+
+    /// The journal begins anew with what the broker keeps. Where there is no memory for that it goes on.
+    fn begin<D: Disk>(&mut self, store: &mut Store<D>) -> Result<(), ServeFault>
+        ensures { IfErr result (λ e. e ≢ ServeFault.BadPlan) }
+    {
+        match store.begin(self.alloc, self.server.broker()) {
+            Ok(()) => {
+                self.server.begin();
+                Ok(())
+            }
+            Err(StoreFault::NoMemory) => Ok(()),
+            Err(_) => Err(ServeFault::Unkept),
+        }
+    }
+
+    /// What came to the broker is appended to its journal.
+    fn put<D: Disk>(&mut self, store: &mut Store<D>, now: u64) -> Result<(), ServeFault>
+        ensures { IfErr result (λ e. e ≢ ServeFault.BadPlan) }
+    {
+        if self.server.is_all_kept() {
+            return Ok(());
+        }
+        match store.put(self.server.notes(), now) {
+            Ok(()) => {
+                self.server.kept();
+                Ok(())
+            }
+            Err(fault) => Err(of_store(fault)),
+        }
+    }
+
+    /// What came to the broker is appended to its journal, which begins anew where it is long, and what is due is brought to the disk. Until then nothing of
+    /// what came of it is written. Refused with Unkept (141) where the disk fails: nothing is to be written any more.
+    pub fn keep<D: Disk>(&mut self, store: &mut Store<D>, now: u64) -> Result<(), ServeFault>
+        ensures { IfErr result (λ e. e ≢ ServeFault.BadPlan) }
+    {
+        if store.is_long() {
+            self.begin(store)?;
+        }
+        self.put(store, now)?;
+        match store.sync_due(now) {
+            Ok(()) => Ok(()),
+            Err(fault) => Err(of_store(fault)),
+        }
+    }
+
+    /// What is to be done before sockets are waited for, with what is ready, where nothing is kept; those who are done are shut behind it. Whether more is
+    /// ready at once.
+    pub fn round(&mut self, now: u64) -> Result<bool, ServerFault> {
+        self.try_all_again(now)?;
+        let more_to_read = self.take(now)?;
         let more_to_write = self.write_all()?;
         Ok(more_to_read || more_to_write)
     }

@@ -4,11 +4,12 @@ ghost use Rattle.spk_runtime.specs.Fault.{IsCount, IsServing};
 
 use crate::client::Client;
 use crate::doors::Doors;
-use crate::fault::ServeFault;
+use crate::fault::{ServeFault, of_store};
 use crate::page::{FIRST, PAGE, Page};
 use crate::rounds::Rounds;
 use mio::net::TcpListener;
 use mio::{Events, Interest, Poll, Token};
+use spk_broker_store::{Disk, Kept, NoDisk, Store};
 use spk_door::Door;
 use spk_server::ServerFault;
 use spk_status::Telling;
@@ -38,28 +39,33 @@ pub struct Serving {
     pub status: Option<u16>,
 }
 
-/// Milliseconds since the start, or the last ones where the clock can't be read.
-fn moment<R: Clock>(rt: &R, start: &Option<Instant>, last: u64) -> u64 {
+/// Milliseconds since the start behind the server's first moment, or the last ones where the clock can't be read.
+fn moment<R: Clock>(rt: &R, start: &Option<Instant>, first: u64, last: u64) -> u64 {
     let Some(start) = start else {
         return last;
     };
     match start.elapsed(rt) {
         Ok(since) => u64::try_from(since.as_millis())
             .unwrap_or(u64::MAX)
+            .saturating_add(first)
             .max(last),
         Err(_) => last,
     }
 }
 
 /// When a round is to begin at the latest, if no socket does anything; the greatest number where it need not.
-fn due(
+fn due<D: Disk>(
     doors: &Doors<'_>,
     rounds: &Rounds<Client<'_>>,
+    store: &Option<Store<D>>,
     page: &Option<Page>,
     telling: &Telling,
     now: u64,
 ) -> u64 {
     let mut due = rounds.due().unwrap_or(u64::MAX);
+    if let Some(store) = store {
+        due = due.min(store.due().unwrap_or(u64::MAX));
+    }
     if doors.knocked && now < doors.from {
         due = due.min(doors.from);
     }
@@ -78,9 +84,10 @@ fn is_page_ready(page: &Option<Page>, now: u64) -> bool {
 }
 
 /// How long may be waited for the sockets. None where nothing is due.
-fn pause(
+fn pause<D: Disk>(
     doors: &Doors<'_>,
     rounds: &Rounds<Client<'_>>,
+    store: &Option<Store<D>>,
     page: &Option<Page>,
     telling: &Telling,
     more: bool,
@@ -89,7 +96,7 @@ fn pause(
     if more || doors.may_accept(rounds, now) || is_page_ready(page, now) {
         return Some(Duration::ZERO);
     }
-    let due = due(doors, rounds, page, telling, now);
+    let due = due(doors, rounds, store, page, telling, now);
     if due == u64::MAX {
         return None;
     }
@@ -171,14 +178,47 @@ fn note(
     Ok(())
 }
 
+/// What came to the broker is kept, where there is a store.
+fn keep<D: Disk>(
+    rounds: &mut Rounds<Client<'_>>,
+    store: &mut Option<Store<D>>,
+    now: u64,
+) -> Result<(), ServeFault>
+    ensures { IfErr result (λ e. e ≢ ServeFault.BadPlan) }
+{
+    match store {
+        Some(store) => rounds.keep(store, now),
+        None => Ok(()),
+    }
+}
+
+/// One round: writes are tried again, who waits is accepted, what is ready is read, what came of it is kept and then written. Whether more is ready at once.
+fn round<'a, D: Disk>(
+    poll: &Poll,
+    doors: &mut Doors<'a>,
+    rounds: &mut Rounds<Client<'a>>,
+    store: &mut Option<Store<D>>,
+    now: u64,
+) -> Result<bool, ServeFault>
+    ensures { IfErr result (λ e. e ≢ ServeFault.BadPlan) }
+{
+    rounds.try_all_again(now)?;
+    doors.accept(rounds, poll, now)?;
+    let more_to_read = rounds.take(now)?;
+    keep(rounds, store, now)?;
+    let more_to_write = rounds.write_all()?;
+    Ok(more_to_read || more_to_write)
+}
+
 /// Runs rounds until no more clients come and all have ended.
-fn run_all<'a, R: Wait + Clock, L: Write>(
+fn run_all<'a, R: Wait + Clock, D: Disk, L: Write>(
     rt: &R,
     alloc: Global,
     poll: &mut Poll,
     events: &mut Events<Global>,
     doors: &mut Doors<'a>,
     rounds: &mut Rounds<Client<'a>>,
+    store: &mut Option<Store<D>>,
     page: &mut Option<Page>,
     telling: &mut Telling,
     log: &mut L,
@@ -186,20 +226,20 @@ fn run_all<'a, R: Wait + Clock, L: Write>(
     ensures { IfErr result (λ e. e ≢ ServeFault.BadPlan) }
 {
     let start = Instant::now(rt).ok();
-    let mut now = 0;
+    let first = rounds.server.now();
+    let mut now = first;
     let mut more = false;
     for _ in rt.forever() {
         if doors.are_closed() && rounds.server.clients() == 0 {
             break;
         }
-        let timeout = pause(doors, rounds, page, telling, more, now);
+        let timeout = pause(doors, rounds, store, page, telling, more, now);
         if poll.poll(events, timeout).is_err() {
             return Err(ServeFault::Device);
         }
-        now = moment(rt, &start, now);
+        now = moment(rt, &start, first, now);
         note(events, doors, rounds, page)?;
-        doors.accept(rounds, poll, now)?;
-        more = rounds.round(now)?;
+        more = round(poll, doors, rounds, store, now)?;
         shut_all(rounds, telling, log, now);
         show(alloc, poll, rounds, page, now);
     }
@@ -207,13 +247,14 @@ fn run_all<'a, R: Wait + Clock, L: Write>(
 }
 
 /// Runs rounds until no more clients come and all have ended, and then tells of the closes that weren't told of.
-fn run<'a, R: Wait + Clock, L: Write>(
+fn run<'a, R: Wait + Clock, D: Disk, L: Write>(
     rt: &R,
     alloc: Global,
     poll: &mut Poll,
     events: &mut Events<Global>,
     doors: &mut Doors<'a>,
     rounds: &mut Rounds<Client<'a>>,
+    store: &mut Option<Store<D>>,
     page: &mut Option<Page>,
     log: &mut L,
 ) -> Result<(), ServeFault>
@@ -227,6 +268,7 @@ fn run<'a, R: Wait + Clock, L: Write>(
         events,
         doors,
         rounds,
+        store,
         page,
         &mut telling,
         log,
@@ -260,8 +302,42 @@ fn page_at<R: Net>(
     Ok(Some(Page::new(alloc, listener)?))
 }
 
+/// A store, and the clients of the broker that it kept; neither where nothing is kept: then the broker is a new one.
+fn rounds_of<'a, D: Disk>(
+    alloc: Global,
+    kept: Option<Kept<D>>,
+) -> Result<(Option<Store<D>>, Rounds<Client<'a>>), ServeFault>
+    ensures { IfErr result (λ e. e ≢ ServeFault.BadPlan) }
+{
+    match kept {
+        Some(kept) => {
+            let Kept {
+                store,
+                broker,
+                cut: _cut,
+            } = kept;
+            let rounds = Rounds::over_broker(alloc, broker)?;
+            Ok((Some(store), rounds))
+        }
+        None => Ok((None, Rounds::new(alloc)?)),
+    }
+}
+
+/// What isn't on the disk yet is brought there at the end.
+fn sync_last<D: Disk>(store: &mut Option<Store<D>>) -> Result<(), ServeFault>
+    ensures { IfErr result (λ e. e ≢ ServeFault.BadPlan) }
+{
+    match store {
+        Some(store) => match store.sync() {
+            Ok(()) => Ok(()),
+            Err(fault) => Err(of_store(fault)),
+        },
+        None => Ok(()),
+    }
+}
+
 /// Serves on a listening socket.
-fn serve_on<R: Wait + Clock + Net, L: Write>(
+fn serve_on<R: Wait + Clock + Net, D: Disk, L: Write>(
     rt: &R,
     alloc: Global,
     mut poll: Poll,
@@ -269,6 +345,7 @@ fn serve_on<R: Wait + Clock + Net, L: Write>(
     mut page: Option<Page>,
     door: Option<&Door>,
     clients: Option<u32>,
+    kept: Option<Kept<D>>,
     log: &mut L,
 ) -> Result<u32, ServeFault>
     ensures { IfErr result (λ e. e ≢ ServeFault.BadPlan) }
@@ -281,7 +358,7 @@ fn serve_on<R: Wait + Clock + Net, L: Write>(
     }
     let mut events = Events::with_capacity(alloc, EVENTS)?;
     let mut doors = Doors::new(alloc, listener, door, clients);
-    let mut rounds = Rounds::new(alloc)?;
+    let (mut store, mut rounds) = rounds_of(alloc, kept)?;
     run(
         rt,
         alloc,
@@ -289,9 +366,11 @@ fn serve_on<R: Wait + Clock + Net, L: Write>(
         &mut events,
         &mut doors,
         &mut rounds,
+        &mut store,
         &mut page,
         log,
     )?;
+    sync_last(&mut store)?;
     if doors.failed {
         return Err(ServeFault::Device);
     }
@@ -330,6 +409,25 @@ pub fn serve_at<R: Wait + Clock + Net, W: Write, L: Write>(
     ensures bad_plan { IfErr result (λ e. e ≡ ServeFault.BadPlan
         → ¬ (IsServing serving.now.clients)) }
 {
+    serve_kept(rt, alloc, serving, door, None::<Kept<NoDisk>>, writer, log)
+}
+
+/// The same, of a broker that is kept: what comes to it is appended to its journal before anything that came of it is written, and is on the disk at most 10
+/// milliseconds later, or at once where its store is so. At its own end all is on the disk. Refused with Unkept (141) where the disk failed. No contract says
+/// what a disk does.
+pub fn serve_kept<R: Wait + Clock + Net, D: Disk, W: Write, L: Write>(
+    rt: &R,
+    alloc: Global,
+    serving: &Serving,
+    door: Option<&Door>,
+    kept: Option<Kept<D>>,
+    writer: &mut W,
+    log: &mut L,
+) -> Result<u32, ServeFault>
+    ensures ok { OnOk result (IsServing serving.now.clients) }
+    ensures bad_plan { IfErr result (λ e. e ≡ ServeFault.BadPlan
+        → ¬ (IsServing serving.now.clients)) }
+{
     let clients = match count_of(serving.clients) {
         Ok(clients) => clients,
         Err(fault) => return Err(fault),
@@ -349,7 +447,7 @@ pub fn serve_at<R: Wait + Clock + Net, W: Write, L: Write>(
     if writeln!(writer, "listening {port}").is_err() || writer.flush().is_err() {
         return Err(ServeFault::Device);
     }
-    serve_on(rt, alloc, poll, listener, page, door, clients, log)
+    serve_on(rt, alloc, poll, listener, page, door, clients, kept, log)
 }
 
 /// `serve_at` 127.0.0.1 for so many clients, 1 to 1,000, without a status page and a log.

@@ -3,7 +3,7 @@
 
 use spk_broker_store::{Disk, Kept};
 use spk_door::Door;
-use spk_runtime::{ServeFault, Serving, serve_at};
+use spk_runtime::{ServeFault, Serving, serve_kept};
 use std::io;
 use std::io::Write;
 use std::net::{IpAddr, Net};
@@ -47,10 +47,6 @@ pub fn serve_clients<R: AllocGlobal + Wait + Clock + Net, D: Disk, W: Write, L: 
         clients: clients.map(usize::from),
         status,
     };
-    let answer = match store {
-        // serve_kept
-        Some(_store) => Err(ServeFault::Device),
-        None => serve_at(rt, rt.alloc(), &serving, door, out, log),
-    };
+    let answer = serve_kept(rt, rt.alloc(), &serving, door, store, out, log);
     said(out, answer).unwrap_or(1)
 }
