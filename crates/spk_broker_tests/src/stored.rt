@@ -198,6 +198,42 @@ fn talks_on(alloc: Global, loops: &mut impl Loops) -> Option<bool> {
     Some(got.len() == 12 && got.starts_with(AGAIN) && got.ends_with(REPEATED))
 }
 
+/// A client subscribes in a session that is kept.
+fn watches(alloc: Global, loops: &mut impl Loops) -> Option<bool> {
+    let watcher = loops.come(alloc)?;
+    let right = says(loops, watcher, CONNECT, 0)? == WELCOME;
+    Some(right && says(loops, watcher, WATCH, 4)?.ends_with(WATCHED))
+}
+
+/// How far a message comes before everything ends at once: it was read, it was kept, or it was answered.
+#[derive(Clone, Copy, Debug, PartialEq, Eq)]
+enum Killed {
+    BeforeItIsKept,
+    BeforeItIsAnswered,
+    BehindItsAnswer,
+}
+
+/// One life: the watcher comes back, to whom so many messages are due, and one more is published. Whether it got them, and the answer came where it was due.
+fn lives(alloc: Global, loops: &mut impl Loops, killed: Killed, due: usize) -> Option<bool> {
+    let watcher = loops.come(alloc)?;
+    let got = says(loops, watcher, CONNECT, 0)?;
+    let right = got.starts_with(AGAIN) && got.len() == due.saturating_mul(8).saturating_add(4);
+    let sayer = loops.come(alloc)?;
+    let welcome = says(loops, sayer, CLEAN, 0)? == WELCOME;
+    loops.send(sayer, SAY)?;
+    if killed == Killed::BeforeItIsKept {
+        return Some(right && welcome);
+    }
+    if !loops.keep() {
+        return None;
+    }
+    if killed == Killed::BeforeItIsAnswered {
+        return Some(right && welcome);
+    }
+    let said = loops.write(sayer)?.ends_with(SAID);
+    Some(right && welcome && said)
+}
+
 /// The disk takes nothing more: a packet is answered neither before nor behind that. Whether it is so.
 fn stops(alloc: Global, loops: &mut impl Loops) -> Option<bool> {
     let watcher = loops.come(alloc)?;
@@ -216,6 +252,31 @@ fn what_was_kept_is_there_behind_a_restart(rt: HostRuntime) -> Result<(), Fail> 
     drop(first);
     let mut second = keeping(alloc, &mut bytes, usize::MAX)?;
     assert_eq!(rt; talks_on(alloc, &mut second), Some(true));
+    Ok(())
+}
+
+#[test]
+fn ten_kills_cost_nothing_that_was_answered(rt: HostRuntime) -> Result<(), Fail> {
+    let alloc = rt.alloc();
+    let mut bytes = Vec::new(alloc);
+    let mut first = keeping(alloc, &mut bytes, usize::MAX)?;
+    assert_eq!(rt; watches(alloc, &mut first), Some(true));
+    drop(first);
+    let mut due = 0usize;
+    for kill in 0..10usize {
+        let killed = match kill % 3 {
+            0 => Killed::BeforeItIsKept,
+            1 => Killed::BeforeItIsAnswered,
+            _ => Killed::BehindItsAnswer,
+        };
+        let mut loops = keeping(alloc, &mut bytes, usize::MAX)?;
+        assert_eq!(rt; lives(alloc, &mut loops, killed, due), Some(true), "{kill}");
+        drop(loops);
+        if killed != Killed::BeforeItIsKept {
+            due = due.saturating_add(1);
+        }
+    }
+    assert_eq!(rt; due, 6);
     Ok(())
 }
 
