@@ -6,8 +6,6 @@ mod covering;
 pub mod laws;
 mod levels;
 mod rights;
-#[cfg(test)]
-mod tests;
 
 pub use covering::covers;
 pub use rights::{NodeName, Rights};

@@ -30,6 +30,8 @@ mod serve;
 #[cfg(test)]
 mod sockets;
 #[cfg(test)]
+mod status;
+#[cfg(test)]
 mod stored;
 #[cfg(test)]
 mod twin;

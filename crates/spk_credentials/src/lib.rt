@@ -4,7 +4,5 @@
 mod credentials;
 pub mod laws;
 mod parts;
-#[cfg(test)]
-mod tests;
 
 pub use credentials::{Credentials, read};

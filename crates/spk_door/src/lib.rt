@@ -3,8 +3,6 @@
 
 mod door;
 pub mod laws;
-#[cfg(test)]
-mod tests;
 mod verdict;
 
 pub use door::{Door, Entry, Login, User, Who};

@@ -4,8 +4,6 @@
 
 mod double;
 mod float;
-#[cfg(test)]
-mod tests;
 
 pub use double::{double_in, double_text};
 pub use float::{float_in, float_text};

@@ -16,8 +16,6 @@ mod metrics;
 mod node;
 mod rows_json;
 mod stage;
-#[cfg(test)]
-mod tests;
 mod text;
 mod totals;
 mod values_json;

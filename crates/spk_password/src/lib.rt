@@ -5,8 +5,6 @@
 mod keyed;
 mod pbkdf2;
 mod same;
-#[cfg(test)]
-mod tests;
 
 pub use keyed::hmac;
 pub use pbkdf2::derive;

@@ -7,8 +7,6 @@ mod asked;
 mod closes;
 mod figures;
 mod telling;
-#[cfg(test)]
-mod tests;
 
 pub use answering::answer;
 pub use asked::Asked;

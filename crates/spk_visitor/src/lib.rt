@@ -5,8 +5,6 @@
 mod answer;
 pub mod laws;
 mod replies;
-#[cfg(test)]
-mod tests;
 mod visitor;
 
 pub use answer::Answer;

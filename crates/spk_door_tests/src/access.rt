@@ -1,6 +1,6 @@
 //! Rows: filters by the examples of MQTT 3.1.1, sections 4.7.1.2, 4.7.1.3 and 4.7.2, topics by Sparkplug 3.0.0, chapter 4.
 
-use crate::{NodeName, Rights, covers};
+use spk_access::{NodeName, Rights, covers};
 use std::alloc::Global;
 use std::process::Abort;
 use std::test::Fail;

@@ -1,5 +1,5 @@
 //! Bits and texts that other programs wrote (CPython 3.11 by `repr` and `struct`, and decimal fractions by hand), and random bits.
-use crate::{double_in, double_text, float_in, float_text};
+use spk_floats::{double_in, double_text, float_in, float_text};
 use std::alloc::{AllocError, Global};
 use std::test::Fail;
 

@@ -1,6 +1,6 @@
 //! Rows: bytes made by Python's struct as MQTT 3.1.1, chapter 3, says, and the key by its hashlib.
 
-use crate::{Answer, Replies, Visitor};
+use spk_visitor::{Answer, Replies, Visitor};
 use spk_access::{NodeName, Rights};
 use spk_door::{Door, User};
 use spk_packets::PacketFault;

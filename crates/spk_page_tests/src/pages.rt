@@ -1,5 +1,5 @@
 //! Views, figures and exchanges that were written out by hand.
-use crate::{
+use spk_page::{
     Asked, Client, Device, Entry, Head, Look, Metric, Node, Shown, Stage, Values, What, Whole,
     metrics_text, node_text, page, view_text,
 };

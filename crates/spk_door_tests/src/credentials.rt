@@ -1,6 +1,6 @@
 //! Rows: bytes made by Python's struct as MQTT 3.1.1, section 3.1, says.
 
-use crate::read;
+use spk_credentials::read;
 use std::process::Abort;
 
 /// The bytes of a CONNECT, its user name and its password.

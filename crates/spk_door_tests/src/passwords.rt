@@ -1,6 +1,6 @@
 //! Rows of RFC 4231, sections 4.2 to 4.4, 4.7 and 4.8, the first of RFC 7914, section 11, and others worked out by Python's hashlib.
 
-use crate::{derive, hmac, is_same};
+use spk_password::{derive, hmac, is_same};
 use std::process::Abort;
 use std::test::Fail;
 

@@ -1,4 +1,4 @@
-use crate::{Asked, Closes, Figures, Telling, answer};
+use spk_status::{Asked, Closes, Figures, Telling, answer};
 use spk_clients::Cause;
 use std::test::Fail;
 
