@@ -3,11 +3,13 @@
 #![tactic(auto)]
 
 mod histories;
+mod limits;
 mod parts;
 mod records;
 mod store;
 
 use histories::read_history;
+use limits::holdings_of;
 use records::MachineDisks;
 use spk_board::Screen;
 use spk_commands::{Files, NOT_TEXT, Outcome, PasswdPlan, passwd, plant, run_with_notes};
@@ -121,9 +123,13 @@ fn main(rt: HostRuntime) -> io::Result<ExitCode> {
             clients,
             status,
             door,
+            limits,
             store,
         } => {
             let door = door.as_ref();
+            let Ok(holdings) = holdings_of(rt.alloc(), limits) else {
+                return Ok(ExitCode::from(no_memory(&rt)?));
+            };
             match store_of(&rt, &store, &mut writer, &mut notes) {
                 Ok(kept) => serve_clients(
                     &rt,
@@ -132,6 +138,7 @@ fn main(rt: HostRuntime) -> io::Result<ExitCode> {
                     clients,
                     status,
                     door,
+                    holdings,
                     kept,
                     &mut writer,
                     &mut notes,

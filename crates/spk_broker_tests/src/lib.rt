@@ -37,3 +37,5 @@ mod stored;
 mod twin;
 #[cfg(test)]
 mod unfriendly;
+#[cfg(test)]
+mod within;

@@ -1,5 +1,5 @@
-use spk_status::{Asked, Closes, Figures, Telling, answer};
 use spk_clients::Cause;
+use spk_status::{Asked, Closes, Figures, Telling, answer};
 use std::test::Fail;
 
 /// Requests, and the status of their answer; 0 where there is none yet.

@@ -52,7 +52,9 @@ and mosquitto_sub prints 1.
 
 It has no TLS. Anybody may connect, publish and subscribe, unless --users or --guard is said: with --users
 FILE those alone come in whom a line of FILE names, with their password (`sparkplug passwd --help`), and do
-what it lets them; with --guard each node speaks for itself. docs/SERVE.md tells more.
+what it lets them; with --guard each node speaks for itself. What a user may hold is bounded, too: kept
+sessions, filters, retained messages and bytes, by default a tenth of what the broker holds; who goes beyond is
+refused. docs/SERVE.md tells more.
 What it holds is lost when it is ended, unless --store FOLDER is said: then retained messages and kept
 sessions are in a file there before anything is answered, and the next start goes on with them. A kill costs
 nothing that was answered; a power cut may cost its last 10 milliseconds, with --sync each nothing.
@@ -271,6 +273,16 @@ fn with_door<'a>(alloc: Global, command: Command<'a>) -> Result<Command<'a>, All
         )
         .action(ArgAction::Set);
     let command = command.arg(users)?;
+    let days = Arg::new(alloc, "session-days")
+        .long("session-days")
+        .value_name("N")
+        .help(
+            "Ends a user's kept session whose client has been away for so many days, 1 to 36500; 30 where nothing is said",
+        )
+        .value_parser(value_parser!(u16).range(1..=36500))
+        .requires_arg("users")?
+        .action(ArgAction::Set);
+    let command = command.arg(days)?;
     let guard = Arg::new(alloc, "guard")
         .long("guard")
         .help(

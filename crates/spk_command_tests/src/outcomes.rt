@@ -1,10 +1,11 @@
 //! What a run came to, as a text.
 
-use spk_commands::{HistoryPlan, Outcome, PasswdPlan, StorePlan};
+use spk_commands::{HistoryPlan, LimitsPlan, Outcome, PasswdPlan, StorePlan};
 use spk_door::Door;
 use spk_files::user_line;
 use spk_plan::Plan;
 use spk_program_plans::{EdgePlan, HostPlan};
+use spk_quota::Limits;
 use std::alloc::{AllocError, Global};
 
 /// Of a plan to be run: its group and host, how many nodes it has, and its numbers.
@@ -86,6 +87,34 @@ fn door_text(alloc: Global, door: &Option<Door>) -> Result<String, AllocError> {
     Ok(text)
 }
 
+/// What users may hold, where it isn't what they may where nothing is said: 100 kept sessions, 1,000 filters, 1,000 retained messages and 64 MiB of them,
+/// 64 MiB that wait, and 30 days.
+fn limits_text(alloc: Global, plan: &Option<LimitsPlan>) -> Result<String, AllocError> {
+    let mut text = String::new(alloc);
+    let Some(LimitsPlan { limits, days }) = plan else {
+        return Ok(text);
+    };
+    if *days != 30 {
+        write!(text, " days {days}")?;
+    }
+    for (user, limits) in limits.iter().enumerate() {
+        let Limits {
+            sessions,
+            filters,
+            retained,
+            bytes,
+            waiting,
+        } = *limits;
+        if (sessions, filters, retained, bytes, waiting) != (100, 1000, 1000, 67108864, 67108864) {
+            write!(
+                text,
+                " limits {user} {sessions} {filters} {retained} {bytes} {waiting}"
+            )?;
+        }
+    }
+    Ok(text)
+}
+
 /// Of a store, if there is one: its folder, and whether each answer is synced.
 fn store_text(alloc: Global, store: &Option<StorePlan>) -> Result<String, AllocError> {
     match store {
@@ -114,12 +143,14 @@ pub(crate) fn text_of(alloc: Global, outcome: &Outcome) -> Result<String, AllocE
             clients,
             status,
             door,
+            limits,
             store,
         } => {
             let door = door_text(alloc, door)?;
+            let limits = limits_text(alloc, limits)?;
             let store = store_text(alloc, store)?;
             format!(in alloc;
-                "serve {bind} {port} clients {clients:?} status {status:?}{door}{store}"
+                "serve {bind} {port} clients {clients:?} status {status:?}{door}{limits}{store}"
             )
         }
         Outcome::Passwd(plan) => passwd_text(alloc, plan),

@@ -22,4 +22,4 @@ pub use histories::{HistoryForm, HistoryPlan};
 pub use passwords::{PasswdPlan, passwd};
 pub use plants::{plant, told};
 pub use running::{NOT_TEXT, Outcome, run, run_with_notes};
-pub use serving::StorePlan;
+pub use serving::{LimitsPlan, StorePlan};

@@ -7,7 +7,7 @@ use crate::histories::{HistoryPlan, history_plan};
 use crate::packets::packets;
 use crate::passwords::{PasswdPlan, passwd_plan};
 use crate::plants::plan_from;
-use crate::serving::{StorePlan, serving};
+use crate::serving::{LimitsPlan, StorePlan, serving};
 use crate::show::show;
 use crate::world::world;
 use clap::ArgMatches;
@@ -116,6 +116,8 @@ pub enum Outcome {
         status: Option<u16>,
         /// Who comes in, and whose topics are whose; None where everybody may do everything.
         door: Option<Door>,
+        /// What users may hold, where there are some.
+        limits: Option<LimitsPlan>,
         /// Where what the broker holds is kept; None where it is lost at the end.
         store: Option<StorePlan>,
     },

@@ -5,7 +5,8 @@ use crate::files::Files;
 use crate::running::{Outcome, noted_text_of};
 use clap::ArgMatches;
 use spk_door::{Door, User};
-use spk_files::{Misfit, users_of};
+use spk_files::{Listed, Misfit, users_of};
+use spk_quota::Limits;
 use std::alloc::{AllocError, Global};
 use std::io::Write;
 use std::net::IpAddr;
@@ -18,10 +19,13 @@ const NO_ADDRESS: &str =
 const NO_STATUS: &str =
     "error: --status takes another port than --port\n\nFor more information, try '--help'.\n";
 
-/// The users that a file's text says. What is wrong with one, and where, is noted.
-fn users_from<N: Write>(alloc: Global, text: &str, notes: &mut N) -> Result<Vec<User>, Stop> {
+/// How many days a kept session of a user stands without its client, where nothing is said (own rule).
+const USUAL_DAYS: u16 = 30;
+
+/// The users that a file's text says, and what they may hold. What is wrong with one, and where, is noted.
+fn users_from<N: Write>(alloc: Global, text: &str, notes: &mut N) -> Result<Listed, Stop> {
     match users_of(alloc, text) {
-        Ok(users) => Ok(users),
+        Ok(listed) => Ok(listed),
         Err(Misfit::NoMemory) => Err(Stop::no_memory()),
         Err(Misfit::Wrong(place, cause)) => {
             let _ = writeln!(notes, "sparkplug: BadPlan: {place} {cause}");
@@ -30,21 +34,41 @@ fn users_from<N: Write>(alloc: Global, text: &str, notes: &mut N) -> Result<Vec<
     }
 }
 
-/// The users of a users' file, where one is named.
+/// The users of a users' file and what they may hold, where one is named.
 fn users_in<F: Files, N: Write>(
     alloc: Global,
     given: &ArgMatches<'_>,
     files: &mut F,
     notes: &mut N,
-) -> Result<Option<Vec<User>>, Stop> {
+) -> Result<Option<Listed>, Stop> {
     let Some(name) = given.get_str("users") else {
         return Ok(None);
     };
     let text = noted_text_of(alloc, name, files, notes)?;
     match users_from(alloc, text.as_str(), notes) {
-        Ok(users) => Ok(Some(users)),
+        Ok(listed) => Ok(Some(listed)),
         Err(stop) => Err(stop),
     }
+}
+
+/// What the users of a broker may hold, in the order of its users' file.
+#[derive(Debug, Drop)]
+pub struct LimitsPlan {
+    pub limits: Vec<Limits>,
+    /// How many days a kept session stands without its client.
+    pub days: u16,
+}
+
+/// What users may hold, and apart from it who they are, where there are some.
+fn apart(
+    listed: Option<Listed>,
+    given: &ArgMatches<'_>,
+) -> (Option<Vec<User>>, Option<LimitsPlan>) {
+    let Some(Listed { users, limits }) = listed else {
+        return (None, None);
+    };
+    let days = given.get_one::<u16>("session-days").unwrap_or(USUAL_DAYS);
+    (Some(users), Some(LimitsPlan { limits, days }))
 }
 
 /// The door of these users, where there are some, and of a guard. None where there is neither.
@@ -134,7 +158,8 @@ pub(crate) fn serving<F: Files, N: Write>(
     let Address { bind, port, status } = address_of(alloc, given)?;
     let store = store_of(alloc, given)?;
     match users_in(alloc, given, files, notes) {
-        Ok(users) => {
+        Ok(listed) => {
+            let (users, limits) = apart(listed, given);
             warn(bind, users.is_some(), notes);
             Ok(Outcome::Serve {
                 bind,
@@ -142,6 +167,7 @@ pub(crate) fn serving<F: Files, N: Write>(
                 clients: clients_of(given),
                 status,
                 door: door_of(users, given.get_flag("guard")),
+                limits,
                 store,
             })
         }

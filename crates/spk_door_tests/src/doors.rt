@@ -1,7 +1,7 @@
 //! Rows: keys by Python's hashlib.pbkdf2_hmac, codes of CONNACK by MQTT 3.1.1, section 3.2.2.3.
 
-use spk_door::{Door, Entry, Login, User, Verdict, Who};
 use spk_access::{NodeName, Rights};
+use spk_door::{Door, Entry, Login, User, Verdict, Who};
 use spk_packets::{Packet, Request, Will};
 use std::alloc::Global;
 use std::process::Abort;

@@ -1,9 +1,9 @@
 //! Rows: bytes made by Python's struct as MQTT 3.1.1, chapter 3, says, and the key by its hashlib.
 
-use spk_visitor::{Answer, Replies, Visitor};
 use spk_access::{NodeName, Rights};
 use spk_door::{Door, User};
 use spk_packets::PacketFault;
+use spk_visitor::{Answer, Replies, Visitor};
 use std::alloc::Global;
 use std::process::Abort;
 use std::test::Fail;

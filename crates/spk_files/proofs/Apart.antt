@@ -1,12 +1,13 @@
 -- One user more, whose name none has.
-use Rattle.std.proofs.Common.{◌≡◌, ◌∙◌, ap, refl, Bool, true, false, not, ◌||◌, List, [], ◌∷◌, ◌++◌}
+use Rattle.std.proofs.Common.{◌≡◌, ◌∙◌, ap, refl, tt, Bool, true, false, not, ◌||◌, List, [], ◌∷◌, ◌++◌}
 use Rattle.std.specs.List.{list_all, list_any}
 use Rattle.std.specs.Str.{bytes_eq}
 use Rattle.std.specs.String.{string_bytes}
 use Rattle.std.proofs.lemmas.Bool.{and_parts, and_from}
 use Rattle.std.proofs.lemmas.List.Folds.{list_all-append, list_any-append}
 use Rattle.spk_door.specs.declared.door.User.{User}
-use Rattle.spk_files.specs.Users.{are_apart, are_plain, is_plain}
+use Rattle.spk_files.specs.Users.{AreBounded, IsBounded, are_apart, are_plain, is_plain}
+use Rattle.spk_quota.specs.declared.limits.Limits.{Limits}
 use Rattle.spk_files.proofs.Limits.{not_none, or-none}
 
 pub apart_push : (us : List User) (x : User) → are_apart us ≡ true
@@ -27,3 +28,8 @@ pub plain_push : (us : List User) (x : User) → are_plain us ≡ true → is_pl
 plain_push us x plain one =
     let p : User → Bool = λ (v : User). is_plain (string_bytes v.name) in
     list_all-append p us (x ∷ []) ∙ and_from (list_all p us) (list_all p (x ∷ [])) plain (and_from (p x) true one refl)
+
+-- one more that is bounded
+pub bounded_push : (ls : List Limits) (x : Limits) → AreBounded ls → IsBounded x → AreBounded (ls ++ x ∷ [])
+bounded_push [] x all one = (one, tt)
+bounded_push (l ∷ ls) x all one = (all.0, bounded_push ls x all.1 one)

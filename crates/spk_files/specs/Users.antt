@@ -1,5 +1,5 @@
 -- What a users' file gives (own rules).
-use Rattle.std.specs.Prelude.{ℕ, List, [], ◌∷◌, Bool, true, not, ◌&&◌, ◌==◌, Option, Vec, String, is_none}
+use Rattle.std.specs.Prelude.{◌≡◌, ◌≤◌, ◌×◌, Unit, ℕ, List, [], ◌∷◌, Bool, true, not, ◌&&◌, ◌==◌, Option, Vec, String, is_none, length}
 use Rattle.std.specs.List.{list_all, list_any}
 use Rattle.std.specs.Option.{option_map_or}
 use Rattle.std.specs.Str.{bytes_eq}
@@ -7,6 +7,8 @@ use Rattle.std.specs.String.{string_bytes}
 use Rattle.std.specs.declared.alloc.Global.{Global}
 use Rattle.spk_access.specs.declared.rights.NodeName.{NodeName}
 use Rattle.spk_door.specs.declared.door.User.{User}
+use Rattle.spk_files.specs.declared.users.Listed.{Listed}
+use Rattle.spk_quota.specs.declared.limits.Limits.{Limits}
 use Rattle.spk_host_session.specs.Data.{is_short_name}
 use Rattle.spk_topics.specs.Spark.{is_name}
 use Rattle.spk_topics.specs.Text.{filter_refusal}
@@ -48,3 +50,24 @@ has_name name u = bytes_eq (string_bytes u.name) name
 abbrev pub are_apart : List User → Bool
 are_apart [] = true
 are_apart (u ∷ us) = not (list_any (has_name (string_bytes u.name)) us) && are_apart us
+
+-- ---- what a user may hold
+
+-- no more than a broker holds: 1,000 kept sessions, 10,000 filters, 10,000 retained messages; and a tebibyte
+pub record IsBounded (l : Limits) : Type 0 where
+  pub sessions : l.sessions ≤ 1000
+  pub filters : l.filters ≤ 10000
+  pub retained : l.retained ≤ 10000
+  pub bytes : l.bytes ≤ 1099511627776
+  pub waiting : l.waiting ≤ 1099511627776
+
+abbrev pub AreBounded : List Limits → Type 0
+AreBounded [] = Unit {0}
+AreBounded (l ∷ ls) = IsBounded l × AreBounded ls
+
+-- the users of a file: names apart and without a colon, and limits for each
+pub record IsListed (l : Listed) : Type 0 where
+  pub apart : are_apart l.users.items ≡ true
+  pub plain : are_plain l.users.items ≡ true
+  pub each : length l.limits.items ≡ length l.users.items
+  pub bounded : AreBounded l.limits.items

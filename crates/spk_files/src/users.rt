@@ -1,18 +1,20 @@
 //! A users' file: who comes in, a line for each.
-ghost use Rattle.std.specs.Prelude.{◌≡◌, ◌≤◌, ◌==◌, true, false, IfOk, length};
+ghost use Rattle.std.specs.Prelude.{◌≡◌, ◌≤◌, ◌==◌, true, false, IfOk, OnOk, length};
 ghost use Rattle.std.specs.List.{list_any};
 ghost use Rattle.std.specs.Str.{bytes_eq};
 ghost use Rattle.std.specs.String.{string_bytes};
 ghost use Rattle.spk_door.specs.declared.door.User.{User};
-ghost use Rattle.spk_files.specs.Users.{are_apart, are_filters, are_plain, is_filter, is_node, is_plain, some_are_filters, some_is_host, some_is_node};
+ghost use Rattle.spk_files.specs.Users.{AreBounded, IsBounded, IsListed, are_apart, are_filters, are_plain, is_filter, is_node, is_plain, some_are_filters, some_is_host, some_is_node};
 
 use crate::misfit::{Cause, Misfit, Place};
 use crate::names::{is_name, short_name_of};
 use crate::part::Part;
 use crate::text::json_of;
+use crate::user_limits::limits_of;
 use hex::{FromHexError, decode, decode_to_slice};
 use spk_access::{NodeName, Rights};
 use spk_door::User;
+use spk_quota::Limits;
 use spk_topics::Filter;
 use std::alloc::Global;
 
@@ -28,7 +30,15 @@ const MOST_SALT: usize = 64;
 /// The most filters of a list.
 const MOST_FILTERS: usize = 1_000;
 
-const USER: [&str; 6] = ["user", "password", "node", "host", "publish", "subscribe"];
+const USER: [&str; 7] = [
+    "user",
+    "password",
+    "node",
+    "host",
+    "publish",
+    "subscribe",
+    "limits",
+];
 
 const PASSWORD: [&str; 3] = ["rounds", "salt", "key"];
 
@@ -212,6 +222,14 @@ pub fn user_of(alloc: Global, line: &str) -> Result<User, Misfit>
     })
 }
 
+/// What the user of a line may hold.
+fn line_limits_of(alloc: Global, line: &str) -> Result<Limits, Misfit>
+    ensures { IfOk result (λ l. IsBounded l) }
+{
+    let json = json_of(alloc, line)?;
+    limits_of(alloc, Part::file(&json).find("limits"))
+}
+
 /// Whether a user of that name is there.
 fn is_there(users: &[User], name: &str) -> bool
     ensures { result ≡ list_any
@@ -234,22 +252,46 @@ fn another_of(alloc: Global, users: &[User], line: &str) -> Result<User, Misfit>
     Ok(user)
 }
 
-/// The users that a file says, a line for each, no two of one name: none where it has no lines. Empty lines, and those that begin with `#`, are
-/// passed over (own rules).
-#[tactic(auto, using(crate::proofs::Apart::apart_push, crate::proofs::Apart::plain_push))]
-pub fn users_of(alloc: Global, text: &str) -> Result<Vec<User>, Misfit>
-    ensures apart { IfOk result (λ users. are_apart users.items ≡ true) }
-    ensures plain { IfOk result (λ users. are_plain users.items ≡ true) }
+/// The users of a users' file, and what each of them may hold, in the same order.
+#[derive(Debug, Drop)]
+pub struct Listed {
+    pub users: Vec<User>,
+    pub limits: Vec<Limits>,
+}
+
+impl Listed {
+    /// The user of one line more, and what it may hold.
+    #[tactic(auto, using(crate::proofs::Apart::apart_push, crate::proofs::Apart::plain_push, crate::proofs::Apart::bounded_push))]
+    fn push(&mut self, alloc: Global, line: &str) -> Result<(), Misfit>
+        ensures { OnOk result (IsListed self.old → IsListed self.new) }
+    {
+        let user = another_of(alloc, &self.users, line)?;
+        let limits = line_limits_of(alloc, line)?;
+        self.users.push(user)?;
+        self.limits.push(limits)?;
+        Ok(())
+    }
+}
+
+/// The users that a file says, a line for each, no two of one name, and what each may hold: none where it has no lines. Empty lines, and those that begin with
+/// `#`, are passed over (own rules).
+pub fn users_of(alloc: Global, text: &str) -> Result<Listed, Misfit>
+    ensures apart { IfOk result (λ listed. are_apart listed.users.items ≡ true) }
+    ensures plain { IfOk result (λ listed. are_plain listed.users.items ≡ true) }
+    ensures each { IfOk result (λ listed. length listed.limits.items ≡ length listed.users.items) }
+    ensures bounded { IfOk result (λ listed. AreBounded listed.limits.items) }
 {
-    let mut users = Vec::new(alloc);
+    let mut listed = Listed {
+        users: Vec::new(alloc),
+        limits: Vec::new(alloc),
+    };
     for (place, line) in text.lines().enumerate() {
         if line.is_empty() || line.starts_with('#') {
             continue;
         }
-        match another_of(alloc, &users, line) {
-            Ok(user) => users.push(user)?,
-            Err(misfit) => return Err(misfit.in_line(place.saturating_add(1))),
+        if let Err(misfit) = listed.push(alloc, line) {
+            return Err(misfit.in_line(place.saturating_add(1)));
         }
     }
-    Ok(users)
+    Ok(listed)
 }

@@ -1,9 +1,12 @@
 //! A client's socket behind a door: of what the client sends the server reads what the door lets through, and of what the server writes the client gets what the
 //! door makes of it.
 
+use crate::holdings::{UNAVAILABLE, Weight, is_weighed, weigh};
 use crate::port::Port;
 use spk_door::Door;
-use spk_packets::PacketFault;
+use spk_packets::{PacketFault, decode};
+use spk_quota::Quotas;
+use spk_server::Conn;
 use spk_visitor::{Answer, Replies, Visitor};
 use std::alloc::Global;
 use std::io::{self, ErrorKind};
@@ -47,6 +50,7 @@ impl Rest {
 /// A client's socket behind a door.
 #[derive(Drop)]
 pub struct Guarded<'a, P: Port> {
+    alloc: Global,
     port: P,
     door: &'a Door,
     visitor: Visitor,
@@ -63,6 +67,8 @@ pub struct Guarded<'a, P: Port> {
     full: bool,
     /// The door ended it: nothing more of the client is taken.
     barred: bool,
+    /// The name of its session among what its user holds, once it is counted.
+    client: Option<String>,
 }
 
 /// What a fault of a client's bytes is for a socket.
@@ -77,6 +83,7 @@ impl<'a, P: Port> Guarded<'a, P> {
     /// The socket of a client who comes to this door.
     pub fn new(alloc: Global, port: P, door: &'a Door) -> Guarded<'a, P> {
         Guarded {
+            alloc,
             port,
             door,
             visitor: Visitor::new(alloc),
@@ -87,6 +94,7 @@ impl<'a, P: Port> Guarded<'a, P> {
             bounded: false,
             full: false,
             barred: false,
+            client: None,
         }
     }
 
@@ -128,25 +136,115 @@ impl<'a, P: Port> Guarded<'a, P> {
         Ok(false)
     }
 
-    /// Takes in what was read of the socket, and lets through what may go on.
-    fn let_through(&mut self, piece: &[u8]) -> io::Result<()> {
+    /// What becomes of a packet that the door let through, and that stands behind so many bytes, by what its user holds: beyond a limit it doesn't go on, and
+    /// its client is refused.
+    fn weigh(
+        &mut self,
+        answer: Answer,
+        before: usize,
+        conn: Conn,
+        quotas: &mut Quotas,
+    ) -> io::Result<Answer> {
+        let bytes = self.passed.bytes.get(before..).unwrap_or(&[]);
+        let (Some(first), Some(user)) = (bytes.first(), self.visitor.user()) else {
+            return Ok(answer);
+        };
+        if !is_weighed(*first) {
+            return Ok(answer);
+        }
+        let packet = match decode(self.alloc, bytes) {
+            Ok((packet, _)) => packet,
+            Err(fault) => return Err(error_of(fault)),
+        };
+        match weigh(self.alloc, quotas, user, conn, &mut self.client, &packet) {
+            Ok(Weight::Within) => Ok(answer),
+            Ok(Weight::Beyond) => {
+                self.passed.bytes.truncate(before);
+                Ok(if self.inside {
+                    Answer::Closes
+                } else {
+                    Answer::Refuses(UNAVAILABLE)
+                })
+            }
+            Err(_) => Err(ErrorKind::OutOfMemory.into()),
+        }
+    }
+
+    /// Takes in what was read of the socket. Whether the door takes more of it.
+    fn hear(&mut self, piece: &[u8]) -> io::Result<bool> {
         match self.visitor.feed(piece) {
-            Ok(()) => {}
+            Ok(()) => Ok(true),
             Err(PacketFault::TooLarge) => {
                 self.barred = true;
-                return Ok(());
+                Ok(false)
             }
-            Err(fault) => return Err(error_of(fault)),
+            Err(fault) => Err(error_of(fault)),
+        }
+    }
+
+    /// What becomes of the next packet of it, if it is whole.
+    fn next(&mut self) -> io::Result<Answer> {
+        match self.visitor.next(self.door, &mut self.passed.bytes) {
+            Ok(answer) => Ok(answer),
+            Err(_) => Err(ErrorKind::OutOfMemory.into()),
+        }
+    }
+
+    /// Takes in what was read of the socket, and lets through what may go on.
+    fn let_through(&mut self, piece: &[u8]) -> io::Result<()> {
+        if !self.hear(piece)? {
+            return Ok(());
         }
         for _ in 0..u64::MAX {
-            let Ok(answer) = self.visitor.next(self.door, &mut self.passed.bytes) else {
-                return Err(ErrorKind::OutOfMemory.into());
-            };
+            let answer = self.next()?;
             if !self.follow(answer)? {
                 break;
             }
         }
         Ok(())
+    }
+
+    /// The same, of what stays within what its user may hold.
+    fn let_through_within(
+        &mut self,
+        piece: &[u8],
+        conn: Conn,
+        quotas: &mut Quotas,
+    ) -> io::Result<()> {
+        if !self.hear(piece)? {
+            return Ok(());
+        }
+        for _ in 0..u64::MAX {
+            let before = self.passed.bytes.len();
+            let answer = self.next()?;
+            let answer = self.weigh(answer, before, conn, quotas)?;
+            if !self.follow(answer)? {
+                break;
+            }
+        }
+        Ok(())
+    }
+
+    /// Whether the socket is to be read: nothing of it waits that was let through.
+    fn is_to_be_read(&self) -> bool {
+        self.passed.left().is_empty() && !self.barred
+    }
+
+    /// Reads the socket.
+    fn read(&mut self, piece: &mut [u8]) -> io::Result<usize> {
+        let count = self.port.take(piece)?;
+        self.full = count >= piece.len();
+        Ok(count)
+    }
+
+    /// Hands on what was let through, if there is something.
+    fn give(&mut self, piece: &mut [u8]) -> io::Result<usize> {
+        let count = self.hand_on(piece);
+        if count == 0 && !self.barred {
+            // nothing goes on of what was read
+            return Err(ErrorKind::Interrupted.into());
+        }
+        Ok(count)
     }
 
     /// Writes what is to be written before anything else, as far as it goes. One for whom too much waits is given up.
@@ -192,21 +290,32 @@ impl<'a, P: Port> Guarded<'a, P> {
 
 impl<P: Port> Port for Guarded<'_, P> {
     fn take(&mut self, piece: &mut [u8]) -> io::Result<usize> {
-        if self.passed.left().is_empty() && !self.barred {
-            let count = self.port.take(piece)?;
+        if self.is_to_be_read() {
+            let count = self.read(piece)?;
             if count == 0 {
                 return Ok(0);
             }
-            self.full = count >= piece.len();
             self.let_through(piece.get(..count).unwrap_or(&[]))?;
             self.say()?;
         }
-        let count = self.hand_on(piece);
-        if count == 0 && !self.barred {
-            // nothing goes on of what was read
-            return Err(ErrorKind::Interrupted.into());
+        self.give(piece)
+    }
+
+    fn take_within(
+        &mut self,
+        piece: &mut [u8],
+        conn: Conn,
+        quotas: &mut Quotas,
+    ) -> io::Result<usize> {
+        if self.is_to_be_read() {
+            let count = self.read(piece)?;
+            if count == 0 {
+                return Ok(0);
+            }
+            self.let_through_within(piece.get(..count).unwrap_or(&[]), conn, quotas)?;
+            self.say()?;
         }
-        Ok(count)
+        self.give(piece)
     }
 
     fn put(&mut self, bytes: &[u8]) -> io::Result<usize> {
@@ -249,6 +358,16 @@ impl<P: Port> Port for Guarded<'_, P> {
 
     fn may_log_in(&self) -> bool {
         !self.inside && !self.barred && self.door.users.is_some()
+    }
+
+    fn bar(&mut self) {
+        self.barred = true;
+    }
+
+    fn leave(&mut self, conn: Conn, now: u64, quotas: &mut Quotas) {
+        if let Some(client) = &self.client {
+            quotas.ended(conn, client.as_str(), now);
+        }
     }
 
     fn shut(&mut self) {

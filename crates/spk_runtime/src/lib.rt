@@ -4,16 +4,21 @@
 
 mod client;
 mod doors;
+mod farewell;
 mod fault;
 mod guarded;
+mod holdings;
 mod line;
 mod page;
 mod port;
 mod rounds;
 mod server;
+mod sweep;
 
+pub use farewell::Farewell;
 pub use fault::ServeFault;
 pub use guarded::Guarded;
+pub use holdings::{Heavy, Holdings};
 pub use port::Port;
 pub use rounds::Rounds;
 pub use server::{Serving, serve, serve_at, serve_kept};

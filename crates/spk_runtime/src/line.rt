@@ -1,6 +1,9 @@
 //! One client's socket, and what it is ready for.
 
 use crate::port::Port;
+use spk_quota::Quotas;
+use spk_server::Conn;
+use std::io;
 use std::io::ErrorKind;
 
 /// One client's socket.
@@ -15,6 +18,8 @@ pub(crate) struct Line<P: Port> {
     pub(crate) ready: bool,
     /// The client sends no more: what it sent is read to its end.
     pub(crate) closing: bool,
+    /// In which turn it was read last.
+    pub(crate) heard: u64,
 }
 
 /// What a read gave.
@@ -49,18 +54,19 @@ impl<P: Port> Line<P> {
             blocked: false,
             ready: false,
             closing: false,
+            heard: 0,
         }
     }
 
-    /// Reads once. It is to be read again where there may be more.
-    pub(crate) fn read(&mut self, piece: &mut [u8]) -> Read {
-        match self.port.take(piece) {
+    /// What came of a read of at most so many bytes. It is to be read again where there may be more.
+    fn came(&mut self, answer: io::Result<usize>, most: usize) -> Read {
+        match answer {
             Ok(0) => {
                 self.ready = false;
                 Read::End
             }
             Ok(count) => {
-                self.ready = self.closing || count >= piece.len() || self.port.may_take();
+                self.ready = self.closing || count >= most || self.port.may_take();
                 Read::Some(count)
             }
             Err(error) => match error.kind() {
@@ -75,6 +81,25 @@ impl<P: Port> Line<P> {
                 }
             },
         }
+    }
+
+    /// Reads once.
+    pub(crate) fn read(&mut self, piece: &mut [u8]) -> Read {
+        let most = piece.len();
+        let answer = self.port.take(piece);
+        self.came(answer, most)
+    }
+
+    /// Reads once of the connection of this number, as far as its user may hold what it asks for.
+    pub(crate) fn read_within(
+        &mut self,
+        piece: &mut [u8],
+        conn: Conn,
+        quotas: &mut Quotas,
+    ) -> Read {
+        let most = piece.len();
+        let answer = self.port.take_within(piece, conn, quotas);
+        self.came(answer, most)
     }
 
     /// What came of a write that failed.

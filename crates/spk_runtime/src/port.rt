@@ -1,6 +1,8 @@
 //! What the loop asks of a client's socket.
 
 use mio::net::TcpStream;
+use spk_quota::Quotas;
+use spk_server::Conn;
 use std::io;
 use std::io::{Read, Write};
 use std::net::Shutdown;
@@ -9,6 +11,16 @@ use std::net::Shutdown;
 pub trait Port: Drop {
     /// Reads some bytes; 0 at the end.
     fn take(&mut self, piece: &mut [u8]) -> io::Result<usize>;
+
+    /// Reads as `take` does, for the connection of this number; behind a door only what stays within what its user may hold.
+    fn take_within(
+        &mut self,
+        piece: &mut [u8],
+        _conn: Conn,
+        _quotas: &mut Quotas,
+    ) -> io::Result<usize> {
+        self.take(piece)
+    }
 
     /// Writes some of these bytes.
     fn put(&mut self, bytes: &[u8]) -> io::Result<usize>;
@@ -37,6 +49,12 @@ pub trait Port: Drop {
     fn may_log_in(&self) -> bool {
         false
     }
+
+    /// Its door ends it: nothing more of it is taken.
+    fn bar(&mut self) {}
+
+    /// The connection of this number is over, at this moment: what it held alone its user doesn't hold any more.
+    fn leave(&mut self, _conn: Conn, _now: u64, _quotas: &mut Quotas) {}
 
     /// Reading and writing are over.
     fn shut(&mut self);

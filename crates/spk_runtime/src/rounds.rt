@@ -2,10 +2,12 @@
 ghost use Rattle.std.specs.Prelude.{◌≢◌, IfErr};
 
 use crate::fault::{ServeFault, of_store};
+use crate::holdings::{Heavy, Holdings};
 use crate::line::{Line, Read, Written};
 use crate::port::Port;
 use spk_broker_notes::NotedBroker;
 use spk_broker_store::{Disk, Store, StoreFault};
+use spk_door::Door;
 use spk_server::{Cause, Conn, Server, ServerFault};
 use spk_status::{Closes, Figures};
 use std::alloc::{AllocError, Global};
@@ -31,6 +33,10 @@ pub struct Rounds<P: Port> {
     ready: VecDeque<Conn>,
     /// To whom more is to be written than went in one round.
     more: VecDeque<Conn>,
+    /// Who is written to last in a round: those who were read in it.
+    last: VecDeque<Conn>,
+    /// How many times who is ready was read.
+    turn: u64,
     /// Who took nothing at the last write.
     blocked: VecDeque<Conn>,
     /// When these are tried again at the earliest.
@@ -39,6 +45,21 @@ pub struct Rounds<P: Port> {
     batch: Vec<u8>,
     /// How many sockets were shut.
     closes: Closes,
+    /// What users hold, where there are some.
+    holdings: Option<Holdings>,
+}
+
+/// Reads once of a client, where users may hold so much as far as that.
+fn read_once<P: Port>(
+    line: &mut Line<P>,
+    piece: &mut [u8],
+    conn: Conn,
+    holdings: &mut Option<Holdings>,
+) -> Read {
+    match holdings {
+        Some(holdings) => line.read_within(piece, conn, &mut holdings.quotas),
+        None => line.read(piece),
+    }
 }
 
 impl<P: Port> Rounds<P> {
@@ -59,12 +80,22 @@ impl<P: Port> Rounds<P> {
             lines: HashMap::new(alloc),
             ready: VecDeque::new(alloc),
             more: VecDeque::new(alloc),
+            last: VecDeque::new(alloc),
+            turn: 0,
             blocked: VecDeque::new(alloc),
             again: 0,
             piece: Vec::from_elem(alloc, 0, PIECE)?,
             batch: Vec::with_capacity(alloc, PIECE)?,
             closes: Closes::new(),
+            holdings: None,
         })
+    }
+
+    /// From now on each user holds what is within its limits. What the broker holds of kept sessions is counted for the users of this door.
+    pub fn hold(&mut self, door: &Door, mut holdings: Holdings) -> Result<(), AllocError> {
+        holdings.resume(self.alloc, door, self.server.broker(), self.server.now())?;
+        self.holdings = Some(holdings);
+        Ok(())
     }
 
     /// Room for one more client.
@@ -72,6 +103,7 @@ impl<P: Port> Rounds<P> {
         let count = self.lines.len().saturating_add(1);
         self.ready.reserve(count)?;
         self.more.reserve(count)?;
+        self.last.reserve(count)?;
         self.blocked.reserve(count)?;
         Ok(())
     }
@@ -135,8 +167,9 @@ impl<P: Port> Rounds<P> {
         let Some(line) = self.lines.get_mut(&conn) else {
             return Ok(false);
         };
-        match line.read(self.piece.as_mut_slice()) {
+        match read_once(line, self.piece.as_mut_slice(), conn, &mut self.holdings) {
             Read::Some(count) => {
+                line.heard = self.turn;
                 let again = line.ready;
                 if let Some(bytes) = self.piece.as_slice().get(..count) {
                     self.server.read(conn, bytes, now)?;
@@ -168,6 +201,7 @@ impl<P: Port> Rounds<P> {
     pub(crate) fn read_all(&mut self, now: u64) -> Result<bool, ServerFault> {
         let mut left = false;
         let mut logs_in = false;
+        self.turn = self.turn.wrapping_add(1);
         for _ in 0..self.ready.len() {
             let Some(conn) = self.ready.pop_front() else {
                 break;
@@ -297,11 +331,30 @@ impl<P: Port> Rounds<P> {
         Ok(())
     }
 
-    /// Writes to each client for whom something waits, once all is kept that is to be. Whether more is to be written at once.
+    /// Whether a client was read in this round.
+    fn was_heard(&self, conn: Conn) -> bool {
+        match self.lines.get(&conn) {
+            Some(line) => line.heard == self.turn,
+            None => false,
+        }
+    }
+
+    /// Writes to each client for whom something waits, once all is kept that is to be: to those who were read in this round behind the others, so that a message
+    /// goes out before the acknowledgement of its publisher. Whether more is to be written at once.
     pub fn write_all(&mut self) -> Result<bool, ServerFault> {
         self.write_more()?;
         for _ in 0..u64::MAX {
             let Some(conn) = self.server.next_to_write() else {
+                break;
+            };
+            if self.was_heard(conn) {
+                self.last.push_back(conn)?;
+            } else {
+                self.write(conn)?;
+            }
+        }
+        for _ in 0..self.last.len() {
+            let Some(conn) = self.last.pop_front() else {
                 break;
             };
             self.write(conn)?;
@@ -315,6 +368,10 @@ impl<P: Port> Rounds<P> {
         if let Some(mut line) = self.lines.remove(&conn) {
             if line.port.is_barred() {
                 cause = Cause::Refused;
+            }
+            if let Some(holdings) = &mut self.holdings {
+                line.port
+                    .leave(conn, self.server.now(), &mut holdings.quotas);
             }
             line.port.shut();
         }
@@ -393,6 +450,62 @@ impl<P: Port> Rounds<P> {
             Ok(()) => Ok(()),
             Err(fault) => Err(of_store(fault)),
         }
+    }
+
+    /// Whether what users hold is counted.
+    pub(crate) fn holds(&self) -> bool {
+        self.holdings.is_some()
+    }
+
+    /// A client whose door ends it.
+    pub fn bar(&mut self, conn: Conn) {
+        if let Some(line) = self.lines.get_mut(&conn) {
+            line.port.bar();
+        }
+        self.may_read(conn, true);
+    }
+
+    /// A client of the server's own comes, and all that it says is read. Whether there was room for it.
+    fn serve_own(&mut self, port: P, now: u64) -> Result<bool, ServerFault> {
+        let Some(conn) = self.come(port, now)? else {
+            return Ok(false);
+        };
+        if let Some(line) = self.lines.get_mut(&conn) {
+            line.closing = true;
+        }
+        for _ in 0..u64::MAX {
+            if !self.read(conn, now)? {
+                break;
+            }
+        }
+        Ok(true)
+    }
+
+    /// The kept session that is to end, since its client was away for too long.
+    pub fn expired(&self, now: u64) -> Option<&str> {
+        match &self.holdings {
+            Some(holdings) => holdings.quotas.away(now, holdings.patience),
+            None => None,
+        }
+    }
+
+    /// The session for which the most waits among those of a user for whom more waits than may.
+    pub fn heaviest(&self) -> Option<Heavy> {
+        match &self.holdings {
+            Some(holdings) => holdings
+                .heaviest(self.alloc, self.server.broker())
+                .unwrap_or(None),
+            None => None,
+        }
+    }
+
+    /// Ends the kept session of a client by another one of the server's own, which takes it over. Whether there was room for that one.
+    pub fn end_session(&mut self, client: &str, port: P, now: u64) -> Result<bool, ServerFault> {
+        let is_over = self.serve_own(port, now)?;
+        if is_over && let Some(holdings) = &mut self.holdings {
+            holdings.quotas.forget(client);
+        }
+        Ok(is_over)
     }
 
     /// What is to be done before sockets are waited for, with what is ready, where nothing is kept; those who are done are shut behind it. Whether more is

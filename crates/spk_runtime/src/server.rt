@@ -5,8 +5,10 @@ ghost use Rattle.spk_runtime.specs.Fault.{IsCount, IsServing};
 use crate::client::Client;
 use crate::doors::Doors;
 use crate::fault::{ServeFault, of_store};
+use crate::holdings::Holdings;
 use crate::page::{FIRST, PAGE, Page};
 use crate::rounds::Rounds;
+use crate::sweep::Sweep;
 use mio::net::TcpListener;
 use mio::{Events, Interest, Poll, Token};
 use spk_broker_store::{Disk, Kept, NoDisk, Store};
@@ -60,9 +62,11 @@ fn due<D: Disk>(
     store: &Option<Store<D>>,
     page: &Option<Page>,
     telling: &Telling,
+    sweep: &Sweep,
     now: u64,
 ) -> u64 {
     let mut due = rounds.due().unwrap_or(u64::MAX);
+    due = due.min(sweep.due(rounds).unwrap_or(u64::MAX));
     if let Some(store) = store {
         due = due.min(store.due().unwrap_or(u64::MAX));
     }
@@ -90,13 +94,14 @@ fn pause<D: Disk>(
     store: &Option<Store<D>>,
     page: &Option<Page>,
     telling: &Telling,
+    sweep: &Sweep,
     more: bool,
     now: u64,
 ) -> Option<Duration> {
     if more || doors.may_accept(rounds, now) || is_page_ready(page, now) {
         return Some(Duration::ZERO);
     }
-    let due = due(doors, rounds, store, page, telling, now);
+    let due = due(doors, rounds, store, page, telling, sweep, now);
     if due == u64::MAX {
         return None;
     }
@@ -229,11 +234,12 @@ fn run_all<'a, R: Wait + Clock, D: Disk, L: Write>(
     let first = rounds.server.now();
     let mut now = first;
     let mut more = false;
+    let mut sweep = Sweep::new(alloc);
     for _ in rt.forever() {
         if doors.are_closed() && rounds.server.clients() == 0 {
             break;
         }
-        let timeout = pause(doors, rounds, store, page, telling, more, now);
+        let timeout = pause(doors, rounds, store, page, telling, &sweep, more, now);
         if poll.poll(events, timeout).is_err() {
             return Err(ServeFault::Device);
         }
@@ -241,6 +247,7 @@ fn run_all<'a, R: Wait + Clock, D: Disk, L: Write>(
         note(events, doors, rounds, page)?;
         more = round(poll, doors, rounds, store, now)?;
         shut_all(rounds, telling, log, now);
+        sweep.look(rounds, log, now)?;
         show(alloc, poll, rounds, page, now);
     }
     Ok(())
@@ -323,6 +330,20 @@ fn rounds_of<'a, D: Disk>(
     }
 }
 
+/// What users may hold is looked at from now on, where there are some.
+fn hold(
+    rounds: &mut Rounds<Client<'_>>,
+    door: Option<&Door>,
+    holdings: Option<Holdings>,
+) -> Result<(), ServeFault>
+    ensures { IfErr result (λ e. e ≢ ServeFault.BadPlan) }
+{
+    if let (Some(door), Some(holdings)) = (door, holdings) {
+        rounds.hold(door, holdings)?;
+    }
+    Ok(())
+}
+
 /// What isn't on the disk yet is brought there at the end.
 fn sync_last<D: Disk>(store: &mut Option<Store<D>>) -> Result<(), ServeFault>
     ensures { IfErr result (λ e. e ≢ ServeFault.BadPlan) }
@@ -344,6 +365,7 @@ fn serve_on<R: Wait + Clock + Net, D: Disk, L: Write>(
     mut listener: TcpListener,
     mut page: Option<Page>,
     door: Option<&Door>,
+    holdings: Option<Holdings>,
     clients: Option<u32>,
     kept: Option<Kept<D>>,
     log: &mut L,
@@ -359,6 +381,7 @@ fn serve_on<R: Wait + Clock + Net, D: Disk, L: Write>(
     let mut events = Events::with_capacity(alloc, EVENTS)?;
     let mut doors = Doors::new(alloc, listener, door, clients);
     let (mut store, mut rounds) = rounds_of(alloc, kept)?;
+    hold(&mut rounds, door, holdings)?;
     run(
         rt,
         alloc,
@@ -409,17 +432,30 @@ pub fn serve_at<R: Wait + Clock + Net, W: Write, L: Write>(
     ensures bad_plan { IfErr result (λ e. e ≡ ServeFault.BadPlan
         → ¬ (IsServing serving.now.clients)) }
 {
-    serve_kept(rt, alloc, serving, door, None::<Kept<NoDisk>>, writer, log)
+    serve_kept(
+        rt,
+        alloc,
+        serving,
+        door,
+        None,
+        None::<Kept<NoDisk>>,
+        writer,
+        log,
+    )
 }
 
 /// The same, of a broker that is kept: what comes to it is appended to its journal before anything that came of it is written, and is on the disk at most 10
 /// milliseconds later, or at once where its store is so. At its own end all is on the disk. Refused with Unkept (141) where the disk failed. No contract says
-/// what a disk does.
+/// what a disk does. Where there are holdings, no user of the door comes to hold more than its limits (`spk_quota`) by what is let through: a CONNECT that would
+/// be more is answered with code 3, and any other packet closes its connection. Kept sessions end whose clients were away for too long, and of a user for whose
+/// kept sessions more waits than may the one for which the most does; it is looked for these each ten seconds, and the log tells of each by a line
+/// `ended CLIENT away` or `ended CLIENT full`.
 pub fn serve_kept<R: Wait + Clock + Net, D: Disk, W: Write, L: Write>(
     rt: &R,
     alloc: Global,
     serving: &Serving,
     door: Option<&Door>,
+    holdings: Option<Holdings>,
     kept: Option<Kept<D>>,
     writer: &mut W,
     log: &mut L,
@@ -447,7 +483,9 @@ pub fn serve_kept<R: Wait + Clock + Net, D: Disk, W: Write, L: Write>(
     if writeln!(writer, "listening {port}").is_err() || writer.flush().is_err() {
         return Err(ServeFault::Device);
     }
-    serve_on(rt, alloc, poll, listener, page, door, clients, kept, log)
+    serve_on(
+        rt, alloc, poll, listener, page, door, holdings, clients, kept, log,
+    )
 }
 
 /// `serve_at` 127.0.0.1 for so many clients, 1 to 1,000, without a status page and a log.

@@ -3,7 +3,7 @@
 
 use spk_broker_store::{Disk, Kept};
 use spk_door::Door;
-use spk_runtime::{ServeFault, Serving, serve_kept};
+use spk_runtime::{Holdings, ServeFault, Serving, serve_kept};
 use std::io;
 use std::io::Write;
 use std::net::{IpAddr, Net};
@@ -28,7 +28,7 @@ pub fn said<W: Write>(out: &mut W, answer: Result<u32, ServeFault>) -> io::Resul
 }
 
 /// Serves clients at this address and port, so many or for ever, with a status page at the other port, where there is one, and behind a door,
-/// where there is one, with what a store kept, where there is one, and answers the status. All texts go to the writer, but for the lines of closes,
+/// where there is one, which bounds what users hold, where that is said, with what a store kept, where there is one, and answers the status. All texts go to the writer, but for the lines of closes,
 /// which go to the log.
 pub fn serve_clients<R: AllocGlobal + Wait + Clock + Net, D: Disk, W: Write, L: Write>(
     rt: &R,
@@ -37,6 +37,7 @@ pub fn serve_clients<R: AllocGlobal + Wait + Clock + Net, D: Disk, W: Write, L: 
     clients: Option<u16>,
     status: Option<u16>,
     door: Option<&Door>,
+    holdings: Option<Holdings>,
     store: Option<Kept<D>>,
     out: &mut W,
     log: &mut L,
@@ -47,6 +48,6 @@ pub fn serve_clients<R: AllocGlobal + Wait + Clock + Net, D: Disk, W: Write, L: 
         clients: clients.map(usize::from),
         status,
     };
-    let answer = serve_kept(rt, rt.alloc(), &serving, door, store, out, log);
+    let answer = serve_kept(rt, rt.alloc(), &serving, door, holdings, store, out, log);
     said(out, answer).unwrap_or(1)
 }

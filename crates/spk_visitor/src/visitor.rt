@@ -15,7 +15,7 @@ ghost use Rattle.spk_visitor.specs.Next.{Comes, IsBehind, IsFed, IsNext, IsTooMu
 ghost use Rattle.spk_visitor.specs.Rules.{client_of, cut_off, entered, first, further, is_bounded, login_of, subscribe_of};
 ghost use Rattle.spk_visitor.specs.declared.answer.Answer.TheVariants as Answer;
 ghost use Rattle.spk_visitor.specs.declared.visitor.Stage.TheVariants as Stage;
-ghost use Rattle.spk_visitor.specs.View.{answer_view, stage_view, unread_of};
+ghost use Rattle.spk_visitor.specs.View.{answer_view, stage_view, unread_of, user_place};
 
 use crate::answer::Answer;
 use spk_access::Rights;
@@ -346,6 +346,16 @@ impl Visitor {
                 None => false,
             },
             Stage::Outside(_) | Stage::Over => false,
+        }
+    }
+
+    /// The user as which it came in, by its number in the door's list; none of a client without a user, or of one that isn't in.
+    pub fn user(&self) -> Option<usize>
+        ensures { result ≡ user_place self.now.stage }
+    {
+        match &self.stage {
+            Stage::Inside(Who::User(place), _) => Some(*place),
+            Stage::Inside(Who::Client(_), _) | Stage::Outside(_) | Stage::Over => None,
         }
     }
 

@@ -1,0 +1,9 @@
+mod Lists
+mod Settling
+mod Bounds
+mod Figures
+mod Weights
+mod Others
+mod Growing
+mod Rows
+mod Naming

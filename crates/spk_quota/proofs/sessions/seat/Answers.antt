@@ -1,0 +1,13 @@
+use Rattle.std.proofs.Common.{◌∙◌, ap, set, sym}
+use Rattle.std.proofs.lemmas.List.Edits.{map_over_more}
+use Rattle.spk_quota.specs.Data.{SessionData}
+use Rattle.spk_quota.specs.Step.{with_conn}
+use Rattle.spk_quota.proofs.sessions.seat.Goals as goal
+
+pub loop-session-preserved : goal.loop-session-preserved
+loop-session-preserved c =
+    let at = set c.loop-session.sessions c.loop-session.session-index in
+    ap at c.seat.ensures
+    ∙ ap (λ (s : SessionData). at (with_conn c.args.user c.args.client.now c.args.conn s)) (sym c.session-item.is)
+    ∙ map_over_more (with_conn c.args.user c.args.client.now c.args.conn) c.args.sessions.now c.loop-session.sessions c.loop-session.session-index c.session-item.result
+    c.loop-session-test.true c.loop-session.invariant c.session-item.is
