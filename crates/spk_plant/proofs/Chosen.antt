@@ -35,7 +35,7 @@ use Rattle.spk_host_body.specs.declared.ends.HostStart.{HostStart}
 use Rattle.spk_host_body.specs.declared.ends.HostEnd.{HostEnd}
 use Rattle.spk_host_body.specs.declared.ends.HostFailed.{HostFailed}
 use Rattle.spk_plant.specs.Choice.{AreJoined, HasFramesLeft, IsChosen, IsFault, IsFirst, IsLeft, IsMissing, IsOfEdges, IsThreads, IsUnsettled, fault_of_all, fault_of_edges, passes_of}
-use Rattle.spk_plant.specs.Done.{AllDone, AreApart, AreDone, AreTied, IsEdgeDone}
+use Rattle.spk_plant.specs.Done.{AllDone, AreApart, AreDone, AreTied, IsEdgeDone, lists_of}
 use Rattle.spk_plant.specs.Start.{AreParts, HasAt}
 use Rattle.spk_plant.specs.declared.choice.Ends.{Ends}
 use Rattle.spk_plant.specs.declared.report.NodeReport.{NodeReport}
@@ -181,7 +181,7 @@ has_at (q ∷ ps) zero j p at is =
 has_at (q ∷ ps) (suc k) j p at is = or_right (eqb q.sender j) (has_sender j ps) (has_at ps k j p at is)
 
 -- all senders are there
-all_there : (n : Ingress) (ends : Ends) (ts : List (Option Token)) (rs : List NodeReport) (ps qs : List PutPass) → AreTied n ends → AreApart ends.edges.items ts rs ps
+all_there : (n : Ingress) (ends : Ends) (ts : List (Option Token)) (rs : List NodeReport) (ps qs : List PutPass) → AreTied n ends → AreApart (lists_of ends) ends.edges.items ts rs ps
     → qs ≡ ps ++ ends.host.pass ∷ [] → (i : ℕ) → i < n.senders → has_sender i qs ≡ true
 all_there n ends ts rs ps qs tied apart is i below =
     let more : length qs ≡ length ps + 1 = ap length is ∙ length-append ps (ends.host.pass ∷ []) in
@@ -197,7 +197,7 @@ all_there n ends ts rs ps qs tied apart is i below =
     ])
 
 -- a settling that is refused: frames are left
-pub frames_left : (n : Ingress) (ends : Ends) (ts : List (Option Token)) (rs : List NodeReport) (ps qs : List PutPass) → AreTied n ends → AreApart ends.edges.items ts rs ps
+pub frames_left : (n : Ingress) (ends : Ends) (ts : List (Option Token)) (rs : List NodeReport) (ps qs : List PutPass) → AreTied n ends → AreApart (lists_of ends) ends.edges.items ts rs ps
     → qs ≡ ps ++ ends.host.pass ∷ [] → (IsSettled n ends.broker.pass qs → ⊥) → HasFramesLeft ends
 frames_left n ends ts rs ps qs tied apart is not all =
     let own : qs ≡ passes_of ends = is ∙ ap (λ xs. xs ++ ends.host.pass ∷ []) apart.all in

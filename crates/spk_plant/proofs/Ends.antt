@@ -2,6 +2,10 @@
 use Rattle.std.proofs.Common.{◌≡◌, ◌∙◌, inl, inr, ℕ, zero, suc, ◌+◌, List, [], ◌∷◌, ◌++◌, length, map, Option, Some, None, IfSome, option_to_list, refl, sym, ap, subst, arith, length-append, append-nil}
 use Rattle.std.proofs.lemmas.List.{map-append}
 use Rattle.std.specs.List.{slice_get}
+use Rattle.spk_edge_rules.specs.Config.{Config}
+use Rattle.spk_given.specs.Handed.{IsOfNode}
+use Rattle.spk_given.specs.declared.handed.Handed.{Handed}
+use Rattle.spk_host_body.specs.declared.ends.Given.{Given}
 use Rattle.spk_ingress.specs.Lanes.{share_of}
 use Rattle.spk_ingress.specs.Passes.{AllPutInto, AllTaken, PutsInto, frames_put, frames_taken}
 use Rattle.spk_ingress.specs.declared.channel.Ingress.{Ingress}
@@ -12,7 +16,7 @@ use Rattle.spk_rings.specs.declared.item.Item.{Item}
 use Rattle.spk_rings.specs.declared.token.Token.{Token}
 use Rattle.spk_edge_body.specs.declared.edge.EdgeStart.{EdgeStart}
 use Rattle.spk_edge_body.specs.declared.edge.EdgeEnd.{EdgeEnd}
-use Rattle.spk_plant.specs.Done.{AllInto, AreApart, AreDone, AreReady, AreTheirs, IsAllOf, IsEdgeDone, IsFrontOf, IsReportOf, IsTied}
+use Rattle.spk_plant.specs.Done.{AllInto, AreApart, AreDone, AreReady, AreTheirs, IsAllOf, IsEdgeDone, IsFrontOf, IsReportOf, IsTied, Lists, lists_of}
 use Rattle.spk_plant.specs.Start.{HasAt}
 use Rattle.spk_plant.specs.declared.report.NodeReport.{NodeReport}
 use Rattle.spk_plant.specs.declared.report.Report.{Report}
@@ -66,6 +70,19 @@ done_push n ss ts es fs s e all one starts ends =
 
 -- ---- taken apart
 
+-- by the same lists
+pub by_lists : (group name : List ℕ) (k : ℕ) (t taken : List Message) (a accepted : List ℕ) (g given : List Given) (hs : List Handed) (ps : List ℕ) → t ≡ taken → a ≡ accepted → g ≡ given
+    → IsOfNode group name k t a g hs ps → IsOfNode group name k taken accepted given hs ps
+by_lists group name k t taken a accepted g given hs ps one two three is =
+    subst (λ x. IsOfNode group name k x accepted given hs ps) one
+    (subst (λ x. IsOfNode group name k t x given hs ps) two (subst (λ x. IsOfNode group name k t a x hs ps) three is))
+
+-- by the names that the node's config has
+pub by_names : (group name : List ℕ) (c : Config) (k : ℕ) (taken : List Message) (accepted : List ℕ) (given : List Given) (hs : List Handed) (ps : List ℕ) → group ≡ c.group → name ≡ c.node
+    → IsOfNode group name k taken accepted given hs ps → IsOfNode c.group c.node k taken accepted given hs ps
+by_names group name c k taken accepted given hs ps one other is =
+    subst (λ g. IsOfNode g c.node k taken accepted given hs ps) one (subst (λ n. IsOfNode group n k taken accepted given hs ps) other is)
+
 pub theirs_less : (es : List EdgeEnd) (ts us : List (Option Token)) (t : Option Token) → us ≡ ts ++ t ∷ [] → AreTheirs es us → AreTheirs es ts
 theirs_less es ts us t tokens all k x token there got =
     all k x token there (subst (λ xs. slice_get xs k ≡ Some (Some token)) (sym tokens) (get_more ts (t ∷ []) k (Some token) got))
@@ -86,10 +103,10 @@ token_at us ts t k is sized =
     let place : length ts ≡ k = omega arith in
     subst (λ xs. slice_get xs k ≡ Some (Some t)) (sym is) (subst (λ j. slice_get (ts ++ Some t ∷ []) j ≡ Some (Some t)) place (get_last ts (Some t)))
 
-apart_snoc : (es : List EdgeEnd) (ts : List (Option Token)) (rs : List NodeReport) (ps : List PutPass) (e : EdgeEnd) (t : Option Token) (r : NodeReport) (p : PutPass)
-    → length ts ≡ length es → e.pass ≡ p → IsReportOf e r → IsFrontOf e t → AreApart es ts rs ps
-    → AreApart (es ++ e ∷ []) (ts ++ t ∷ []) (rs ++ r ∷ []) (ps ++ p ∷ [])
-apart_snoc es ts rs ps e t r p tokens own report front all =
+apart_snoc : (ls : Lists) (es : List EdgeEnd) (ts : List (Option Token)) (rs : List NodeReport) (ps : List PutPass) (e : EdgeEnd) (t : Option Token) (r : NodeReport) (p : PutPass)
+    → length ts ≡ length es → e.pass ≡ p → IsReportOf ls (length es) e r → IsFrontOf e t → AreApart ls es ts rs ps
+    → AreApart ls (es ++ e ∷ []) (ts ++ t ∷ []) (rs ++ r ∷ []) (ps ++ p ∷ [])
+apart_snoc ls es ts rs ps e t r p tokens own report front all =
     let whole : length (es ++ e ∷ []) ≡ length es + 1 = length-append es (e ∷ []) in
     let reports : length (rs ++ r ∷ []) ≡ length rs + 1 = length-append rs (r ∷ []) in
     let passes : length (ps ++ p ∷ []) ≡ length ps + 1 = length-append ps (p ∷ []) in
@@ -97,10 +114,11 @@ apart_snoc es ts rs ps e t r p tokens own report front all =
       sized = reports ∙ (ap (λ m. m + 1) all.sized ∙ sym whole);
       same = passes ∙ (ap (λ m. m + 1) all.same ∙ sym whole);
       reports = λ k x at. elim (get_parts rs r k x at) [
-        | inl before ↦ has_more (λ y. IsReportOf y x) es e k (all.reports k x before)
+        | inl before ↦ has_more (λ y. IsReportOf ls k y x) es e k (all.reports k x before)
         | inr last ↦
             let place : length es ≡ k = sym all.sized ∙ sym last.0 in
-            subst (λ j. HasAt EdgeEnd (λ y. IsReportOf y x) (es ++ e ∷ []) j) place (has_last (λ y. IsReportOf y x) es e (subst (λ y. IsReportOf e y) (sym last.1) report))
+            subst (λ j. HasAt EdgeEnd (λ y. IsReportOf ls j y x) (es ++ e ∷ []) j) place
+            (has_last (λ y. IsReportOf ls (length es) y x) es e (subst (λ y. IsReportOf ls (length es) e y) (sym last.1) report))
       ];
       passes = λ k x at. elim (get_parts es e k x at) [
         | inl before ↦ get_more ps (p ∷ []) k x.pass (all.passes k x before)
@@ -124,17 +142,17 @@ apart_snoc es ts rs ps e t r p tokens own report front all =
       all = ap (λ xs. xs ++ p ∷ []) all.all ∙ (ap (λ x. map (λ (y : EdgeEnd). y.pass) es ++ x ∷ []) (sym own) ∙ sym (map-append (λ (y : EdgeEnd). y.pass) es (e ∷ [])));
     }
 
-pub apart_push : (es fs : List EdgeEnd) (ts us : List (Option Token)) (rs qs : List NodeReport) (ps ws : List PutPass) (e : EdgeEnd) (t : Option Token) (r : NodeReport) (p : PutPass)
+pub apart_push : (ls : Lists) (es fs : List EdgeEnd) (ts us : List (Option Token)) (rs qs : List NodeReport) (ps ws : List PutPass) (e : EdgeEnd) (t : Option Token) (r : NodeReport) (p : PutPass)
     → fs ≡ es ++ e ∷ [] → us ≡ ts ++ t ∷ [] → qs ≡ rs ++ r ∷ [] → ws ≡ ps ++ p ∷ [] → length us ≡ length fs
-    → e.pass ≡ p → IsReportOf e r → IsFrontOf e t → AreApart es ts rs ps → AreApart fs us qs ws
-apart_push es fs ts us rs qs ps ws e t r p ends tokens reports passes sized own report front all =
+    → e.pass ≡ p → IsReportOf ls (length es) e r → IsFrontOf e t → AreApart ls es ts rs ps → AreApart ls fs us qs ws
+apart_push ls es fs ts us rs qs ps ws e t r p ends tokens reports passes sized own report front all =
     let longer : length fs ≡ length es + 1 = ap length ends ∙ length-append es (e ∷ []) in
     let more : length us ≡ length ts + 1 = ap length tokens ∙ length-append ts (t ∷ []) in
-    let snoc : AreApart (es ++ e ∷ []) (ts ++ t ∷ []) (rs ++ r ∷ []) (ps ++ p ∷ []) = apart_snoc es ts rs ps e t r p (omega arith) own report front all in
-    subst (λ xs. AreApart xs us qs ws) (sym ends)
-    (subst (λ xs. AreApart (es ++ e ∷ []) xs qs ws) (sym tokens)
-    (subst (λ xs. AreApart (es ++ e ∷ []) (ts ++ t ∷ []) xs ws) (sym reports)
-    (subst (λ xs. AreApart (es ++ e ∷ []) (ts ++ t ∷ []) (rs ++ r ∷ []) xs) (sym passes) snoc)))
+    let snoc : AreApart ls (es ++ e ∷ []) (ts ++ t ∷ []) (rs ++ r ∷ []) (ps ++ p ∷ []) = apart_snoc ls es ts rs ps e t r p (omega arith) own report front all in
+    subst (λ xs. AreApart ls xs us qs ws) (sym ends)
+    (subst (λ xs. AreApart ls (es ++ e ∷ []) xs qs ws) (sym tokens)
+    (subst (λ xs. AreApart ls (es ++ e ∷ []) (ts ++ t ∷ []) xs ws) (sym reports)
+    (subst (λ xs. AreApart ls (es ++ e ∷ []) (ts ++ t ∷ []) (rs ++ r ∷ []) xs) (sym passes) snoc)))
 
 -- what the count on a ring says: what was taken out is a front of what it got
 pub front_is : (n : ℕ) (e : EdgeEnd) (t : Token) (xs ys : List Item) → IsShorterBy n xs ys → xs ≡ popped e.inlet → ys ≡ all_offered t → IsFrontOf e (Some t)
@@ -165,9 +183,9 @@ into_snoc n [] p all one = (one, tt)
 into_snoc n (q ∷ ps) p all one = (all.0, into_snoc n ps p all.1 one)
 
 -- the passes of the edges' ends, and the host's
-pub passes_into : (n : Ingress) (es : List EdgeEnd) (ts : List (Option Token)) (rs : List NodeReport) (ps qs : List PutPass) (p : PutPass)
-    → AllInto n es → AreApart es ts rs ps → PutsInto n p → qs ≡ ps ++ p ∷ [] → AllPutInto n qs
-passes_into n es ts rs ps qs p into apart one is =
+pub passes_into : (n : Ingress) (ls : Lists) (es : List EdgeEnd) (ts : List (Option Token)) (rs : List NodeReport) (ps qs : List PutPass) (p : PutPass)
+    → AllInto n es → AreApart ls es ts rs ps → PutsInto n p → qs ≡ ps ++ p ∷ [] → AllPutInto n qs
+passes_into n ls es ts rs ps qs p into apart one is =
     let owned : (k : ℕ) (q : PutPass) → slice_get ps k ≡ Some q → PutsInto n q =
     (λ k q at. subst (λ x. PutsInto n x) (apart.owners k q at).holds (into k (apart.owners k q at).element (apart.owners k q at).there)) in
     subst (λ xs. AllPutInto n xs) (sym is) (into_snoc n ps p (all_into n ps owned) one)
@@ -187,7 +205,7 @@ pub tied_is : (ends : Ends) (r : Report) (ts : List (Option Token)) (t : Token) 
     → r.taken ≡ ends.broker.taken → r.refusals ≡ ends.broker.refusals → r.refused ≡ ends.broker.refused → r.accepted ≡ ends.broker.accepted
     → r.is_cut ≡ ends.broker.is_cut → r.given ≡ ends.host.given
     → length ends.broker.tokens.items ≡ length ends.edges.items + 1 → ends.broker.tokens.items ≡ ts ++ Some t ∷ []
-    → popped ends.host.inlet ≡ all_offered t → AreApart ends.edges.items ts r.nodes.items ps
+    → popped ends.host.inlet ≡ all_offered t → AreApart (lists_of ends) ends.edges.items ts r.nodes.items ps
     → qs ≡ ps ++ ends.host.pass ∷ [] → AllTaken (frames_taken ends.broker.pass) qs → IsTied ends r
 tied_is ends r ts t ps qs taken refusals refused accepted is_cut given sized split all apart passes puts =
     let more : length ends.broker.tokens.items ≡ length ts + 1 = ap length split ∙ length-append ts (Some t ∷ []) in

@@ -14,7 +14,8 @@ use Rattle.spk_rings.specs.declared.outlet.Outlet.{Outlet}
 use Rattle.spk_rings.specs.declared.token.Token.{Token}
 use Rattle.spk_plan.specs.declared.plan.Plan.{Plan}
 use Rattle.spk_plan.specs.declared.plan.PlanNode.{PlanNode}
-use Rattle.spk_edge_rules.specs.Config.{Setup}
+use Rattle.spk_edge_rules.specs.Config.{Config, Setup}
+use Rattle.spk_given.specs.Handed.{IsOfNode}
 use Rattle.spk_edge.specs.View.{message_view}
 use Rattle.spk_ingress.specs.declared.frame.Frame.TheVariants.{End}
 use Rattle.spk_edge_body.specs.Frames.{frames_of}
@@ -28,7 +29,7 @@ use Rattle.spk_broker_body.specs.Done.{AreTokens, BrokerDone, IsTokenAt}
 use Rattle.spk_broker_body.specs.Log.{AtRefusals, HasFilled, got_of, taken_of}
 use Rattle.spk_broker_body.specs.declared.part.BrokerStart.{BrokerStart}
 use Rattle.spk_host_body.specs.declared.ends.HostStart.{HostStart}
-use Rattle.spk_plant.specs.Done.{AllDone, AreReady, AreTheirs, AreTied, IsEdgeDone, IsFront, IsReportOf, IsTied}
+use Rattle.spk_plant.specs.Done.{AllDone, AreReady, AreTheirs, AreTied, IsEdgeDone, IsFront, IsReportOf, IsTied, Lists, lists, lists_of}
 use Rattle.spk_plan_rules.specs.Plan.{host_in, setup_in}
 use Rattle.std.specs.String.{string_bytes}
 use Rattle.spk_host.specs.Data.{HostData}
@@ -36,7 +37,7 @@ use Rattle.spk_ingress.specs.declared.frame.Frame.TheVariants as frame
 use Rattle.spk_host_body.specs.Calls.{packets_of}
 use Rattle.spk_host_body.specs.Ends.{config_of}
 use Rattle.spk_host_body.specs.Told.{AreToldBy, calls_of, heard_in, told_in}
-use Rattle.spk_plant.specs.Report.{IsHost, IsLogged, IsNode, IsNodeAt, RunsAs}
+use Rattle.spk_plant.specs.Report.{IsHandedAt, IsHost, IsLogged, IsNode, IsNodeAt, RunsAs}
 use Rattle.spk_plant.specs.Start.{AreParts, HasAt, IsPass, IsRing, IsStart}
 use Rattle.spk_plant.specs.declared.report.NodeReport.{NodeReport}
 use Rattle.spk_plant.specs.declared.report.Report.{Report}
@@ -50,11 +51,11 @@ token_gives os got ts k t token h at is =
     found.2.1
 
 -- one edge's share, report and ring
-pub node_is : (s : Setup) (n : Ingress) (start : EdgeStart) (end : EdgeEnd) (k : ℕ) (log : List Entry) (t : Option Token) (x : NodeReport)
+pub node_is : (ls : Lists) (s : Setup) (n : Ingress) (start : EdgeStart) (end : EdgeEnd) (k : ℕ) (log : List Entry) (t : Option Token) (x : NodeReport)
     → EdgeDone s start end → frames_put start.pass ≡ [] → popped start.inlet ≡ []
-    → share_of k (taken_of log) ≡ frames_put end.pass → IsFront (popped end.inlet) (got_of k log) → IsReportOf end x
+    → share_of k (taken_of log) ≡ frames_put end.pass → IsFront (popped end.inlet) (got_of k log) → IsReportOf ls k end x
     → IsNode s start.script.items (share_of k (taken_of log)) (got_of k log) x
-node_is s n start end k log t x d fresh none share front of = record {
+node_is ls s n start end k log t x d fresh none share front of = record {
   log = d.log;
   lawful = d.lawful;
   script = d.script;
@@ -90,7 +91,7 @@ pub node_at : (p : Plan) (n : Ingress) (ss : List EdgeStart) (b : BrokerStart) (
     → (k : ℕ) (x : NodeReport) → slice_get r.nodes.items k ≡ Some x → IsNodeAt p d.broker.log k x
 node_at p n ss b h ends r parts d tied k x at =
     let log = d.broker.log in
-    let ended : HasAt EdgeEnd (λ e. IsReportOf e x) ends.edges.items k = tied.nodes k x at in
+    let ended : HasAt EdgeEnd (λ e. IsReportOf (lists_of ends) k e x) ends.edges.items k = tied.nodes k x at in
     let begun : HasAt EdgeStart (λ s. IsEdgeDone n s ended.element) ss k = d.edges.each k ended.element ended.there in
     let start = begun.element in
     let node : HasAt PlanNode (λ m. IsStart (string_bytes p.group) (string_bytes p.host) m start) p.nodes.items k = parts.edges k start begun.there in
@@ -102,13 +103,41 @@ node_at p n ss b h ends r parts d tied k x at =
     let sender : ended.element.pass.sender ≡ k = begun.holds.sender ∙ pass.sender in
     let share : share_of k (taken_of log) ≡ frames_put ended.element.pass =
     sym (ap (λ j. share_of j (taken_of log)) sender) ∙ (sym (ap (λ ms. share_of ended.element.pass.sender ms) d.broker.frames) ∙ tied.shares k ended.element ended.there) in
-    let is = node_is (setup_in p node.element) n start ended.element k log front.element x
+    let is = node_is (lists_of ends) (setup_in p node.element) n start ended.element k log front.element x
     (begun.holds.done (setup_in p node.element) node.holds.node) pass.fresh ring.holds.popped share
     (subst (λ items. IsFront (popped ended.element.inlet) items) got front.holds.front) ended.holds in
     record {
       element = node.element;
       there = node.there;
       holds = subst (λ steps. IsNode (setup_in p node.element) steps (share_of k (taken_of log)) (got_of k log) x) (ap (λ v. v.items) node.holds.script) is;
+    }
+
+-- by which lists
+same_lists : (ends : Ends) (r : Report) → IsTied ends r → lists_of ends ≡ lists r.taken.items r.accepted.items r.given.items
+same_lists ends r tied =
+    ap (λ v. lists v.items ends.broker.accepted.items ends.host.given.items) (sym tied.taken)
+    ∙ (ap (λ v. lists r.taken.items v.items ends.host.given.items) (sym tied.accepted)
+    ∙ ap (λ v. lists r.taken.items r.accepted.items v.items) (sym tied.given))
+
+of_config : (a b : Config) (k : ℕ) (ls : Lists) (x : NodeReport) → a ≡ b → IsOfNode a.group a.node k ls.taken ls.accepted ls.given x.given.items x.consumed.items
+    → IsOfNode b.group b.node k ls.taken ls.accepted ls.given x.given.items x.consumed.items
+of_config a b k ls x same is = subst (λ c. IsOfNode c.group c.node k ls.taken ls.accepted ls.given x.given.items x.consumed.items) same is
+
+-- what the host was handed of the node of one place
+pub handed_at : (p : Plan) (n : Ingress) (ss : List EdgeStart) (b : BrokerStart) (h : HostStart) (ends : Ends) (r : Report)
+    → AreParts p n ss b h → (d : AllDone n ss b h ends) → IsTied ends r
+    → (k : ℕ) (x : NodeReport) → slice_get r.nodes.items k ≡ Some x → IsHandedAt p r k x
+handed_at p n ss b h ends r parts d tied k x at =
+    let ended : HasAt EdgeEnd (λ e. IsReportOf (lists_of ends) k e x) ends.edges.items k = tied.nodes k x at in
+    let begun : HasAt EdgeStart (λ s. IsEdgeDone n s ended.element) ss k = d.edges.each k ended.element ended.there in
+    let start = begun.element in
+    let node : HasAt PlanNode (λ m. IsStart (string_bytes p.group) (string_bytes p.host) m start) p.nodes.items k = parts.edges k start begun.there in
+    let done : EdgeDone (setup_in p node.element) start ended.element = begun.holds.done (setup_in p node.element) node.holds.node in
+    record {
+      element = node.element;
+      there = node.there;
+      holds = subst (λ ls. IsOfNode (string_bytes p.group) (string_bytes node.element.node) k ls.taken ls.accepted ls.given x.given.items x.consumed.items) (same_lists ends r tied)
+          (of_config ended.element.node.config (setup_in p node.element).config k (lists_of ends) x (ap (λ v. v.config) done.node) ended.holds.handed);
     }
 
 -- the host
@@ -154,6 +183,7 @@ runs p n ss b h ends r parts d tied = record {
   room = has_room p.ring b.outlets.items d.broker.log parts.room d.broker.full;
   sized = tied.sized ∙ (d.edges.sized ∙ parts.sized);
   nodes = node_at p n ss b h ends r parts d tied;
+  handed = handed_at p n ss b h ends r parts d tied;
   host = host_is p n ss b h ends r parts d tied;
 }
 

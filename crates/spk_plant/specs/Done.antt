@@ -15,6 +15,9 @@ use Rattle.spk_edge_body.specs.declared.edge.EdgeStart.{EdgeStart}
 use Rattle.spk_edge_body.specs.declared.edge.EdgeEnd.{EdgeEnd}
 use Rattle.spk_broker_body.specs.Done.{BrokerDone}
 use Rattle.spk_host_body.specs.Ends.{HostDone}
+use Rattle.spk_host_body.specs.declared.ends.Given.{Given}
+use Rattle.spk_given.specs.Handed.{IsOfNode}
+use Rattle.spk_ingress.specs.declared.rule.Message.{Message}
 use Rattle.spk_plant.specs.Start.{HasAt}
 use Rattle.spk_plant.specs.declared.report.NodeReport.{NodeReport}
 use Rattle.spk_plant.specs.declared.report.Report.{Report}
@@ -75,16 +78,29 @@ pub record IsFrontOf (e : EdgeEnd) (t : Option Token) : Type 0 where
   pub there : t ≡ Some token
   pub front : IsFront (popped e.inlet) (all_offered token)
 
--- the report of an edge's end
-pub record IsReportOf (e : EdgeEnd) (r : NodeReport) : Type 0 where
+-- what tells what the host was handed of each edge node: the frames taken, how many of them before each item of the host's ring, the items
+pub record Lists : Type 0 where
+  pub taken : List Message
+  pub accepted : List ℕ
+  pub given : List Given
+
+abbrev pub lists : List Message → List ℕ → List Given → Lists
+lists taken accepted given = record { taken = taken; accepted = accepted; given = given }
+
+abbrev pub lists_of : Ends → Lists
+lists_of ends = lists ends.broker.taken.items ends.broker.accepted.items ends.host.given.items
+
+-- the report of the end of an edge, the sender at place k
+pub record IsReportOf (ls : Lists) (k : ℕ) (e : EdgeEnd) (r : NodeReport) : Type 0 where
   pub inputs : r.inputs ≡ e.inputs
   pub published : r.published ≡ e.published
+  pub handed : IsOfNode e.node.config.group e.node.config.node k ls.taken ls.accepted ls.given r.given.items r.consumed.items
 
 -- edges' ends, taken apart
-pub record AreApart (es : List EdgeEnd) (ts : List (Option Token)) (rs : List NodeReport) (ps : List PutPass) : Type 0 where
+pub record AreApart (ls : Lists) (es : List EdgeEnd) (ts : List (Option Token)) (rs : List NodeReport) (ps : List PutPass) : Type 0 where
   pub sized : length rs ≡ length es
   pub same : length ps ≡ length es
-  pub reports : (k : ℕ) (r : NodeReport) → slice_get rs k ≡ Some r → HasAt EdgeEnd (λ e. IsReportOf e r) es k
+  pub reports : (k : ℕ) (r : NodeReport) → slice_get rs k ≡ Some r → HasAt EdgeEnd (λ e. IsReportOf ls k e r) es k
   pub passes : (k : ℕ) (e : EdgeEnd) → slice_get es k ≡ Some e → slice_get ps k ≡ Some e.pass
   pub owners : (k : ℕ) (p : PutPass) → slice_get ps k ≡ Some p → HasAt EdgeEnd (λ e. e.pass ≡ p) es k
   pub fronts : (k : ℕ) (e : EdgeEnd) → slice_get es k ≡ Some e → HasAt (Option Token) (IsFrontOf e) ts k
@@ -105,7 +121,7 @@ pub record IsTied (ends : Ends) (r : Report) : Type 0 where
   pub is_cut : r.is_cut ≡ ends.broker.is_cut
   pub given : r.given ≡ ends.host.given
   pub sized : length r.nodes.items ≡ length ends.edges.items
-  pub nodes : (k : ℕ) (x : NodeReport) → slice_get r.nodes.items k ≡ Some x → HasAt EdgeEnd (λ e. IsReportOf e x) ends.edges.items k
+  pub nodes : (k : ℕ) (x : NodeReport) → slice_get r.nodes.items k ≡ Some x → HasAt EdgeEnd (λ e. IsReportOf (lists_of ends) k e x) ends.edges.items k
   pub fronts : (k : ℕ) (e : EdgeEnd) → slice_get ends.edges.items k ≡ Some e → HasAt (Option Token) (IsFrontOf e) ends.broker.tokens.items k
   pub all : HasAt (Option Token) (IsAllOf ends.host.inlet) ends.broker.tokens.items (length ends.edges.items)
   pub shares : (k : ℕ) (e : EdgeEnd) → slice_get ends.edges.items k ≡ Some e

@@ -28,6 +28,8 @@ use Rattle.spk_host_body.specs.Told.{AreToldBy, calls_of, consumed_by, consumpti
 use Rattle.spk_host_body.specs.declared.ends.Given.{Given}
 use Rattle.spk_plant.specs.Done.{IsFront}
 use Rattle.spk_plan_rules.specs.Plan.{host_in, setup_in}
+use Rattle.spk_given.specs.Handed.{IsOfNode}
+use Rattle.std.specs.String.{string_bytes}
 use Rattle.spk_plant.specs.Start.{HasAt}
 use Rattle.spk_plant.specs.declared.report.NodeReport.{NodeReport}
 use Rattle.spk_plant.specs.declared.report.Report.{Report}
@@ -78,6 +80,15 @@ pub record IsHost (c : Config) (taken : List Frame) (got : List Item) (given : L
   pub frames : taken ≡ map frame.Packet (packets_of c (calls_of c (told_in given))) ++ frame.End ∷ []
   pub consumed : consumed_by given ≡ consumptions c (told_in given)
 
+-- ---- what the host was handed of a node
+
+-- What the report has of the node of a place, `given` and `consumed`, is what its own lists say: of the positions, the sessions and the
+-- moments of what the host was handed, and of the positions consumed.
+abbrev pub IsHandedAt : Plan → Report → ℕ → NodeReport → Type 0
+IsHandedAt p r k x =
+    HasAt PlanNode (λ n. IsOfNode (string_bytes p.group) (string_bytes n.node) k
+    r.taken.items r.accepted.items r.given.items x.given.items x.consumed.items) p.nodes.items k
+
 -- ---- the plant
 
 -- a ring refuses nothing before it got as many items as it has room for by the plan
@@ -90,4 +101,5 @@ pub record RunsAs (p : Plan) (r : Report) : Type 0 where
   pub room : HasRoom p log
   pub sized : length r.nodes.items ≡ length p.nodes.items
   pub nodes : (k : ℕ) (x : NodeReport) → slice_get r.nodes.items k ≡ Some x → IsNodeAt p log k x
+  pub handed : (k : ℕ) (x : NodeReport) → slice_get r.nodes.items k ≡ Some x → IsHandedAt p r k x
   pub host : IsHost (host_in p) (share_of (length p.nodes.items) (taken_of log)) (got_of (length p.nodes.items) log) r.given.items

@@ -11,3 +11,4 @@ mod tie;
 
 pub use plant::run_plant;
 pub use report::{NodeReport, Report};
+pub use spk_given::Handed;

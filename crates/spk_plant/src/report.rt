@@ -2,6 +2,7 @@
 use spk_broker_body::Refusal;
 use spk_edge::Published;
 use spk_edge_body::Told;
+use spk_given::Handed;
 use spk_host_body::Given;
 use spk_ingress::Message;
 
@@ -12,6 +13,12 @@ pub struct NodeReport {
     pub inputs: Vec<Told>,
     /// What it published, oldest first.
     pub published: Vec<Published>,
+    /// What the host was handed of it, oldest first: the message of which position, or the death of which session, and the moment, which
+    /// is how many items the host's ring had brought by then. What was said stands in the report's `given`, at the place before the moment.
+    /// Behind each item a moment passed.
+    pub given: Vec<Handed>,
+    /// The positions that the host consumed of it, oldest first. Topics and payloads stand in the report's `given`, in the same order.
+    pub consumed: Vec<usize>,
 }
 
 /// What a plant did, from its start to its end.

@@ -29,7 +29,7 @@ pub record Laws : Type 0 where
 
 -- ---- the first items
 
-told-parts : (first rest : List Given) → told_in (first ++ rest) ≡ told_in rest ++ told_in first
+pub told-parts : (first rest : List Given) → told_in (first ++ rest) ≡ told_in rest ++ told_in first
 told-parts first rest = ap reverse (map-append heard_in first rest) ∙ reverse-append (map heard_in first) (map heard_in rest)
 
 by-parts : (first rest : List Given) → consumed_by (first ++ rest) ≡ consumed_by rest ++ consumed_by first
@@ -50,13 +50,13 @@ consumed-first config (x ∷ xs) before [] ds size e = absurd (omega (arith, siz
 consumed-first config (x ∷ xs) before (c ∷ cs) ds size e =
     consumed-first config xs before cs ds (omega (arith, size)) (tail-of c (consumed_at config (xs ++ before) x) (cs ++ ds) (consumptions config (xs ++ before)) e)
 
-kept-first : (config : Config) (first rest : List Given) → consumed_by (first ++ rest) ≡ consumptions config (told_in (first ++ rest)) →
+pub kept-first : (config : Config) (first rest : List Given) → consumed_by (first ++ rest) ≡ consumptions config (told_in (first ++ rest)) →
     consumed_by first ≡ consumptions config (told_in first)
 kept-first config first rest e =
     consumed-first config (told_in rest) (told_in first) (consumed_by rest) (consumed_by first) (as-many rest)
     (sym (by-parts first rest) ∙ e ∙ ap (consumptions config) (told-parts first rest))
 
-welcome-first : (xs before : List (Option HeardData)) → AreWelcome (xs ++ before) → AreWelcome before
+pub welcome-first : (xs before : List (Option HeardData)) → AreWelcome (xs ++ before) → AreWelcome before
 welcome-first [] before w = w
 welcome-first (x ∷ xs) before w = welcome-first xs before w.1
 

@@ -14,4 +14,6 @@ pub mod Dying
 pub mod Spoken
 pub mod Buried
 pub mod Sessions
+pub mod Handed
+pub mod Counted
 mod Rows

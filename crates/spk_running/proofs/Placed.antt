@@ -23,14 +23,16 @@ use Rattle.spk_relay.specs.Relayed.{positions_in}
 use Rattle.spk_relay.specs.Shown.{count_numbered, is_numbered, is_on, is_relaying, shown}
 use Rattle.spk_relay.proofs.Heard.{last-told, newest}
 use Rattle.spk_relay.proofs.Tells.{PacketFacts, one-reading}
-use Rattle.spk_running.specs.Placed.{AreNumbered, ArePlaced, IsNumberedFrame, is_message_of}
+use Rattle.spk_given.specs.Numbered.{AreNumbered, IsNumberedFrame}
+use Rattle.spk_given.specs.Part.{is_message_of}
+use Rattle.spk_running.specs.Placed.{ArePlaced}
 
 no-yes : false ≡ true → ⊥
 no-yes e = true≢false (sym e)
 
 -- ---- there are no two such counts, and no two such lists
 
-one-count : (on : List ℕ → Bool) (k : ℕ) (ms : List Message) (m n : ℕ) → AreNumbered on k ms m → AreNumbered on k ms n → m ≡ n
+pub one-count : (on : List ℕ → Bool) (k : ℕ) (ms : List Message) (m n : ℕ) → AreNumbered on k ms m → AreNumbered on k ms n → m ≡ n
 one-count on k [] m n x y = x ∙ sym y
 one-count on k (f ∷ ms) m n (inl x) (inl y) = x.1.1 ∙ (ap (λ i. i + 1) (one-count on k ms x.1.0 y.1.0 x.1.2 y.1.2) ∙ sym y.1.1)
 one-count on k (f ∷ ms) m n (inl x) (inr y) = absurd (y.0 x.0)

@@ -4,3 +4,4 @@ pub mod Standing
 pub mod Placed
 pub mod Deaths
 pub mod Consumed
+pub mod Handed

@@ -1,5 +1,5 @@
 -- How long the host's ring of a plant stands, and what is taken of a node from its subscription on (own rules).
-use Rattle.std.specs.Prelude.{◌≡◌, ℕ, ◌-◌, ◌*◌, Bool, true, not, ◌&&◌, List, [], ◌∷◌, ◌++◌, length, Option, Some, is_some, if◌then◌else◌}
+use Rattle.std.specs.Prelude.{◌≡◌, ℕ, ◌-◌, ◌*◌, Bool, true, not, ◌&&◌, List, [], ◌∷◌, ◌++◌, length, Some, is_some, if◌then◌else◌}
 use Rattle.spk_broker_rules.specs.Listening.{listens}
 use Rattle.spk_broker_rules.specs.Step.{after}
 use Rattle.spk_plan.specs.declared.plan.Plan.{Plan}

@@ -6,7 +6,8 @@ ghost use Rattle.spk_edge.specs.Along.{messages_from};
 ghost use Rattle.spk_edge.specs.View.{message_view};
 ghost use Rattle.spk_edge_rules.specs.Packets.{death_topic};
 ghost use Rattle.spk_edge_rules.specs.Run.{opened, run_of};
-ghost use Rattle.spk_heard.specs.Read.{HandsOutFronts};
+ghost use Rattle.spk_heard.specs.Read.{AreMessagesAt, HandsOutFronts};
+ghost use Rattle.spk_sequence.specs.HostRecord.{consumed_of, record_of};
 ghost use Rattle.spk_host.specs.Inputs.{node_calls};
 ghost use Rattle.spk_host_body.specs.Told.{asked, consumed_for, told_in};
 ghost use Rattle.spk_plan.specs.declared.plan.Plan.{Plan};
@@ -20,7 +21,8 @@ ghost use Rattle.spk_relay.specs.Shown.{IsFew, count_numbered};
 ghost use Rattle.spk_relay.specs.Speech.{IsPlant};
 ghost use Rattle.spk_running.specs.Consumed.{IsConsumedBy, IsTied};
 ghost use Rattle.spk_running.specs.Deaths.{AreDeathsOf, AreOpened, AreOwnDeaths};
-ghost use Rattle.spk_running.specs.Moments.{KeepsOrder};
+ghost use Rattle.spk_running.specs.Handed.{IsHeardAt, handed_at, setting_at};
+ghost use Rattle.spk_running.specs.Moments.{HoldsAlways, KeepsOrder};
 ghost use Rattle.spk_running.specs.Placed.{ArePlacedAt};
 ghost use Rattle.spk_running.specs.Places.{due_at, inputs_at, is_topic_at, published_at, setup_at, shown_at};
 ghost use Rattle.spk_running.specs.Standing.{IsSubscribed, has_connection_at, have_nodes_ended, rings_at, since_at};
@@ -165,6 +167,48 @@ pub fn placed()
     plant();
     running();
     spk_relay::laws::shown();
+}
+
+/// What the report says of a node itself, `given` and `consumed`: the two lists of what the host was handed of it and consumed of it. No
+/// log is spoken of but in `heard`.
+pub fn handed()
+    // what the host was told of the node was read at what the report says that it was handed, message by message, death by death and moment
+    // by moment; and its positions are those that the host's ring got
+    ensures heard { (p : Plan) (r : Report) (k : ℕ) (x : NodeReport) → CanRun p → IsMade p
+        → (ran : RunsAs p r) → slice_get r.nodes.items k ≡ Some x
+        → IsHeardAt p r k (shown_at p ran.log k) (handed_at r x) }
+
+    // at every moment of it the order is kept: prefixes, causes, what comes after a gap and after a death, births
+    ensures always { (p : Plan) (r : Report) (k : ℕ) (x : NodeReport) → CanRun p → IsMade p
+        → RunsAs p r → slice_get r.nodes.items k ≡ Some x
+        → HoldsAlways (setting_at p r k) (handed_at r x) }
+
+    // the positions consumed are those that the order consumes
+    ensures consumed { (p : Plan) (r : Report) (k : ℕ) (x : NodeReport) → CanRun p → IsMade p
+        → RunsAs p r → slice_get r.nodes.items k ≡ Some x
+        → x.consumed.items ≡ consumed_of (record_of (setting_at p r k) (handed_at r x)) }
+
+    // what `given` says that the host consumed of the node are the messages of these positions, one by one, as they were published
+    ensures unaltered { (p : Plan) (r : Report) (k : ℕ) (x : NodeReport) → CanRun p → IsMade p
+        → RunsAs p r → slice_get r.nodes.items k ≡ Some x
+        → AreMessagesAt (setup_at p k) (published_at p r k) x.consumed.items
+        (flat_map
+        (consumed_for (setup_at p k).config.group (setup_at p k).config.node) r.given.items) }
+
+    // each death is of a session that the node opened
+    ensures sessions { (p : Plan) (r : Report) (k : ℕ) (x : NodeReport) → CanRun p → IsMade p
+        → RunsAs p r → slice_get r.nodes.items k ≡ Some x
+        → AreOpened (opened (run_of (setup_at p k) (inputs_at r k))) (handed_at r x) }
+{
+    placed();
+    running();
+    own_deaths();
+    spk_relay::laws::relayed();
+    spk_relay::laws::headline();
+    spk_relay::laws::shown();
+    spk_heard::laws::consumption();
+    spk_host_body::laws::any_items();
+    plant();
 }
 
 /// How much is given to the host before anything is lost.

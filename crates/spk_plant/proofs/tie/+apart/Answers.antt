@@ -1,6 +1,7 @@
-use Rattle.std.proofs.Common.{rules, inl, inr, Some, sym}
+use Rattle.std.proofs.Common.{◌≡◌, rules, inl, inr, length, Some, subst, sym}
 use Rattle.spk_plant.proofs.Chosen.{missing_more}
 use Rattle.spk_plant.proofs.Ends.{apart_push, sized_before, theirs_before}
+use Rattle.spk_plant.specs.Done.{IsReportOf, lists}
 use Rattle.spk_plant.proofs.tie.+apart.Goals as goal
 
 pub apart-requires : goal.apart-requires
@@ -16,12 +17,14 @@ apart-requires t c = (
 
 pub returns-clause-apart : goal.returns-clause-apart
 returns-clause-apart t c =
+    let ls = lists c.args.seen.taken.now.items c.args.seen.accepted.now.items c.args.seen.given.now.items in
     let end = c.in-Some.end in
     let token = c.in-Some-last_of.token in
-    apart_push c.pop.new.self.items c.args.ends.items c.last_of.new.tokens.items c.args.tokens.items c.in-Ok.others.0.items c.push.new.self.items
-    c.in-Ok.others.1.items c.push-2.new.self.items end (Some token) c.parted-report.result.0 c.parted-report.result.1
+    let place : c.len-place.result ≡ length c.pop.new.self.items = search rules in
+    apart_push ls c.pop.new.self.items c.args.ends.items c.last_of.new.tokens.items c.args.tokens.items c.in-Ok.others.0.items c.push.new.self.items
+    c.in-Ok.others.1.items c.push-2.new.self.items end (Some token) c.in_ok-parts.parts.0 c.in_ok-parts.parts.1
     c.in-Some.ensures.items c.in-Some-last_of.ensures.there c.in_ok-push.ensures.items c.in_ok-push-2.ensures.items c.requires.sized
-    (sym c.parted-report.ensures.pass) c.parted-report.ensures.report c.parted-report.ensures.front c.in-Ok.ensures.apart
+    (sym c.in_ok-parts.ensures.pass) (subst (λ k. IsReportOf ls k end c.in_ok-parts.parts.0) place c.in_ok-parts.ensures.report) c.in_ok-parts.ensures.front c.in-Ok.ensures.apart
 
 pub returns-in-Err-clause-fault : goal.returns-in-Err-clause-fault
 returns-in-Err-clause-fault t c = elim c.in-Err.ensures.fault [

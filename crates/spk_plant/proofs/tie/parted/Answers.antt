@@ -4,7 +4,7 @@ use Rattle.spk_plant.proofs.Ends.{front_is}
 use Rattle.spk_plant.proofs.tie.parted.Goals as goal
 
 pub returns-clause-report : goal.returns-clause-report
-returns-clause-report c = record { inputs = refl; published = refl }
+returns-clause-report c = record { inputs = refl; published = refl; handed = c.in_ok-handed.ensures }
 
 pub returns-clause-front : goal.returns-clause-front
 returns-clause-front c =

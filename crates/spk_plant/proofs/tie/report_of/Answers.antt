@@ -2,6 +2,7 @@ use Rattle.std.proofs.Common.{◌≡◌, ◌<◌, inl, inr, Some, length, refl, 
 use Rattle.spk_rings.specs.Ring.{all_offered, popped}
 use Rattle.spk_plant.proofs.Chosen.{frames_left, left_is, missing_more, ring_left}
 use Rattle.spk_plant.proofs.Ends.{all_is, passes_into, theirs_less, tied_is, token_at}
+use Rattle.spk_plant.specs.Done.{lists_of}
 use Rattle.spk_plant.proofs.tie.report_of.Goals as goal
 
 pub left_after-requires : goal.left_after-requires
@@ -15,7 +16,7 @@ apart-requires-clause-theirs g c =
 
 pub settle-requires-clause-passes : goal.settle-requires-clause-passes
 settle-requires-clause-passes g c =
-    passes_into c.args.ingress c.args.ends.edges.items c.last_of.new.tokens.items c.in-Ok.parts.0.items c.in-Ok.parts.1.items c.push.new.self.items
+    passes_into c.args.ingress (lists_of c.args.ends) c.args.ends.edges.items c.last_of.new.tokens.items c.in-Ok.parts.0.items c.in-Ok.parts.1.items c.push.new.self.items
     c.args.ends.host.pass c.requires.into c.in-Ok.ensures.apart c.requires.pass c.in_ok-push.ensures.items
 
 pub returns-clause-tied : goal.returns-clause-tied

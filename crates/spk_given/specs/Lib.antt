@@ -1,0 +1,4 @@
+pub mod Part
+pub mod Numbered
+pub mod Handed
+pub mod Steps
