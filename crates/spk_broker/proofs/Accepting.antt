@@ -8,92 +8,92 @@ use Rattle.indexmap.specs.IndexMap.{spare}
 use Rattle.spk_broker_rules.specs.Data as plain
 use Rattle.spk_broker_rules.specs.Lawful.{IsLawful}
 use Rattle.spk_broker_rules.specs.Plan.{Accept, Act, Forget, Seen, connect, has_bad_topic, join, shut, take_over, tell_older, turn_away}
-use Rattle.spk_broker_rules.specs.Step.{Turn, accept_of, act, acts, away_for, begun, is_guest, line_of, take_up}
+use Rattle.spk_broker_rules.specs.Step.{Turn, accept_of, act, acts, away_for, begun, is_newcomer, connection_of, take_up}
 use Rattle.spk_packets.specs.Message.{WillData}
 use Rattle.spk_packets.specs.Spelling.{is_empty}
-use Rattle.spk_broker_rules.specs.Words.{option_list, will_post}
-use Rattle.spk_broker.specs.Asking.{guest_here, guests_now, test_at}
+use Rattle.spk_broker_rules.specs.Words.{option_list, will_message}
+use Rattle.spk_broker.specs.Asking.{newcomer_here, newcomers_now, test_at}
 use Rattle.spk_broker.specs.Connecting.{Comes, acts_of, finished, judged}
 use Rattle.spk_broker.specs.Drafts.{Drafted, draft_view}
 use Rattle.spk_broker.specs.Entering.{entered, taken, with_sends}
 use Rattle.spk_broker.specs.Sent.{outgoing}
-use Rattle.spk_broker.specs.View.{Stands, desk_now, desk_was, guest_was, with_keeps}
-use Rattle.spk_broker.specs.declared.connecting.Judged.TheVariants.{Refused, Shut, Joins}
-use Rattle.spk_broker.specs.declared.desk.Desk.{Desk}
-use Rattle.spk_broker.specs.declared.guest.Guest.{Guest}
-use Rattle.spk_broker.specs.declared.joining.Entry.{Entry}
-use Rattle.spk_broker.specs.declared.joining.Entry.TheVariants.{Made, Back}
+use Rattle.spk_broker.specs.View.{Stands, state_now, state_was, newcomer_was, with_keeps}
+use Rattle.spk_broker.specs.declared.connect.Judged.TheVariants.{Refused, Shut, Joins}
+use Rattle.spk_broker.specs.declared.state.State.{State}
+use Rattle.spk_broker.specs.declared.newcomer.Newcomer.{Newcomer}
+use Rattle.spk_broker.specs.declared.accept.Entry.{Entry}
+use Rattle.spk_broker.specs.declared.accept.Entry.TheVariants.{Made, Back}
 use Rattle.spk_broker.specs.declared.out.Draft.{Draft}
-use Rattle.spk_broker.proofs.Alive.{found-alive, guests-alive, lost-alive, plain_of}
+use Rattle.spk_broker.proofs.Alive.{found-alive, newcomers-alive, lost-alive, plain_of}
 
--- ---- the guest
+-- ---- the newcomer
 
-there : (conn : ℕ) (g : Guest) → test_at guest_here (is_guest conn) g ≡ true → guest_here g ≡ Some (plain_of g)
+there : (conn : ℕ) (g : Newcomer) → test_at newcomer_here (is_newcomer conn) g ≡ true → newcomer_here g ≡ Some (plain_of g)
 there conn g t = by g.gone t
   where
-    by : (b : Bool) → option_map_or (is_guest conn) (cond b None (Some (plain_of g))) false ≡ true → cond b None (Some (plain_of g)) ≡ Some (plain_of g)
+    by : (b : Bool) → option_map_or (is_newcomer conn) (cond b None (Some (plain_of g))) false ≡ true → cond b None (Some (plain_of g)) ≡ Some (plain_of g)
     by true t = cc
     by false t = refl
 
-pub guest-there : (conn : ℕ) (gs : List Guest) (i : ℕ) (d : Guest) → position (test_at guest_here (is_guest conn)) gs ≡ Some i
-    → find (is_guest conn) (guests_now gs) ≡ Some (plain_of (get_or gs i d))
-guest-there conn gs i d e =
-    ap (find (is_guest conn)) (guests-alive gs) ∙ (found-alive guest_here (is_guest conn) gs i d e).1
-    ∙ there conn (get_or gs i d) (position-Some (test_at guest_here (is_guest conn)) gs i d e).1
+pub newcomer-there : (conn : ℕ) (gs : List Newcomer) (i : ℕ) (d : Newcomer) → position (test_at newcomer_here (is_newcomer conn)) gs ≡ Some i
+    → find (is_newcomer conn) (newcomers_now gs) ≡ Some (plain_of (get_or gs i d))
+newcomer-there conn gs i d e =
+    ap (find (is_newcomer conn)) (newcomers-alive gs) ∙ (found-alive newcomer_here (is_newcomer conn) gs i d e).1
+    ∙ there conn (get_or gs i d) (position-Some (test_at newcomer_here (is_newcomer conn)) gs i d e).1
 
-pub guest-gone : (conn : ℕ) (gs : List Guest) → position (test_at guest_here (is_guest conn)) gs ≡ None → find (is_guest conn) (guests_now gs) ≡ None
-guest-gone conn gs e = ap (find (is_guest conn)) (guests-alive gs) ∙ lost-alive guest_here (is_guest conn) gs e
+pub newcomer-gone : (conn : ℕ) (gs : List Newcomer) → position (test_at newcomer_here (is_newcomer conn)) gs ≡ None → find (is_newcomer conn) (newcomers_now gs) ≡ None
+newcomer-gone conn gs e = ap (find (is_newcomer conn)) (newcomers-alive gs) ∙ lost-alive newcomer_here (is_newcomer conn) gs e
 
--- where there is a guest, more numbers were given than sessions made
-pub is-lower : (d : Desk) (conn alive : ℕ) (will : Option plain.Post) (x : plain.Line) → Some x ≡ option_map (λ g. line_of g alive will) (find (is_guest conn) (guests_now d.guests.items))
-    → IsLawful (desk_was d) → d.made < d.given
-is-lower d conn alive will x e l = by d.guests.items e l.made
+-- where there is a newcomer, more numbers were given than sessions made
+pub is-lower : (d : State) (conn alive : ℕ) (will : Option plain.AppMessage) (x : plain.Connection) → Some x ≡ option_map (λ g. connection_of g alive will) (find (is_newcomer conn) (newcomers_now d.newcomers.items))
+    → IsLawful (state_was d) → d.made < d.given
+is-lower d conn alive will x e l = by d.newcomers.items e l.made
   where
     none : {Y : Type 0} {y : Y} → Some y ≡ None → ⊥
     none h = cc
 
-    by : (gs : List Guest) → Some x ≡ option_map (λ g. line_of g alive will) (find (is_guest conn) (guests_now gs)) → d.made + length (map guest_was gs) ≤ d.given → d.made < d.given
+    by : (gs : List Newcomer) → Some x ≡ option_map (λ g. connection_of g alive will) (find (is_newcomer conn) (newcomers_now gs)) → d.made + length (map newcomer_was gs) ≤ d.given → d.made < d.given
     by [] f h = absurd (none f)
     by (g ∷ gs) f h = omega arith
 
 -- ---- retained messages are left alone
 
 entered-keeps : (e : Entry) (b : plain.Broker) (r : List (List ℕ × plain.Stored)) → entered e (record b { retained = r }) ≡ record (entered e b) { retained = r }
-entered-keeps (Made key client kept line ids) b r = refl
-entered-keeps (Back client line) b r = refl
+entered-keeps (Made key client kept connection ids) b r = refl
+entered-keeps (Back client connection) b r = refl
 
-pub record Keeps (client : List ℕ) (kept : Bool) (l : plain.Line) (b : plain.Broker) (r : List (List ℕ × plain.Stored)) : Type 0 where
+pub record Keeps (client : List ℕ) (kept : Bool) (l : plain.Connection) (b : plain.Broker) (r : List (List ℕ × plain.Stored)) : Type 0 where
   pub broker : (taken client kept l (record b { retained = r })).broker ≡ record (taken client kept l b).broker { retained = r }
   pub sends : (taken client kept l (record b { retained = r })).sends ≡ (taken client kept l b).sends
 
-taken-keeps : (client : List ℕ) (kept : Bool) (l : plain.Line) (b : plain.Broker) (r : List (List ℕ × plain.Stored)) → Keeps client kept l b r
-taken-keeps client kept l b r = record { broker = broker (away_for kept client b.seats); sends = sends (away_for kept client b.seats) }
+taken-keeps : (client : List ℕ) (kept : Bool) (l : plain.Connection) (b : plain.Broker) (r : List (List ℕ × plain.Stored)) → Keeps client kept l b r
+taken-keeps client kept l b r = record { broker = broker (away_for kept client b.sessions); sends = sends (away_for kept client b.sessions) }
   where
-    broker : (o : Option plain.Seat) → (take_up o client kept l (begun (record b { retained = r }))).broker ≡ record (take_up o client kept l (begun b)).broker { retained = r }
+    broker : (o : Option plain.Session) → (take_up o client kept l (begun (record b { retained = r }))).broker ≡ record (take_up o client kept l (begun b)).broker { retained = r }
     broker None = refl
     broker (Some s) = refl
 
-    sends : (o : Option plain.Seat) → (take_up o client kept l (begun (record b { retained = r }))).sends ≡ (take_up o client kept l (begun b)).sends
+    sends : (o : Option plain.Session) → (take_up o client kept l (begun (record b { retained = r }))).sends ≡ (take_up o client kept l (begun b)).sends
     sends None = refl
     sends (Some s) = refl
 
 -- in a turn, it is put behind what is sent
-taken-turn : (client : List ℕ) (kept : Bool) (l : plain.Line) (t : Turn)
-    → take_up (away_for kept client t.broker.seats) client kept l t
+taken-turn : (client : List ℕ) (kept : Bool) (l : plain.Connection) (t : Turn)
+    → take_up (away_for kept client t.broker.sessions) client kept l t
     ≡ record t { broker = (taken client kept l t.broker).broker; sends = t.sends ++ (taken client kept l t.broker).sends }
-taken-turn client kept l t = by (away_for kept client t.broker.seats)
+taken-turn client kept l t = by (away_for kept client t.broker.sessions)
   where
-    by : (o : Option plain.Seat) → take_up o client kept l t
+    by : (o : Option plain.Session) → take_up o client kept l t
         ≡ record t { broker = (take_up o client kept l (begun t.broker)).broker; sends = t.sends ++ (take_up o client kept l (begun t.broker)).sends }
     by None = refl
     by (Some s) = refl
 
 -- ---- all together
 
-sent-stands : (d0 d1 : Desk) (x0 x1 : Draft) (t : Turn) (ss : List plain.Send) → draft_view x1 ≡ with_sends ss (draft_view x0)
-    → desk_now d1 ≡ desk_now d0 → d1.retained ≡ d0.retained → Stands d0 x0 t → Stands d1 x1 (record t { sends = t.sends ++ ss })
+sent-stands : (d0 d1 : State) (x0 x1 : Draft) (t : Turn) (ss : List plain.Send) → draft_view x1 ≡ with_sends ss (draft_view x0)
+    → state_now d1 ≡ state_now d0 → d1.retained ≡ d0.retained → Stands d0 x0 t → Stands d1 x1 (record t { sends = t.sends ++ ss })
 sent-stands d0 d1 x0 x1 t ss e same room s = record {
-  broker = ap (λ (y : Drafted). with_keeps y.keeps (desk_now d1)) e ∙ ap (with_keeps (draft_view x0).keeps) same ∙ s.broker;
+  broker = ap (λ (y : Drafted). with_keeps y.keeps (state_now d1)) e ∙ ap (with_keeps (draft_view x0).keeps) same ∙ s.broker;
   sends = ap (λ (y : Drafted). y.sends) e ∙ ap (λ l. l ++ map outgoing ss) s.sends ∙ sym (map-append outgoing t.sends ss);
   closes = ap (λ (y : Drafted). y.closes) e ∙ s.closes;
   waiting = ap (λ (y : Drafted). y.waiting) e ∙ s.waiting;
@@ -101,42 +101,42 @@ sent-stands d0 d1 x0 x1 t ss e same room s = record {
   lawful = s.lawful;
 }
 
-pub accepts : (d0 d1 : Desk) (x0 x1 : Draft) (t : Turn) (conn : ℕ) (client : List ℕ) (kept : Bool) (alive : ℕ) (will : Option plain.Post) (l : plain.Line) (e : Entry)
-    → Some l ≡ option_map (λ (g : plain.Guest). line_of g alive will) (find (is_guest conn) (guests_now d0.guests.items))
-    → entered e (desk_now d0) ≡ (taken client kept l (desk_now d0)).broker
-    → draft_view x1 ≡ with_sends (taken client kept l (desk_now d0)).sends (draft_view x0)
-    → desk_now d1 ≡ desk_now d0 → d1.retained ≡ d0.retained → Stands d0 x0 t
+pub accepts : (d0 d1 : State) (x0 x1 : Draft) (t : Turn) (conn : ℕ) (client : List ℕ) (kept : Bool) (alive : ℕ) (will : Option plain.AppMessage) (l : plain.Connection) (e : Entry)
+    → Some l ≡ option_map (λ (g : plain.Newcomer). connection_of g alive will) (find (is_newcomer conn) (newcomers_now d0.newcomers.items))
+    → entered e (state_now d0) ≡ (taken client kept l (state_now d0)).broker
+    → draft_view x1 ≡ with_sends (taken client kept l (state_now d0)).sends (draft_view x0)
+    → state_now d1 ≡ state_now d0 → d1.retained ≡ d0.retained → Stands d0 x0 t
     → Comes d1 x1 (Some e) (act (Accept conn client kept alive will) t)
 accepts d0 d1 x0 x1 t conn client kept alive will l e found entry sends same room s =
-    let b = desk_now d0 in
+    let b = state_now d0 in
     let r = (with_keeps (draft_view x0).keeps b).retained in
     let k = taken-keeps client kept l b r in
     let comes : entered e t.broker ≡ (taken client kept l t.broker).broker =
     ap (entered e) (sym s.broker) ∙ entered-keeps e b r ∙ ap (λ (c : plain.Broker). record c { retained = r }) entry ∙ sym k.broker
     ∙ ap (λ c. (taken client kept l c).broker) s.broker in
     let said : (taken client kept l b).sends ≡ (taken client kept l t.broker).sends = sym k.sends ∙ ap (λ c. (taken client kept l c).sends) s.broker in
-    let guests : find (is_guest conn) (guests_now d0.guests.items) ≡ find (is_guest conn) t.broker.guests =
-    ap (λ (c : plain.Broker). find (is_guest conn) c.guests) s.broker in
+    let newcomers : find (is_newcomer conn) (newcomers_now d0.newcomers.items) ≡ find (is_newcomer conn) t.broker.newcomers =
+    ap (λ (c : plain.Broker). find (is_newcomer conn) c.newcomers) s.broker in
     record {
       before = record t { sends = t.sends ++ (taken client kept l b).sends };
       stands = sent-stands d0 d1 x0 x1 t (taken client kept l b).sends sends same room s;
       is = ap (λ c. record t { broker = c; sends = t.sends ++ (taken client kept l b).sends }) comes
           ∙ ap (λ ss. record t { broker = (taken client kept l t.broker).broker; sends = t.sends ++ ss }) said
           ∙ sym (taken-turn client kept l t)
-          ∙ last (find (is_guest conn) t.broker.guests) (found ∙ ap (option_map (λ (g : plain.Guest). line_of g alive will)) guests);
+          ∙ last (find (is_newcomer conn) t.broker.newcomers) (found ∙ ap (option_map (λ (g : plain.Newcomer). connection_of g alive will)) newcomers);
     }
   where
-    last : (o : Option plain.Guest) → Some l ≡ option_map (λ (g : plain.Guest). line_of g alive will) o
-        → take_up (away_for kept client t.broker.seats) client kept l t ≡ accept_of o client kept alive will t
+    last : (o : Option plain.Newcomer) → Some l ≡ option_map (λ (g : plain.Newcomer). connection_of g alive will) o
+        → take_up (away_for kept client t.broker.sessions) client kept l t ≡ accept_of o client kept alive will t
     last None f = cc
-    last (Some g) f = let same : l ≡ line_of g alive will = cc in ap (λ m. take_up (away_for kept client t.broker.seats) client kept m t) same
+    last (Some g) f = let same : l ≡ connection_of g alive will = cc in ap (λ m. take_up (away_for kept client t.broker.sessions) client kept m t) same
 
 -- ---- a list of acts
 
-told-stands : (d : Desk) (x0 x1 : Draft) (t : Turn) (cs : List ℕ) → draft_view x1 ≡ record (draft_view x0) { closes = (draft_view x0).closes ++ cs }
+told-stands : (d : State) (x0 x1 : Draft) (t : Turn) (cs : List ℕ) → draft_view x1 ≡ record (draft_view x0) { closes = (draft_view x0).closes ++ cs }
     → Stands d x0 t → Stands d x1 (record t { closes = t.closes ++ cs })
 told-stands d x0 x1 t cs e s = record {
-  broker = ap (λ (y : Drafted). with_keeps y.keeps (desk_now d)) e ∙ s.broker;
+  broker = ap (λ (y : Drafted). with_keeps y.keeps (state_now d)) e ∙ s.broker;
   sends = ap (λ (y : Drafted). y.sends) e ∙ s.sends;
   closes = ap (λ (y : Drafted). y.closes) e ∙ ap (λ l. l ++ cs) s.closes;
   waiting = ap (λ (y : Drafted). y.waiting) e ∙ s.waiting;
@@ -153,7 +153,7 @@ finished-closes None t cs = refl
 finished-closes (Some e) t cs = refl
 
 -- the older one is told last
-pub tells-older : (older : Option ℕ) (d : Desk) (x0 x1 : Draft) (e : Option Entry) (t : Turn) → (cs : List ℕ) → cs ≡ option_list older
+pub tells-older : (older : Option ℕ) (d : State) (x0 x1 : Draft) (e : Option Entry) (t : Turn) → (cs : List ℕ) → cs ≡ option_list older
     → draft_view x1 ≡ record (draft_view x0) { closes = (draft_view x0).closes ++ cs } → Comes d x0 e t → Comes d x1 e (acts (tell_older older) t)
 tells-older older d x0 x1 e t cs is v c = record {
   before = record c.before { closes = c.before.closes ++ cs };
@@ -170,7 +170,7 @@ tells-older older d x0 x1 e t cs is v c = record {
     last None = ap (λ ks. record t { closes = ks }) (append-nil t.closes)
     last (Some o) = refl
 
-pub joins : (older : Option ℕ) (conn : ℕ) (client : List ℕ) (clean : Bool) (alive : ℕ) (will : Option plain.Post) (t : Turn)
+pub joins : (older : Option ℕ) (conn : ℕ) (client : List ℕ) (clean : Bool) (alive : ℕ) (will : Option plain.AppMessage) (t : Turn)
     → acts (tell_older older) (act (Accept conn client (not clean) alive will) (acts (if clean then Forget client ∷ [] else []) (acts (take_over older) t)))
     ≡ acts (join older conn client clean alive will) t
 joins older conn client clean alive will t = sym (
@@ -180,11 +180,11 @@ joins older conn client clean alive will t = sym (
 
 -- what is judged is what the rules say
 pub connects : (seen : Seen) (conn : ℕ) (client : List ℕ) (clean : Bool) (alive : ℕ) (will : Option WillData)
-    → acts_of (judged seen.welcome client clean will) seen.older conn client clean alive (option_map will_post will) ≡ connect seen conn client clean alive will
+    → acts_of (judged seen.welcome client clean will) seen.older conn client clean alive (option_map will_message will) ≡ connect seen conn client clean alive will
 connects seen conn client clean alive will = by (is_empty client && not clean) (has_bad_topic will) (not clean && not seen.welcome)
   where
-    by : (a b c : Bool) → acts_of (if a then Refused 2 else if b then Shut else if c then Refused 3 else Joins) seen.older conn client clean alive (option_map will_post will)
-        ≡ (if a then turn_away conn 2 else if b then shut conn else if c then turn_away conn 3 else join seen.older conn client clean alive (option_map will_post will))
+    by : (a b c : Bool) → acts_of (if a then Refused 2 else if b then Shut else if c then Refused 3 else Joins) seen.older conn client clean alive (option_map will_message will)
+        ≡ (if a then turn_away conn 2 else if b then shut conn else if c then turn_away conn 3 else join seen.older conn client clean alive (option_map will_message will))
     by true b c = refl
     by false true c = refl
     by false false true = refl

@@ -4,9 +4,9 @@ use Rattle.std.proofs.lemmas.List.Sums.{length-filter}
 use Rattle.std.specs.List.{filter, find, flat_map, list_any, position, position_or_len, count_by}
 use Rattle.std.specs.Option.{is_some, option_map_or, option_and_then}
 use Rattle.spk_broker_rules.specs.Words.{option_list}
-use Rattle.spk_broker.specs.Asking.{guest_here, test_at}
-use Rattle.spk_broker.specs.View.{guest_now}
-use Rattle.spk_broker.specs.declared.guest.Guest.{Guest}
+use Rattle.spk_broker.specs.Asking.{newcomer_here, test_at}
+use Rattle.spk_broker.specs.View.{newcomer_now}
+use Rattle.spk_broker.specs.declared.newcomer.Newcomer.{Newcomer}
 use Rattle.spk_broker_rules.specs.Data as plain
 use Rattle.spk_broker_rules.proofs.Lists.{flat_map-same}
 use Rattle.std.proofs.lemmas.List.Folds.{find_at}
@@ -17,7 +17,7 @@ use borrow.Author.Tests.{ltb-true, ltb-false}
 abbrev pub alive : {X Y : Type 0} → (X → Option Y) → List X → List Y
 alive o xs = flat_map (λ x. option_list (o x)) xs
 
-abbrev pub plain_of : Guest → plain.Guest
+abbrev pub plain_of : Newcomer → plain.Newcomer
 plain_of g = record { conn = g.conn; heard = g.heard; drops = g.drops }
 
 pub any-alive : {X Y : Type 0} (o : X → Option Y) (p : Y → Bool) (xs : List X) → list_any p (alive o xs) ≡ list_any (test_at o p) xs
@@ -66,11 +66,11 @@ filter-alive {X} {Y} o p (x ∷ xs) = by (o x) (filter-alive o p xs)
 pub count-alive : {X Y : Type 0} (o : X → Option Y) (p : Y → Bool) (xs : List X) → count_by (test_at o p) xs ≡ length (filter p (alive o xs))
 count-alive o p xs = sym (filter-alive o p xs ∙ length-filter (test_at o p) xs)
 
--- the guests by now
-pub guests-alive : (gs : List Guest) → flat_map guest_now gs ≡ alive guest_here gs
-guests-alive gs = flat_map-same guest_now (λ g. option_list (guest_here g)) one gs
+-- the newcomers by now
+pub newcomers-alive : (gs : List Newcomer) → flat_map newcomer_now gs ≡ alive newcomer_here gs
+newcomers-alive gs = flat_map-same newcomer_now (λ g. option_list (newcomer_here g)) one gs
   where
-    one : (g : Guest) → guest_now g ≡ option_list (guest_here g)
+    one : (g : Newcomer) → newcomer_now g ≡ option_list (newcomer_here g)
     one g = by g.gone
       where
         by : (b : Bool) → cond b [] ((plain_of g) ∷ []) ≡ option_list (cond b None (Some (plain_of g)))

@@ -11,21 +11,21 @@ use Rattle.spk_broker_rules.specs.Data as plain
 use Rattle.spk_broker_rules.specs.Step.{all_grants, other_grants}
 use Rattle.spk_broker_rules.specs.Table.{Table, has, put}
 use Rattle.spk_broker_rules.specs.Words.{codes_of, granted, granted_of, is_granted, option_list, with_entry}
-use Rattle.spk_broker.specs.Asking.{seats_now}
+use Rattle.spk_broker.specs.Asking.{sessions_now}
 use Rattle.spk_broker.specs.Both.{Both}
 use Rattle.spk_broker.specs.Counting.{grants_in}
 use Rattle.spk_broker.specs.Granting.{Grown, with_request}
 
 -- one session's are its own, and those behind it
-pub first-grants : (b : Both) (bs : List Both) → all_grants (seats_now (b ∷ bs)) ≡ grants_in b.now + all_grants (seats_now bs)
+pub first-grants : (b : Both) (bs : List Both) → all_grants (sessions_now (b ∷ bs)) ≡ grants_in b.now + all_grants (sessions_now bs)
 first-grants b bs = by b.now
   where
-    by : (o : Option plain.Seat) → all_grants (option_list o ++ seats_now bs) ≡ grants_in o + all_grants (seats_now bs)
+    by : (o : Option plain.Session) → all_grants (option_list o ++ sessions_now bs) ≡ grants_in o + all_grants (sessions_now bs)
     by None = omega arith
-    by (Some s) = length-append s.grants (flat_map (λ (x : plain.Seat). x.grants) (seats_now bs))
+    by (Some s) = length-append s.grants (flat_map (λ (x : plain.Session). x.grants) (sessions_now bs))
 
 -- one session more
-pub more-grants : (bs : List Both) (i : ℕ) (d : Both) → i < length bs → all_grants (seats_now (take (i + 1) bs)) ≡ all_grants (seats_now (take i bs)) + grants_in (get_or bs i d).now
+pub more-grants : (bs : List Both) (i : ℕ) (d : Both) → i < length bs → all_grants (sessions_now (take (i + 1) bs)) ≡ all_grants (sessions_now (take i bs)) + grants_in (get_or bs i d).now
 more-grants [] i d lt = absurd (omega (arith, lt))
 more-grants (b ∷ bs) zero d lt = let one = first-grants b [] in omega (arith, one)
 more-grants (b ∷ bs) (suc i) d lt =
@@ -33,11 +33,11 @@ more-grants (b ∷ bs) (suc i) d lt =
     let rest = more-grants bs i d (omega (arith, lt)) in
     let one = first-grants b (take (i + 1) bs) in
     let two = first-grants b (take i bs) in
-    ap (λ k. all_grants (seats_now (take k (b ∷ bs)))) z ∙ omega (arith, rest, one, two)
+    ap (λ k. all_grants (sessions_now (take k (b ∷ bs)))) z ∙ omega (arith, rest, one, two)
 
 -- before, at and behind a place
 pub parted-grants : (bs : List Both) (i : ℕ) (d : Both) → i < length bs
-    → all_grants (seats_now bs) ≡ all_grants (seats_now (take i bs)) + grants_in (get_or bs i d).now + all_grants (seats_now (drop (i + 1) bs))
+    → all_grants (sessions_now bs) ≡ all_grants (sessions_now (take i bs)) + grants_in (get_or bs i d).now + all_grants (sessions_now (drop (i + 1) bs))
 parted-grants [] i d lt = absurd (omega (arith, lt))
 parted-grants (b ∷ bs) zero d lt = let one = first-grants b bs in omega (arith, one)
 parted-grants (b ∷ bs) (suc i) d lt =
@@ -45,12 +45,12 @@ parted-grants (b ∷ bs) (suc i) d lt =
     let rest = parted-grants bs i d (omega (arith, lt)) in
     let one = first-grants b bs in
     let two = first-grants b (take i bs) in
-    let same : all_grants (seats_now (drop (suc i + 1) (b ∷ bs))) ≡ all_grants (seats_now (drop (i + 1) bs)) = ap (λ k. all_grants (seats_now (drop k (b ∷ bs)))) z in
+    let same : all_grants (sessions_now (drop (suc i + 1) (b ∷ bs))) ≡ all_grants (sessions_now (drop (i + 1) bs)) = ap (λ k. all_grants (sessions_now (drop k (b ∷ bs)))) z in
     omega (arith, rest, one, two, same)
 
 -- those of the others
-pub others-are : (bs : List Both) (i : ℕ) (d : Both) (s : plain.Seat) → i < length bs → (get_or bs i d).now ≡ Some s
-    → other_grants s (seats_now bs) ≡ all_grants (seats_now (take i bs)) + all_grants (seats_now (drop (i + 1) bs))
+pub others-are : (bs : List Both) (i : ℕ) (d : Both) (s : plain.Session) → i < length bs → (get_or bs i d).now ≡ Some s
+    → other_grants s (sessions_now bs) ≡ all_grants (sessions_now (take i bs)) + all_grants (sessions_now (drop (i + 1) bs))
 others-are bs i d s lt e =
     let parted = parted-grants bs i d lt in
     let own : grants_in (get_or bs i d).now ≡ length s.grants = ap grants_in e in
@@ -135,20 +135,20 @@ cut-off : (x y : ℕ) → min (min x 10000 + min y 10000) 10000 ≡ min (x + y) 
 cut-off x y = omega arith
 
 pub counted : (bs : List Both) (i : ℕ) (d : Both) (a b : ℕ) (before behind : List Both) → i < length bs
-    → a ≡ min (all_grants (seats_now before)) 10000 → b ≡ min (all_grants (seats_now behind)) 10000 → before ≡ take i bs → behind ≡ drop (i + 1) bs
-    → IfSome (get_or bs i d).now (λ s. min (a + b) 10000 ≡ min (other_grants s (seats_now bs)) 10000)
+    → a ≡ min (all_grants (sessions_now before)) 10000 → b ≡ min (all_grants (sessions_now behind)) 10000 → before ≡ take i bs → behind ≡ drop (i + 1) bs
+    → IfSome (get_or bs i d).now (λ s. min (a + b) 10000 ≡ min (other_grants s (sessions_now bs)) 10000)
 counted bs i d a b before behind lt e f g h = by (get_or bs i d).now refl
   where
-    by : (o : Option plain.Seat) → (get_or bs i d).now ≡ o → IfSome o (λ s. min (a + b) 10000 ≡ min (other_grants s (seats_now bs)) 10000)
+    by : (o : Option plain.Session) → (get_or bs i d).now ≡ o → IfSome o (λ s. min (a + b) 10000 ≡ min (other_grants s (sessions_now bs)) 10000)
     by None is = tt
     by (Some s) is =
-        ap (λ x. min (x + b) 10000) (e ∙ ap (λ l. min (all_grants (seats_now l)) 10000) g)
-        ∙ ap (λ x. min (min (all_grants (seats_now (take i bs))) 10000 + x) 10000) (f ∙ ap (λ l. min (all_grants (seats_now l)) 10000) h)
-        ∙ cut-off (all_grants (seats_now (take i bs))) (all_grants (seats_now (drop (i + 1) bs)))
+        ap (λ x. min (x + b) 10000) (e ∙ ap (λ l. min (all_grants (sessions_now l)) 10000) g)
+        ∙ ap (λ x. min (min (all_grants (sessions_now (take i bs))) 10000 + x) 10000) (f ∙ ap (λ l. min (all_grants (sessions_now l)) 10000) h)
+        ∙ cut-off (all_grants (sessions_now (take i bs))) (all_grants (sessions_now (drop (i + 1) bs)))
         ∙ ap (λ x. min x 10000) (sym (others-are bs i d s lt is))
 
 -- the session at a place, its grants copied, and all entries granted
-pub grown-is : (o : Option plain.Seat) (ss : List plain.Seat) (others : ℕ) (grants : Table ℕ) (result : Grown) (es : List (List ℕ × ℕ))
+pub grown-is : (o : Option plain.Session) (ss : List plain.Session) (others : ℕ) (grants : Table ℕ) (result : Grown) (es : List (List ℕ × ℕ))
     → IfSome o (λ s. min others 10000 ≡ min (other_grants s ss) 10000) → IfSome o (λ s. grants ≡ s.grants)
     → result ≡ fold (with_request others) (record { grants = grants; codes = []; given = [] }) es
     → IfSome o (λ s. result ≡ record {

@@ -24,8 +24,8 @@ use Rattle.spk_broker.specs.Filing.{IsAlike, IsTurned, Walk, entry_of, is_next, 
 use Rattle.spk_broker.specs.Granting.{standing_grants}
 use Rattle.spk_broker.specs.Parts.{grant_view}
 use Rattle.spk_broker.specs.Sizes.{size_of, size_of_grants}
-use Rattle.spk_broker.specs.declared.seat.Grant.{Grant}
-use Rattle.spk_broker.proofs.Retained.{same-bytes}
+use Rattle.spk_broker.specs.declared.session.Grant.{Grant}
+use Rattle.spk_broker.proofs.Retaining.{same-bytes}
 
 -- ---- reading
 
@@ -352,44 +352,44 @@ rest-of : (n : ℕ) (gs : List Grant) (new : Table ℕ) → map grant_view gs �
 rest-of n gs new e =
     ap (map grant_view) (take_all (length gs - n) (drop n gs) (let long = length-drop n gs in omega (arith, long))) ∙ map-drop grant_view n gs ∙ ap (drop n) e
 
-pub seat-turned : (seat : Both) (key : ℕ) (had wanted : List Grant) (index more : Grants) (size : ℕ) (r : Walk) → key ≡ seat.was.key → map grant_view had ≡ seat.was.grants
-    → map grant_view wanted ≡ standing_grants seat.now → r ≡ fold (walked key (map grant_view wanted)) (begun index size) (map grant_view had)
-    → more ≡ fold with_entry r.index (map (entry_of key) (map grant_view (take (length wanted - r.met) (drop r.met wanted)))) → IsTurned index more seat
-seat-turned seat key had wanted index more size r k h w is to = record {
-  others = λ f q other. turned-others key (standing_grants seat.now) seat.was.grants index more size r walk added f q (ap (λ n. q == n) k ∙ other);
-  own = λ filed f. subst (λ n. is_some (tree.get more (f, n)) ≡ has f (standing_grants seat.now)) k
-      (turned-own key (standing_grants seat.now) seat.was.grants index more size r walk added (λ g. ap (λ n. is_some (tree.get index (g, n))) k ∙ filed g) f);
+pub session-turned : (session : Both) (key : ℕ) (had wanted : List Grant) (index more : Grants) (size : ℕ) (r : Walk) → key ≡ session.was.key → map grant_view had ≡ session.was.grants
+    → map grant_view wanted ≡ standing_grants session.now → r ≡ fold (walked key (map grant_view wanted)) (begun index size) (map grant_view had)
+    → more ≡ fold with_entry r.index (map (entry_of key) (map grant_view (take (length wanted - r.met) (drop r.met wanted)))) → IsTurned index more session
+session-turned session key had wanted index more size r k h w is to = record {
+  others = λ f q other. turned-others key (standing_grants session.now) session.was.grants index more size r walk added f q (ap (λ n. q == n) k ∙ other);
+  own = λ filed f. subst (λ n. is_some (tree.get more (f, n)) ≡ has f (standing_grants session.now)) k
+      (turned-own key (standing_grants session.now) session.was.grants index more size r walk added (λ g. ap (λ n. is_some (tree.get index (g, n))) k ∙ filed g) f);
 }
   where
-    walk : r ≡ fold (walked key (standing_grants seat.now)) (begun index size) seat.was.grants
-    walk = is ∙ ap (λ (l : Table ℕ). fold (walked key l) (begun index size) (map grant_view had)) w ∙ ap (fold (walked key (standing_grants seat.now)) (begun index size)) h
+    walk : r ≡ fold (walked key (standing_grants session.now)) (begun index size) session.was.grants
+    walk = is ∙ ap (λ (l : Table ℕ). fold (walked key l) (begun index size) (map grant_view had)) w ∙ ap (fold (walked key (standing_grants session.now)) (begun index size)) h
 
-    added : more ≡ fold with_entry r.index (map (entry_of key) (drop r.met (standing_grants seat.now)))
-    added = to ∙ ap (λ (l : Table ℕ). fold with_entry r.index (map (entry_of key) l)) (rest-of r.met wanted (standing_grants seat.now) w)
+    added : more ≡ fold with_entry r.index (map (entry_of key) (drop r.met (standing_grants session.now)))
+    added = to ∙ ap (λ (l : Table ℕ). fold with_entry r.index (map (entry_of key) l)) (rest-of r.met wanted (standing_grants session.now) w)
 
-pub seat-size : (seat : Both) (key : ℕ) (had wanted : List Grant) (index : Grants) (size all : ℕ) (r : Walk) → map grant_view had ≡ seat.was.grants
-    → map grant_view wanted ≡ standing_grants seat.now → r ≡ fold (walked key (map grant_view wanted)) (begun index size) (map grant_view had)
+pub session-size : (session : Both) (key : ℕ) (had wanted : List Grant) (index : Grants) (size all : ℕ) (r : Walk) → map grant_view had ≡ session.was.grants
+    → map grant_view wanted ≡ standing_grants session.now → r ≡ fold (walked key (map grant_view wanted)) (begun index size) (map grant_view had)
     → (r.size ≤ 100000 → all ≡ r.size + size_of_grants (map grant_view (take (length wanted - r.met) (drop r.met wanted))))
-    → size ≤ 100000 → size_of_grants seat.was.grants ≤ size → all + size_of_grants seat.was.grants ≡ size + size_of_grants (standing_grants seat.now)
-seat-size seat key had wanted index size all r h w is to small le =
-    turned-size key (standing_grants seat.now) seat.was.grants index size all r walk le
-    (to few ∙ ap (λ (l : Table ℕ). r.size + size_of_grants l) (rest-of r.met wanted (standing_grants seat.now) w))
+    → size ≤ 100000 → size_of_grants session.was.grants ≤ size → all + size_of_grants session.was.grants ≡ size + size_of_grants (standing_grants session.now)
+session-size session key had wanted index size all r h w is to small le =
+    turned-size key (standing_grants session.now) session.was.grants index size all r walk le
+    (to few ∙ ap (λ (l : Table ℕ). r.size + size_of_grants l) (rest-of r.met wanted (standing_grants session.now) w))
   where
-    walk : r ≡ fold (walked key (standing_grants seat.now)) (begun index size) seat.was.grants
-    walk = is ∙ ap (λ (l : Table ℕ). fold (walked key l) (begun index size) (map grant_view had)) w ∙ ap (fold (walked key (standing_grants seat.now)) (begun index size)) h
+    walk : r ≡ fold (walked key (standing_grants session.now)) (begun index size) session.was.grants
+    walk = is ∙ ap (λ (l : Table ℕ). fold (walked key l) (begun index size) (map grant_view had)) w ∙ ap (fold (walked key (standing_grants session.now)) (begun index size)) h
 
     few : r.size ≤ 100000
     few =
-        let least = walk-least key (standing_grants seat.now) seat.was.grants (begun index size) in
+        let least = walk-least key (standing_grants session.now) session.was.grants (begun index size) in
         let same = ap (λ (x : Walk). x.size) walk in
         omega (arith, least, same, small)
 
 -- one whose grants are as before
-pub alike-turned : (index : Grants) (seat : Both) → IsAlike seat → IsTurned index index seat
-alike-turned index seat like = record {
+pub alike-turned : (index : Grants) (session : Both) → IsAlike session → IsTurned index index session
+alike-turned index session like = record {
   others = λ f q other. refl;
   own = λ filed f. filed f ∙ sym (ap (λ o. has f (standing_grants o)) like.there ∙ ap (has f) like.grants);
 }
 
-pub alike-same : (n : ℕ) (seat : Both) → IsAlike seat → n + size_of_grants seat.was.grants ≡ n + size_of_grants (standing_grants seat.now)
-alike-same n seat like = sym (ap (λ o. n + size_of_grants (standing_grants o)) like.there ∙ ap (λ (g : Table ℕ). n + size_of_grants g) like.grants)
+pub alike-same : (n : ℕ) (session : Both) → IsAlike session → n + size_of_grants session.was.grants ≡ n + size_of_grants (standing_grants session.now)
+alike-same n session like = sym (ap (λ o. n + size_of_grants (standing_grants o)) like.there ∙ ap (λ (g : Table ℕ). n + size_of_grants g) like.grants)

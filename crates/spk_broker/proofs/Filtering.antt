@@ -15,13 +15,13 @@ use Rattle.spk_broker.specs.Filters.{AreFilters, is_filter}
 use Rattle.spk_broker.specs.Granting.{regranted, taken_from, without_grants}
 use Rattle.spk_broker.specs.Parts.{grant_view}
 use Rattle.spk_broker.specs.Tables.{last_of, renewed}
-use Rattle.spk_broker.specs.declared.seat.Grant.{Grant}
+use Rattle.spk_broker.specs.declared.session.Grant.{Grant}
 
 pub has-grant : (name : List ℕ) (gs : List Grant) → list_any (λ (g : Grant). bytes_eq (string_bytes g.filter) name) gs ≡ has name (map grant_view gs)
 has-grant name gs = sym (any-map grant_view (λ e. bytes_eq e.0 name) (λ (g : Grant). bytes_eq (string_bytes g.filter) name) (λ g. refl) gs)
 
 -- the grants of a session are replaced by what they become
-pub regranted-is : (o : Option plain.Seat) (new old : Table ℕ) (names : List (List ℕ)) → new ≡ fold taken_from old names → IfSome o (λ s. old ≡ s.grants)
+pub regranted-is : (o : Option plain.Session) (new old : Table ℕ) (names : List (List ℕ)) → new ≡ fold taken_from old names → IfSome o (λ s. old ≡ s.grants)
     → option_map (regranted new) o ≡ option_map (without_grants names) o
 regranted-is None new old names e f = refl
 regranted-is (Some s) new old names e f = ap (λ g. Some (record s { grants = g })) (e ∙ ap (λ g. fold taken_from g names) f)

@@ -5,18 +5,18 @@ use Rattle.std.specs.Option.{option_map}
 use Rattle.std.proofs.lemmas.List.{map-append}
 use Rattle.std.proofs.lemmas.List.Elements.{filter-append}
 use Rattle.spk_broker_rules.specs.Data as plain
-use Rattle.spk_broker_rules.specs.Step.{other_guests}
+use Rattle.spk_broker_rules.specs.Step.{other_newcomers}
 use Rattle.spk_broker_rules.specs.Words.{option_list}
 
 pub map-flat : {X Y Z : Type 0} (f : Y → Z) (n : X → List Y) (xs : List X) → flat_map (λ x. map f (n x)) xs ≡ map f (flat_map n xs)
 map-flat f n [] = refl
 map-flat f n (x ∷ xs) = ap (λ l. map f (n x) ++ l) (map-flat f n xs) ∙ sym (map-append f (n x) (flat_map n xs))
 
-pub other-flat : {X : Type 0} (conn : ℕ) (n : X → List plain.Guest) (xs : List X) → flat_map (λ x. other_guests conn (n x)) xs ≡ other_guests conn (flat_map n xs)
+pub other-flat : {X : Type 0} (conn : ℕ) (n : X → List plain.Newcomer) (xs : List X) → flat_map (λ x. other_newcomers conn (n x)) xs ≡ other_newcomers conn (flat_map n xs)
 other-flat conn n [] = refl
 other-flat conn n (x ∷ xs) =
-    ap (λ l. other_guests conn (n x) ++ l) (other-flat conn n xs)
-    ∙ sym (filter-append (λ (g : plain.Guest). not (g.conn == conn)) (n x) (flat_map n xs))
+    ap (λ l. other_newcomers conn (n x) ++ l) (other-flat conn n xs)
+    ∙ sym (filter-append (λ (g : plain.Newcomer). not (g.conn == conn)) (n x) (flat_map n xs))
 
 pub single-flat : {X Y : Type 0} (w : X → Y) (xs : List X) → flat_map (λ x. w x ∷ []) xs ≡ map w xs
 single-flat w [] = refl

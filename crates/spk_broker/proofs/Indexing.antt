@@ -23,9 +23,9 @@ use Rattle.spk_broker.specs.Both.{Both}
 use Rattle.spk_broker.specs.Filing.{AreFiled, Entry, HasNoOther, IsFiled, entries_of, entry_of, index_of, is_granted, with_entry}
 use Rattle.spk_broker.specs.Granting.{standing_grants}
 use Rattle.spk_broker.specs.Parts.{grant_view}
-use Rattle.spk_broker.specs.View.{seat_now}
-use Rattle.spk_broker.specs.declared.seat.Grant.{Grant}
-use Rattle.spk_broker.proofs.Retained.{same-bytes}
+use Rattle.spk_broker.specs.View.{session_now}
+use Rattle.spk_broker.specs.declared.session.Grant.{Grant}
+use Rattle.spk_broker.proofs.Retaining.{same-bytes}
 
 -- ---- what is made
 
@@ -41,21 +41,21 @@ entries-step index key (g ∷ gs) (suc i) d low =
     ∙ entries-step (with_entry index (entry_of key (grant_view g))) key gs i d (omega (arith, low))
 
 -- all grants of one session, if it is there
-pub seat-entries : (o : Option plain.Seat) (key : ℕ) (gs : Table ℕ) → IfSome o (λ s. key ≡ s.key) → gs ≡ standing_grants o → map (entry_of key) gs ≡ flat_map entries_of (option_list o)
-seat-entries None key gs k e = ap (map (entry_of key)) e
-seat-entries (Some s) key gs k e = ap (map (entry_of key)) e ∙ ap (λ n. map (entry_of n) s.grants) k ∙ sym (append-nil (entries_of s))
+pub session-entries : (o : Option plain.Session) (key : ℕ) (gs : Table ℕ) → IfSome o (λ s. key ≡ s.key) → gs ≡ standing_grants o → map (entry_of key) gs ≡ flat_map entries_of (option_list o)
+session-entries None key gs k e = ap (map (entry_of key)) e
+session-entries (Some s) key gs k e = ap (map (entry_of key)) e ∙ ap (λ n. map (entry_of n) s.grants) k ∙ sym (append-nil (entries_of s))
 
 -- one more session
 pub index-step : (bs : List Both) (i : ℕ) (d : Both) → i < length bs
-    → index_of (flat_map seat_now (take (i + 1) bs)) ≡ fold with_entry (index_of (flat_map seat_now (take i bs))) (flat_map entries_of (seat_now (get_or bs i d)))
+    → index_of (flat_map session_now (take (i + 1) bs)) ≡ fold with_entry (index_of (flat_map session_now (take i bs))) (flat_map entries_of (session_now (get_or bs i d)))
 index-step bs i d low =
     let x = get_or bs i d in
-    let before = flat_map seat_now (take i bs) in
-    ap (λ l. index_of (flat_map seat_now l)) (take_more bs i d low)
-    ∙ ap index_of (flat_map-append seat_now (take i bs) (x ∷ []))
-    ∙ ap (λ l. index_of (before ++ l)) (append-nil (seat_now x))
-    ∙ ap (fold with_entry tree.empty) (flat_map-append entries_of before (seat_now x))
-    ∙ fold-append with_entry tree.empty (flat_map entries_of before) (flat_map entries_of (seat_now x))
+    let before = flat_map session_now (take i bs) in
+    ap (λ l. index_of (flat_map session_now l)) (take_more bs i d low)
+    ∙ ap index_of (flat_map-append session_now (take i bs) (x ∷ []))
+    ∙ ap (λ l. index_of (before ++ l)) (append-nil (session_now x))
+    ∙ ap (fold with_entry tree.empty) (flat_map-append entries_of before (session_now x))
+    ∙ fold-append with_entry tree.empty (flat_map entries_of before) (flat_map entries_of (session_now x))
 
 -- ---- it has them all
 
@@ -80,7 +80,7 @@ session-filed law index key (g ∷ gs) f there = by (bytes_eq g.0 f) refl there 
         (subst (λ t. is_some (tree.get (with_entry index (entry_of key g)) (t, key)) ≡ true) (same-bytes g.0 f e) (ap is_some (law.one index g.0 key g.1)))
     by false e h rest = rest h
 
-all-filed : Inserts → (index : Grants) (ss : List plain.Seat) → AreFiled (fold with_entry index (flat_map entries_of ss)) ss
+all-filed : Inserts → (index : Grants) (ss : List plain.Session) → AreFiled (fold with_entry index (flat_map entries_of ss)) ss
 all-filed law index [] = tt
 all-filed law index (s ∷ ss) =
     let split = fold-append with_entry index (entries_of s) (flat_map entries_of ss) in (
@@ -89,7 +89,7 @@ all-filed law index (s ∷ ss) =
       subst (λ (t : Grants). AreFiled t ss) (sym split) (all-filed law (fold with_entry index (entries_of s)) ss),
     )
 
-pub index-filed : Inserts → (ss : List plain.Seat) → AreFiled (index_of ss) ss
+pub index-filed : Inserts → (ss : List plain.Session) → AreFiled (index_of ss) ss
 index-filed law ss = all-filed law tree.empty ss
 
 -- ---- it has no others
@@ -121,7 +121,7 @@ fold-only index (e ∷ es) f k there =
     (fold-only (with_entry index e) es f k there)
 
 -- those of one session
-of-session : (s : plain.Seat) (gs : Table ℕ) (f : List ℕ) (k : ℕ) → list_any (λ (e : Entry). (e.0.1 == k) && bytes_eq e.0.0 f) (map (entry_of s.key) gs) ≡ ((s.key == k) && has f gs)
+of-session : (s : plain.Session) (gs : Table ℕ) (f : List ℕ) (k : ℕ) → list_any (λ (e : Entry). (e.0.1 == k) && bytes_eq e.0.0 f) (map (entry_of s.key) gs) ≡ ((s.key == k) && has f gs)
 of-session s [] f k = sym (and-none (s.key == k))
   where
     and-none : (b : Bool) → b && false ≡ false
@@ -133,14 +133,14 @@ of-session s (g ∷ gs) f k = ap (λ b. ((s.key == k) && bytes_eq g.0 f) || b) (
     joined true b c = refl
     joined false b c = refl
 
-of-sessions : (ss : List plain.Seat) (f : List ℕ) (k : ℕ) → list_any (λ (e : Entry). (e.0.1 == k) && bytes_eq e.0.0 f) (flat_map entries_of ss) ≡ is_granted f k ss
+of-sessions : (ss : List plain.Session) (f : List ℕ) (k : ℕ) → list_any (λ (e : Entry). (e.0.1 == k) && bytes_eq e.0.0 f) (flat_map entries_of ss) ≡ is_granted f k ss
 of-sessions [] f k = refl
 of-sessions (s ∷ ss) f k =
     list_any-append (λ (e : Entry). (e.0.1 == k) && bytes_eq e.0.0 f) (entries_of s) (flat_map entries_of ss)
     ∙ ap (λ b. b || list_any (λ (e : Entry). (e.0.1 == k) && bytes_eq e.0.0 f) (flat_map entries_of ss)) (of-session s s.grants f k)
     ∙ ap (λ b. ((s.key == k) && has f s.grants) || b) (of-sessions ss f k)
 
-pub index-only : (ss : List plain.Seat) → HasNoOther (index_of ss) ss
+pub index-only : (ss : List plain.Session) → HasNoOther (index_of ss) ss
 index-only ss f k there =
     ⊎_elim (λ among. sym (of-sessions ss f k) ∙ among) (λ none. absurd (true≢false (sym none ∙ ap is_some (get-empty grant_cmp (f, k)))))
     (fold-only tree.empty (flat_map entries_of ss) f k there)

@@ -57,7 +57,7 @@ good-removed key (e ∷ es) old = by (not (bytes_eq e.0 key)) (good-removed key 
     by true rest = and-join _ _ (and-left _ _ old) rest
     by false rest = rest
 
-pub good-retained : (m : plain.Post) (t : Table plain.Stored) → is_sendable m.topic m.payload m.qos ≡ true → are_sendable t ≡ true → are_sendable (retained_with t m) ≡ true
+pub good-retained : (m : plain.AppMessage) (t : Table plain.Stored) → is_sendable m.topic m.payload m.qos ≡ true → are_sendable t ≡ true → are_sendable (retained_with t m) ≡ true
 unfolding are_sendable
 good-retained m t new old = by m.retain (is_empty m.payload) (has m.topic t || nat_lt (length t) most_topics)
   where

@@ -3,7 +3,7 @@ pub mod Alive
 pub mod Asked
 pub mod Changes
 pub mod Counts
-pub mod Desks
+pub mod States
 pub mod Entered
 pub mod Entries
 pub mod Filtering
@@ -29,7 +29,7 @@ pub mod Quiet
 pub mod Refilled
 pub mod Requested
 pub mod Restores
-pub mod Retained
+pub mod Retaining
 pub mod Rounds
 pub mod Routes
 pub mod Ruled

@@ -13,10 +13,10 @@ use Rattle.spk_broker_rules.specs.Table.{Table, has}
 use Rattle.spk_broker_rules.specs.Words.{offers_to}
 use Rattle.spk_broker.specs.Offering.{offers_at, offers_in}
 use Rattle.spk_broker.specs.Parts.{retained_view}
-use Rattle.spk_broker.specs.declared.desk.Stored.{Stored}
+use Rattle.spk_broker.specs.declared.state.Stored.{Stored}
 use Rattle.spk_broker.proofs.Fronts.{or_none, plain-match}
 use Rattle.spk_broker.proofs.Offers.{offers-cons, offers-none}
-use Rattle.spk_broker.proofs.Retained.{Entries, bytes-flip, no-other, table_of}
+use Rattle.spk_broker.proofs.Retaining.{Entries, bytes-flip, no-other, table_of}
 
 none-offered : (f : List ℕ) (q : ℕ) (t : Table plain.Stored) → is_plain f ≡ true → has f t ≡ false → offers_to t (f, q) ≡ []
 none-offered f q [] p h = refl

@@ -12,44 +12,44 @@ use Rattle.spk_broker_rules.specs.Step.{Turn, bursts, hand, hand_at, numbered, o
 use Rattle.spk_broker_rules.specs.Words.{offered, offers_to, option_list}
 use Rattle.spk_broker_rules.proofs.Places.{lawful-offer_at}
 use Rattle.spk_broker_rules.proofs.Lists.{eqb-self, flat_map-append}
-use Rattle.spk_broker.specs.Asking.{seats_now}
+use Rattle.spk_broker.specs.Asking.{sessions_now}
 use Rattle.spk_broker.specs.Both.{Both}
 use Rattle.spk_broker.specs.Drafts.{Drafted, draft_view, left_by, served_by}
 use Rattle.spk_broker.specs.Offering.{IsOf, Offering, offers_at}
 use Rattle.spk_broker.specs.Parts.{grant_view}
-use Rattle.spk_broker.specs.declared.seat.Grant.{Grant}
+use Rattle.spk_broker.specs.declared.session.Grant.{Grant}
 use Rattle.spk_broker.specs.Sent.{outgoing}
-use Rattle.spk_broker.specs.View.{desk_now, seat_now, with_keeps}
-use Rattle.spk_broker.specs.declared.desk.Desk.{Desk}
+use Rattle.spk_broker.specs.View.{state_now, session_now, with_keeps}
+use Rattle.spk_broker.specs.declared.state.State.{State}
 use Rattle.spk_broker.specs.declared.out.Draft.{Draft}
 use Rattle.spk_broker.proofs.Places.{key-above, swap-at, unequal}
 
 pub offers-none : (g : List ℕ × ℕ) (e : List ℕ × plain.Stored) → is_match g.0 e.0 ≡ false → [] ≡ offers_to (e ∷ []) g
 offers-none g e f = ap (λ b. map (offered g.1) (cond b (e ∷ []) [])) (sym f)
 
-pub offers-one : (g : List ℕ × ℕ) (e : List ℕ × plain.Stored) (p : plain.Post) → is_match g.0 e.0 ≡ true → p ≡ offered g.1 e → p ∷ [] ≡ offers_to (e ∷ []) g
+pub offers-one : (g : List ℕ × ℕ) (e : List ℕ × plain.Stored) (p : plain.AppMessage) → is_match g.0 e.0 ≡ true → p ≡ offered g.1 e → p ∷ [] ≡ offers_to (e ∷ []) g
 offers-one g e p f is = ap (λ x. x ∷ []) is ∙ ap (λ b. map (offered g.1) (cond b (e ∷ []) [])) (sym f)
 
 -- ---- by key
 
--- the seat at a place is found by its key
-pub with-key-at : (bs : List Both) (i : ℕ) (d : Both) (s : plain.Seat) (low top : ℕ) → Rises low top (seats_now bs) → i < length bs → (get_or bs i d).now ≡ Some s
-    → with_key s.key (seats_now bs) ≡ Some s
+-- the session at a place is found by its key
+pub with-key-at : (bs : List Both) (i : ℕ) (d : Both) (s : plain.Session) (low top : ℕ) → Rises low top (sessions_now bs) → i < length bs → (get_or bs i d).now ≡ Some s
+    → with_key s.key (sessions_now bs) ≡ Some s
 with-key-at [] i d s low top r lt e = absurd (omega arith)
 with-key-at (b ∷ bs) zero d s low top r lt e =
-    ap (λ o. with_key s.key (option_list o ++ seats_now bs)) e ∙ ap (λ t. cond t (Some s) (with_key s.key (seats_now bs))) (eqb-self s.key)
+    ap (λ o. with_key s.key (option_list o ++ sessions_now bs)) e ∙ ap (λ t. cond t (Some s) (with_key s.key (sessions_now bs))) (eqb-self s.key)
 with-key-at (b ∷ bs) (suc i) d s low top r lt e =
     by b.now r (λ k q. key-above bs i d s k top q (omega arith) e) (λ k q. with-key-at bs i d s k top q (omega arith) e)
   where
-    by : (o : Option plain.Seat) → Rises low top (option_list o ++ seats_now bs) → ((k : ℕ) → Rises k top (seats_now bs) → k < s.key)
-        → ((k : ℕ) → Rises k top (seats_now bs) → with_key s.key (seats_now bs) ≡ Some s) → with_key s.key (option_list o ++ seats_now bs) ≡ Some s
+    by : (o : Option plain.Session) → Rises low top (option_list o ++ sessions_now bs) → ((k : ℕ) → Rises k top (sessions_now bs) → k < s.key)
+        → ((k : ℕ) → Rises k top (sessions_now bs) → with_key s.key (sessions_now bs) ≡ Some s) → with_key s.key (option_list o ++ sessions_now bs) ≡ Some s
     by None q low_key rest = rest low q
     by (Some y) q low_key rest =
         let less : y.key < s.key = low_key y.key q.1 in
-        ap (λ t. cond t (Some y) (with_key s.key (seats_now bs))) (unequal y.key s.key (λ f. omega arith)) ∙ rest y.key q.1
+        ap (λ t. cond t (Some y) (with_key s.key (sessions_now bs))) (unequal y.key s.key (λ f. omega arith)) ∙ rest y.key q.1
 
 -- what was swapped out is found no more
-pub swapped-out : (key : ℕ) (ss : List plain.Seat) → with_key key (swap key [] ss) ≡ None
+pub swapped-out : (key : ℕ) (ss : List plain.Session) → with_key key (swap key [] ss) ≡ None
 swapped-out key [] = refl
 swapped-out key (s ∷ ss) = by (eqb s.key key) refl (swapped-out key ss)
   where
@@ -58,69 +58,69 @@ swapped-out key (s ∷ ss) = by (eqb s.key key) refl (swapped-out key ss)
     by false e r = ap (λ u. cond u (Some s) (with_key key (swap key [] ss))) e ∙ r
 
 -- one that ended, written over one that had
-none-set : (bs : List Both) (i : ℕ) (d b : Both) → (get_or bs i d).now ≡ None → b.now ≡ None → seats_now (set bs i b) ≡ seats_now bs
+none-set : (bs : List Both) (i : ℕ) (d b : Both) → (get_or bs i d).now ≡ None → b.now ≡ None → sessions_now (set bs i b) ≡ sessions_now bs
 none-set [] i d b e f = refl
-none-set (c ∷ cs) zero d b e f = ap (λ o. option_list o ++ seats_now cs) (f ∙ sym e)
-none-set (c ∷ cs) (suc i) d b e f = ap (λ ss. seat_now c ++ ss) (none-set cs i d b e f)
+none-set (c ∷ cs) zero d b e f = ap (λ o. option_list o ++ sessions_now cs) (f ∙ sym e)
+none-set (c ∷ cs) (suc i) d b e f = ap (λ ss. session_now c ++ ss) (none-set cs i d b e f)
 
-abbrev head_key : List plain.Seat → ℕ
+abbrev head_key : List plain.Session → ℕ
 head_key [] = 0
 head_key (s ∷ ss) = s.key
 
 -- who is left has the same key
-hand-key : (p : plain.Post) (s x : plain.Seat) → x ∷ [] ≡ (hand p s).left → x.key ≡ s.key
+hand-key : (p : plain.AppMessage) (s x : plain.Session) → x ∷ [] ≡ (hand p s).left → x.key ≡ s.key
 hand-key p s x e = by p.qos e
   where
     one : (b : Bool) → x ∷ [] ≡ (cond b (numbered s p (next_id s.used s.last)) (bursts s)).left → x.key ≡ s.key
-    one true f = ap (λ (ss : List plain.Seat). head_key ss) f
+    one true f = ap (λ (ss : List plain.Session). head_key ss) f
     one false f = cc
 
     by : (q : ℕ) → x ∷ [] ≡ (hand_at q p s).left → x.key ≡ s.key
-    by zero f = ap (λ (ss : List plain.Seat). head_key ss) f
+    by zero f = ap (λ (ss : List plain.Session). head_key ss) f
     by (suc q) f = one (has_room s.used) f
 
 -- ---- one offer
 
-pub record Handed (d0 d1 : Desk) (x0 x1 : Draft) (place : ℕ) (p : plain.Post) (e b : Both) : Type 0 where
-  pub seats : d1.seats.items ≡ set d0.seats.items place b
-  pub desk : desk_now d1 ≡ record (desk_now d0) { seats = seats_now d1.seats.items }
+pub record Handed (d0 d1 : State) (x0 x1 : Draft) (place : ℕ) (p : plain.AppMessage) (e b : Both) : Type 0 where
+  pub sessions : d1.sessions.items ≡ set d0.sessions.items place b
+  pub state : state_now d1 ≡ record (state_now d0) { sessions = sessions_now d1.sessions.items }
   pub retained : d1.retained ≡ d0.retained
-  pub left : option_list b.now ≡ left_by (hand p) (get_or d0.seats.items place e).now
-  pub drafted : draft_view x1 ≡ served_by (hand p) (get_or d0.seats.items place e).now (draft_view x0)
+  pub left : option_list b.now ≡ left_by (hand p) (get_or d0.sessions.items place e).now
+  pub drafted : draft_view x1 ≡ served_by (hand p) (get_or d0.sessions.items place e).now (draft_view x0)
 
-here-after : (key : ℕ) (p : plain.Post) (s : plain.Seat) (o : Option plain.Seat) (ss : List plain.Seat) → s.key ≡ key → option_list o ≡ (hand p s).left
+here-after : (key : ℕ) (p : plain.AppMessage) (s : plain.Session) (o : Option plain.Session) (ss : List plain.Session) → s.key ≡ key → option_list o ≡ (hand p s).left
     → IsOf key o (swap key (hand p s).left ss)
 here-after key p s None ss k e = ap (λ l. with_key key (swap key l ss)) (sym e) ∙ swapped-out key ss
 here-after key p s (Some x) ss k e = hand-key p s x e ∙ k
 
-no-one : (o : Option plain.Seat) → option_list o ≡ [] → o ≡ None
+no-one : (o : Option plain.Session) → option_list o ≡ [] → o ≡ None
 no-one None e = refl
 no-one (Some x) e = cc
 
-pub offers : (d0 d1 : Desk) (x0 x1 : Draft) (place key : ℕ) (p : plain.Post) (e b : Both) (t : Turn) → Handed d0 d1 x0 x1 place p e b
+pub offers : (d0 d1 : State) (x0 x1 : Draft) (place key : ℕ) (p : plain.AppMessage) (e b : Both) (t : Turn) → Handed d0 d1 x0 x1 place p e b
     → Offering d0 x0 place key t → Offering d1 x1 place key (offer key t p)
-offers d0 d1 x0 x1 place key p e b t h o = by (get_or d0.seats.items place e).now refl
+offers d0 d1 x0 x1 place key p e b t h o = by (get_or d0.sessions.items place e).now refl
   where
-    low : place < length d1.seats.items
-    low = subst (λ n. place < n) (sym (ap length h.seats ∙ length-set d0.seats.items place b)) o.low
+    low : place < length d1.sessions.items
+    low = subst (λ n. place < n) (sym (ap length h.sessions ∙ length-set d0.sessions.items place b)) o.low
 
-    at : (d : Both) → get_or d1.seats.items place d ≡ b
-    at d = ap (λ ss. get_or ss place d) h.seats ∙ get_or-set_same d0.seats.items place b d o.low
+    at : (d : Both) → get_or d1.sessions.items place d ≡ b
+    at d = ap (λ ss. get_or ss place d) h.sessions ∙ get_or-set_same d0.sessions.items place b d o.low
 
-    same : seats_now d0.seats.items ≡ t.broker.seats
-    same = ap (λ (c : plain.Broker). c.seats) o.stands.broker
+    same : sessions_now d0.sessions.items ≡ t.broker.sessions
+    same = ap (λ (c : plain.Broker). c.sessions) o.stands.broker
 
-    gone : (get_or d0.seats.items place e).now ≡ None → Offering d1 x1 place key (offer key t p)
+    gone : (get_or d0.sessions.items place e).now ≡ None → Offering d1 x1 place key (offer key t p)
     gone n =
         let none : b.now ≡ None = no-one b.now (h.left ∙ ap (left_by (hand p)) n) in
-        let nobody : with_key key t.broker.seats ≡ None = subst (λ (k : Option plain.Seat). IsOf key k t.broker.seats) n (o.here e) in
+        let nobody : with_key key t.broker.sessions ≡ None = subst (λ (k : Option plain.Session). IsOf key k t.broker.sessions) n (o.here e) in
         let idle : t ≡ offer key t p = ap (λ k. offer_at k key p t) (sym nobody) in
-        let seats : seats_now d1.seats.items ≡ seats_now d0.seats.items = ap seats_now h.seats ∙ none-set d0.seats.items place e b n none in
+        let sessions : sessions_now d1.sessions.items ≡ sessions_now d0.sessions.items = ap sessions_now h.sessions ∙ none-set d0.sessions.items place e b n none in
         let view : draft_view x1 ≡ draft_view x0 = h.drafted ∙ ap (λ k. served_by (hand p) k (draft_view x0)) n in
         subst (Offering d1 x1 place key) idle (record {
           stands = record {
-            broker = ap (λ (y : Drafted). with_keeps y.keeps (desk_now d1)) view
-                ∙ ap (with_keeps (draft_view x0).keeps) (h.desk ∙ ap (λ ss. record (desk_now d0) { seats = ss }) seats) ∙ o.stands.broker;
+            broker = ap (λ (y : Drafted). with_keeps y.keeps (state_now d1)) view
+                ∙ ap (with_keeps (draft_view x0).keeps) (h.state ∙ ap (λ ss. record (state_now d0) { sessions = ss }) sessions) ∙ o.stands.broker;
             sends = ap (λ (y : Drafted). y.sends) view ∙ o.stands.sends;
             closes = ap (λ (y : Drafted). y.closes) view ∙ o.stands.closes;
             waiting = ap (λ (y : Drafted). y.waiting) view ∙ o.stands.waiting;
@@ -128,25 +128,25 @@ offers d0 d1 x0 x1 place key p e b t h o = by (get_or d0.seats.items place e).no
             lawful = o.stands.lawful;
           };
           low = low;
-          here = λ d. subst (λ (k : Option plain.Seat). IsOf key k t.broker.seats) (sym (ap (λ (x : Both). x.now) (at d) ∙ none)) nobody;
+          here = λ d. subst (λ (k : Option plain.Session). IsOf key k t.broker.sessions) (sym (ap (λ (x : Both). x.now) (at d) ∙ none)) nobody;
         })
 
-    there : (s : plain.Seat) → (get_or d0.seats.items place e).now ≡ Some s → Offering d1 x1 place key (offer key t p)
+    there : (s : plain.Session) → (get_or d0.sessions.items place e).now ≡ Some s → Offering d1 x1 place key (offer key t p)
     there s n =
-        let k : s.key ≡ key = subst (λ (m : Option plain.Seat). IsOf key m t.broker.seats) n (o.here e) in
-        let rises : Rises 0 t.broker.made (seats_now d0.seats.items) = subst (Rises 0 t.broker.made) (sym same) o.stands.lawful.keys in
-        let found : with_key key t.broker.seats ≡ Some s =
-        ap (λ m. with_key m t.broker.seats) (sym k) ∙ ap (with_key s.key) (sym same) ∙ with-key-at d0.seats.items place e s 0 t.broker.made rises o.low n in
+        let k : s.key ≡ key = subst (λ (m : Option plain.Session). IsOf key m t.broker.sessions) n (o.here e) in
+        let rises : Rises 0 t.broker.made (sessions_now d0.sessions.items) = subst (Rises 0 t.broker.made) (sym same) o.stands.lawful.keys in
+        let found : with_key key t.broker.sessions ≡ Some s =
+        ap (λ m. with_key m t.broker.sessions) (sym k) ∙ ap (with_key s.key) (sym same) ∙ with-key-at d0.sessions.items place e s 0 t.broker.made rises o.low n in
         let left : option_list b.now ≡ (hand p s).left = h.left ∙ ap (left_by (hand p)) n in
-        let seats : seats_now d1.seats.items ≡ swap key (hand p s).left t.broker.seats =
-        ap seats_now h.seats ∙ sym (swap-at d0.seats.items place e b s 0 t.broker.made rises o.low n)
-        ∙ ap (λ l. swap s.key l (seats_now d0.seats.items)) left ∙ ap (λ m. swap m (hand p s).left (seats_now d0.seats.items)) k ∙ ap (swap key (hand p s).left) same in
+        let sessions : sessions_now d1.sessions.items ≡ swap key (hand p s).left t.broker.sessions =
+        ap sessions_now h.sessions ∙ sym (swap-at d0.sessions.items place e b s 0 t.broker.made rises o.low n)
+        ∙ ap (λ l. swap s.key l (sessions_now d0.sessions.items)) left ∙ ap (λ m. swap m (hand p s).left (sessions_now d0.sessions.items)) k ∙ ap (swap key (hand p s).left) same in
         let view : draft_view x1 ≡ served_by (hand p) (Some s) (draft_view x0) = h.drafted ∙ ap (λ m. served_by (hand p) m (draft_view x0)) n in
         subst (Offering d1 x1 place key) (ap (λ m. offer_at m key p t) (sym found)) (record {
           stands = record {
-            broker = ap (λ (y : Drafted). with_keeps y.keeps (desk_now d1)) view
-                ∙ ap (with_keeps (draft_view x0).keeps) (h.desk ∙ ap (λ ss. record (desk_now d0) { seats = ss }) seats)
-                ∙ ap (λ (c : plain.Broker). record c { seats = swap key (hand p s).left t.broker.seats }) o.stands.broker;
+            broker = ap (λ (y : Drafted). with_keeps y.keeps (state_now d1)) view
+                ∙ ap (with_keeps (draft_view x0).keeps) (h.state ∙ ap (λ ss. record (state_now d0) { sessions = ss }) sessions)
+                ∙ ap (λ (c : plain.Broker). record c { sessions = swap key (hand p s).left t.broker.sessions }) o.stands.broker;
             sends = ap (λ (y : Drafted). y.sends) view ∙ ap (λ l. l ++ map outgoing (hand p s).sends) o.stands.sends ∙ sym (map-append outgoing t.sends (hand p s).sends);
             closes = ap (λ (y : Drafted). y.closes) view ∙ ap (λ l. l ++ (hand p s).closes) o.stands.closes;
             waiting = ap (λ (y : Drafted). y.waiting) view ∙ ap (λ l. l ++ (hand p s).wills) o.stands.waiting;
@@ -154,11 +154,11 @@ offers d0 d1 x0 x1 place key p e b t h o = by (get_or d0.seats.items place e).no
             lawful = lawful-offer_at key p t (Some s) o.stands.lawful found;
           };
           low = low;
-          here = λ d. subst (λ (m : Option plain.Seat). IsOf key m (swap key (hand p s).left t.broker.seats)) (sym (ap (λ (x : Both). x.now) (at d)))
-              (here-after key p s b.now t.broker.seats k left);
+          here = λ d. subst (λ (m : Option plain.Session). IsOf key m (swap key (hand p s).left t.broker.sessions)) (sym (ap (λ (x : Both). x.now) (at d)))
+              (here-after key p s b.now t.broker.sessions k left);
         })
 
-    by : (m : Option plain.Seat) → (get_or d0.seats.items place e).now ≡ m → Offering d1 x1 place key (offer key t p)
+    by : (m : Option plain.Session) → (get_or d0.sessions.items place e).now ≡ m → Offering d1 x1 place key (offer key t p)
     by None n = gone n
     by (Some s) n = there s n
 
@@ -191,7 +191,7 @@ offers-step key t g es i =
     sym (fold-append (offer key) t (offers_to (take i es) g) (offers_at (slice_get es i) g))
     ∙ ap (fold (offer key) t) (sym (offers-more g es i) ∙ ap (λ m. offers_to (take m es) g) n)
 
-pub offering-along : (d : Desk) (x : Draft) (place key : ℕ) (t u : Turn) → Offering d x place key t → t ≡ u → Offering d x place key u
+pub offering-along : (d : State) (x : Draft) (place key : ℕ) (t u : Turn) → Offering d x place key t → t ≡ u → Offering d x place key u
 offering-along d x place key t u o e = subst (Offering d x place key) e o
 
 -- one grant more

@@ -77,8 +77,8 @@ missed-there bs key p (Err q) e result o i d low is =
 
 -- the others stand no further ahead than here
 abbrev pub AreBehind : List (ℕ × ℕ) → ℕ → ℕ → List Both → Type 0
-AreBehind found j from seats = AreOrdered seats → IsStrictlyIncreasing (map (λ g. g.0) found)
-    → (i : ℕ) (d : Both) (m : ℕ) (e : ℕ × ℕ) → i < from → j ≤ m → m < length found → is_there (get_or found m e).0 (get_or seats i d) ≡ false
+AreBehind found j from sessions = AreOrdered sessions → IsStrictlyIncreasing (map (λ g. g.0) found)
+    → (i : ℕ) (d : Both) (m : ℕ) (e : ℕ × ℕ) → i < from → j ≤ m → m < length found → is_there (get_or found m e).0 (get_or sessions i d) ≡ false
 
 rising : (found : List (ℕ × ℕ)) → IsStrictlyIncreasing (map (λ g. g.0) found) → (i j : ℕ) (e : ℕ × ℕ) → i < j → j < length found → (get_or found i e).0 < (get_or found j e).0
 rising found up i j e less low =
@@ -96,28 +96,28 @@ and-false : (a b : Bool) → b ≡ false → a && b ≡ false
 and-false true b e = e
 and-false false b e = refl
 
-pub behind-start : (found : List (ℕ × ℕ)) (seats : List Both) → AreBehind found 0 0 seats
-behind-start found seats o up i d m e low le within = absurd (omega (arith, low))
+pub behind-start : (found : List (ℕ × ℕ)) (sessions : List Both) → AreBehind found 0 0 sessions
+behind-start found sessions o up i d m e low le within = absurd (omega (arith, low))
 
-pub behind-more : (found : List (ℕ × ℕ)) (j p : ℕ) (seats : List Both) → p < length seats → ((e : ℕ × ℕ) (d : Both) → is_there (get_or found j e).0 (get_or seats p d) ≡ true) → AreBehind found (j + 1) (p + 1) seats
-behind-more found j p seats plow here o up i d m e low le within =
-    let at : (get_or seats p d).was.key ≡ (get_or found j e).0 = eqb-is (get_or seats p d).was.key (get_or found j e).0 (and-second (is_some (get_or seats p d).now) (eqb (get_or seats p d).was.key (get_or found j e).0) (here e d)) in
-    let before = ordered-le seats o i p d (omega (arith, low)) plow in
+pub behind-more : (found : List (ℕ × ℕ)) (j p : ℕ) (sessions : List Both) → p < length sessions → ((e : ℕ × ℕ) (d : Both) → is_there (get_or found j e).0 (get_or sessions p d) ≡ true) → AreBehind found (j + 1) (p + 1) sessions
+behind-more found j p sessions plow here o up i d m e low le within =
+    let at : (get_or sessions p d).was.key ≡ (get_or found j e).0 = eqb-is (get_or sessions p d).was.key (get_or found j e).0 (and-second (is_some (get_or sessions p d).now) (eqb (get_or sessions p d).was.key (get_or found j e).0) (here e d)) in
+    let before = ordered-le sessions o i p d (omega (arith, low)) plow in
     let more = rising found up j m e (omega (arith, le)) within in
-    and-false (is_some (get_or seats i d).now) (eqb (get_or seats i d).was.key (get_or found m e).0)
-    (unequal (get_or seats i d).was.key (get_or found m e).0 (λ same. omega (arith, same, at, before, more)))
+    and-false (is_some (get_or sessions i d).now) (eqb (get_or sessions i d).was.key (get_or found m e).0)
+    (unequal (get_or sessions i d).was.key (get_or found m e).0 (λ same. omega (arith, same, at, before, more)))
 
 -- where one of them is gone
-pub behind-past : (found : List (ℕ × ℕ)) (j from : ℕ) (seats : List Both) → AreBehind found j from seats → AreBehind found (j + 1) from seats
-behind-past found j from seats behind o up i d m e low le within = behind o up i d m e low (omega (arith, le)) within
+pub behind-past : (found : List (ℕ × ℕ)) (j from : ℕ) (sessions : List Both) → AreBehind found j from sessions → AreBehind found (j + 1) from sessions
+behind-past found j from sessions behind o up i d m e low le within = behind o up i d m e low (omega (arith, le)) within
 
 -- where the first ones are, is a place
 abbrev pub AreMet : List (ℕ × ℕ) → ℕ → List ℕ → List Both → Type 0
-AreMet found j ps seats = AreOrdered seats → IsStrictlyIncreasing (map (λ g. g.0) found)
-    → (k : ℕ) (e : ℕ × ℕ) (i : ℕ) (d : Both) → k < j → k < length found → i < length seats → is_there (get_or found k e).0 (get_or seats i d) ≡ true → is_place i ps ≡ true
+AreMet found j ps sessions = AreOrdered sessions → IsStrictlyIncreasing (map (λ g. g.0) found)
+    → (k : ℕ) (e : ℕ × ℕ) (i : ℕ) (d : Both) → k < j → k < length found → i < length sessions → is_there (get_or found k e).0 (get_or sessions i d) ≡ true → is_place i ps ≡ true
 
-pub none-met : (found : List (ℕ × ℕ)) (ps : List ℕ) (seats : List Both) → AreMet found 0 ps seats
-none-met found ps seats o up k e i d low within ilow there = absurd (omega (arith, low))
+pub none-met : (found : List (ℕ × ℕ)) (ps : List ℕ) (sessions : List Both) → AreMet found 0 ps sessions
+none-met found ps sessions o up k e i d low within ilow there = absurd (omega (arith, low))
 
 either-true : (a b : Bool) → a ≡ true → a || b ≡ true
 either-true a b e = ap (λ x. x || b) e
@@ -129,31 +129,31 @@ or-true false b e = e
 more-place : (ps : List ℕ) (p i : ℕ) → is_place i (ps ++ p ∷ []) ≡ is_place i ps || (eqb p i || false)
 more-place ps p i = list_any-append (λ q. eqb q i) ps (p ∷ [])
 
-pub met-more : (found : List (ℕ × ℕ)) (j p : ℕ) (ps : List ℕ) (seats : List Both) → AreMet found j ps seats → p < length seats
-    → ((e : ℕ × ℕ) (d : Both) → is_there (get_or found j e).0 (get_or seats p d) ≡ true) → AreMet found (j + 1) (ps ++ p ∷ []) seats
-met-more found j p ps seats old plow here o up k e i d low within ilow there =
+pub met-more : (found : List (ℕ × ℕ)) (j p : ℕ) (ps : List ℕ) (sessions : List Both) → AreMet found j ps sessions → p < length sessions
+    → ((e : ℕ × ℕ) (d : Both) → is_there (get_or found j e).0 (get_or sessions p d) ≡ true) → AreMet found (j + 1) (ps ++ p ∷ []) sessions
+met-more found j p ps sessions old plow here o up k e i d low within ilow there =
     more-place ps p i
     ∙ ⊎_elim
     (λ less. either-true (is_place i ps) (eqb p i || false) (old o up k e i d less within ilow there))
     (λ ge.
     let last : k ≡ j = omega (arith, ge, low) in
-    let one : (get_or seats i d).was.key ≡ (get_or found k e).0 = eqb-is (get_or seats i d).was.key (get_or found k e).0 (and-second (is_some (get_or seats i d).now) (eqb (get_or seats i d).was.key (get_or found k e).0) there) in
-    let two : (get_or seats p d).was.key ≡ (get_or found j e).0 = eqb-is (get_or seats p d).was.key (get_or found j e).0 (and-second (is_some (get_or seats p d).now) (eqb (get_or seats p d).was.key (get_or found j e).0) (here e d)) in
-    let same : i ≡ p = was-same seats o i p d ilow plow (one ∙ ap (λ n. (get_or found n e).0) last ∙ sym two) in
+    let one : (get_or sessions i d).was.key ≡ (get_or found k e).0 = eqb-is (get_or sessions i d).was.key (get_or found k e).0 (and-second (is_some (get_or sessions i d).now) (eqb (get_or sessions i d).was.key (get_or found k e).0) there) in
+    let two : (get_or sessions p d).was.key ≡ (get_or found j e).0 = eqb-is (get_or sessions p d).was.key (get_or found j e).0 (and-second (is_some (get_or sessions p d).now) (eqb (get_or sessions p d).was.key (get_or found j e).0) (here e d)) in
+    let same : i ≡ p = was-same sessions o i p d ilow plow (one ∙ ap (λ n. (get_or found n e).0) last ∙ sym two) in
     or-true (is_place i ps) (eqb p i || false) (either-true (eqb p i) false (eq-eqb p i (sym same))))
     (cases_lt k j)
 
-pub met-past : (found : List (ℕ × ℕ)) (j from : ℕ) (key : ℕ) (ps : List ℕ) (seats : List Both) → AreMet found j ps seats → AreBehind found j from seats
-    → ((e : ℕ × ℕ) → key ≡ (get_or found j e).0) → (AreOrdered seats → IsPast key from seats) → AreMet found (j + 1) ps seats
-met-past found j from key ps seats old behind is past o up k e i d low within ilow there =
+pub met-past : (found : List (ℕ × ℕ)) (j from : ℕ) (key : ℕ) (ps : List ℕ) (sessions : List Both) → AreMet found j ps sessions → AreBehind found j from sessions
+    → ((e : ℕ × ℕ) → key ≡ (get_or found j e).0) → (AreOrdered sessions → IsPast key from sessions) → AreMet found (j + 1) ps sessions
+met-past found j from key ps sessions old behind is past o up k e i d low within ilow there =
     ⊎_elim
     (λ less. old o up k e i d less within ilow there)
     (λ ge.
     let last : k ≡ j = omega (arith, ge, low) in
-    let gone : is_there (get_or found k e).0 (get_or seats i d) ≡ false =
+    let gone : is_there (get_or found k e).0 (get_or sessions i d) ≡ false =
     ⊎_elim
     (λ lt. behind o up i d k e lt (omega (arith, ge)) within)
-    (λ le. ap (λ n. is_there (get_or found n e).0 (get_or seats i d)) last ∙ ap (λ n. is_there n (get_or seats i d)) (sym (is e)) ∙ past o i d le ilow)
+    (λ le. ap (λ n. is_there (get_or found n e).0 (get_or sessions i d)) last ∙ ap (λ n. is_there n (get_or sessions i d)) (sym (is e)) ∙ past o i d le ilow)
     (cases_lt i from) in
     absurd (true≢false (sym there ∙ gone)))
     (cases_lt k j)

@@ -17,7 +17,7 @@ use Rattle.spk_broker_rules.proofs.Tables.{bytes_self}
 use Rattle.spk_broker.specs.Both.{Both}
 use Rattle.spk_broker.specs.Drafts.{Drafted, left_by, served_by, with_served}
 use Rattle.spk_broker.specs.Filing.{AllOf, AreFiled, ArePassed, IsFiled, has_key}
-use Rattle.spk_broker.specs.View.{seat_now}
+use Rattle.spk_broker.specs.View.{session_now}
 
 -- ---- nobody that fits
 
@@ -61,7 +61,7 @@ not-found index topic found finds law key gs filed none = no-best topic gs nobod
         true≢false (sym (found-key found key among.0 among.1.0 among.1.1 among.1.2) ∙ none)
 
 pub passed-all : (index : Grants) (topic : List ℕ) (found : Vec (ℕ × ℕ) Global) → Finds index topic found.items → ((f t : List ℕ) → IsTrue (is_match f t) ↔ Matches f t)
-    → (ss : List plain.Seat) → AreFiled index ss → ArePassed (Some found) topic ss
+    → (ss : List plain.Session) → AreFiled index ss → ArePassed (Some found) topic ss
 passed-all index topic found finds law [] all = tt
 passed-all index topic found finds law (s ∷ ss) all = (λ p. not-found index topic found.items finds law s.key s.grants all.0 (turned (has_key s.key found.items) p), passed-all index topic found finds law ss all.1)
   where
@@ -70,20 +70,20 @@ passed-all index topic found finds law (s ∷ ss) all = (λ p. not-found index t
     turned false e = refl
 
 -- where nothing is known nobody is passed over
-pub passed-none : (topic : List ℕ) (ss : List plain.Seat) → ArePassed None topic ss
+pub passed-none : (topic : List ℕ) (ss : List plain.Session) → ArePassed None topic ss
 passed-none topic [] = tt
 passed-none topic (s ∷ ss) = (λ e. absurd (true≢false (sym e)), passed-none topic ss)
 
 -- ---- it does nothing
 
-idle : (m : plain.Post) (s : plain.Seat) → best m.topic s.grants ≡ None → serve m s ≡ stays s []
+idle : (m : plain.AppMessage) (s : plain.Session) → best m.topic s.grants ≡ None → serve m s ≡ stays s []
 idle m s none = ap (λ o. serve_at (level m.qos o) m s) none
 
-pub idle-left : (m : plain.Post) (o : Option plain.Seat) → ((s : plain.Seat) → o ≡ Some s → best m.topic s.grants ≡ None) → option_list o ≡ left_by (serve m) o
+pub idle-left : (m : plain.AppMessage) (o : Option plain.Session) → ((s : plain.Session) → o ≡ Some s → best m.topic s.grants ≡ None) → option_list o ≡ left_by (serve m) o
 idle-left m None h = refl
 idle-left m (Some s) h = ap (λ (x : Served). x.left) (sym (idle m s (h s refl)))
 
-pub idle-drafted : (m : plain.Post) (o : Option plain.Seat) (d : Drafted) → ((s : plain.Seat) → o ≡ Some s → best m.topic s.grants ≡ None) → served_by (serve m) o d ≡ d
+pub idle-drafted : (m : plain.AppMessage) (o : Option plain.Session) (d : Drafted) → ((s : plain.Session) → o ≡ Some s → best m.topic s.grants ≡ None) → served_by (serve m) o d ≡ d
 idle-drafted m None d h = refl
 idle-drafted m (Some s) d h = ap (λ (x : Served). with_served x d) (idle m s (h s refl))
     ∙ ap (λ x. record d { sends = x; closes = d.closes ++ []; waiting = d.waiting ++ [] }) (append-nil d.sends)
@@ -93,30 +93,30 @@ idle-drafted m (Some s) d h = ap (λ (x : Served). with_served x d) (idle m s (h
 -- ---- along the sessions
 
 -- of those from a place on
-pub passed-at : (Q : ℕ → Table ℕ → Type 0) (cur : List Both) (i : ℕ) (d : Both) (s : plain.Seat) → i < length cur → (get_or cur i d).now ≡ Some s → AllOf Q (flat_map seat_now (drop i cur)) → Q s.key s.grants
+pub passed-at : (Q : ℕ → Table ℕ → Type 0) (cur : List Both) (i : ℕ) (d : Both) (s : plain.Session) → i < length cur → (get_or cur i d).now ≡ Some s → AllOf Q (flat_map session_now (drop i cur)) → Q s.key s.grants
 passed-at Q [] i d s low is all = absurd (omega (arith, low))
 passed-at Q (c ∷ cs) zero d s low is all = by c.now is all
   where
-    by : (o : Option plain.Seat) → o ≡ Some s → AllOf Q (option_list o ++ flat_map seat_now cs) → Q s.key s.grants
+    by : (o : Option plain.Session) → o ≡ Some s → AllOf Q (option_list o ++ flat_map session_now cs) → Q s.key s.grants
     by None e all = absurd (none e)
       where
         none : {Y : Type 0} {y : Y} → None ≡ Some y → ⊥
         none e = cc
-    by (Some x) e all = let same : x ≡ s = cc in subst (λ (y : plain.Seat). Q y.key y.grants) same all.0
+    by (Some x) e all = let same : x ≡ s = cc in subst (λ (y : plain.Session). Q y.key y.grants) same all.0
 passed-at Q (c ∷ cs) (suc i) d s low is all = passed-at Q cs i d s (omega (arith, low)) is all
 
-pub passed-next : (Q : ℕ → Table ℕ → Type 0) (cur : List Both) (i : ℕ) (new : Both) → i < length cur → AllOf Q (flat_map seat_now (drop i cur)) → AllOf Q (flat_map seat_now (drop (i + 1) (set cur i new)))
+pub passed-next : (Q : ℕ → Table ℕ → Type 0) (cur : List Both) (i : ℕ) (new : Both) → i < length cur → AllOf Q (flat_map session_now (drop i cur)) → AllOf Q (flat_map session_now (drop (i + 1) (set cur i new)))
 passed-next Q [] i new low all = absurd (omega (arith, low))
 passed-next Q (c ∷ cs) zero new low all = by c.now all
   where
-    by : (o : Option plain.Seat) → AllOf Q (option_list o ++ flat_map seat_now cs) → AllOf Q (flat_map seat_now cs)
+    by : (o : Option plain.Session) → AllOf Q (option_list o ++ flat_map session_now cs) → AllOf Q (flat_map session_now cs)
     by None all = all
     by (Some x) all = all.1
 passed-next Q (c ∷ cs) (suc i) new low all =
     let z : suc i + 1 ≡ suc (i + 1) = omega arith in
-    subst (λ k. AllOf Q (flat_map seat_now (drop k (set (c ∷ cs) (suc i) new)))) (sym z) (passed-next Q cs i new (omega (arith, low)) all)
+    subst (λ k. AllOf Q (flat_map session_now (drop k (set (c ∷ cs) (suc i) new)))) (sym z) (passed-next Q cs i new (omega (arith, low)) all)
 
 -- the index finds all that it has
-pub filed-more : (index more : Grants) → ((f : List ℕ) (k : ℕ) → is_some (tree.get index (f, k)) ≡ true → is_some (tree.get more (f, k)) ≡ true) → (ss : List plain.Seat) → AreFiled index ss → AreFiled more ss
+pub filed-more : (index more : Grants) → ((f : List ℕ) (k : ℕ) → is_some (tree.get index (f, k)) ≡ true → is_some (tree.get more (f, k)) ≡ true) → (ss : List plain.Session) → AreFiled index ss → AreFiled more ss
 filed-more index more h [] all = tt
 filed-more index more h (s ∷ ss) all = (λ f there. h f s.key (all.0 f there), filed-more index more h ss all.1)

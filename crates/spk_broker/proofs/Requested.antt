@@ -9,9 +9,9 @@ use Rattle.spk_broker_rules.proofs.Lists.{any-map}
 use Rattle.spk_broker.specs.Granting.{taken_from}
 use Rattle.spk_broker.specs.Parts.{grant_view}
 use Rattle.spk_broker.specs.Tables.{last_of, renewed, with_last}
-use Rattle.spk_broker.specs.declared.seat.Grant.{Grant}
+use Rattle.spk_broker.specs.declared.session.Grant.{Grant}
 use Rattle.spk_broker.proofs.Fronts.{or_none}
-use Rattle.spk_broker.proofs.Retained.{bytes-flip, same-bytes}
+use Rattle.spk_broker.proofs.Retaining.{bytes-flip, same-bytes}
 
 abbrev pub Found : Type 0
 Found = List ℕ → Option (Option ℕ)

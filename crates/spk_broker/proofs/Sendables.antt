@@ -247,7 +247,7 @@ suback-writable id filters codes same grants w =
     three false true c p q r = absurd (true≢false q)
     three true b c p q r = absurd (true≢false p)
 
--- ---- what a copy's number says
+-- ---- what the number of a message in flight says
 
 pub numbered-parts : (qos id : ℕ) → is_numbered qos id ≡ true → (qos ≡ 1) × ((id == 0) ≡ false)
 numbered-parts qos id e = by (qos == 1) (id == 0) refl refl e
@@ -257,8 +257,8 @@ numbered-parts qos id e = by (qos == 1) (id == 0) refl refl e
     by true true p q e = absurd (true≢false (sym e))
     by false b p q e = absurd (true≢false (sym e))
 
-pub copy-writable : (topic payload : List ℕ) (qos id : ℕ) (dup retain : Bool) → is_sendable topic payload qos ≡ true → is_numbered qos id ≡ true → IsWritable (Publish dup 1 retain topic (Some id) payload)
-copy-writable topic payload qos id dup retain h e =
+pub message-writable : (topic payload : List ℕ) (qos id : ℕ) (dup retain : Bool) → is_sendable topic payload qos ≡ true → is_numbered qos id ≡ true → IsWritable (Publish dup 1 retain topic (Some id) payload)
+message-writable topic payload qos id dup retain h e =
     let (one, some) = numbered-parts qos id e in
     numbered-writable topic payload dup retain id (subst (λ q. is_sendable topic payload q ≡ true) one h) some
 

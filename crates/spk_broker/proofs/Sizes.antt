@@ -10,8 +10,8 @@ use Rattle.spk_broker.specs.Both.{Both}
 use Rattle.spk_broker.specs.Granting.{standing_grants}
 use Rattle.spk_broker.specs.Parts.{grant_view}
 use Rattle.spk_broker.specs.Sizes.{size_of, size_of_all, size_of_grants}
-use Rattle.spk_broker.specs.View.{seat_now}
-use Rattle.spk_broker.specs.declared.seat.Grant.{Grant}
+use Rattle.spk_broker.specs.View.{session_now}
+use Rattle.spk_broker.specs.declared.session.Grant.{Grant}
 
 abbrev pub is_slash : ℕ → Bool
 is_slash b = b == 47
@@ -51,31 +51,31 @@ grants-within gs i d low =
 
 -- what a session's filters take by now
 abbrev pub size_at : Both → ℕ
-size_at b = option_map_or (λ (s : plain.Seat). size_of_grants s.grants) b.now 0
+size_at b = option_map_or (λ (s : plain.Session). size_of_grants s.grants) b.now 0
 
-one-size : (o : Option plain.Seat) → size_of_all (option_list o) ≡ option_map_or (λ (s : plain.Seat). size_of_grants s.grants) o 0
+one-size : (o : Option plain.Session) → size_of_all (option_list o) ≡ option_map_or (λ (s : plain.Session). size_of_grants s.grants) o 0
 one-size None = refl
 one-size (Some s) = omega arith
 
-each-size : (bs : List Both) → size_of_all (flat_map seat_now bs) ≡ sum_by size_at bs
+each-size : (bs : List Both) → size_of_all (flat_map session_now bs) ≡ sum_by size_at bs
 each-size [] = refl
 each-size (b ∷ bs) =
     let first = one-size b.now in
     let rest = each-size bs in
-    let one : size_of_all (flat_map seat_now (b ∷ bs)) ≡ size_of_all (seat_now b) + size_of_all (flat_map seat_now bs) = sum_by-append (λ (s : plain.Seat). size_of_grants s.grants) (seat_now b) (flat_map seat_now bs) in
+    let one : size_of_all (flat_map session_now (b ∷ bs)) ≡ size_of_all (session_now b) + size_of_all (flat_map session_now bs) = sum_by-append (λ (s : plain.Session). size_of_grants s.grants) (session_now b) (flat_map session_now bs) in
     let two : sum_by size_at (b ∷ bs) ≡ sum_by size_at (b ∷ []) + sum_by size_at bs = sum_by-append size_at (b ∷ []) bs in
     let single : sum_by size_at (b ∷ []) ≡ size_at b = omega arith in
-    one ∙ ap (λ n. n + size_of_all (flat_map seat_now bs)) (first ∙ sym single) ∙ ap (λ n. sum_by size_at (b ∷ []) + n) rest ∙ sym two
+    one ∙ ap (λ n. n + size_of_all (flat_map session_now bs)) (first ∙ sym single) ∙ ap (λ n. sum_by size_at (b ∷ []) + n) rest ∙ sym two
 
 -- one session more
-pub size-more : (bs : List Both) (i : ℕ) (d : Both) → i < length bs → size_of_all (flat_map seat_now (take (i + 1) bs)) ≡ size_of_all (flat_map seat_now (take i bs)) + size_at (get_or bs i d)
+pub size-more : (bs : List Both) (i : ℕ) (d : Both) → i < length bs → size_of_all (flat_map session_now (take (i + 1) bs)) ≡ size_of_all (flat_map session_now (take i bs)) + size_at (get_or bs i d)
 size-more bs i d low =
     let more = each-size (take (i + 1) bs) in
     let before = each-size (take i bs) in
     let step = sum_by_more size_at bs i d low in
     omega (arith, more, before, step)
 
-pub size-within : (bs : List Both) (i : ℕ) (d : Both) → i < length bs → size_of_all (flat_map seat_now (take i bs)) + size_at (get_or bs i d) ≤ size_of_all (flat_map seat_now bs)
+pub size-within : (bs : List Both) (i : ℕ) (d : Both) → i < length bs → size_of_all (flat_map session_now (take i bs)) + size_at (get_or bs i d) ≤ size_of_all (flat_map session_now bs)
 size-within bs i d low =
     let all = each-size bs in
     let before = each-size (take i bs) in
@@ -83,6 +83,6 @@ size-within bs i d low =
     omega (arith, all, before, step)
 
 -- as much as the grants that stand
-pub size-standing : (o : Option plain.Seat) → option_map_or (λ (s : plain.Seat). size_of_grants s.grants) o 0 ≡ size_of_grants (standing_grants o)
+pub size-standing : (o : Option plain.Session) → option_map_or (λ (s : plain.Session). size_of_grants s.grants) o 0 ≡ size_of_grants (standing_grants o)
 size-standing None = refl
 size-standing (Some s) = refl

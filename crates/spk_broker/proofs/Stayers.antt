@@ -5,24 +5,24 @@ use Rattle.std.specs.Option.{is_some}
 use Rattle.spk_broker_rules.specs.Data as plain
 use Rattle.spk_broker_rules.specs.Words.{option_list}
 use Rattle.spk_broker.specs.Both.{Both}
-use Rattle.spk_broker.specs.Settling.{has_ended, seat_left}
-use Rattle.spk_broker.specs.View.{seat_now}
+use Rattle.spk_broker.specs.Settling.{has_ended, session_left}
+use Rattle.spk_broker.specs.View.{session_now}
 use Rattle.spk_broker.proofs.Touched.{any-none}
 
 abbrev pub stays : Both → Bool
 stays b = is_some b.now
 
-pub gone-now : (b : Both) → stays b ≡ false → seat_now b ≡ []
+pub gone-now : (b : Both) → stays b ≡ false → session_now b ≡ []
 gone-now b e = by b.now e
   where
-    by : (o : Option plain.Seat) → is_some o ≡ false → option_list o ≡ []
+    by : (o : Option plain.Session) → is_some o ≡ false → option_list o ≡ []
     by None h = refl
     by (Some s) h = absurd (let z : ⊥ = cc in z)
 
-pub gone-left : (b : Both) → stays b ≡ false → seat_left b ≡ []
+pub gone-left : (b : Both) → stays b ≡ false → session_left b ≡ []
 gone-left b e = ap (λ t. cond t (b.was ∷ []) []) e
 
-pub here-left : (b : Both) → stays b ≡ true → seat_left b ≡ b.was ∷ []
+pub here-left : (b : Both) → stays b ≡ true → session_left b ≡ b.was ∷ []
 here-left b e = ap (λ t. cond t (b.was ∷ []) []) e
 
 -- where nobody ended all stay

@@ -12,12 +12,12 @@ use Rattle.spk_broker.specs.Asking.{place_in}
 use Rattle.spk_broker.specs.Both.{Both}
 use Rattle.spk_broker.specs.Called.{AreKeyed, ArePlaces, IsKeyed, is_place}
 use Rattle.spk_broker.specs.Entering.{whole}
-use Rattle.spk_broker.specs.Settling.{has_ended, seat_left}
+use Rattle.spk_broker.specs.Settling.{has_ended, session_left}
 use Rattle.spk_broker.specs.Touched.{AreTouched, AreVisited, IsAlone, OnlyAt}
-use Rattle.spk_broker.specs.View.{IsSettled, guest_now, guest_was, seat_now, seat_was}
-use Rattle.spk_broker.specs.declared.desk.Desk.{Desk}
-use Rattle.spk_broker.specs.declared.guest.Guest.{Guest}
-use Rattle.spk_broker.specs.declared.seat.Seat.{Seat}
+use Rattle.spk_broker.specs.View.{IsSettled, newcomer_now, newcomer_was, session_now, session_was}
+use Rattle.spk_broker.specs.declared.state.State.{State}
+use Rattle.spk_broker.specs.declared.newcomer.Newcomer.{Newcomer}
+use Rattle.spk_broker.specs.declared.session.Session.{Session}
 use Rattle.spk_broker.proofs.Changes.{whole-at}
 use Rattle.spk_broker.proofs.Near.{any-at, found-sits}
 use Rattle.spk_broker.proofs.Visits.{calling-length, place-is, push-long, push-new, push-old}
@@ -73,51 +73,51 @@ touched-set bs p x t =
           (t.rest i d (omega (arith, long, lt)) out);
     }
 
-pub only-set : (d0 d1 : Desk) (p : ℕ) (x : Both) → d1.seats.items ≡ set d0.seats.items p x → d1.guests ≡ d0.guests → OnlyAt (p ∷ []) d0 → OnlyAt (p ∷ []) d1
-only-set d0 d1 p x seats guests o = record {
-  seats = subst (AreTouched (p ∷ [])) (sym seats) (touched-set d0.seats.items p x o.seats);
-  guests = subst (λ (g : Vec Guest Global). flat_map guest_now g.items ≡ map guest_was g.items) (sym guests) o.guests;
+pub only-set : (d0 d1 : State) (p : ℕ) (x : Both) → d1.sessions.items ≡ set d0.sessions.items p x → d1.newcomers ≡ d0.newcomers → OnlyAt (p ∷ []) d0 → OnlyAt (p ∷ []) d1
+only-set d0 d1 p x sessions newcomers o = record {
+  sessions = subst (AreTouched (p ∷ [])) (sym sessions) (touched-set d0.sessions.items p x o.sessions);
+  newcomers = subst (λ (g : Vec Newcomer Global). flat_map newcomer_now g.items ≡ map newcomer_was g.items) (sym newcomers) o.newcomers;
 }
 
 -- between calls each has its number
-pub settled-keyed : (d : Desk) → IsSettled d → AreKeyed d.seats.items
-settled-keyed d e i x lt = subst IsKeyed (sym (whole-at d.seats.items i x (ap (λ (b : plain.Broker). b.seats) e) lt)) refl
+pub settled-keyed : (d : State) → IsSettled d → AreKeyed d.sessions.items
+settled-keyed d e i x lt = subst IsKeyed (sym (whole-at d.sessions.items i x (ap (λ (b : plain.Broker). b.sessions) e) lt)) refl
 
--- of a settled desk none has changed
-pub settled-alone : (d : Desk) (conn : ℕ) (o : Option ℕ) → IsSettled d → place_in conn d.seats.items ≡ o → IsAlone o d
+-- of a settled state none has changed
+pub settled-alone : (d : State) (conn : ℕ) (o : Option ℕ) → IsSettled d → place_in conn d.sessions.items ≡ o → IsAlone o d
 settled-alone d conn None e f = tt
 settled-alone d conn (Some p) e f = record {
-  seats = record { low = first; rest = λ i x lt out. whole-at d.seats.items i x (ap (λ (b : plain.Broker). b.seats) e) lt };
-  guests = ap (λ (b : plain.Broker). b.guests) e;
+  sessions = record { low = first; rest = λ i x lt out. whole-at d.sessions.items i x (ap (λ (b : plain.Broker). b.sessions) e) lt };
+  newcomers = ap (λ (b : plain.Broker). b.newcomers) e;
 }
   where
-    first : (k : ℕ) → k < length (p ∷ []) → get_or (p ∷ []) k 0 < length d.seats.items
-    first zero lt = (found-sits conn d.seats.items p f).0
+    first : (k : ℕ) → k < length (p ∷ []) → get_or (p ∷ []) k 0 < length d.sessions.items
+    first zero lt = (found-sits conn d.sessions.items p f).0
     first (suc k) lt = absurd (omega (arith, lt))
 
--- the same of a desk with the same sessions and connections
+-- the same of a state with the same sessions and connections
 -- a place among some is one among the same
 pub low-as : (o : Option ℕ) (l m : List Both) → l ≡ m → IfSome o (λ p. (p ≡ 0) × (p < length l)) → IfSome o (λ p. p < length m)
 low-as None l m e h = tt
 low-as (Some p) l m e h = subst (λ (xs : List Both). p < length xs) e h.1
 
--- of a settled desk none has changed, so not the one at a place
-pub settled-at : (d : Desk) (o : Option ℕ) → IsSettled d → IfSome o (λ p. p < length d.seats.items) → IsAlone o d
+-- of a settled state none has changed, so not the one at a place
+pub settled-at : (d : State) (o : Option ℕ) → IsSettled d → IfSome o (λ p. p < length d.sessions.items) → IsAlone o d
 settled-at d None e low = tt
 settled-at d (Some p) e low = record {
-  seats = record { low = first; rest = λ i x lt out. whole-at d.seats.items i x (ap (λ (b : plain.Broker). b.seats) e) lt };
-  guests = ap (λ (b : plain.Broker). b.guests) e;
+  sessions = record { low = first; rest = λ i x lt out. whole-at d.sessions.items i x (ap (λ (b : plain.Broker). b.sessions) e) lt };
+  newcomers = ap (λ (b : plain.Broker). b.newcomers) e;
 }
   where
-    first : (k : ℕ) → k < length (p ∷ []) → get_or (p ∷ []) k 0 < length d.seats.items
+    first : (k : ℕ) → k < length (p ∷ []) → get_or (p ∷ []) k 0 < length d.sessions.items
     first zero lt = low
     first (suc k) lt = absurd (omega (arith, lt))
 
-pub alone-as : (o : Option ℕ) (d0 d1 : Desk) → d1.seats ≡ d0.seats → d1.guests ≡ d0.guests → IsAlone o d0 → IsAlone o d1
-alone-as None d0 d1 seats guests h = tt
-alone-as (Some p) d0 d1 seats guests h = record {
-  seats = subst (λ (v : Vec Seat Global). AreTouched (p ∷ []) v.items) (sym seats) h.seats;
-  guests = subst (λ (g : Vec Guest Global). flat_map guest_now g.items ≡ map guest_was g.items) (sym guests) h.guests;
+pub alone-as : (o : Option ℕ) (d0 d1 : State) → d1.sessions ≡ d0.sessions → d1.newcomers ≡ d0.newcomers → IsAlone o d0 → IsAlone o d1
+alone-as None d0 d1 sessions newcomers h = tt
+alone-as (Some p) d0 d1 sessions newcomers h = record {
+  sessions = subst (λ (v : Vec Session Global). AreTouched (p ∷ []) v.items) (sym sessions) h.sessions;
+  newcomers = subst (λ (g : Vec Newcomer Global). flat_map newcomer_now g.items ≡ map newcomer_was g.items) (sym newcomers) h.newcomers;
 }
 
 -- and then those at which a message called
@@ -132,14 +132,14 @@ touched-more ps p old new t v =
           subst (λ (b : Both). b ≡ whole b.was) (sym (v.rest i d outs.0)) (t.rest i d (omega (arith, lt, long)) outs.1);
     }
 
-pub few-touched : (sender : Option ℕ) (places : Option (Vec ℕ Global)) (p : ℕ) (ps : Vec ℕ Global) (old new : Desk) → sender ≡ Some p → places ≡ Some ps
-    → IsAlone sender old → IfSome places (λ (l : Vec ℕ Global). AreVisited l.items old.seats.items new.seats.items) → new.guests ≡ old.guests → OnlyAt (ps.items ++ p ∷ []) new
+pub few-touched : (sender : Option ℕ) (places : Option (Vec ℕ Global)) (p : ℕ) (ps : Vec ℕ Global) (old new : State) → sender ≡ Some p → places ≡ Some ps
+    → IsAlone sender old → IfSome places (λ (l : Vec ℕ Global). AreVisited l.items old.sessions.items new.sessions.items) → new.newcomers ≡ old.newcomers → OnlyAt (ps.items ++ p ∷ []) new
 few-touched sender places p ps old new e f here there same =
     let alone : OnlyAt (p ∷ []) old = subst (λ o. IsAlone o old) e here in
     record {
-      seats = touched-more ps.items p old.seats.items new.seats.items alone.seats
-          (subst (λ o. IfSome o (λ (l : Vec ℕ Global). AreVisited l.items old.seats.items new.seats.items)) f there);
-      guests = subst (λ (g : Vec Guest Global). flat_map guest_now g.items ≡ map guest_was g.items) (sym same) alone.guests;
+      sessions = touched-more ps.items p old.sessions.items new.sessions.items alone.sessions
+          (subst (λ o. IfSome o (λ (l : Vec ℕ Global). AreVisited l.items old.sessions.items new.sessions.items)) f there);
+      newcomers = subst (λ (g : Vec Newcomer Global). flat_map newcomer_now g.items ≡ map newcomer_was g.items) (sym same) alone.newcomers;
     }
 
 -- ---- a message calls at places
@@ -153,7 +153,7 @@ apart-start ps bs i d out = refl
 pub apart-step : (ps : List ℕ) (j : ℕ) (start cur : List Both) (x : Both) → j < length ps → IsApart ps start cur → IsApart ps start (set cur (get_or ps j 0) x)
 apart-step ps j start cur x low h i d out = get_or-set_other cur (get_or ps j 0) i x d (no-place ps j i low out) ∙ h i d out
 
-pub visited : (ps : List ℕ) (old new : List Both) → map seat_was new ≡ map seat_was old → ArePlaces ps old → IsApart ps old new → AreVisited ps old new
+pub visited : (ps : List ℕ) (old new : List Both) → map session_was new ≡ map session_was old → ArePlaces ps old → IsApart ps old new → AreVisited ps old new
 visited ps old new was places apart =
     let long = calling-length new old was in
     record {
@@ -172,7 +172,7 @@ visited-as o a b c d e f h =
 pub record Settling (ps : List ℕ) (j : ℕ) (start cur : List Both) (ended : Bool) : Type 0 where
   pub long : length cur ≡ length start
   pub now : (i : ℕ) (d : Both) → i < length start → (get_or cur i d).now ≡ (get_or start i d).now
-  pub left : (k : ℕ) (d : Both) → k < j → k < length ps → seat_left (get_or cur (get_or ps k 0) d) ≡ option_list (get_or start (get_or ps k 0) d).now
+  pub left : (k : ℕ) (d : Both) → k < j → k < length ps → session_left (get_or cur (get_or ps k 0) d) ≡ option_list (get_or start (get_or ps k 0) d).now
   pub apart : IsApart ps start cur
   pub there : ended ≡ false → (k : ℕ) (d : Both) → k < j → k < length ps → is_some (get_or cur (get_or ps k 0) d).now ≡ true
   pub gone : ended ≡ true → (k : ℕ) × (k < j) × (k < length ps) × ((d : Both) → has_ended (get_or start (get_or ps k 0) d) ≡ true)
@@ -195,7 +195,7 @@ either-false : (a b : Bool) → a || b ≡ false → (a ≡ false) × (b ≡ fal
 either-false true b e = absurd (true≢false e)
 either-false false b e = (refl, e)
 
-stays-there : (o : Option plain.Seat) → not (is_some o) ≡ false → is_some o ≡ true
+stays-there : (o : Option plain.Session) → not (is_some o) ≡ false → is_some o ≡ true
 stays-there None e = absurd (true≢false e)
 stays-there (Some s) e = refl
 
@@ -208,7 +208,7 @@ set-cases cur p new i d below P here other =
     (cases_eq i p)
 
 pub settling-step : (ps : List ℕ) (j : ℕ) (start cur : List Both) (ended gone : Bool) (e new : Both) → Settling ps j start cur ended → AreTouched ps start → j < length ps
-    → new.now ≡ (get_or cur (get_or ps j 0) e).now → seat_left new ≡ option_list (get_or cur (get_or ps j 0) e).now → gone ≡ has_ended new
+    → new.now ≡ (get_or cur (get_or ps j 0) e).now → session_left new ≡ option_list (get_or cur (get_or ps j 0) e).now → gone ≡ has_ended new
     → Settling ps (j + 1) start (set cur (get_or ps j 0) new) (ended || gone)
 settling-step ps j start cur ended gone e new c t low now left is =
     let p = get_or ps j 0 in
@@ -220,8 +220,8 @@ settling-step ps j start cur ended gone e new c t low now left is =
       long = length-set cur p new ∙ long;
       now = λ i d lt. set-cases cur p new i d below (λ b. b.now ≡ (get_or start i d).now)
           (λ same. subst (λ n. new.now ≡ (get_or start n d).now) (sym same) (one d)) (λ ne. c.now i d lt);
-      left = λ k d lt klow. set-cases cur p new (get_or ps k 0) d below (λ b. seat_left b ≡ option_list (get_or start (get_or ps k 0) d).now)
-          (λ same. subst (λ n. seat_left new ≡ option_list (get_or start n d).now) (sym same) (left ∙ ap option_list (sym now ∙ one d)))
+      left = λ k d lt klow. set-cases cur p new (get_or ps k 0) d below (λ b. session_left b ≡ option_list (get_or start (get_or ps k 0) d).now)
+          (λ same. subst (λ n. session_left new ≡ option_list (get_or start n d).now) (sym same) (left ∙ ap option_list (sym now ∙ one d)))
           (λ ne. ⊎_elim (λ old. c.left k d old klow) (λ ge. let last : k ≡ j = omega (arith, ge, lt) in absurd (ne (ap (λ q. get_or ps q 0) last))) (cases_lt k j));
       apart = apart-step ps j start cur new low c.apart;
       there = λ f k d lt klow.
@@ -236,24 +236,24 @@ settling-step ps j start cur ended gone e new c t low now left is =
 
 -- the same at a place that is written otherwise
 settling-next : (ps : List ℕ) (j p : ℕ) (start cur : List Both) (ended gone : Bool) (e new : Both) → p ≡ get_or ps j 0 → Settling ps j start cur ended → AreTouched ps start → j < length ps
-    → new.now ≡ (get_or cur p e).now → seat_left new ≡ option_list (get_or cur p e).now → gone ≡ has_ended new
+    → new.now ≡ (get_or cur p e).now → session_left new ≡ option_list (get_or cur p e).now → gone ≡ has_ended new
     → Settling ps (j + 1) start (set cur p new) (ended || gone)
 settling-next ps j p start cur ended gone e new at c t low now left is =
     subst (λ q. Settling ps (j + 1) start (set cur q new) (ended || gone)) (sym at)
     (settling-step ps j start cur ended gone e new c t low
     (subst (λ q. new.now ≡ (get_or cur q e).now) at now)
-    (subst (λ q. seat_left new ≡ option_list (get_or cur q e).now) at left) is)
+    (subst (λ q. session_left new ≡ option_list (get_or cur q e).now) at left) is)
 
 -- of these places and one behind them the next, and then the last
 pub settling-front : (ps : List ℕ) (p j : ℕ) (start cur : List Both) (ended gone : Bool) (e new : Both) → Settling (ps ++ p ∷ []) j start cur ended → AreTouched (ps ++ p ∷ []) start → j < length ps
-    → new.now ≡ (get_or cur (get_or ps j 0) e).now → seat_left new ≡ option_list (get_or cur (get_or ps j 0) e).now → gone ≡ has_ended new
+    → new.now ≡ (get_or cur (get_or ps j 0) e).now → session_left new ≡ option_list (get_or cur (get_or ps j 0) e).now → gone ≡ has_ended new
     → Settling (ps ++ p ∷ []) (j + 1) start (set cur (get_or ps j 0) new) (ended || gone)
 settling-front ps p j start cur ended gone e new c t low now left is =
     let more = push-long ps p in
     settling-next (ps ++ p ∷ []) j (get_or ps j 0) start cur ended gone e new (sym (push-old ps p j low)) c t (omega (arith, low, more)) now left is
 
 pub settling-last : (ps : List ℕ) (p j : ℕ) (start cur : List Both) (ended gone : Bool) (e new : Both) → Settling (ps ++ p ∷ []) j start cur ended → AreTouched (ps ++ p ∷ []) start → length ps ≤ j → j ≤ length ps
-    → new.now ≡ (get_or cur p e).now → seat_left new ≡ option_list (get_or cur p e).now → gone ≡ has_ended new
+    → new.now ≡ (get_or cur p e).now → session_left new ≡ option_list (get_or cur p e).now → gone ≡ has_ended new
     → Settling (ps ++ p ∷ []) (j + 1) start (set cur p new) (ended || gone)
 settling-last ps p j start cur ended gone e new c t above under now left is =
     let more = push-long ps p in
@@ -299,20 +299,20 @@ each ps i P here other = by (is_place i ps) refl
     by true e = here e
     by false e = other e
 
-pub settled-now : (ps : List ℕ) (j : ℕ) (start cur : List Both) (ended : Bool) → Settling ps j start cur ended → flat_map seat_now cur ≡ flat_map seat_now start
+pub settled-now : (ps : List ℕ) (j : ℕ) (start cur : List Both) (ended : Bool) → Settling ps j start cur ended → flat_map session_now cur ≡ flat_map session_now start
 settled-now ps j start cur ended c =
     let long = c.long in
-    flat-at seat_now seat_now cur start c.long (λ i d lt. ap option_list (c.now i d (omega (arith, lt, long))))
+    flat-at session_now session_now cur start c.long (λ i d lt. ap option_list (c.now i d (omega (arith, lt, long))))
 
-pub settled-left : (ps : List ℕ) (j : ℕ) (start cur : List Both) (ended : Bool) → Settling ps j start cur ended → AreTouched ps start → length ps ≤ j → flat_map seat_left cur ≡ flat_map seat_now start
+pub settled-left : (ps : List ℕ) (j : ℕ) (start cur : List Both) (ended : Bool) → Settling ps j start cur ended → AreTouched ps start → length ps ≤ j → flat_map session_left cur ≡ flat_map session_now start
 settled-left ps j start cur ended c t whole-list =
     let long = c.long in
-    flat-at seat_left seat_now cur start c.long
-    (λ i d lt. each ps i (seat_left (get_or cur i d) ≡ option_list (get_or start i d).now)
+    flat-at session_left session_now cur start c.long
+    (λ i d lt. each ps i (session_left (get_or cur i d) ≡ option_list (get_or start i d).now)
     (λ in-it. let at = place-at i ps in-it in let low = at.1 in
-    subst (λ n. seat_left (get_or cur n d) ≡ option_list (get_or start n d).now) at.2 (c.left at.0 d (omega (arith, low, whole-list)) low))
+    subst (λ n. session_left (get_or cur n d) ≡ option_list (get_or start n d).now) at.2 (c.left at.0 d (omega (arith, low, whole-list)) low))
     (λ out. let rest = t.rest i d (omega (arith, lt, long)) out in
-    ap seat_left (c.apart i d out ∙ rest) ∙ sym (ap (λ (b : Both). option_list b.now) rest)))
+    ap session_left (c.apart i d out ∙ rest) ∙ sym (ap (λ (b : Both). option_list b.now) rest)))
 
 settled-there : (ps : List ℕ) (j : ℕ) (start cur : List Both) (ended : Bool) → Settling ps j start cur ended → AreTouched ps start → length ps ≤ j → ended ≡ false → list_any has_ended cur ≡ false
 settled-there ps j start cur ended c t whole-list none =

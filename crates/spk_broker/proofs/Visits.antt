@@ -18,7 +18,7 @@ use Rattle.spk_broker.specs.Called.{AreAllFound, AreAscending, AreCalled, AreInO
 use Rattle.spk_broker.specs.Drafts.{Drafted, left_by, served_by}
 use Rattle.spk_broker.specs.Filing.{AllOf, ArePassed, has_key, is_passed}
 use Rattle.spk_broker.specs.Rounds.{left_of_round, with_round}
-use Rattle.spk_broker.specs.View.{seat_now, seat_was}
+use Rattle.spk_broker.specs.View.{session_now, session_was}
 use Rattle.spk_broker.proofs.Counts.{any-default}
 use Rattle.spk_broker.proofs.Near.{any-at}
 use Rattle.spk_broker.proofs.Ordered.{AreBehind, AreMet, behind-more, behind-past, behind-start, met-more, met-past, none-met}
@@ -55,48 +55,48 @@ key-at (g ∷ gs) key h = by (eqb g.0 key) refl h (λ r. key-at gs key r)
     by false e r rest = let at = rest r in let low = at.1 in (suc at.0, omega (arith, low), at.2)
 
 -- the places of the first numbers
-pub record Placed (ps : List ℕ) (from : ℕ) (seats : List Both) : Type 0 where
-  pub places : ArePlaces ps seats
+pub record Placed (ps : List ℕ) (from : ℕ) (sessions : List Both) : Type 0 where
+  pub places : ArePlaces ps sessions
   pub under : (k : ℕ) → k < length ps → get_or ps k 0 < from
 
 -- who has a number is there
-keyed-there : (b : Both) (s : plain.Seat) → b.now ≡ Some s → IsKeyed b → is_there s.key b ≡ true
+keyed-there : (b : Both) (s : plain.Session) → b.now ≡ Some s → IsKeyed b → is_there s.key b ≡ true
 keyed-there b s is keyed =
-    let same : s.key ≡ b.was.key = subst (λ (o : Option plain.Seat). IfSome o (λ (x : plain.Seat). x.key ≡ b.was.key)) is keyed in
-    ap (λ (o : Option plain.Seat). is_some o && eqb b.was.key s.key) is ∙ eq-eqb b.was.key s.key (sym same)
+    let same : s.key ≡ b.was.key = subst (λ (o : Option plain.Session). IfSome o (λ (x : plain.Session). x.key ≡ b.was.key)) is keyed in
+    ap (λ (o : Option plain.Session). is_some o && eqb b.was.key s.key) is ∙ eq-eqb b.was.key s.key (sym same)
 
-pub all-found : (found : List (ℕ × ℕ)) (j : ℕ) (ps : List ℕ) (seats : List Both) → AreMet found j ps seats → length found ≤ j
-    → AreOrdered seats → AreKeyed seats → IsStrictlyIncreasing (map (λ g. g.0) found) → AreAllFound found ps seats
-all-found found j ps seats met whole ordered keyed up i d s ilow is out = by (has_key s.key found) refl
+pub all-found : (found : List (ℕ × ℕ)) (j : ℕ) (ps : List ℕ) (sessions : List Both) → AreMet found j ps sessions → length found ≤ j
+    → AreOrdered sessions → AreKeyed sessions → IsStrictlyIncreasing (map (λ g. g.0) found) → AreAllFound found ps sessions
+all-found found j ps sessions met whole ordered keyed up i d s ilow is out = by (has_key s.key found) refl
   where
     by : (b : Bool) → has_key s.key found ≡ b → has_key s.key found ≡ false
     by true e =
         let at = key-at found s.key e in
         let low = at.1 in
-        let there : is_there (get_or found at.0 (zero, zero)).0 (get_or seats i d) ≡ true =
-        ap (λ n. is_there n (get_or seats i d)) (at.2 (zero, zero)) ∙ keyed-there (get_or seats i d) s is (keyed i d ilow) in
+        let there : is_there (get_or found at.0 (zero, zero)).0 (get_or sessions i d) ≡ true =
+        ap (λ n. is_there n (get_or sessions i d)) (at.2 (zero, zero)) ∙ keyed-there (get_or sessions i d) s is (keyed i d ilow) in
         absurd (true≢false (sym (met ordered up at.0 (zero, zero) i d (omega (arith, low, whole)) low ilow there) ∙ out))
     by false e = e
 
 -- what holds of each holds of the one at a place
-pass-at : (Q : ℕ → Table ℕ → Type 0) (bs : List Both) (i : ℕ) (d : Both) (s : plain.Seat) → i < length bs → (get_or bs i d).now ≡ Some s → AllOf Q (flat_map seat_now bs) → Q s.key s.grants
+pass-at : (Q : ℕ → Table ℕ → Type 0) (bs : List Both) (i : ℕ) (d : Both) (s : plain.Session) → i < length bs → (get_or bs i d).now ≡ Some s → AllOf Q (flat_map session_now bs) → Q s.key s.grants
 pass-at Q [] i d s low is all = absurd (omega (arith, low))
 pass-at Q (b ∷ bs) zero d s low is all = passed-at Q (b ∷ bs) zero d s low is all
 pass-at Q (b ∷ bs) (suc i) d s low is all = by b.now all (λ rest. pass-at Q bs i d s (omega (arith, low)) is rest)
   where
-    by : (o : Option plain.Seat) → AllOf Q (option_list o ++ flat_map seat_now bs) → (AllOf Q (flat_map seat_now bs) → Q s.key s.grants) → Q s.key s.grants
+    by : (o : Option plain.Session) → AllOf Q (option_list o ++ flat_map session_now bs) → (AllOf Q (flat_map session_now bs) → Q s.key s.grants) → Q s.key s.grants
     by None h rest = rest h
     by (Some x) h rest = rest h.1
 
 -- who stands elsewhere has no grant that fits
-pub found-called : (ps : List ℕ) (f : Option (Vec (ℕ × ℕ) Global)) (found : Vec (ℕ × ℕ) Global) (l : List (ℕ × ℕ)) (seats : List Both) → f ≡ Some found → l ≡ found.items
-    → (AreOrdered seats → AreKeyed seats → IsStrictlyIncreasing (map (λ g. g.0) l) → AreAllFound l ps seats)
-    → (topic : List ℕ) → AreOrdered seats → AreKeyed seats → AreAscending f → ArePassed f topic (flat_map seat_now seats) → AreCalled topic ps seats
-found-called ps f found l seats is same h topic ordered keyed up passed i d s ilow here out =
+pub found-called : (ps : List ℕ) (f : Option (Vec (ℕ × ℕ) Global)) (found : Vec (ℕ × ℕ) Global) (l : List (ℕ × ℕ)) (sessions : List Both) → f ≡ Some found → l ≡ found.items
+    → (AreOrdered sessions → AreKeyed sessions → IsStrictlyIncreasing (map (λ g. g.0) l) → AreAllFound l ps sessions)
+    → (topic : List ℕ) → AreOrdered sessions → AreKeyed sessions → AreAscending f → ArePassed f topic (flat_map session_now sessions) → AreCalled topic ps sessions
+found-called ps f found l sessions is same h topic ordered keyed up passed i d s ilow here out =
     let rise : IsStrictlyIncreasing (map (λ (g : ℕ × ℕ). g.0) found.items) = subst AreAscending is up in
     let all = h ordered keyed (subst (λ (x : List (ℕ × ℕ)). IsStrictlyIncreasing (map (λ (g : ℕ × ℕ). g.0) x)) (sym same) rise) in
     let none : has_key s.key found.items ≡ false = ap (has_key s.key) (sym same) ∙ all i d s ilow here out in
-    pass-at (λ key grants. is_passed f key ≡ true → best topic grants ≡ None) seats i d s ilow here passed (ap (λ q. is_passed q s.key) is ∙ ap (λ b. not b) none)
+    pass-at (λ key grants. is_passed f key ≡ true → best topic grants ≡ None) sessions i d s ilow here passed (ap (λ q. is_passed q s.key) is ∙ ap (λ b. not b) none)
 
 -- ---- the places of the numbers that were found, one after the other
 
@@ -115,8 +115,8 @@ push-new [] p (suc k) e = absurd (omega (arith, e))
 push-new (x ∷ ps) p zero e = absurd (omega (arith, e))
 push-new (x ∷ ps) p (suc k) e = push-new ps p k (omega (arith, e))
 
-pub placed-more : (ps : List ℕ) (from : ℕ) (seats : List Both) (p : ℕ) → Placed ps from seats → p < length seats → from < p + 1 → Placed (ps ++ p ∷ []) (p + 1) seats
-placed-more ps from seats p c plow behind =
+pub placed-more : (ps : List ℕ) (from : ℕ) (sessions : List Both) (p : ℕ) → Placed ps from sessions → p < length sessions → from < p + 1 → Placed (ps ++ p ∷ []) (p + 1) sessions
+placed-more ps from sessions p c plow behind =
     let long = push-long ps p in
     let old : (k : ℕ) → k < length ps → get_or (ps ++ p ∷ []) k 0 < p = λ k low. let up = c.under k low in let same = push-old ps p k low in omega (arith, up, same, behind) in
     record {
@@ -141,58 +141,58 @@ placed-more ps from seats p c plow behind =
 
 -- one of those that were found is at each
 abbrev pub AreOf : List (ℕ × ℕ) → List ℕ → List Both → Type 0
-AreOf found ps seats = (k : ℕ) (d : Both) → k < length ps → list_any (λ g. is_there g.0 (get_or seats (get_or ps k 0) d)) found ≡ true
+AreOf found ps sessions = (k : ℕ) (d : Both) → k < length ps → list_any (λ g. is_there g.0 (get_or sessions (get_or ps k 0) d)) found ≡ true
 
-pub of-more : (found : List (ℕ × ℕ)) (j : ℕ) (e : ℕ × ℕ) (ps : List ℕ) (p : ℕ) (seats : List Both) → AreOf found ps seats → j < length found → ((d : Both) → is_there (get_or found j e).0 (get_or seats p d) ≡ true)
-    → AreOf found (ps ++ p ∷ []) seats
-of-more found j e ps p seats old low here k d within =
+pub of-more : (found : List (ℕ × ℕ)) (j : ℕ) (e : ℕ × ℕ) (ps : List ℕ) (p : ℕ) (sessions : List Both) → AreOf found ps sessions → j < length found → ((d : Both) → is_there (get_or found j e).0 (get_or sessions p d) ≡ true)
+    → AreOf found (ps ++ p ∷ []) sessions
+of-more found j e ps p sessions old low here k d within =
     let long = push-long ps p in
     ⊎_elim
-    (λ less. subst (λ q. list_any (λ (g : ℕ × ℕ). is_there g.0 (get_or seats q d)) found ≡ true) (sym (push-old ps p k less)) (old k d less))
+    (λ less. subst (λ q. list_any (λ (g : ℕ × ℕ). is_there g.0 (get_or sessions q d)) found ≡ true) (sym (push-old ps p k less)) (old k d less))
     (λ ge. let last : k ≡ length ps = omega (arith, ge, within, long) in
-    subst (λ q. list_any (λ (g : ℕ × ℕ). is_there g.0 (get_or seats q d)) found ≡ true) (sym (push-new ps p k last))
-    (any-at (λ (g : ℕ × ℕ). is_there g.0 (get_or seats p d)) found j e low (here d)))
+    subst (λ q. list_any (λ (g : ℕ × ℕ). is_there g.0 (get_or sessions q d)) found ≡ true) (sym (push-new ps p k last))
+    (any-at (λ (g : ℕ × ℕ). is_there g.0 (get_or sessions p d)) found j e low (here d)))
     (cases_lt k (length ps))
 
 -- those of the first that were found
-pub record Met (found : List (ℕ × ℕ)) (j : ℕ) (ps : List ℕ) (from : ℕ) (seats : List Both) : Type 0 where
-  pub placed : Placed ps from seats
-  pub of : AreOf found ps seats
-  pub met : AreMet found j ps seats
-  pub behind : AreBehind found j from seats
+pub record Met (found : List (ℕ × ℕ)) (j : ℕ) (ps : List ℕ) (from : ℕ) (sessions : List Both) : Type 0 where
+  pub placed : Placed ps from sessions
+  pub of : AreOf found ps sessions
+  pub met : AreMet found j ps sessions
+  pub behind : AreBehind found j from sessions
 
-pub met-start : (found : List (ℕ × ℕ)) (seats : List Both) → Met found 0 [] 0 seats
-met-start found seats = record {
+pub met-start : (found : List (ℕ × ℕ)) (sessions : List Both) → Met found 0 [] 0 sessions
+met-start found sessions = record {
   placed = record {
     places = record { rise = λ i j lt within. absurd (omega (arith, within)); low = λ k within. absurd (omega (arith, within)) };
     under = λ k within. absurd (omega (arith, within));
   };
   of = λ k d within. absurd (omega (arith, within));
-  met = none-met found [] seats;
-  behind = behind-start found seats;
+  met = none-met found [] sessions;
+  behind = behind-start found sessions;
 }
 
 -- the next one is there
-pub met-found : (found : List (ℕ × ℕ)) (j : ℕ) (e : ℕ × ℕ) (ps : List ℕ) (from p : ℕ) (seats : List Both) → Met found j ps from seats → j < length found → p < length seats → from < p + 1
-    → ((d : Both) → is_there (get_or found j e).0 (get_or seats p d) ≡ true) → Met found (j + 1) (ps ++ p ∷ []) (p + 1) seats
-met-found found j e ps from p seats m low plow behind here =
-    let there : (x : ℕ × ℕ) (d : Both) → is_there (get_or found j x).0 (get_or seats p d) ≡ true =
-    λ x d. ap (λ (g : ℕ × ℕ). is_there g.0 (get_or seats p d)) (any-default found j x e low) ∙ here d in
+pub met-found : (found : List (ℕ × ℕ)) (j : ℕ) (e : ℕ × ℕ) (ps : List ℕ) (from p : ℕ) (sessions : List Both) → Met found j ps from sessions → j < length found → p < length sessions → from < p + 1
+    → ((d : Both) → is_there (get_or found j e).0 (get_or sessions p d) ≡ true) → Met found (j + 1) (ps ++ p ∷ []) (p + 1) sessions
+met-found found j e ps from p sessions m low plow behind here =
+    let there : (x : ℕ × ℕ) (d : Both) → is_there (get_or found j x).0 (get_or sessions p d) ≡ true =
+    λ x d. ap (λ (g : ℕ × ℕ). is_there g.0 (get_or sessions p d)) (any-default found j x e low) ∙ here d in
     record {
-      placed = placed-more ps from seats p m.placed plow behind;
-      of = of-more found j e ps p seats m.of low here;
-      met = met-more found j p ps seats m.met plow there;
-      behind = behind-more found j p seats plow there;
+      placed = placed-more ps from sessions p m.placed plow behind;
+      of = of-more found j e ps p sessions m.of low here;
+      met = met-more found j p ps sessions m.met plow there;
+      behind = behind-more found j p sessions plow there;
     }
 
 -- the next one is gone
-pub met-gone : (found : List (ℕ × ℕ)) (j : ℕ) (e : ℕ × ℕ) (ps : List ℕ) (from : ℕ) (seats : List Both) → Met found j ps from seats → j < length found
-    → (AreOrdered seats → IsPast (get_or found j e).0 from seats) → Met found (j + 1) ps from seats
-met-gone found j e ps from seats m low past = record {
+pub met-gone : (found : List (ℕ × ℕ)) (j : ℕ) (e : ℕ × ℕ) (ps : List ℕ) (from : ℕ) (sessions : List Both) → Met found j ps from sessions → j < length found
+    → (AreOrdered sessions → IsPast (get_or found j e).0 from sessions) → Met found (j + 1) ps from sessions
+met-gone found j e ps from sessions m low past = record {
   placed = m.placed;
   of = m.of;
-  met = met-past found j from (get_or found j e).0 ps seats m.met m.behind (λ x. ap (λ (g : ℕ × ℕ). g.0) (any-default found j e x low)) past;
-  behind = behind-past found j from seats m.behind;
+  met = met-past found j from (get_or found j e).0 ps sessions m.met m.behind (λ x. ap (λ (g : ℕ × ℕ). g.0) (any-default found j e x low)) past;
+  behind = behind-past found j from sessions m.behind;
 }
 
 -- ---- sessions stay in the order of their numbers
@@ -211,55 +211,55 @@ keyed-at (b ∷ bs) zero x e is all (suc i) d low = all (suc i) d low
 keyed-at (b ∷ bs) (suc p) x e is all zero d low = all zero d (omega arith)
 keyed-at (b ∷ bs) (suc p) x e is all (suc i) d low = keyed-at bs p x e is (λ k y lt. all (suc k) y (omega (arith, lt))) i d (omega (arith, low))
 
-pub order-as : (index : Option Grants) (old new : List Both) → map seat_was new ≡ map seat_was old → (AreKeyed old → AreKeyed new) → AreInOrder index old → AreInOrder index new
+pub order-as : (index : Option Grants) (old new : List Both) → map session_was new ≡ map session_was old → (AreKeyed old → AreKeyed new) → AreInOrder index old → AreInOrder index new
 order-as None old new was keyed h = tt
 order-as (Some index) old new was keyed h = ((h.0.0, h.0.1, subst (Rises h.0.0 h.0.1) (sym was) h.0.2), keyed h.1)
 
-pub some-order : (index : Option Grants) (bs : List Both) (top : ℕ) → Rises 0 top (map seat_was bs) → AreKeyed bs → AreInOrder index bs
+pub some-order : (index : Option Grants) (bs : List Both) (top : ℕ) → Rises 0 top (map session_was bs) → AreKeyed bs → AreInOrder index bs
 some-order None bs top r keyed = tt
 some-order (Some index) bs top r keyed = ((0, top, r), keyed)
 
 -- ---- nothing is done in between
 
-pub record Skipped (m : plain.Post) (cur : List Both) (n p : ℕ) : Type 0 where
+pub record Skipped (m : plain.AppMessage) (cur : List Both) (n p : ℕ) : Type 0 where
   pub left : left_so_far (serve m) cur n ≡ left_so_far (serve m) cur p
   pub drafted : (d : Drafted) → round_all (serve m) (drop n cur) d ≡ round_all (serve m) (drop p cur) d
 
-skip : (m : plain.Post) (cur : List Both) (n p : ℕ) → n ≤ p → p ≤ length cur
-    → ((i : ℕ) (d : Both) (s : plain.Seat) → n ≤ i → i < p → (get_or cur i d).now ≡ Some s → best m.topic s.grants ≡ None) → Skipped m cur n p
+skip : (m : plain.AppMessage) (cur : List Both) (n p : ℕ) → n ≤ p → p ≤ length cur
+    → ((i : ℕ) (d : Both) (s : plain.Session) → n ≤ i → i < p → (get_or cur i d).now ≡ Some s → best m.topic s.grants ≡ None) → Skipped m cur n p
 skip m cur zero zero le within idle = record { left = refl; drafted = λ d. refl }
 skip m cur (suc n) zero le within idle = absurd (omega (arith, le))
 skip m [] n (suc p) le within idle = absurd (omega (arith, within))
 skip m (c ∷ cs) zero (suc p) le within idle =
     let rest = skip m cs zero p (omega arith) (omega (arith, within)) (λ i d s a b is. idle (suc i) d s (omega arith) (omega (arith, b)) is) in
-    let none : (s : plain.Seat) → c.now ≡ Some s → best m.topic s.grants ≡ None = λ s is. idle zero c s (omega arith) (omega arith) is in
+    let none : (s : plain.Session) → c.now ≡ Some s → best m.topic s.grants ≡ None = λ s is. idle zero c s (omega arith) (omega arith) is in
     record {
       left = ap (λ l. l ++ left_all (serve m) cs) (sym (idle-left m c.now none))
-          ∙ ap (λ l. seat_now c ++ l) rest.left
-          ∙ sym (append_assoc (seat_now c) (flat_map seat_now (take p cs)) (left_all (serve m) (drop p cs)));
+          ∙ ap (λ l. session_now c ++ l) rest.left
+          ∙ sym (append_assoc (session_now c) (flat_map session_now (take p cs)) (left_all (serve m) (drop p cs)));
       drafted = λ d. ap (round_all (serve m) cs) (idle-drafted m c.now d none) ∙ rest.drafted d;
     }
 skip m (c ∷ cs) (suc n) (suc p) le within idle =
     let rest = skip m cs n p (omega (arith, le)) (omega (arith, within)) (λ i d s a b is. idle (suc i) d s (omega (arith, a)) (omega (arith, b)) is) in
     record {
-      left = append_assoc (seat_now c) (flat_map seat_now (take n cs)) (left_all (serve m) (drop n cs))
-          ∙ ap (λ l. seat_now c ++ l) rest.left
-          ∙ sym (append_assoc (seat_now c) (flat_map seat_now (take p cs)) (left_all (serve m) (drop p cs)));
+      left = append_assoc (session_now c) (flat_map session_now (take n cs)) (left_all (serve m) (drop n cs))
+          ∙ ap (λ l. session_now c ++ l) rest.left
+          ∙ sym (append_assoc (session_now c) (flat_map session_now (take p cs)) (left_all (serve m) (drop p cs)));
       drafted = rest.drafted;
     }
 
 -- the sessions at the first j places are as the message leaves them, and those up to n
-pub record Calling (m : plain.Post) (ps : List ℕ) (j : ℕ) (start cur : List Both) (from to : Drafted) : Type 0 where
-  pub was : map seat_was cur ≡ map seat_was start
+pub record Calling (m : plain.AppMessage) (ps : List ℕ) (j : ℕ) (start cur : List Both) (from to : Drafted) : Type 0 where
+  pub was : map session_was cur ≡ map session_was start
   pub n : ℕ
   pub within : n ≤ length cur
   pub left : left_so_far (serve m) cur n ≡ left_all (serve m) start
   pub drafted : round_all (serve m) (drop n cur) to ≡ round_all (serve m) start from
   pub behind : (k : ℕ) → k < j → get_or ps k 0 < n
   pub ahead : (k : ℕ) → j ≤ k → k < length ps → n ≤ get_or ps k 0
-  pub idle : (i : ℕ) (d : Both) (s : plain.Seat) → n ≤ i → i < length cur → (get_or cur i d).now ≡ Some s → is_place i ps ≡ false → best m.topic s.grants ≡ None
+  pub idle : (i : ℕ) (d : Both) (s : plain.Session) → n ≤ i → i < length cur → (get_or cur i d).now ≡ Some s → is_place i ps ≡ false → best m.topic s.grants ≡ None
 
-pub calling-start : (m : plain.Post) (ps : List ℕ) (start : List Both) (from : Drafted) → AreCalled m.topic ps start → Calling m ps 0 start start from from
+pub calling-start : (m : plain.AppMessage) (ps : List ℕ) (start : List Both) (from : Drafted) → AreCalled m.topic ps start → Calling m ps 0 start start from from
 calling-start m ps start from idle = record {
   was = refl;
   n = zero;
@@ -271,14 +271,14 @@ calling-start m ps start from idle = record {
   idle = λ i d s le low is out. idle i d s low is out;
 }
 
-length-was : (bs : List Both) → length (map seat_was bs) ≡ length bs
+length-was : (bs : List Both) → length (map session_was bs) ≡ length bs
 length-was [] = refl
 length-was (b ∷ bs) = ap suc (length-was bs)
 
-pub calling-length : (cur start : List Both) → map seat_was cur ≡ map seat_was start → length cur ≡ length start
+pub calling-length : (cur start : List Both) → map session_was cur ≡ map session_was start → length cur ≡ length start
 calling-length cur start e = sym (length-was cur) ∙ ap length e ∙ length-was start
 
-pub calling-step : (m : plain.Post) (ps : List ℕ) (j : ℕ) (start cur : List Both) (from to next : Drafted) (e x new : Both) → Calling m ps j start cur from to → ArePlaces ps start → j < length ps
+pub calling-step : (m : plain.AppMessage) (ps : List ℕ) (j : ℕ) (start cur : List Both) (from to next : Drafted) (e x new : Both) → Calling m ps j start cur from to → ArePlaces ps start → j < length ps
     → x ≡ get_or cur (get_or ps j 0) e → new.was ≡ x.was → option_list new.now ≡ left_by (serve m) x.now → next ≡ served_by (serve m) x.now to
     → Calling m ps (j + 1) start (set cur (get_or ps j 0) new) from next
 calling-step m ps j start cur from to next e x new c places low is was left drafted =
@@ -311,8 +311,8 @@ calling-step m ps j start cur from to next e x new c places low is was left draf
           c.idle i d s (omega (arith, le, ahead)) (omega (arith, ilow, long)) (ap (λ (b : Both). b.now) (sym (get_or-set_other cur p i new d (λ q. omega (arith, q, le)))) ∙ there) elsewhere;
     }
 
-pub calling-end : (m : plain.Post) (ps : List ℕ) (j : ℕ) (start cur : List Both) (from to : Drafted) → Calling m ps j start cur from to → length ps ≤ j
-    → (flat_map seat_now cur ≡ left_of_round (serve m) (flat_map seat_now start)) × (to ≡ with_round (serve m) (flat_map seat_now start) from)
+pub calling-end : (m : plain.AppMessage) (ps : List ℕ) (j : ℕ) (start cur : List Both) (from to : Drafted) → Calling m ps j start cur from to → length ps ≤ j
+    → (flat_map session_now cur ≡ left_of_round (serve m) (flat_map session_now start)) × (to ≡ with_round (serve m) (flat_map session_now start) from)
 calling-end m ps j start cur from to c whole =
     let out : (i : ℕ) → c.n ≤ i → is_place i ps ≡ false = λ i a. not-place i ps (λ k klow at. let under = c.behind k (omega (arith, klow, whole)) in omega (arith, under, at, a)) in
     let over = skip m cur c.n (length cur) c.within (omega arith) (λ i d s a b there. c.idle i d s a b there (out i a)) in (

@@ -8,20 +8,20 @@ use Rattle.spk_broker_rules.specs.Words.{most_given, offers_to, weight, weight_o
 use Rattle.spk_broker.specs.Offering.{offers_at}
 use Rattle.spk_broker.specs.Parts.{grant_view}
 use Rattle.spk_broker.specs.Weighing.{beyond, heaped}
-use Rattle.spk_broker.specs.declared.seat.Grant.{Grant}
+use Rattle.spk_broker.specs.declared.session.Grant.{Grant}
 use Rattle.spk_broker.proofs.Offers.{grants-more, offers-more}
 
-pub heap-low : (w : ℕ) (ms : List plain.Post) → heaped w ms ≤ beyond
+pub heap-low : (w : ℕ) (ms : List plain.AppMessage) → heaped w ms ≤ beyond
 heap-low w ms = omega arith
 
 pub heap-none : (w : ℕ) → w ≤ beyond → w ≡ heaped w []
 heap-none w h = omega (arith, h)
 
 -- what is too much stays there
-pub heap-full : (w : ℕ) (ms : List plain.Post) → w ≡ beyond → w ≡ heaped w ms
+pub heap-full : (w : ℕ) (ms : List plain.AppMessage) → w ≡ beyond → w ≡ heaped w ms
 heap-full w ms e = omega (arith, e)
 
-heap-more : (w : ℕ) (xs ys : List plain.Post) → heaped (heaped w xs) ys ≡ heaped w (xs ++ ys)
+heap-more : (w : ℕ) (xs ys : List plain.AppMessage) → heaped (heaped w xs) ys ≡ heaped w (xs ++ ys)
 heap-more w xs ys = let both = sum_by-append weight xs ys in omega (arith, both)
 
 -- one place more
@@ -39,7 +39,7 @@ heap-grant es gs i x d lt is =
     heap-more 0 (flat_map (offers_to es) (map grant_view (take i gs))) (offers_to es (grant_view x)) ∙ ap (heaped 0) (grants-more es gs i x d lt is)
 
 -- a weight that got there is more than the most
-pub heap-heavy : (ms : List plain.Post) → eqb (heaped 0 ms) beyond ≡ ltb most_given (weight_of ms)
+pub heap-heavy : (ms : List plain.AppMessage) → eqb (heaped 0 ms) beyond ≡ ltb most_given (weight_of ms)
 heap-heavy ms = by (eqb (heaped 0 ms) beyond) refl (ltb most_given (weight_of ms)) refl
   where
     by : (p : Bool) → eqb (heaped 0 ms) beyond ≡ p → (q : Bool) → ltb most_given (weight_of ms) ≡ q → p ≡ q

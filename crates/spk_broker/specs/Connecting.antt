@@ -1,16 +1,16 @@
 -- How a CONNECT is judged, and what its acts come to before the call is settled and at its end.
 use Rattle.std.specs.Prelude.{◌≡◌, ℕ, Bool, not, ◌&&◌, List, Option, Some, None, if◌then◌else◌}
 use Rattle.spk_packets.specs.Message.{WillData}
-use Rattle.spk_broker_rules.specs.Data.{Post}
+use Rattle.spk_broker_rules.specs.Data.{AppMessage}
 use Rattle.spk_broker_rules.specs.Plan.{Act, has_bad_topic, join, shut, turn_away}
 use Rattle.spk_broker_rules.specs.Step.{Turn}
 use Rattle.spk_packets.specs.Spelling.{is_empty}
 use Rattle.spk_broker.specs.Entering.{entered}
 use Rattle.spk_broker.specs.View.{Stands}
-use Rattle.spk_broker.specs.declared.connecting.Judged.{Judged}
-use Rattle.spk_broker.specs.declared.connecting.Judged.TheVariants.{Refused, Shut, Joins}
-use Rattle.spk_broker.specs.declared.desk.Desk.{Desk}
-use Rattle.spk_broker.specs.declared.joining.Entry.{Entry}
+use Rattle.spk_broker.specs.declared.connect.Judged.{Judged}
+use Rattle.spk_broker.specs.declared.connect.Judged.TheVariants.{Refused, Shut, Joins}
+use Rattle.spk_broker.specs.declared.state.State.{State}
+use Rattle.spk_broker.specs.declared.accept.Entry.{Entry}
 use Rattle.spk_broker.specs.declared.out.Draft.{Draft}
 
 -- the client id, then the will's topic, then the number of kept sessions
@@ -21,7 +21,7 @@ judged welcome client clean will =
     else if not clean && not welcome then Refused 3
     else Joins
 
-abbrev pub acts_of : Judged → Option ℕ → ℕ → List ℕ → Bool → ℕ → Option Post → List Act
+abbrev pub acts_of : Judged → Option ℕ → ℕ → List ℕ → Bool → ℕ → Option AppMessage → List Act
 acts_of (Refused code) older conn client clean alive will = turn_away conn code
 acts_of Shut older conn client clean alive will = shut conn
 acts_of Joins older conn client clean alive will = join older conn client clean alive will
@@ -31,8 +31,8 @@ abbrev pub finished : Option Entry → Turn → Turn
 finished None t = t
 finished (Some e) t = record t { broker = entered e t.broker }
 
--- the desk and the draft stand for a turn that is this one once the entry has entered
-pub record Comes (desk : Desk) (draft : Draft) (entry : Option Entry) (turn : Turn) : Type 0 where
+-- the state and the draft stand for a turn that is this one once the entry has entered
+pub record Comes (state : State) (draft : Draft) (entry : Option Entry) (turn : Turn) : Type 0 where
   pub before : Turn
-  pub stands : Stands desk draft before
+  pub stands : Stands state draft before
   pub is : finished entry before ≡ turn

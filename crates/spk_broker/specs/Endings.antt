@@ -7,11 +7,11 @@ use Rattle.spk_broker_rules.specs.Step.{Turn, act, begun}
 use Rattle.spk_broker.specs.Entering.{HasRoom, IsWhole, entered}
 use Rattle.spk_broker.specs.Touched.{IsStill, OnlyAt}
 use Rattle.spk_broker.specs.View.{Stands}
-use Rattle.spk_broker.specs.declared.desk.Desk.{Desk}
-use Rattle.spk_broker.specs.declared.ending.Ending.{Ending}
-use Rattle.spk_broker.specs.declared.ending.Ending.TheVariants.{Nothing, One, Few, Enters, Joins, Acked}
+use Rattle.spk_broker.specs.declared.state.State.{State}
+use Rattle.spk_broker.specs.declared.packet_end.Ending.{Ending}
+use Rattle.spk_broker.specs.declared.packet_end.Ending.TheVariants.{Nothing, One, Few, Enters, Joins, Acked}
 use Rattle.spk_broker.specs.declared.out.Draft.{Draft}
-use Rattle.spk_broker.specs.declared.seat.Seat.{Seat}
+use Rattle.spk_broker.specs.declared.session.Session.{Session}
 
 abbrev pub ended : Ending → plain.Broker → plain.Broker
 ended Nothing b = b
@@ -33,25 +33,25 @@ few_at (Some sender) None = Nothing
 few_at (Some sender) (Some places) = Few places sender
 
 -- an entry is whole and finds room
-abbrev pub IsFit : Ending → Vec Seat Global → Type 0
-IsFit Nothing seats = Unit {0}
-IsFit (One place) seats = Unit {0}
-IsFit (Few places sender) seats = Unit {0}
-IsFit (Enters entry) seats = IsWhole entry × HasRoom entry seats
-IsFit (Joins entry) seats = IsWhole entry × HasRoom entry seats
-IsFit (Acked conn place id) seats = Unit {0}
+abbrev pub IsFit : Ending → Vec Session Global → Type 0
+IsFit Nothing sessions = Unit {0}
+IsFit (One place) sessions = Unit {0}
+IsFit (Few places sender) sessions = Unit {0}
+IsFit (Enters entry) sessions = IsWhole entry × HasRoom entry sessions
+IsFit (Joins entry) sessions = IsWhole entry × HasRoom entry sessions
+IsFit (Acked conn place id) sessions = Unit {0}
 
 -- that, and where sessions are named, the call has changed no other one, and no connection without CONNECT; where an entry joins, no session
-abbrev pub IsReady : Ending → Desk → Type 0
-IsReady Nothing desk = Unit {0}
-IsReady (One place) desk = OnlyAt (place ∷ []) desk
-IsReady (Few places sender) desk = OnlyAt (places.items ++ sender ∷ []) desk
-IsReady (Enters entry) desk = IsWhole entry × HasRoom entry desk.seats
-IsReady (Joins entry) desk = IsWhole entry × HasRoom entry desk.seats × IsStill desk
-IsReady (Acked conn place id) desk = OnlyAt (place ∷ []) desk
+abbrev pub IsReady : Ending → State → Type 0
+IsReady Nothing state = Unit {0}
+IsReady (One place) state = OnlyAt (place ∷ []) state
+IsReady (Few places sender) state = OnlyAt (places.items ++ sender ∷ []) state
+IsReady (Enters entry) state = IsWhole entry × HasRoom entry state.sessions
+IsReady (Joins entry) state = IsWhole entry × HasRoom entry state.sessions × IsStill state
+IsReady (Acked conn place id) state = OnlyAt (place ∷ []) state
 
--- the desk and the draft stand for a turn that is this one once the rest is done
-pub record Leads (desk : Desk) (draft : Draft) (ending : Ending) (turn : Turn) : Type 0 where
+-- the state and the draft stand for a turn that is this one once the rest is done
+pub record Leads (state : State) (draft : Draft) (ending : Ending) (turn : Turn) : Type 0 where
   pub before : Turn
-  pub stands : Stands desk draft before
+  pub stands : Stands state draft before
   pub is : record before { broker = ended ending before.broker } ≡ turn

@@ -7,7 +7,7 @@ use Rattle.std.specs.Str.{bytes_eq}
 use Rattle.spk_packets.specs.Message.{Message, Connect, ConnAck, Publish, PubAck, Subscribe, SubAck, Unsubscribe, UnsubAck, PingReq, PingResp, Disconnect}
 use Rattle.spk_topics.specs.Grants.{Finds, Grants}
 use Rattle.spk_topics.specs.Text.{topic_refusal}
-use Rattle.spk_broker_rules.specs.Data.{Seat}
+use Rattle.spk_broker_rules.specs.Data.{Session}
 use Rattle.spk_broker_rules.specs.Table.{Table, has}
 use Rattle.spk_broker_rules.specs.Words.{best}
 use Rattle.spk_broker.specs.Both.{Both}
@@ -25,40 +25,40 @@ abbrev pub entry_of : ℕ → List ℕ × ℕ → Entry
 entry_of key g = ((g.0, key), g.1)
 
 -- the grants of a session
-abbrev pub entries_of : Seat → List Entry
+abbrev pub entries_of : Session → List Entry
 entries_of s = map (λ g. ((g.0, s.key), g.1)) s.grants
 
 abbrev pub with_entry : Grants → Entry → Grants
 with_entry index e = tree.insert index e.0 e.1
 
 -- the grants of these sessions, and no others
-abbrev pub index_of : List Seat → Grants
-index_of seats = fold with_entry tree.empty (flat_map entries_of seats)
+abbrev pub index_of : List Session → Grants
+index_of sessions = fold with_entry tree.empty (flat_map entries_of sessions)
 
 -- the index that is made for these sessions: none where the filters of their grants are too many (own rule)
-abbrev pub made_index : List Seat → Option Grants
-made_index seats = if nat_lt 100000 (size_of_all seats) then None else Some (index_of seats)
+abbrev pub made_index : List Session → Option Grants
+made_index sessions = if nat_lt 100000 (size_of_all sessions) then None else Some (index_of sessions)
 
 -- ---- what it has
 
 -- something holds of the key and the grants of each session
-abbrev pub AllOf : (ℕ → Table ℕ → Type 0) → List Seat → Type 0
-AllOf Q ss = AllByRecursion (λ (s : Seat). Q s.key s.grants) ss
+abbrev pub AllOf : (ℕ → Table ℕ → Type 0) → List Session → Type 0
+AllOf Q ss = AllByRecursion (λ (s : Session). Q s.key s.grants) ss
 
 -- each of these grants has its entry in the index
 abbrev pub IsFiled : Grants → ℕ → Table ℕ → Type 0
 IsFiled index key grants = (filter : List ℕ) → has filter grants ≡ true → is_some (tree.get index (filter, key)) ≡ true
 
-abbrev pub AreFiled : Grants → List Seat → Type 0
-AreFiled index seats = AllOf (IsFiled index) seats
+abbrev pub AreFiled : Grants → List Session → Type 0
+AreFiled index sessions = AllOf (IsFiled index) sessions
 
 -- whether a session of this number has a grant of this filter
-abbrev pub is_granted : List ℕ → ℕ → List Seat → Bool
-is_granted filter key seats = list_any (λ (s : Seat). s.key == key && has filter s.grants) seats
+abbrev pub is_granted : List ℕ → ℕ → List Session → Bool
+is_granted filter key sessions = list_any (λ (s : Session). s.key == key && has filter s.grants) sessions
 
 -- each entry of an index is a grant of one of these sessions
-abbrev pub HasNoOther : Grants → List Seat → Type 0
-HasNoOther index seats = (filter : List ℕ) (key : ℕ) → is_some (tree.get index (filter, key)) ≡ true → is_granted filter key seats ≡ true
+abbrev pub HasNoOther : Grants → List Session → Type 0
+HasNoOther index sessions = (filter : List ℕ) (key : ℕ) → is_some (tree.get index (filter, key)) ≡ true → is_granted filter key sessions ≡ true
 
 -- ---- when it is made
 
@@ -94,24 +94,24 @@ is_passed None key = false
 is_passed (Some found) key = not (has_key key found.items)
 
 -- a session that is passed over has no grant that fits the topic
-abbrev pub ArePassed : Option (Vec (ℕ × ℕ) Global) → List ℕ → List Seat → Type 0
-ArePassed found topic seats = AllOf (λ key grants. is_passed found key ≡ true → best topic grants ≡ None) seats
+abbrev pub ArePassed : Option (Vec (ℕ × ℕ) Global) → List ℕ → List Session → Type 0
+ArePassed found topic sessions = AllOf (λ key grants. is_passed found key ≡ true → best topic grants ≡ None) sessions
 
 -- the index, where there is one, has the grants of these sessions
-abbrev pub IsIndex : Option Grants → List Seat → Type 0
-IsIndex None seats = Unit {0}
-IsIndex (Some index) seats = AreFiled index seats
+abbrev pub IsIndex : Option Grants → List Session → Type 0
+IsIndex None sessions = Unit {0}
+IsIndex (Some index) sessions = AreFiled index sessions
 
 -- the index has the grants of these sessions and no others, and the size beside it is what their filters take, no more than may be
-pub record Holds (index : Grants) (size : ℕ) (seats : List Seat) : Type 0 where
-  pub exact : (filter : List ℕ) (key : ℕ) → is_some (tree.get index (filter, key)) ≡ is_granted filter key seats
-  pub total : size ≡ size_of_all seats
+pub record Holds (index : Grants) (size : ℕ) (sessions : List Session) : Type 0 where
+  pub exact : (filter : List ℕ) (key : ℕ) → is_some (tree.get index (filter, key)) ≡ is_granted filter key sessions
+  pub total : size ≡ size_of_all sessions
   pub small : size ≤ 100000
 
 -- that, where there is one
-abbrev pub IsHeld : Option Grants → ℕ → List Seat → Type 0
-IsHeld None size seats = Unit {0}
-IsHeld (Some index) size seats = Holds index size seats
+abbrev pub IsHeld : Option Grants → ℕ → List Session → Type 0
+IsHeld None size sessions = Unit {0}
+IsHeld (Some index) size sessions = Holds index size sessions
 
 -- ---- how it follows a call
 
@@ -136,17 +136,17 @@ walked key new w g =
     else record { index = without_entry key new w.index g; size = w.size - size_of g.0; met = w.met }
 
 -- of the session of this number the index had these grants, and has those of by now; of each other one it has what it had
-pub record IsTurned (old new : Grants) (seat : Both) : Type 0 where
-  pub others : (filter : List ℕ) (key : ℕ) → (key == seat.was.key) ≡ false → is_some (tree.get new (filter, key)) ≡ is_some (tree.get old (filter, key))
-  pub own : ((filter : List ℕ) → is_some (tree.get old (filter, seat.was.key)) ≡ has filter seat.was.grants)
-      → (filter : List ℕ) → is_some (tree.get new (filter, seat.was.key)) ≡ has filter (standing_grants seat.now)
+pub record IsTurned (old new : Grants) (session : Both) : Type 0 where
+  pub others : (filter : List ℕ) (key : ℕ) → (key == session.was.key) ≡ false → is_some (tree.get new (filter, key)) ≡ is_some (tree.get old (filter, key))
+  pub own : ((filter : List ℕ) → is_some (tree.get old (filter, session.was.key)) ≡ has filter session.was.grants)
+      → (filter : List ℕ) → is_some (tree.get new (filter, session.was.key)) ≡ has filter (standing_grants session.now)
 
 -- a session has its number and the grants of before the call
-pub record IsAlike (seat : Both) : Type 0 where
-  pub by_now : Seat
-  pub there : seat.now ≡ Some by_now
-  pub key : by_now.key ≡ seat.was.key
-  pub grants : by_now.grants ≡ seat.was.grants
+pub record IsAlike (session : Both) : Type 0 where
+  pub by_now : Session
+  pub there : session.now ≡ Some by_now
+  pub key : by_now.key ≡ session.was.key
+  pub grants : by_now.grants ≡ session.was.grants
 
 abbrev pub AreAlikeAt : List ℕ → List Both → Type 0
-AreAlikeAt places seats = (k : ℕ) (d : Both) → k < length places → IsAlike (get_or seats (get_or places k 0) d)
+AreAlikeAt places sessions = (k : ℕ) (d : Both) → k < length places → IsAlike (get_or sessions (get_or places k 0) d)

@@ -5,7 +5,7 @@ use Rattle.spk_broker_rules.specs.Data as plain
 use Rattle.spk_broker_rules.specs.Table.{Table, has, remove}
 use Rattle.spk_broker_rules.specs.Words.{codes_of, granted, granted_of, is_granted, most_grants, with_entry}
 use Rattle.spk_broker.specs.Parts.{grant_view}
-use Rattle.spk_broker.specs.declared.granting.Granting.{Granting}
+use Rattle.spk_broker.specs.declared.grant_changes.Granting.{Granting}
 
 -- the grants, the codes, and the entries that were granted so far
 pub record Grown : Type 0 where
@@ -32,16 +32,16 @@ abbrev pub taken_from : Table ℕ → List ℕ → Table ℕ
 taken_from grants name = remove name grants
 
 -- a session with other grants
-abbrev pub regranted : Table ℕ → plain.Seat → plain.Seat
+abbrev pub regranted : Table ℕ → plain.Session → plain.Session
 regranted grants s = record s { grants = grants }
 
 -- the grants of a session, none where it ended
-abbrev pub standing_grants : Option plain.Seat → Table ℕ
+abbrev pub standing_grants : Option plain.Session → Table ℕ
 standing_grants None = []
 standing_grants (Some s) = s.grants
 
 -- a session without the grants of these filters
-abbrev pub without_grants : List (List ℕ) → plain.Seat → plain.Seat
+abbrev pub without_grants : List (List ℕ) → plain.Session → plain.Session
 without_grants names s = regranted (fold taken_from s.grants names) s
 
 -- after all entries

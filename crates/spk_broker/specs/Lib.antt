@@ -15,14 +15,14 @@ pub mod Filters
 pub mod Fronts
 pub mod Granting
 pub mod Kept
-pub mod Letters
+pub mod Deliveries
 pub mod Looking
 pub mod Offering
 pub mod Parts
 pub mod Plain
 pub mod Restoring
 pub mod Rounds
-pub mod Seats
+pub mod Sessions
 pub mod Sendable
 pub mod Sent
 pub mod Settling

@@ -2,11 +2,11 @@
 use Rattle.std.specs.Prelude.{Option}
 use Rattle.std.specs.Option.{option_and_then}
 use Rattle.spk_broker_rules.specs.Data as plain
-use Rattle.spk_broker.specs.declared.looking.MessageRef.{MessageRef}
+use Rattle.spk_broker.specs.declared.parts.MessageRef.{MessageRef}
 
-abbrev pub message_ref : MessageRef → plain.Post
+abbrev pub message_ref : MessageRef → plain.AppMessage
 message_ref m = record { topic = m.topic.now; payload = m.payload.now; qos = m.qos; retain = m.retain }
 
 -- the will of its connection
-abbrev pub will_of : plain.Seat → Option plain.Post
-will_of s = option_and_then (λ (l : plain.Line). l.will) s.here
+abbrev pub will_of : plain.Session → Option plain.AppMessage
+will_of s = option_and_then (λ (l : plain.Connection). l.will) s.here

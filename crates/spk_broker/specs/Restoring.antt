@@ -16,19 +16,19 @@ use Rattle.spk_broker.specs.declared.part_fault.PartFault.TheVariants.{NoMemory,
 
 -- ---- the parts
 
-abbrev pub message_view : kept.Message → plain.Post
+abbrev pub message_view : kept.Message → plain.AppMessage
 message_view m = record { topic = string_bytes m.topic; payload = m.payload.items; qos = m.qos; retain = m.retain }
 
 -- a session without a connection, grants, identifiers and messages
-abbrev pub bare_session : ℕ → List ℕ → Bool → plain.Seat
-bare_session key client kept = record { key = key; client = client; kept = kept; here = None; grants = []; used = []; last = 0; copies = [] }
+abbrev pub bare_session : ℕ → List ℕ → Bool → plain.Session
+bare_session key client kept = record { key = key; client = client; kept = kept; here = None; grants = []; used = []; last = 0; in_flight = [] }
 
 -- a connection with a keep alive of one second that was heard at the moment 0
-abbrev pub kept_line : ℕ → Option plain.Post → plain.Line
-kept_line conn will = record { conn = conn; alive = 1; heard = 0; will = will; drops = 0 }
+abbrev pub kept_connection : ℕ → Option plain.AppMessage → plain.Connection
+kept_connection conn will = record { conn = conn; alive = 1; heard = 0; will = will; drops = 0 }
 
 -- a PUBLISH of such a message, with any identifier where it has one
-abbrev pub sendable_as : plain.Post → Message
+abbrev pub sendable_as : plain.AppMessage → Message
 sendable_as p = Publish false p.qos false p.topic (id_at p.qos) p.payload
 
 -- topic and payload of a PUBLISH
@@ -48,8 +48,8 @@ words_of Disconnect = None
 -- ---- which fit
 
 -- a message that can be written as a PUBLISH
-abbrev pub is_post : plain.Post → Bool
-is_post p = is_sendable p.topic p.payload p.qos
+abbrev pub is_app_message : plain.AppMessage → Bool
+is_app_message p = is_sendable p.topic p.payload p.qos
 
 -- a filter with a QoS that is granted
 abbrev pub is_grant : List ℕ → ℕ → Bool
@@ -60,11 +60,11 @@ abbrev pub is_free : ℕ → List ℕ → Bool
 is_free id used = not (id == 0) && (not (is_in used id) && nat_lt (length used) 1024)
 
 -- a message that a session keeps
-abbrev pub is_copy : ℕ → plain.Post → Bool
-is_copy id p = (p.qos == 1) && (not (id == 0) && is_post p)
+abbrev pub is_in_flight : ℕ → plain.AppMessage → Bool
+is_in_flight id p = (p.qos == 1) && (not (id == 0) && is_app_message p)
 
 -- the number of the last of these sessions
-abbrev pub last_key : ℕ → List plain.Seat → ℕ
+abbrev pub last_key : ℕ → List plain.Session → ℕ
 last_key low [] = low
 last_key low (s ∷ ss) = last_key s.key ss
 
@@ -73,15 +73,15 @@ abbrev pub is_new : plain.Broker → ℕ → Bool
 is_new b conn = nat_le conn b.given && not (knows b conn)
 
 -- so is that of a session, if it has one
-abbrev pub is_new_line : plain.Broker → Option plain.Line → Bool
-is_new_line b here = option_map_or (λ (l : plain.Line). is_new b l.conn) here true
+abbrev pub is_new_connection : plain.Broker → Option plain.Connection → Bool
+is_new_connection b here = option_map_or (λ (l : plain.Connection). is_new b l.conn) here true
 
-abbrev pub is_guest_fit : plain.Broker → ℕ → Bool
-is_guest_fit b conn = is_new b conn && nat_lt (b.made + length b.guests) b.given
+abbrev pub is_newcomer_fit : plain.Broker → ℕ → Bool
+is_newcomer_fit b conn = is_new b conn && nat_lt (b.made + length b.newcomers) b.given
 
 -- a session that was made behind those that are there
-abbrev pub is_seat_fit : plain.Broker → plain.Seat → Bool
-is_seat_fit b s = nat_lt (last_key 0 b.seats) s.key && (nat_le s.key b.made && is_new_line b s.here)
+abbrev pub is_session_fit : plain.Broker → plain.Session → Bool
+is_session_fit b s = nat_lt (last_key 0 b.sessions) s.key && (nat_le s.key b.made && is_new_connection b s.here)
 
 -- a topic that has no retained message and may have one
 abbrev pub is_new_topic : plain.Broker → List ℕ → Bool

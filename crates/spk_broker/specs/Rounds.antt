@@ -7,17 +7,17 @@ use Rattle.spk_broker.specs.Drafts.{Drafted}
 use Rattle.spk_broker.specs.Sent.{outgoing}
 
 -- what it does to each, in their order, put behind what was there
-abbrev pub with_round : (plain.Seat → Served) → List plain.Seat → Drafted → Drafted
+abbrev pub with_round : (plain.Session → Served) → List plain.Session → Drafted → Drafted
 with_round f ss d = record d {
-  sends = d.sends ++ map outgoing (flat_map (λ (s : plain.Seat). (f s).sends) ss);
-  closes = d.closes ++ flat_map (λ (s : plain.Seat). (f s).closes) ss;
-  waiting = d.waiting ++ flat_map (λ (s : plain.Seat). (f s).wills) ss;
+  sends = d.sends ++ map outgoing (flat_map (λ (s : plain.Session). (f s).sends) ss);
+  closes = d.closes ++ flat_map (λ (s : plain.Session). (f s).closes) ss;
+  waiting = d.waiting ++ flat_map (λ (s : plain.Session). (f s).wills) ss;
 }
 
 -- who is left of them
-abbrev pub left_of_round : (plain.Seat → Served) → List plain.Seat → List plain.Seat
-left_of_round f ss = flat_map (λ (s : plain.Seat). (f s).left) ss
+abbrev pub left_of_round : (plain.Session → Served) → List plain.Session → List plain.Session
+left_of_round f ss = flat_map (λ (s : plain.Session). (f s).left) ss
 
 -- a message with RETAIN is to be retained
-abbrev pub kept_with : plain.Post → List plain.Post → List plain.Post
+abbrev pub kept_with : plain.AppMessage → List plain.AppMessage → List plain.AppMessage
 kept_with m keeps = if m.retain then keeps ++ m ∷ [] else keeps

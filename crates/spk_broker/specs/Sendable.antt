@@ -23,6 +23,6 @@ is_sendable topic payload qos = is_none (first_of (unwritable (Publish false qos
 unfoldable pub are_sendable : Table plain.Stored → Bool
 are_sendable table = list_all (λ e. is_sendable e.0 e.1.payload e.1.qos) table
 
--- a copy is of QoS 1 and has an identifier
+-- a message in flight is of QoS 1 and has an identifier
 abbrev pub is_numbered : ℕ → ℕ → Bool
 is_numbered qos id = qos == 1 && not (id == 0)

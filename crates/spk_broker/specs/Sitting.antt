@@ -3,17 +3,17 @@ use Rattle.std.specs.Prelude.{◌≤◌, map, length, take, string_bytes, Option
 use Rattle.std.specs.Option.{option_map, option_map_or}
 use Rattle.spk_broker_rules.specs.Data as plain
 use Rattle.spk_broker.specs.Both.{Both}
-use Rattle.spk_broker.specs.Parts.{grant_view, copy_view, line_now, line_was}
-use Rattle.spk_broker.specs.declared.seat.Line.{Line}
-use Rattle.spk_broker.specs.declared.seat.Seat.TheInside.{Inside}
+use Rattle.spk_broker.specs.Parts.{grant_view, in_flight_view, connection_now, connection_was}
+use Rattle.spk_broker.specs.declared.session.Connection.{Connection}
+use Rattle.spk_broker.specs.declared.session.Session.TheInside.{Inside}
 
 -- the connection that left in this call is the one of before
-abbrev pub here_was : Option Line → Option Line → Option plain.Line
-here_was None here = option_map line_was here
-here_was (Some l) here = Some (line_was l)
+abbrev pub here_was : Option Connection → Option Connection → Option plain.Connection
+here_was None here = option_map connection_was here
+here_was (Some l) here = Some (connection_was l)
 
-abbrev pub seat_was : Inside → plain.Seat
-seat_was s = record {
+abbrev pub session_was : Inside → plain.Session
+session_was s = record {
   key = s.key;
   client = string_bytes s.client;
   kept = s.kept;
@@ -21,25 +21,25 @@ seat_was s = record {
   grants = map grant_view s.grants.items;
   used = take s.used_before s.ids.value.used;
   last = s.last_before;
-  copies = map copy_view (take s.copies_before s.copies.items);
+  in_flight = map in_flight_view (take s.in_flight_before s.in_flight.items);
 }
 
-abbrev pub seat_now : Inside → plain.Seat
-seat_now s = record {
+abbrev pub session_now : Inside → plain.Session
+session_now s = record {
   key = s.key;
   client = string_bytes s.client;
   kept = s.kept;
-  here = option_map line_now s.here;
+  here = option_map connection_now s.here;
   grants = option_map_or (λ g. map grant_view g.items) s.regrant (map grant_view s.grants.items);
   used = s.ids.value.used;
   last = s.ids.value.last;
-  copies = map copy_view s.copies.items;
+  in_flight = map in_flight_view s.in_flight.items;
 }
 
-abbrev pub seat_both : Inside → Both
-seat_both s = record { was = seat_was s; now = if s.ended then None else Some (seat_now s) }
+abbrev pub session_both : Inside → Both
+session_both s = record { was = session_was s; now = if s.ended then None else Some (session_now s) }
 
 -- what is new stands behind what was there
 pub record IsDrafted (s : Inside) : Type 0 where
   pub used : s.used_before ≤ length s.ids.value.used
-  pub copies : s.copies_before ≤ length s.copies.items
+  pub in_flight : s.in_flight_before ≤ length s.in_flight.items

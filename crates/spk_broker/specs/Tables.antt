@@ -8,8 +8,8 @@ use Rattle.spk_broker_rules.specs.Table.{has}
 use Rattle.spk_broker.specs.Granting.{Grown}
 use Rattle.spk_broker.specs.Parts.{grant_view}
 use Rattle.spk_broker.specs.declared.filters.FilterTable.{FilterTable}
-use Rattle.spk_broker.specs.declared.requests.Requests.{Requests}
-use Rattle.spk_broker.specs.declared.seat.Grant.{Grant}
+use Rattle.spk_broker.specs.declared.subscribe_entries.Requests.{Requests}
+use Rattle.spk_broker.specs.declared.session.Grant.{Grant}
 
 -- what a table has of a filter: nothing, or the QoS of the last entry that is of it, where one is
 abbrev pub found : FilterTable → List ℕ → Option (Option ℕ)

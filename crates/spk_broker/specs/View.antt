@@ -15,84 +15,84 @@ use Rattle.spk_broker.specs.Filing.{IsHeld}
 use Rattle.spk_broker.specs.Parts.{retained_view}
 use Rattle.spk_broker.specs.Sent.{outgoing}
 use Rattle.spk_broker.specs.declared.broker.Broker.TheInside.{Inside}
-use Rattle.spk_broker.specs.declared.desk.Desk.{Desk}
-use Rattle.spk_broker.specs.declared.guest.Guest.{Guest}
+use Rattle.spk_broker.specs.declared.state.State.{State}
+use Rattle.spk_broker.specs.declared.newcomer.Newcomer.{Newcomer}
 use Rattle.spk_broker.specs.declared.out.Draft.{Draft}
 
-abbrev pub guest_was : Guest → plain.Guest
-guest_was g = record { conn = g.conn; heard = g.heard_before; drops = g.drops_before }
+abbrev pub newcomer_was : Newcomer → plain.Newcomer
+newcomer_was g = record { conn = g.conn; heard = g.heard_before; drops = g.drops_before }
 
-abbrev pub guest_now : Guest → List plain.Guest
-guest_now g = if g.gone then [] else (record { conn = g.conn; heard = g.heard; drops = g.drops }) ∷ []
+abbrev pub newcomer_now : Newcomer → List plain.Newcomer
+newcomer_now g = if g.gone then [] else (record { conn = g.conn; heard = g.heard; drops = g.drops }) ∷ []
 
-abbrev pub seat_was : Both → plain.Seat
-seat_was b = b.was
+abbrev pub session_was : Both → plain.Session
+session_was b = b.was
 
-abbrev pub seat_now : Both → List plain.Seat
-seat_now b = option_list b.now
+abbrev pub session_now : Both → List plain.Session
+session_now b = option_list b.now
 
 -- there is a message on this topic, or there are fewer topics than there may be
 abbrev pub may_retain : List ℕ → Table plain.Stored → Bool
 may_retain topic table = has topic table || nat_lt (length table) most_topics
 
 -- the data before the call
-abbrev pub desk_was : Desk → plain.Broker
-desk_was d = record {
+abbrev pub state_was : State → plain.Broker
+state_was d = record {
   limit = d.limit;
   given = d.given;
   made = d.made;
   clock = d.clock_before;
-  guests = map guest_was d.guests.items;
-  seats = map seat_was d.seats.items;
+  newcomers = map newcomer_was d.newcomers.items;
+  sessions = map session_was d.sessions.items;
   retained = map retained_view d.retained.entries;
 }
 
 -- the data by now, but for what is to be retained
-abbrev pub desk_now : Desk → plain.Broker
-desk_now d = record {
+abbrev pub state_now : State → plain.Broker
+state_now d = record {
   limit = d.limit;
   given = d.given;
   made = d.made;
   clock = d.clock;
-  guests = flat_map guest_now d.guests.items;
-  seats = flat_map seat_now d.seats.items;
+  newcomers = flat_map newcomer_now d.newcomers.items;
+  sessions = flat_map session_now d.sessions.items;
   retained = map retained_view d.retained.entries;
 }
 
 -- with these messages retained, one after the other
-abbrev pub with_keeps : List plain.Post → plain.Broker → plain.Broker
+abbrev pub with_keeps : List plain.AppMessage → plain.Broker → plain.Broker
 with_keeps keeps b = record b { retained = fold retained_with b.retained keeps }
 
--- the desk and the draft are this turn, and there is room for what is to be retained
-pub record Stands (desk : Desk) (draft : Draft) (turn : Turn) : Type 0 where
-  pub broker : with_keeps (draft_view draft).keeps (desk_now desk) ≡ turn.broker
+-- the state and the draft are this turn, and there is room for what is to be retained
+pub record Stands (state : State) (draft : Draft) (turn : Turn) : Type 0 where
+  pub broker : with_keeps (draft_view draft).keeps (state_now state) ≡ turn.broker
   pub sends : (draft_view draft).sends ≡ map outgoing turn.sends
   pub closes : (draft_view draft).closes ≡ turn.closes
   pub waiting : (draft_view draft).waiting ≡ turn.waiting
-  pub room : length (draft_view draft).keeps ≤ spare desk.retained
+  pub room : length (draft_view draft).keeps ≤ spare state.retained
   pub lawful : IsLawful turn.broker
 
 -- no call is under way
-abbrev pub IsSettled : Desk → Type 0
-IsSettled d = desk_now d ≡ desk_was d
+abbrev pub IsSettled : State → Type 0
+IsSettled d = state_now d ≡ state_was d
 
 abbrev pub broker_view : Inside → plain.Broker
-broker_view b = desk_was b.desk
+broker_view b = state_was b.state
 
 -- no call is under way, and the data are lawful
-pub record IsSound (d : Desk) : Type 0 where
+pub record IsSound (d : State) : Type 0 where
   pub settled : IsSettled d
-  pub lawful : IsLawful (desk_was d)
+  pub lawful : IsLawful (state_was d)
 
 -- the index, where there is one, has all grants and no others, and no more levels than may be, and nobody is silent for too long up to the moment that is noted
 pub record IsKept (b : Inside) : Type 0 where
-  pub sound : IsSound b.desk
-  pub index : IsHeld b.index.tree b.index.size (desk_was b.desk).seats
-  pub calm : IsCalm b.calm (desk_was b.desk)
+  pub sound : IsSound b.state
+  pub index : IsHeld b.index.tree b.index.size (state_was b.state).sessions
+  pub calm : IsCalm b.calm (state_was b.state)
 
 -- how many messages wait and how many sessions there are
-abbrev pub how_many : Desk → Draft → ℕ
-how_many desk draft = length (draft_view draft).waiting + length (flat_map seat_now desk.seats.items)
+abbrev pub how_many : State → Draft → ℕ
+how_many state draft = length (draft_view draft).waiting + length (flat_map session_now state.sessions.items)
 
 -- a whole event, from any turn: what is noted first, then what the rules plan
 abbrev pub stepped : Event → Turn → Turn

@@ -8,5 +8,5 @@ abbrev pub beyond : ℕ
 beyond = 67108865
 
 -- a weight with these messages more; what is too much stays there
-abbrev pub heaped : ℕ → List plain.Post → ℕ
+abbrev pub heaped : ℕ → List plain.AppMessage → ℕ
 heaped weight ms = min (weight + weight_of ms) beyond

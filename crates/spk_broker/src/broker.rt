@@ -7,12 +7,12 @@ ghost use Rattle.spk_broker_rules.specs.Plan.{Open};
 ghost use Rattle.spk_broker_rules.specs.Step.{is_full, open_count, step};
 ghost use Rattle.spk_broker_rules.specs.Words.{most_open};
 
-use crate::desk::Desk;
 use crate::fault::BrokerFault;
-use crate::guest::Guest;
 use crate::hints::Hints;
 use crate::index::GrantIndex;
+use crate::newcomer::Newcomer;
 use crate::out::Conn;
+use crate::state::State;
 use indexmap::IndexMap;
 use std::alloc::Global;
 use std::fmt;
@@ -24,7 +24,7 @@ const MOST_OPEN: usize = 1_000;
 /// Connections, sessions, grants and retained messages. Contracts see the `Broker` of the rules.
 #[derive(Drop)]
 pub struct Broker {
-    pub(crate) desk: Desk,
+    pub(crate) state: State,
     pub(crate) index: GrantIndex,
     /// Where connections sat.
     pub(crate) hints: Hints,
@@ -57,15 +57,15 @@ impl Broker {
         ensures { result ≡ fresh_broker limit }
     {
         Broker {
-            desk: Desk {
+            state: State {
                 alloc,
                 limit,
                 given: 0,
                 made: 0,
                 clock: 0,
                 clock_before: 0,
-                guests: Vec::new(alloc),
-                seats: Vec::new(alloc),
+                newcomers: Vec::new(alloc),
+                sessions: Vec::new(alloc),
                 retained: IndexMap::new(alloc),
             },
             index: GrantIndex::new(),
@@ -83,7 +83,7 @@ impl Broker {
         ensures fault { IfErr result (IsLimit (is_full self.old)) }
         ensures err { OnErr result (self.new ≡ self.old) }
     {
-        if self.has_most_open() || self.desk.given == u64::MAX {
+        if self.has_most_open() || self.state.given == u64::MAX {
             return Err(BrokerFault::Limit);
         }
         self.greet(now)
@@ -93,7 +93,13 @@ impl Broker {
     fn has_most_open(&self) -> bool
         ensures { result ≡ nat_le most_open (open_count self.now) }
     {
-        if self.desk.guests.len().saturating_add(self.desk.seats.len()) < MOST_OPEN {
+        if self
+            .state
+            .newcomers
+            .len()
+            .saturating_add(self.state.sessions.len())
+            < MOST_OPEN
+        {
             return false;
         }
         self.open_count() >= MOST_OPEN
@@ -103,13 +109,13 @@ impl Broker {
     fn open_count(&self) -> usize
         ensures { result ≡ open_count self.now }
     {
-        let mut lines = 0;
-        for seat in &self.desk.seats {
-            if seat.had_line() {
-                lines += 1;
+        let mut connections = 0;
+        for session in &self.state.sessions {
+            if session.had_connection() {
+                connections += 1;
             }
         }
-        self.desk.guests.len() + lines
+        self.state.newcomers.len() + connections
     }
 
     /// One more connection without CONNECT.
@@ -120,9 +126,9 @@ impl Broker {
         ensures fault { IfErr result (λ e. e ≡ BrokerFault.NoMemory) }
         ensures err { OnErr result (self.new ≡ self.old) }
     {
-        let conn = self.desk.given + 1;
-        let clock = self.desk.clock_before.max(now);
-        self.desk.guests.push(Guest {
+        let conn = self.state.given + 1;
+        let clock = self.state.clock_before.max(now);
+        self.state.newcomers.push(Newcomer {
             conn,
             heard: clock,
             drops: 0,
@@ -130,9 +136,9 @@ impl Broker {
             drops_before: 0,
             gone: false,
         })?;
-        self.desk.given = conn;
-        self.desk.clock = clock;
-        self.desk.clock_before = clock;
+        self.state.given = conn;
+        self.state.clock = clock;
+        self.state.clock_before = clock;
         Ok(conn)
     }
 }

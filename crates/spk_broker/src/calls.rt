@@ -7,8 +7,8 @@ ghost use Rattle.spk_broker_rules.specs.Plan.{Closed, Fault, Refused, Tick};
 ghost use Rattle.spk_broker_rules.specs.Step.{knows, step};
 
 use crate::broker::Broker;
-use crate::calm::next;
 use crate::fault::BrokerFault;
+use crate::keep_alive::next;
 use crate::out::{Conn, Draft, Out};
 use spk_packets::PacketFault;
 use spk_session::Sort;
@@ -26,16 +26,16 @@ impl Broker {
         ensures fault { IfErr result (IsUnknown (knows self.old conn)) }
         ensures err { OnErr result (self.new ≡ self.old) }
     {
-        let sought = self.hints.seek(&self.desk, conn, false);
+        let sought = self.hints.seek(&self.state, conn, false);
         if !sought.known {
             return Err(BrokerFault::NoSuchConn);
         }
         let place = sought.place;
-        let mut draft = Draft::new(self.desk.alloc);
+        let mut draft = Draft::new(self.state.alloc);
         let drafted = self
-            .desk
+            .state
             .draft_closed(&mut draft, &self.index.tree, conn, place, now);
-        self.desk.conclude(drafted, draft, &mut self.index)
+        self.state.conclude(drafted, draft, &mut self.index)
     }
 
     /// Bytes of a connection are no packet: a first packet of another protocol level gets CONNACK code 1 (section
@@ -51,16 +51,16 @@ impl Broker {
         ensures fault { IfErr result (IsUnknown (knows self.old conn)) }
         ensures err { OnErr result (self.new ≡ self.old) }
     {
-        let sought = self.hints.seek(&self.desk, conn, false);
+        let sought = self.hints.seek(&self.state, conn, false);
         if !sought.known {
             return Err(BrokerFault::NoSuchConn);
         }
         let place = sought.place;
-        let mut draft = Draft::new(self.desk.alloc);
+        let mut draft = Draft::new(self.state.alloc);
         let drafted = self
-            .desk
+            .state
             .draft_fault(&mut draft, &self.index.tree, conn, place, fault, now);
-        self.desk.conclude(drafted, draft, &mut self.index)
+        self.state.conclude(drafted, draft, &mut self.index)
     }
 
     /// Time has passed: connections that were silent for more than one and a half times their keep alive are closed
@@ -73,12 +73,12 @@ impl Broker {
         ensures fault { IfErr result (λ e. e ≡ BrokerFault.NoMemory) }
         ensures err { OnErr result (self.new ≡ self.old) }
     {
-        let mut draft = Draft::new(self.desk.alloc);
+        let mut draft = Draft::new(self.state.alloc);
         let mut calm = self.calm;
         let drafted = self
-            .desk
+            .state
             .draft_tick(&mut draft, &self.index.tree, &mut calm, now);
-        let concluded = self.desk.conclude(drafted, draft, &mut self.index);
+        let concluded = self.state.conclude(drafted, draft, &mut self.index);
         self.calm = next(concluded.is_ok(), calm, self.calm);
         concluded
     }
@@ -96,13 +96,13 @@ impl Broker {
         ensures fault { IfErr result (IsUnknown (knows self.old conn)) }
         ensures err { OnErr result (self.new ≡ self.old) }
     {
-        let sought = self.hints.seek(&self.desk, conn, true);
+        let sought = self.hints.seek(&self.state, conn, true);
         if !sought.known {
             return Err(BrokerFault::NoSuchConn);
         }
         let place = sought.place;
-        let mut draft = Draft::new(self.desk.alloc);
-        let drafted = self.desk.draft_refused(&mut draft, conn, place, sort, now);
-        self.desk.conclude(drafted, draft, &mut self.index)
+        let mut draft = Draft::new(self.state.alloc);
+        let drafted = self.state.draft_refused(&mut draft, conn, place, sort, now);
+        self.state.conclude(drafted, draft, &mut self.index)
     }
 }

@@ -9,8 +9,8 @@ ghost use Rattle.spk_broker.specs.Offering.{retained_at};
 ghost use Rattle.spk_broker.specs.Parts.{stored_view};
 ghost use Rattle.spk_broker.specs.Sendable.{is_sendable};
 
-use crate::desk::Stored;
 use crate::out::spelled_publish;
+use crate::state::Stored;
 use spk_bytes::Bytes;
 use spk_packets::PublishRef;
 use std::alloc::{AllocError, Global};

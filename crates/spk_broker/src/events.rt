@@ -12,13 +12,13 @@ ghost use Rattle.spk_broker.specs.Calm.{IsCalm};
 ghost use Rattle.spk_broker.specs.Endings.{IsReady, Leads};
 ghost use Rattle.spk_broker.specs.Filing.{IsIndex};
 ghost use Rattle.spk_broker.specs.Touched.{IsAlone};
-ghost use Rattle.spk_broker.specs.View.{IsSettled, Stands, desk_now, desk_was, ends, stepped};
+ghost use Rattle.spk_broker.specs.View.{IsSettled, Stands, state_now, state_was, ends, stepped};
 
-use crate::calm::silent;
-use crate::desk::Desk;
-use crate::ending::Ending;
+use crate::keep_alive::silent;
 use crate::out::{Conn, Draft};
-use crate::seat::Seat;
+use crate::packet_end::Ending;
+use crate::session::Session;
+use crate::state::State;
 use spk_packets::{Packet, PacketFault};
 use spk_session::Sort;
 use spk_topics::Tree;
@@ -42,14 +42,14 @@ fn is_of_other_level(fault: PacketFault, place: Option<usize>) -> bool
 }
 
 /// Where the first session stands, if there is one.
-fn first_place(seats: &[Seat]) -> Option<usize>
-    ensures none { result ≡ None → length seats.now ≡ 0 }
-    ensures some { IfSome result (λ p. (p ≡ 0) × (p < length seats.now)) }
+fn first_place(sessions: &[Session]) -> Option<usize>
+    ensures none { result ≡ None → length sessions.now ≡ 0 }
+    ensures some { IfSome result (λ p. (p ≡ 0) × (p < length sessions.now)) }
 {
-    if seats.is_empty() { None } else { Some(0) }
+    if sessions.is_empty() { None } else { Some(0) }
 }
 
-impl Desk {
+impl State {
     /// CONNACK with this code, and closed (section 3.2.2.3).
     pub(crate) fn turn_away(
         &mut self,
@@ -60,7 +60,7 @@ impl Desk {
         requires { code ≤ 5 }
         ensures done { OnOk result ((t : Turn) → Stands self.old draft.old t
             → Stands self.new draft.new (acts (turn_away conn code) t)) }
-        ensures same { desk_was self.new ≡ desk_was self.old }
+        ensures same { state_was self.new ≡ state_was self.old }
     {
         let packet = Packet::ConnAck {
             present: false,
@@ -80,14 +80,14 @@ impl Desk {
         place: Option<usize>,
         now: u64,
     ) -> Result<Ending, AllocError>
-        requires index { IsIndex tree.now (desk_now self.old).seats }
-        requires order { AreInOrder tree.now self.old.seats.items }
-        requires place { place_in conn self.old.seats.items ≡ place }
+        requires index { IsIndex tree.now (state_now self.old).sessions }
+        requires order { AreInOrder tree.now self.old.sessions.items }
+        requires place { place_in conn self.old.sessions.items ≡ place }
         requires alone { IsAlone place self.old }
         ensures done { IfOk result (λ e. (t : Turn) → Stands self.old draft.old t
             → Leads self.new draft.new e (stepped (Closed conn now) t)) }
         ensures ready { IfOk result (λ e. IsReady e self.new) }
-        ensures same { desk_was self.new ≡ desk_was self.old }
+        ensures same { state_was self.new ≡ state_was self.old }
     {
         self.at(now);
         self.leave_at(draft, conn, place, true)?;
@@ -106,14 +106,14 @@ impl Desk {
         fault: PacketFault,
         now: u64,
     ) -> Result<Ending, AllocError>
-        requires index { IsIndex tree.now (desk_now self.old).seats }
-        requires order { AreInOrder tree.now self.old.seats.items }
-        requires place { place_in conn self.old.seats.items ≡ place }
+        requires index { IsIndex tree.now (state_now self.old).sessions }
+        requires order { AreInOrder tree.now self.old.sessions.items }
+        requires place { place_in conn self.old.sessions.items ≡ place }
         requires alone { IsAlone place self.old }
         ensures done { IfOk result (λ e. (t : Turn) → Stands self.old draft.old t
             → Leads self.new draft.new e (stepped (Fault conn fault now) t)) }
         ensures ready { IfOk result (λ e. IsReady e self.new) }
-        ensures same { desk_was self.new ≡ desk_was self.old }
+        ensures same { state_was self.new ≡ state_was self.old }
     {
         self.at(now);
         if is_of_other_level(fault, place) {
@@ -128,11 +128,11 @@ impl Desk {
     fn end_all(&mut self, draft: &mut Draft, conns: &[Conn]) -> Result<(), AllocError>
         ensures done { OnOk result ((t : Turn) → Stands self.old draft.old t
             → Stands self.new draft.new (acts (flat_map ends conns.now) t)) }
-        ensures same { desk_was self.new ≡ desk_was self.old }
-        ensures index { OnOk result ((i : Option Grants) → IsIndex i (desk_now self.old).seats
-            → IsIndex i (desk_now self.new).seats) }
+        ensures same { state_was self.new ≡ state_was self.old }
+        ensures index { OnOk result ((i : Option Grants) → IsIndex i (state_now self.old).sessions
+            → IsIndex i (state_now self.new).sessions) }
         ensures keyed { OnOk result
-            (AreKeyed self.old.seats.items → AreKeyed self.new.seats.items) }
+            (AreKeyed self.old.sessions.items → AreKeyed self.new.sessions.items) }
     {
         for conn in conns {
             self.leave(draft, *conn, true)?;
@@ -150,20 +150,20 @@ impl Desk {
         calm: &mut u64,
         now: u64,
     ) -> Result<Ending, AllocError>
-        requires index { IsIndex tree.now (desk_now self.old).seats }
-        requires order { AreInOrder tree.now self.old.seats.items }
+        requires index { IsIndex tree.now (state_now self.old).sessions }
+        requires order { AreInOrder tree.now self.old.sessions.items }
         requires settled { IsSettled self.old }
-        requires calm { IsCalm calm.old (desk_was self.old) }
+        requires calm { IsCalm calm.old (state_was self.old) }
         ensures done { IfOk result (λ e. (t : Turn) → Stands self.old draft.old t
             → Leads self.new draft.new e (stepped (Tick now) t)) }
-        ensures calm { IsCalm calm.new (noted (desk_was self.old) (Tick now)).broker }
+        ensures calm { IsCalm calm.new (noted (state_was self.old) (Tick now)).broker }
         ensures ready { IfOk result (λ e. IsReady e self.new) }
-        ensures same { desk_was self.new ≡ desk_was self.old }
+        ensures same { state_was self.new ≡ state_was self.old }
     {
         self.at(now);
-        let conns = silent(self.alloc, &self.seats, self.clock, calm)?;
+        let conns = silent(self.alloc, &self.sessions, self.clock, calm)?;
         if conns.is_empty() {
-            let first = first_place(&self.seats);
+            let first = first_place(&self.sessions);
             let ending = self.route_near(draft, tree, first)?;
             return Ok(ending);
         }
@@ -180,12 +180,12 @@ impl Desk {
         place: Option<usize>,
         now: u64,
     ) -> Result<Ending, AllocError>
-        requires place { place_in conn self.old.seats.items ≡ place }
+        requires place { place_in conn self.old.sessions.items ≡ place }
         requires alone { IsAlone place self.old }
         ensures done { IfOk result (λ e. (t : Turn) → Stands self.old draft.old t
             → Leads self.new draft.new e (stepped (Refused conn Sort.QosZero now) t)) }
         ensures ready { IfOk result (λ e. IsReady e self.new) }
-        ensures same { desk_was self.new ≡ desk_was self.old }
+        ensures same { state_was self.new ≡ state_was self.old }
     {
         self.at(now);
         self.count_drop(conn, place);
@@ -206,12 +206,12 @@ impl Desk {
         sort: Sort,
         now: u64,
     ) -> Result<Ending, AllocError>
-        requires place { place_in conn self.old.seats.items ≡ place }
+        requires place { place_in conn self.old.sessions.items ≡ place }
         requires alone { IsAlone place self.old }
         ensures done { IfOk result (λ e. (t : Turn) → Stands self.old draft.old t
             → Leads self.new draft.new e (stepped (Refused conn sort now) t)) }
         ensures ready { IfOk result (λ e. IsReady e self.new) }
-        ensures same { desk_was self.new ≡ desk_was self.old }
+        ensures same { state_was self.new ≡ state_was self.old }
     {
         match sort {
             Sort::QosZero => {

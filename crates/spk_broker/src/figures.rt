@@ -6,22 +6,22 @@ use crate::broker::Broker;
 impl Broker {
     /// How many sessions there are, clean and kept ones, with and without a connection (section 3.1.2.4).
     pub fn sessions(&self) -> usize
-        ensures { result ≡ length self.now.seats }
+        ensures { result ≡ length self.now.sessions }
     {
-        self.desk.seats.len()
+        self.state.sessions.len()
     }
 
     /// How many topics have a retained message (section 3.3.1.3).
     pub fn retained(&self) -> usize
         ensures { result ≡ length self.now.retained }
     {
-        self.desk.retained.len()
+        self.state.retained.len()
     }
 
     /// The broker's clock, in milliseconds: the greatest moment of a call so far.
     pub fn clock(&self) -> u64
         ensures { result ≡ self.now.clock }
     {
-        self.desk.clock
+        self.state.clock
     }
 }

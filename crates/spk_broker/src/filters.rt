@@ -6,7 +6,7 @@ ghost use Rattle.spk_broker_rules.specs.Table.{has};
 ghost use Rattle.spk_broker.specs.Parts.{grant_view};
 ghost use Rattle.spk_broker.specs.Tables.{found, last_of};
 
-use crate::seat::Grant;
+use crate::session::Grant;
 use std::alloc::{AllocError, Global};
 use std::collections::BTreeMap;
 

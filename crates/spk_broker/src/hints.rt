@@ -2,20 +2,20 @@
 ghost use Rattle.std.specs.Prelude.{◌≡◌, ◌≤◌, IfSome, false, length};
 ghost use Rattle.std.specs.List.{list_any};
 ghost use Rattle.spk_broker_rules.specs.Lawful.{places};
-ghost use Rattle.spk_broker_rules.specs.Step.{is_guest, knows};
+ghost use Rattle.spk_broker_rules.specs.Step.{is_newcomer, knows};
 ghost use Rattle.spk_broker.specs.Asking.{SitsAt, place_in};
 ghost use Rattle.spk_broker.specs.Touched.{IsAlone};
-ghost use Rattle.spk_broker.specs.View.{IsSound, desk_now};
+ghost use Rattle.spk_broker.specs.View.{IsSound, state_now};
 
-use crate::asking::{is_guest, place_near, sits_at};
-use crate::desk::Desk;
 use crate::out::Conn;
-use crate::seat::Seat;
+use crate::queries::{is_newcomer, place_near, sits_at};
+use crate::session::Session;
+use crate::state::State;
 use spk_packets::Packet;
 use std::alloc::Global;
 
 /// The most connections that are kept here, twice as many as may be open: those that ended stay until there are so many.
-const MOST_KEPT: usize = 2_000;
+const MOST_HINTS: usize = 2_000;
 
 /// A connection, the number of the session in which it sat, and where that stood.
 #[derive(Debug, Drop)]
@@ -34,24 +34,24 @@ pub(crate) struct Sought {
 
 /// Whether a connection that sits at this place, if it does, is open. Where it was looked for at none of the sessions first it isn't one
 /// without CONNECT.
-fn is_known(desk: &Desk, conn: Conn, place: Option<usize>, near: usize) -> bool
-    requires place { place_in conn desk.now.seats.items ≡ place }
-    requires new { length desk.now.seats.items ≤ near
-        → list_any (is_guest conn) (desk_now desk.now).guests ≡ false }
-    ensures { result ≡ knows (desk_now desk.now) conn }
+fn is_known(state: &State, conn: Conn, place: Option<usize>, near: usize) -> bool
+    requires place { place_in conn state.now.sessions.items ≡ place }
+    requires new { length state.now.sessions.items ≤ near
+        → list_any (is_newcomer conn) (state_now state.now).newcomers ≡ false }
+    ensures { result ≡ knows (state_now state.now) conn }
 {
-    if near < desk.seats.len() {
-        return desk.knows(conn, place);
+    if near < state.sessions.len() {
+        return state.knows(conn, place);
     }
     place.is_some()
 }
 
 /// The last place, where this connection sits there.
-fn last_place(seats: &[Seat], conn: Conn) -> Option<usize>
-    ensures { IfSome result (λ place. SitsAt conn place seats.now) }
+fn last_place(sessions: &[Session], conn: Conn) -> Option<usize>
+    ensures { IfSome result (λ place. SitsAt conn place sessions.now) }
 {
-    let last = seats.len().checked_sub(1)?;
-    if sits_at(seats, conn, last) {
+    let last = sessions.len().checked_sub(1)?;
+    if sits_at(sessions, conn, last) {
         Some(last)
     } else {
         None
@@ -87,19 +87,19 @@ impl Hints {
 
     /// Where the connection that is there in the list sat: where it stood, or by the number of its session, since sessions stand in the
     /// order of their numbers.
-    fn guess(&self, seats: &[Seat], at: Option<usize>) -> usize {
+    fn guess(&self, sessions: &[Session], at: Option<usize>) -> usize {
         let Some(at) = at else {
-            return seats.len();
+            return sessions.len();
         };
         let Some(hint) = self.list.get(at) else {
-            return seats.len();
+            return sessions.len();
         };
-        if let Some(seat) = seats.get(hint.place) {
-            if seat.key() == hint.key {
+        if let Some(session) = sessions.get(hint.place) {
+            if session.key() == hint.key {
                 return hint.place;
             }
         }
-        match seats.binary_search_by_key(&hint.key, |seat| seat.key()) {
+        match sessions.binary_search_by_key(&hint.key, |session| session.key()) {
             Ok(place) => place,
             Err(place) => place,
         }
@@ -107,7 +107,7 @@ impl Hints {
 
     /// The connection sits in this session, which stands there. Where memory is refused that isn't kept.
     fn learn(&mut self, conn: Conn, key: u64, place: usize) {
-        if self.list.len() >= MOST_KEPT {
+        if self.list.len() >= MOST_HINTS {
             self.list.clear();
         }
         match self.list.binary_search_by_key(&conn, |hint| hint.conn) {
@@ -137,54 +137,60 @@ impl Hints {
 
     /// Where the connection sits, and whether it is open: where nothing is known of it and it has no accepted CONNECT, no session is looked
     /// at. Where it sits is noted where it may call again.
-    fn seek_in(&mut self, desk: &Desk, conn: Conn, stays: bool) -> Sought
-        requires { places conn (desk_now desk.now) ≤ 1 }
-        ensures place { result.place ≡ place_in conn desk.now.seats.items }
-        ensures known { result.known ≡ knows (desk_now desk.now) conn }
+    fn seek_in(&mut self, state: &State, conn: Conn, stays: bool) -> Sought
+        requires { places conn (state_now state.now) ≤ 1 }
+        ensures place { result.place ≡ place_in conn state.now.sessions.items }
+        ensures known { result.known ≡ knows (state_now state.now) conn }
     {
         let at = self.at(conn);
-        let near = self.guess(&desk.seats, at);
-        if near >= desk.seats.len() && is_guest(&desk.guests, conn) {
+        let near = self.guess(&state.sessions, at);
+        if near >= state.sessions.len() && is_newcomer(&state.newcomers, conn) {
             return Sought {
                 place: None,
                 known: true,
             };
         }
-        let place = place_near(&desk.seats, conn, near);
+        let place = place_near(&state.sessions, conn, near);
         if stays {
-            self.note_place(&desk.seats, at, conn, place);
+            self.note_place(&state.sessions, at, conn, place);
         }
-        let known = is_known(desk, conn, place, near);
+        let known = is_known(state, conn, place, near);
         Sought { place, known }
     }
 
     /// Where the connection sits is noted, if it does.
-    fn note_place(&mut self, seats: &[Seat], at: Option<usize>, conn: Conn, place: Option<usize>) {
+    fn note_place(
+        &mut self,
+        sessions: &[Session],
+        at: Option<usize>,
+        conn: Conn,
+        place: Option<usize>,
+    ) {
         let Some(place) = place else {
             return;
         };
-        if let Some(seat) = seats.get(place) {
-            self.note(at, conn, seat.key(), place);
+        if let Some(session) = sessions.get(place) {
+            self.note(at, conn, session.key(), place);
         }
     }
 
     /// After a packet: a CONNECT may have made a session for this connection, which then stands last.
-    pub(crate) fn meet(&mut self, seats: &[Seat], conn: Conn, packet: &Packet) {
+    pub(crate) fn meet(&mut self, sessions: &[Session], conn: Conn, packet: &Packet) {
         let Packet::Connect { .. } = packet else {
             return;
         };
-        if let Some(place) = last_place(seats, conn) {
-            self.learn(conn, seats[place].key(), place);
+        if let Some(place) = last_place(sessions, conn) {
+            self.learn(conn, sessions[place].key(), place);
         }
     }
 
     /// Where the connection sits between calls, if it does, and whether it is open. It is noted where it may call again.
-    pub(crate) fn seek(&mut self, desk: &Desk, conn: Conn, stays: bool) -> Sought
-        requires { IsSound desk.now }
-        ensures place { result.place ≡ place_in conn desk.now.seats.items }
-        ensures known { result.known ≡ knows (desk_now desk.now) conn }
-        ensures alone { IsAlone result.place desk.now }
+    pub(crate) fn seek(&mut self, state: &State, conn: Conn, stays: bool) -> Sought
+        requires { IsSound state.now }
+        ensures place { result.place ≡ place_in conn state.now.sessions.items }
+        ensures known { result.known ≡ knows (state_now state.now) conn }
+        ensures alone { IsAlone result.place state.now }
     {
-        self.seek_in(desk, conn, stays)
+        self.seek_in(state, conn, stays)
     }
 }

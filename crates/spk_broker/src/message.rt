@@ -1,11 +1,11 @@
 //! Messages that were kept.
 ghost use Rattle.std.specs.Prelude.{◌≡◌, if◌then◌else◌, Some, None, string_bytes};
 ghost use Rattle.std.specs.Option.{option_map};
-ghost use Rattle.spk_broker.specs.Parts.{post_view};
+ghost use Rattle.spk_broker.specs.Parts.{app_message_view};
 ghost use Rattle.spk_packets.specs.View.{view};
-ghost use Rattle.spk_broker.specs.Restoring.{is_post, message_view, sendable_as, words_of};
+ghost use Rattle.spk_broker.specs.Restoring.{is_app_message, message_view, sendable_as, words_of};
 
-use crate::post::Post;
+use crate::app_message::AppMessage;
 use spk_packets::{Packet, is_writable};
 
 /// An application message (section 3.3): a will (section 3.1.2.5), or one that a session keeps.
@@ -42,9 +42,9 @@ fn words(packet: Packet) -> Option<(String, Vec<u8>)>
 }
 
 /// The message, where it can be written as a PUBLISH.
-pub(crate) fn post(message: Message) -> Option<Post>
-    ensures { option_map post_view result
-        ≡ (if is_post (message_view message) then Some (message_view message) else None) }
+pub(crate) fn app_message(message: Message) -> Option<AppMessage>
+    ensures { option_map app_message_view result
+        ≡ (if is_app_message (message_view message) then Some (message_view message) else None) }
 {
     let qos = message.qos;
     let retain = message.retain;
@@ -53,7 +53,7 @@ pub(crate) fn post(message: Message) -> Option<Post>
         return None;
     }
     let (topic, payload) = words(packet)?;
-    Some(Post {
+    Some(AppMessage {
         topic,
         payload,
         qos,

@@ -4,10 +4,10 @@ ghost use Rattle.spk_packets.specs.View.{publish_view, view};
 ghost use Rattle.spk_packets.specs.Spelling.{spelling};
 ghost use Rattle.spk_broker.specs.Sent.{outgoing, sort_at, sort_of};
 ghost use Rattle.spk_broker.specs.Drafts.{draft_view, empty_draft};
-ghost use Rattle.spk_broker.specs.Parts.{post_view};
+ghost use Rattle.spk_broker.specs.Parts.{app_message_view};
 ghost use Rattle.spk_broker.specs.Sendable.{IsWritable};
 
-use crate::post::Post;
+use crate::app_message::AppMessage;
 use spk_bytes::Bytes;
 use spk_packets::{Packet, PacketFault, PublishRef, encode};
 use spk_session::Sort;
@@ -40,8 +40,8 @@ pub(crate) struct Draft {
     pub(crate) alloc: Global,
     pub(crate) sends: Vec<Outgoing>,
     pub(crate) closes: Vec<Conn>,
-    pub(crate) waiting: VecDeque<Post>,
-    pub(crate) keeps: VecDeque<Post>,
+    pub(crate) waiting: VecDeque<AppMessage>,
+    pub(crate) keeps: VecDeque<AppMessage>,
     /// Where this is set, a CONNECT has changed no session.
     pub(crate) is_still: bool,
 }
@@ -139,12 +139,12 @@ impl Draft {
     }
 
     /// One more message that waits.
-    pub(crate) fn queue(&mut self, post: Post) -> Result<(), AllocError>
+    pub(crate) fn queue(&mut self, app_message: AppMessage) -> Result<(), AllocError>
         ensures { OnOk result (draft_view self.new ≡ record (draft_view self.old) {
-          waiting = (draft_view self.old).waiting ++ post_view post ∷ [];
+          waiting = (draft_view self.old).waiting ++ app_message_view app_message ∷ [];
         }) }
     {
-        self.waiting.push_back(post)?;
+        self.waiting.push_back(app_message)?;
         Ok(())
     }
 

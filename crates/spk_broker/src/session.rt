@@ -1,240 +1,95 @@
-//! A session put together again.
-ghost use Rattle.std.specs.Prelude.{◌≡◌, ◌∷◌, ◌++◌, [], IfOk, IfErr, OnOk, OnErr, Some, None, true, false, string_bytes};
-ghost use Rattle.std.specs.Option.{option_map};
-ghost use Rattle.spk_broker_rules.specs.Step.{conn_at};
-ghost use Rattle.spk_broker.specs.Entering.{whole};
-ghost use Rattle.spk_broker.specs.Filters.{is_filter};
-ghost use Rattle.spk_broker.specs.Parts.{line_now, line_was, post_view};
-ghost use Rattle.spk_broker.specs.Restoring.{IsRefused, bare_session, is_copy, is_free, is_grant, is_post, kept_line, message_view};
-ghost use Rattle.spk_broker.specs.declared.part_fault.PartFault.TheVariants as fault;
+//! Sessions (section 3.1.2.4) and their connections.
 
-use crate::message::{Message, post};
-use crate::out::Conn;
-use crate::part_fault::PartFault;
-use crate::post::Post;
-use crate::seat::{Copy, Grant, Line, Seat};
+ghost use Rattle.std.specs.Prelude.{◌≡◌, is_some, string_bytes, true};
+ghost use Rattle.spk_broker.specs.Filters.{is_filter};
+ghost use Rattle.spk_broker.specs.Sendable.{is_numbered};
+
+use crate::app_message::AppMessage;
 use spk_session::Identifiers;
-use spk_topics::Filter;
-use std::alloc::Global;
 use std::marker::Model;
 
-/// The most identifiers in use (own rule).
-const MOST_UNACKED: usize = 1_024;
-
-/// A session (section 3.1.2.4) as it was kept, which is put together part by part.
+/// A connection with an accepted CONNECT.
 #[derive(Debug, Drop)]
-pub struct Session {
-    key: u64,
-    client: String,
-    kept: bool,
-    conn: Option<Conn>,
-    will: Option<Post>,
-    grants: Vec<Grant>,
-    ids: Box<Identifiers>,
-    copies: Vec<Copy>,
+pub(crate) struct Connection {
+    /// Its number.
+    pub(crate) conn: u64,
+    /// Keep alive, in seconds.
+    pub(crate) alive: u16,
+    /// The clock at its last packet.
+    pub(crate) heard: u64,
+    pub(crate) will: Option<AppMessage>,
+    /// How many sends were dropped on it, up to 65,535.
+    pub(crate) drops: u16,
+    /// Both as they were before the call.
+    pub(crate) heard_before: u64,
+    pub(crate) drops_before: u16,
+}
+
+/// The QoS of a topic filter.
+#[derive(Debug, Drop)]
+pub(crate) struct Grant {
+    pub(crate) filter: String,
+    /// 0 or 1.
+    pub(crate) qos: u8,
+    /// The filter is a topic filter (section 4.7).
+    ghost read: { is_filter (string_bytes filter) ≡ true },
+}
+
+/// A QoS 1 message that a kept session hasn't acknowledged.
+#[derive(Debug, Drop)]
+pub(crate) struct InFlight {
+    pub(crate) id: u16,
+    pub(crate) app_message: AppMessage,
+    /// Whether it was ever handed out.
+    pub(crate) handed: bool,
+    /// It is of QoS 1, and its identifier isn't 0.
+    ghost numbered: { is_numbered app_message.qos id ≡ true },
+}
+
+/// A session and all that hangs on it. In the midst of a call it is seen as before the call and as by now: what a
+/// call drafts stands beside or behind what was there, until it is settled or undone.
+#[derive(Debug, Drop)]
+pub(crate) struct Session {
+    /// Its number, from 1 in the order of making.
+    pub(crate) key: u64,
+    pub(crate) client: String,
+    /// Made with clean session 0.
+    pub(crate) kept: bool,
+    pub(crate) here: Option<Connection>,
+    /// The connection that left it in this call.
+    pub(crate) left: Option<Connection>,
+    /// It ended in this call.
+    pub(crate) ended: bool,
+    pub(crate) grants: Vec<Grant>,
+    /// The grants after this call, where it changes them.
+    pub(crate) regrant: Option<Vec<Grant>>,
+    /// Apart, since its table is much larger than all else here.
+    pub(crate) ids: Box<Identifiers>,
+    /// Of a kept session: what stands behind the identifiers in use.
+    pub(crate) in_flight: Vec<InFlight>,
+    /// How many identifiers were in use before the call, the one given last, and how many messages were in flight.
+    pub(crate) used_before: usize,
+    pub(crate) last_before: u16,
+    pub(crate) in_flight_before: usize,
 }
 
 impl Model for Session {
-    ghost use Rattle.spk_broker_rules.specs.Data as plain;
-    ghost use Rattle.spk_broker.specs.Kept.{session_view};
+    ghost use Rattle.spk_broker.specs.Both.{Both};
 
-    ghost Value = { plain.Seat };
+    ghost Value = { Both };
 
-    ghost view = { session_view };
-}
+    ghost use Rattle.spk_broker.specs.Sitting.{session_both, IsDrafted};
 
-/// Whether a text is a topic filter (section 4.7).
-#[tactic(auto, unfolding(crate::specs::Filters::is_filter))]
-fn is_filter(text: &str) -> bool
-    ensures { result ≡ is_filter text.now }
-{
-    match Filter::read(text) {
-        Ok(_filter) => true,
-        Err(_fault) => false,
-    }
-}
+    ghost view = { session_both };
 
-/// Whether this identifier is none of those in use, and may be one more.
-fn is_free(used: &[u16], id: u16) -> bool
-    ensures { result ≡ is_free id used.now }
-{
-    id != 0 && !used.contains(&id) && used.len() < MOST_UNACKED
-}
-
-/// One more identifier is in use.
-fn take(ids: &mut Identifiers, id: u16)
-    requires { is_free id ids.old.used ≡ true }
-    ensures { ids.new ≡ record { used = ids.old.used ++ id ∷ []; last = id } }
-{
-    let count = ids.waiting().len();
-    ids.rewind(count, id.saturating_sub(1));
-    let _ = ids.sent();
-}
-
-/// A connection with a keep alive of one second that was heard at the moment 0.
-fn line_of(conn: Option<Conn>, will: Option<Post>) -> Option<Line>
-    ensures now { option_map line_now result
-        ≡ option_map (λ c. kept_line c (option_map post_view will)) conn }
-    ensures was { option_map line_was result
-        ≡ option_map (λ c. kept_line c (option_map post_view will)) conn }
-{
-    match conn {
-        Some(conn) => Some(Line {
-            conn,
-            alive: 1,
-            heard: 0,
-            will,
-            drops: 0,
-            heard_before: 0,
-            drops_before: 0,
-        }),
-        None => None,
-    }
+    ghost invariant = { IsDrafted };
 }
 
 impl Session {
-    /// A session of this number and of this client, without a connection, grants, identifiers and messages. Refused with NoMemory (1) alone.
-    pub fn new(alloc: Global, key: u64, client: &str, kept: bool) -> Result<Session, PartFault>
-        ensures fresh { IfOk result (λ s. s ≡ bare_session key client.now kept) }
-        ensures fault { IfErr result (λ e. e ≡ fault.NoMemory) }
+    /// Whether it had a connection before the call.
+    pub(crate) fn had_connection(&self) -> bool
+        ensures { result ≡ is_some self.now.was.here }
     {
-        Ok(Session {
-            key,
-            client: String::from_str(alloc, client)?,
-            kept,
-            conn: None,
-            will: None,
-            grants: Vec::new(alloc),
-            ids: Box::new(alloc, Identifiers::new())?,
-            copies: Vec::new(alloc),
-        })
-    }
-
-    /// Its connection, as if it had a keep alive of one second and was heard at the moment 0, without a will.
-    pub fn connect(&mut self, conn: Conn)
-        ensures { self.new ≡ record self.old { here = Some (kept_line conn None) } }
-    {
-        self.conn = Some(conn);
-        self.will = None;
-    }
-
-    /// The same, with a will (section 3.1.2.5). Refused with Unfit (139) exactly where that can't be written as a PUBLISH.
-    pub fn connect_with(&mut self, conn: Conn, will: Message) -> Result<(), PartFault>
-        ensures done { OnOk result (self.new
-            ≡ record self.old { here = Some (kept_line conn (Some (message_view will))) }) }
-        ensures fit { OnOk result (is_post (message_view will) ≡ true) }
-        ensures refused { IfErr result
-            (λ e. (e ≡ fault.Unfit) × (is_post (message_view will) ≡ false)) }
-        ensures err { OnErr result (self.new ≡ self.old) }
-    {
-        let Some(post) = post(will) else {
-            return Err(PartFault::Unfit);
-        };
-        self.conn = Some(conn);
-        self.will = Some(post);
-        Ok(())
-    }
-
-    /// One more grant, behind those that are there. Refused with Unfit (139) exactly where the filter is none (section 4.7) or the QoS above 1.
-    pub fn grant(&mut self, filter: String, qos: u8) -> Result<(), PartFault>
-        ensures done { OnOk result (self.new
-            ≡ record self.old { grants = self.old.grants ++ (string_bytes filter, qos) ∷ [] }) }
-        ensures fit { OnOk result (is_grant (string_bytes filter) qos ≡ true) }
-        ensures refused { IfErr result (IsRefused (is_grant (string_bytes filter) qos)) }
-        ensures err { OnErr result (self.new ≡ self.old) }
-    {
-        if qos > 1 || !is_filter(filter.as_str()) {
-            return Err(PartFault::Unfit);
-        }
-        self.grants.push(Grant { filter, qos })?;
-        Ok(())
-    }
-
-    /// One more identifier in use, behind those that are there, and the one given last. Refused with Unfit (139) exactly where it is 0 or in use, or
-    /// where 1,024 are in use. It takes no memory.
-    pub fn give(&mut self, id: u16) -> Result<(), PartFault>
-        ensures done { OnOk result
-            (self.new ≡ record self.old { used = self.old.used ++ id ∷ []; last = id }) }
-        ensures fit { OnOk result (is_free id self.old.used ≡ true) }
-        ensures refused { IfErr result
-            (λ e. (e ≡ fault.Unfit) × (is_free id self.old.used ≡ false)) }
-        ensures err { OnErr result (self.new ≡ self.old) }
-    {
-        if !is_free(self.ids.waiting(), id) {
-            return Err(PartFault::Unfit);
-        }
-        take(&mut self.ids, id);
-        Ok(())
-    }
-
-    /// The identifier given last, 0 where none was.
-    pub fn gave(&mut self, last: u16)
-        ensures { self.new ≡ record self.old { last = last } }
-    {
-        let count = self.ids.waiting().len();
-        self.ids.rewind(count, last);
-    }
-
-    /// One more message that isn't acknowledged, behind those that are there, and whether it was ever handed out. Refused with Unfit (139)
-    /// exactly where it isn't of QoS 1 or can't be written as a PUBLISH, and where its identifier is 0.
-    pub fn keep(&mut self, id: u16, message: Message, handed: bool) -> Result<(), PartFault>
-        ensures done { OnOk result (self.new
-            ≡ record self.old {
-              copies = self.old.copies
-                  ++ (record { id = id; post = message_view message; handed = handed }) ∷ [];
-            }) }
-        ensures fit { OnOk result (is_copy id (message_view message) ≡ true) }
-        ensures refused { IfErr result (IsRefused (is_copy id (message_view message))) }
-        ensures err { OnErr result (self.new ≡ self.old) }
-    {
-        if id == 0 || message.qos != 1 {
-            return Err(PartFault::Unfit);
-        }
-        let Some(post) = post(message) else {
-            return Err(PartFault::Unfit);
-        };
-        self.copies.push(Copy { id, post, handed })?;
-        Ok(())
-    }
-
-    /// Its number.
-    pub(crate) fn key(&self) -> u64
-        ensures { result ≡ self.now.key }
-    {
-        self.key
-    }
-
-    /// Its connection, if it has one.
-    pub(crate) fn connection(&self) -> Option<Conn>
-        ensures { result ≡ conn_at self.now }
-    {
-        self.conn
-    }
-
-    /// The session as it stands between two calls. It takes no memory.
-    pub(crate) fn seated(self) -> Seat
-        ensures { result ≡ whole self }
-    {
-        let ids = self.ids;
-        let copies = self.copies;
-        let here = line_of(self.conn, self.will);
-        let used_before = ids.waiting().len();
-        let last_before = ids.last();
-        let copies_before = copies.len();
-        Seat {
-            key: self.key,
-            client: self.client,
-            kept: self.kept,
-            here,
-            left: None,
-            ended: false,
-            grants: self.grants,
-            regrant: None,
-            ids,
-            copies,
-            used_before,
-            last_before,
-            copies_before,
-        }
+        self.left.is_some() || self.here.is_some()
     }
 }

@@ -6,7 +6,7 @@ use Rattle.std.proofs.lemmas.List.Folds.{list_any-append}
 use Rattle.spk_ingress.specs.declared.rule.Message.{Message}
 use Rattle.spk_broker_rules.specs.Data.{Broker}
 use Rattle.spk_broker_rules.specs.Plan as event
-use Rattle.spk_broker_rules.specs.Step.{is_guest, knows, seat_at, step}
+use Rattle.spk_broker_rules.specs.Step.{is_newcomer, knows, session_by, step}
 use Rattle.spk_broker_body.specs.declared.hub.Hub.{Hub}
 use Rattle.spk_broker_body.specs.declared.line.Line.{Line}
 use Rattle.spk_broker_body.specs.Data.{Entry}
@@ -39,10 +39,10 @@ below_same n openers others is below = subst (AreBelow n) (sym is) below
 pub knows_opened : (b : Broker) (now : ℕ) → knows (step b (event.Open now)).broker (b.given + 1) ≡ true
 unfolding step
 knows_opened b now =
-    ap (λ x. x || is_some (seat_at (b.given + 1) b.seats))
-    (list_any-append (is_guest (b.given + 1)) b.guests _
-    ∙ (ap (λ x. list_any (is_guest (b.given + 1)) b.guests || (x || false)) (eq-eqb (b.given + 1) (b.given + 1) refl)
-    ∙ or-true (list_any (is_guest (b.given + 1)) b.guests)))
+    ap (λ x. x || is_some (session_by (b.given + 1) b.sessions))
+    (list_any-append (is_newcomer (b.given + 1)) b.newcomers _
+    ∙ (ap (λ x. list_any (is_newcomer (b.given + 1)) b.newcomers || (x || false)) (eq-eqb (b.given + 1) (b.given + 1) refl)
+    ∙ or-true (list_any (is_newcomer (b.given + 1)) b.newcomers)))
 
 pub known_opened : (b new : Broker) (now conn : ℕ) → new ≡ (step b (event.Open now)).broker → conn ≡ b.given + 1 → known new (Some conn) ≡ Some conn
 known_opened b new now conn is number =

@@ -5,10 +5,10 @@ use Rattle.std.specs.List.{flat_map, list_any}
 use Rattle.std.specs.Option.{option_map, option_map_or}
 use Rattle.std.proofs.lemmas.Bool.{false≢true}
 use Rattle.std.proofs.lemmas.List.{append-nil}
-use Rattle.spk_broker_rules.specs.Data.{Guest, Seat, Broker}
+use Rattle.spk_broker_rules.specs.Data.{Newcomer, Session, Broker}
 use Rattle.spk_broker_rules.specs.Plan.{Closed, Leave}
-use Rattle.spk_broker_rules.specs.Step.{Turn, act, begun, is_guest, knows, leave_at, noted, other_guests, route, seat_at, step}
-use Rattle.spk_broker_journal.specs.Ending.{guest_conn}
+use Rattle.spk_broker_rules.specs.Step.{Turn, act, begun, is_newcomer, knows, leave_at, noted, other_newcomers, route, session_by, step}
+use Rattle.spk_broker_journal.specs.Ending.{newcomer_conn}
 use Rattle.spk_broker_journal.proofs.Records.{drop-at, drop-none, one-more}
 
 -- ---- lists that are gathered place by place
@@ -33,37 +33,37 @@ no-joined {X} f xs at a whole e is = sym (append-nil a) ∙ ap (λ t. a ++ flat_
 
 -- ---- connections without CONNECT, place by place
 
-pub next-guest : (gs : List Guest) (at conn : ℕ) (a b whole : List ℕ) → a ++ map guest_conn (drop at gs) ≡ whole → Some conn ≡ option_map (λ (g : Guest). g.conn) (slice_get gs at)
-    → b ≡ a ++ conn ∷ [] → b ++ map guest_conn (drop (at + 1) gs) ≡ whole
-next-guest gs at conn a b whole e is more = by (slice_get gs at) refl is
+pub next-newcomer : (gs : List Newcomer) (at conn : ℕ) (a b whole : List ℕ) → a ++ map newcomer_conn (drop at gs) ≡ whole → Some conn ≡ option_map (λ (g : Newcomer). g.conn) (slice_get gs at)
+    → b ≡ a ++ conn ∷ [] → b ++ map newcomer_conn (drop (at + 1) gs) ≡ whole
+next-newcomer gs at conn a b whole e is more = by (slice_get gs at) refl is
   where
-    by : (o : Option Guest) → slice_get gs at ≡ o → Some conn ≡ option_map (λ (g : Guest). g.conn) o → b ++ map guest_conn (drop (at + 1) gs) ≡ whole
+    by : (o : Option Newcomer) → slice_get gs at ≡ o → Some conn ≡ option_map (λ (g : Newcomer). g.conn) o → b ++ map newcomer_conn (drop (at + 1) gs) ≡ whole
     by None place same = cc
-    by (Some g) place same = next-mapped guest_conn gs at g a b whole e place (more ∙ ap (λ o. a ++ option_map_or (λ (d : ℕ). d) o 0 ∷ []) same)
+    by (Some g) place same = next-mapped newcomer_conn gs at g a b whole e place (more ∙ ap (λ o. a ++ option_map_or (λ (d : ℕ). d) o 0 ∷ []) same)
 
-pub no-guests : (gs : List Guest) (at : ℕ) (a whole : List ℕ) → a ++ map guest_conn (drop at gs) ≡ whole → None ≡ option_map (λ (g : Guest). g.conn) (slice_get gs at) → a ≡ whole
-no-guests gs at a whole e is = by (slice_get gs at) refl is
+pub no-newcomers : (gs : List Newcomer) (at : ℕ) (a whole : List ℕ) → a ++ map newcomer_conn (drop at gs) ≡ whole → None ≡ option_map (λ (g : Newcomer). g.conn) (slice_get gs at) → a ≡ whole
+no-newcomers gs at a whole e is = by (slice_get gs at) refl is
   where
-    by : (o : Option Guest) → slice_get gs at ≡ o → None ≡ option_map (λ (g : Guest). g.conn) o → a ≡ whole
-    by None place same = no-mapped guest_conn gs at a whole e place
+    by : (o : Option Newcomer) → slice_get gs at ≡ o → None ≡ option_map (λ (g : Newcomer). g.conn) o → a ≡ whole
+    by None place same = no-mapped newcomer_conn gs at a whole e place
     by (Some g) place same = cc
 
 -- ---- a connection that isn't there
 
-no-guest : (c : ℕ) (gs : List Guest) → list_any (is_guest c) gs ≡ false → other_guests c gs ≡ gs
-no-guest c [] none = refl
-no-guest c (g ∷ gs) none = by (is_guest c g) refl (no-guest c gs)
+no-newcomer : (c : ℕ) (gs : List Newcomer) → list_any (is_newcomer c) gs ≡ false → other_newcomers c gs ≡ gs
+no-newcomer c [] none = refl
+no-newcomer c (g ∷ gs) none = by (is_newcomer c g) refl (no-newcomer c gs)
   where
-    by : (b : Bool) → is_guest c g ≡ b → (list_any (is_guest c) gs ≡ false → other_guests c gs ≡ gs) → other_guests c (g ∷ gs) ≡ g ∷ gs
-    by true e rest = absurd (false≢true (sym (ap (λ x. x || list_any (is_guest c) gs) (sym e) ∙ none)))
-    by false e rest = keep (ap not e) (rest (ap (λ x. x || list_any (is_guest c) gs) (sym e) ∙ none))
+    by : (b : Bool) → is_newcomer c g ≡ b → (list_any (is_newcomer c) gs ≡ false → other_newcomers c gs ≡ gs) → other_newcomers c (g ∷ gs) ≡ g ∷ gs
+    by true e rest = absurd (false≢true (sym (ap (λ x. x || list_any (is_newcomer c) gs) (sym e) ∙ none)))
+    by false e rest = keep (ap not e) (rest (ap (λ x. x || list_any (is_newcomer c) gs) (sym e) ∙ none))
       where
-        keep : not (is_guest c g) ≡ true → other_guests c gs ≡ gs → other_guests c (g ∷ gs) ≡ g ∷ gs
+        keep : not (is_newcomer c g) ≡ true → other_newcomers c gs ≡ gs → other_newcomers c (g ∷ gs) ≡ g ∷ gs
         keep p q = cc
 
-no-seat : (o : Option Seat) → is_some o ≡ false → o ≡ None
-no-seat None none = refl
-no-seat (Some s) none = cc
+no-session : (o : Option Session) → is_some o ≡ false → o ≡ None
+no-session None none = refl
+no-session (Some s) none = cc
 
 or-false : (a b : Bool) → (a || b) ≡ false → (a ≡ false) × (b ≡ false)
 or-false true b none = cc
@@ -74,9 +74,9 @@ max-zero n = omega arith
 
 gone-turn : (b : Broker) (c : ℕ) → knows b c ≡ false → act (Leave c true) (noted b (Closed c 0)) ≡ begun b
 gone-turn b c none =
-    let f = or-false (list_any (is_guest c) b.guests) (is_some (seat_at c b.seats)) none in
-    ap (λ o. leave_at o c true (noted b (Closed c 0))) (no-seat (seat_at c b.seats) f.1)
-    ∙ ap (λ gs. begun (record b { clock = max b.clock 0; guests = gs })) (no-guest c b.guests f.0)
+    let f = or-false (list_any (is_newcomer c) b.newcomers) (is_some (session_by c b.sessions)) none in
+    ap (λ o. leave_at o c true (noted b (Closed c 0))) (no-session (session_by c b.sessions) f.1)
+    ∙ ap (λ gs. begun (record b { clock = max b.clock 0; newcomers = gs })) (no-newcomer c b.newcomers f.0)
     ∙ ap (λ n. begun (record b { clock = n })) (max-zero b.clock)
 
 pub unknown-end : (b : Broker) (c : ℕ) → ((t : Turn) → t.waiting ≡ [] → route t ≡ t) → knows b c ≡ false → b ≡ (step b (Closed c 0)).broker

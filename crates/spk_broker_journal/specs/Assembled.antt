@@ -1,7 +1,7 @@
 -- What contracts see of a broker that is put together.
 use Rattle.std.specs.Prelude.{Option}
 use Rattle.std.specs.Option.{option_map_or}
-use Rattle.spk_broker_rules.specs.Data.{Seat, Broker}
+use Rattle.spk_broker_rules.specs.Data.{Session, Broker}
 use Rattle.spk_broker_replay.specs.Parts as part
 use Rattle.spk_broker_replay.specs.Parts.{with_part}
 use Rattle.spk_broker_events.specs.Line.{Kept}
@@ -14,7 +14,7 @@ abbrev pub stand : Assembly → Stand
 stand a = record { broker = a.broker; session = a.session }
 
 -- a session behind a line that speaks of it
-abbrev pub in_kind : Kept → Seat → Kind → Seat
+abbrev pub in_kind : Kept → Session → Kind → Session
 in_kind l s kind.Sits = sits l s
 in_kind l s kind.Grant = granted l s
 in_kind l s kind.InUse = in_use l s
@@ -25,12 +25,12 @@ in_kind l s kind.Waiting = s
 in_kind l s kind.Session = s
 in_kind l s kind.Retained = s
 
-abbrev pub in_line : Kept → Seat → Seat
+abbrev pub in_line : Kept → Session → Session
 in_line l s = in_kind l s l.kind
 
 -- a retained message more, where there is one
 abbrev pub with_message : Broker → Sent → Broker
-with_message b x = with_part b (part.Retained x.post.topic (record { payload = x.post.payload; qos = x.post.qos }))
+with_message b x = with_part b (part.Retained x.app_message.topic (record { payload = x.app_message.payload; qos = x.app_message.qos }))
 
 abbrev pub with_retained : Broker → Option Sent → Stand
 with_retained b x = apart (option_map_or (with_message b) x b)

@@ -2,7 +2,7 @@
 use Rattle.std.specs.Prelude.{◌≡◌, ℕ, Bool, true, false, not, ◌&&◌, nat_lt, nat_le, List, [], ◌∷◌, Option, Some, None, is_some}
 use Rattle.std.specs.Option.{option_map_or}
 use Rattle.spk_packets.specs.Message.{Message}
-use Rattle.spk_broker_rules.specs.Data.{Seat, Broker}
+use Rattle.spk_broker_rules.specs.Data.{Session, Broker}
 use Rattle.spk_broker_rules.specs.Plan as plan
 use Rattle.spk_broker_rules.specs.Step.{is_full, knows, step}
 use Rattle.spk_broker_rules.specs.Table.{Table}
@@ -11,7 +11,7 @@ use Rattle.spk_broker_events.specs.Record.{Says}
 use Rattle.spk_broker_events.specs.declared.line.Kind.{Kind}
 use Rattle.spk_broker_events.specs.declared.line.Kind.TheVariants as kind
 use Rattle.spk_broker_snapshot.specs.Together.{Sent, Stand, after, apart, client_in, ended, entries_in, of_packet, sent_in}
-use Rattle.spk_broker.specs.Restoring.{is_copy, is_free, is_grant, is_guest_fit, is_post, is_retained_fit, is_seat_fit}
+use Rattle.spk_broker.specs.Restoring.{is_in_flight, is_free, is_grant, is_newcomer_fit, is_app_message, is_retained_fit, is_session_fit}
 use Rattle.spk_broker.specs.declared.fault.BrokerFault.{BrokerFault}
 use Rattle.spk_broker.specs.declared.fault.BrokerFault.TheVariants as broker
 use Rattle.spk_broker.specs.declared.part_fault.PartFault.{PartFault}
@@ -21,30 +21,30 @@ use Rattle.spk_broker.specs.declared.part_fault.PartFault.TheVariants.{NoMemory,
 
 -- the session under way may be one more
 abbrev pub is_ended_fit : Stand → Bool
-is_ended_fit st = option_map_or (is_seat_fit st.broker) st.session true
+is_ended_fit st = option_map_or (is_session_fit st.broker) st.session true
 
 -- so may be a connection without CONNECT behind it
 abbrev pub is_waiting_fit : Stand → ℕ → Bool
-is_waiting_fit st conn = is_ended_fit st && is_guest_fit (ended st) conn
+is_waiting_fit st conn = is_ended_fit st && is_newcomer_fit (ended st) conn
 
 -- another session begins
-abbrev pub is_session_fit : Stand → Option Message → Bool
-is_session_fit st p = is_ended_fit st && is_some (of_packet client_in p)
+abbrev pub is_session_line_fit : Stand → Option Message → Bool
+is_session_line_fit st p = is_ended_fit st && is_some (of_packet client_in p)
 
 -- a retained message
 abbrev pub is_retained_message : Broker → Sent → Bool
-is_retained_message b x = is_retained_fit b x.post.topic x.post.payload x.post.qos
+is_retained_message b x = is_retained_fit b x.app_message.topic x.app_message.payload x.app_message.qos
 
 abbrev pub is_last_fit : Stand → Option Message → Bool
 is_last_fit st p = is_ended_fit st && option_map_or (is_retained_message (ended st)) (of_packet sent_in p) false
 
 -- no will, or one that can be written
-abbrev pub is_sent_post : Sent → Bool
-is_sent_post x = is_post x.post
+abbrev pub is_sent_app_message : Sent → Bool
+is_sent_app_message x = is_app_message x.app_message
 
 abbrev pub is_will : Option Message → Bool
 is_will None = true
-is_will (Some p) = option_map_or is_sent_post (sent_in p) false
+is_will (Some p) = option_map_or is_sent_app_message (sent_in p) false
 
 -- an entry, where there is exactly one
 abbrev pub only_entry : Table ℕ → Option (List ℕ × ℕ)
@@ -62,14 +62,14 @@ is_one_grant p = option_map_or is_entry (only_entry (option_map_or entries_in p 
 abbrev pub is_id : ℕ → Bool
 is_id id = nat_lt id 65536
 
-abbrev pub is_numbered_post : Sent → Bool
-is_numbered_post x = option_map_or (λ id. is_copy id x.post) x.id false
+abbrev pub is_numbered_app_message : Sent → Bool
+is_numbered_app_message x = option_map_or (λ id. is_in_flight id x.app_message) x.id false
 
 abbrev pub is_kept_message : Option Message → Bool
-is_kept_message p = option_map_or is_numbered_post (of_packet sent_in p) false
+is_kept_message p = option_map_or is_numbered_app_message (of_packet sent_in p) false
 
 -- a line that speaks of the session under way
-abbrev pub is_part_fit : Seat → Kept → Kind → Bool
+abbrev pub is_part_fit : Session → Kept → Kind → Bool
 is_part_fit s l kind.Sits = is_will l.packet
 is_part_fit s l kind.Grant = is_one_grant l.packet
 is_part_fit s l kind.InUse = is_id l.first && is_free l.first s.used
@@ -86,7 +86,7 @@ is_within_fit st l = option_map_or (λ s. is_part_fit s l l.kind) st.session fal
 abbrev pub is_kind_fit : Stand → Kept → Kind → Bool
 is_kind_fit st l kind.Numbers = nat_le l.second l.first
 is_kind_fit st l kind.Waiting = is_waiting_fit st l.first
-is_kind_fit st l kind.Session = is_session_fit st l.packet
+is_kind_fit st l kind.Session = is_session_line_fit st l.packet
 is_kind_fit st l kind.Retained = is_last_fit st l.packet
 is_kind_fit st l kind.Sits = is_within_fit st l
 is_kind_fit st l kind.Grant = is_within_fit st l

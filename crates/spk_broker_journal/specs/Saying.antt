@@ -4,4 +4,4 @@ use Rattle.spk_broker.specs.Restoring.{message_view}
 use Rattle.spk_broker_journal.specs.declared.saying.Sent.{Sent}
 
 abbrev pub sent_view : Sent → plain.Sent
-sent_view x = record { dup = x.dup; id = x.id; post = message_view x.message }
+sent_view x = record { dup = x.dup; id = x.id; app_message = message_view x.message }

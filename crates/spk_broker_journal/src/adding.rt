@@ -7,7 +7,7 @@ ghost use Rattle.spk_broker_snapshot.specs.Lines.{line};
 ghost use Rattle.spk_broker_journal.specs.Adding.{Begins, IsAdded, IsNamedIn};
 ghost use Rattle.spk_broker_journal.specs.Sources.{begin_lines, lines_of};
 
-use crate::lent::{copy, grant, in_use, last, retained, session, sits, waiting};
+use crate::lent::{grant, in_flight, in_use, last, retained, session, sits, waiting};
 use spk_broker::{Broker, SessionRef};
 use spk_broker_events::{Kind, Line, append_line};
 use spk_packets::PacketFault;
@@ -24,7 +24,7 @@ pub(crate) enum Source<'a, 'b> {
     Grants(&'a SessionRef<'b>),
     InUse(&'a SessionRef<'b>),
     Last(&'a SessionRef<'b>),
-    Copies(&'a SessionRef<'b>),
+    InFlight(&'a SessionRef<'b>),
 }
 
 /// How many were numbered.
@@ -72,7 +72,7 @@ fn line_at(alloc: Global, source: Source<'_, '_>, at: usize) -> Result<Option<Li
         Source::Grants(of) => grant(alloc, of, at),
         Source::InUse(of) => Ok(in_use(of, at)),
         Source::Last(of) => Ok(alone(last(of), at)),
-        Source::Copies(of) => copy(alloc, of, at),
+        Source::InFlight(of) => in_flight(alloc, of, at),
     }
 }
 

@@ -7,11 +7,11 @@ ghost use Rattle.spk_broker_replay.specs.Parts.{begun, with_part};
 ghost use Rattle.spk_broker_events.specs.Line.{kept};
 ghost use Rattle.spk_broker_snapshot.specs.Together.{after, apart, bare_session, client_in, ended, in_session, of_packet, sent_in};
 ghost use Rattle.spk_broker_journal.specs.Assembled.{in_line, stand, with_retained};
-ghost use Rattle.spk_broker_journal.specs.Fitting.{IsUnfit, is_ended_fit, is_last_fit, is_line_fit, is_part_fit, is_session_fit, is_waiting_fit, is_within_fit};
+ghost use Rattle.spk_broker_journal.specs.Fitting.{IsUnfit, is_ended_fit, is_last_fit, is_line_fit, is_part_fit, is_session_line_fit, is_waiting_fit, is_within_fit};
 
 use crate::saying::{client, message_in};
 use crate::session::{copied, gave, granted, last, sat};
-use spk_broker::{Broker, PartFault, Session};
+use spk_broker::{Broker, PartFault, RestoredSession};
 use spk_broker_events::{Kind, Line};
 use spk_packets::Packet;
 use std::alloc::Global;
@@ -20,7 +20,7 @@ use std::alloc::Global;
 #[derive(Drop)]
 pub(crate) struct Assembly {
     pub(crate) broker: Broker,
-    pub(crate) session: Option<Session>,
+    pub(crate) session: Option<RestoredSession>,
 }
 
 /// A broker without a session under way.
@@ -46,7 +46,7 @@ fn numbers(alloc: Global, limit: u16, given: u64, made: u64) -> Result<Assembly,
 }
 
 /// The session of a line of the session under way behind that line.
-fn within(session: Session, line: Line) -> Result<Session, PartFault>
+fn within(session: RestoredSession, line: Line) -> Result<RestoredSession, PartFault>
     ensures done { IfOk result (λ s. s ≡ in_line (kept line) session) }
     ensures fit { OnOk result (is_part_fit session (kept line) line.kind ≡ true) }
     ensures refused { IfErr result (IsUnfit (is_part_fit session (kept line) line.kind)) }
@@ -98,8 +98,8 @@ impl Assembly {
           broker = ended (stand self);
           session = option_map (bare_session key) (of_packet client_in (option_map view packet));
         }) }
-        ensures fit { OnOk result (is_session_fit (stand self) (option_map view packet) ≡ true) }
-        ensures refused { IfErr result (IsUnfit (is_session_fit (stand self) (option_map view packet))) }
+        ensures fit { OnOk result (is_session_line_fit (stand self) (option_map view packet) ≡ true) }
+        ensures refused { IfErr result (IsUnfit (is_session_line_fit (stand self) (option_map view packet))) }
     {
         let broker = self.ended()?;
         let Some(packet) = packet else {
@@ -108,7 +108,7 @@ impl Assembly {
         let Some((name, is_kept)) = client(packet) else {
             return Err(PartFault::Unfit);
         };
-        let session = Session::new(alloc, key, name.as_str(), is_kept)?;
+        let session = RestoredSession::new(alloc, key, name.as_str(), is_kept)?;
         Ok(Assembly {
             broker,
             session: Some(session),

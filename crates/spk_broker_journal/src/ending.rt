@@ -5,7 +5,7 @@ ghost use Rattle.spk_broker_rules.specs.Plan.{Closed};
 ghost use Rattle.spk_broker_rules.specs.Step.{step};
 ghost use Rattle.spk_broker_rules.specs.Words.{option_list};
 ghost use Rattle.spk_broker_replay.specs.Replay.{connections, ends, run};
-ghost use Rattle.spk_broker_journal.specs.Ending.{conns_of, guest_conn};
+ghost use Rattle.spk_broker_journal.specs.Ending.{conns_of, newcomer_conn};
 
 use spk_broker::{Broker, BrokerFault, Conn};
 use spk_broker_rules::laws;
@@ -13,7 +13,7 @@ use std::alloc::{AllocError, Global};
 
 /// The connections without CONNECT, behind those that are there.
 fn add_waiting(broker: &Broker, conns: &mut Vec<Conn>) -> Result<(), AllocError>
-    ensures { OnOk result (conns.new.items ≡ conns.old.items ++ map guest_conn broker.now.guests) }
+    ensures { OnOk result (conns.new.items ≡ conns.old.items ++ map newcomer_conn broker.now.newcomers) }
 {
     for at in 0..usize::MAX {
         let Some(conn) = broker.connection(at) else {
@@ -37,7 +37,7 @@ fn add_one(conn: Option<Conn>, conns: &mut Vec<Conn>) -> Result<(), AllocError>
 
 /// Those of sessions, behind those that are there.
 fn add_sitting(broker: &Broker, conns: &mut Vec<Conn>) -> Result<(), AllocError>
-    ensures { OnOk result (conns.new.items ≡ conns.old.items ++ flat_map conns_of broker.now.seats) }
+    ensures { OnOk result (conns.new.items ≡ conns.old.items ++ flat_map conns_of broker.now.sessions) }
 {
     for at in 0..usize::MAX {
         let Some(session) = broker.session(at) else {

@@ -6,7 +6,7 @@ ghost use Rattle.spk_packets.specs.View.{view};
 ghost use Rattle.spk_broker_rules.specs.Words.{option_list};
 ghost use Rattle.spk_broker_events.specs.Line.{kept};
 ghost use Rattle.spk_broker_events.specs.declared.line.Kind.TheVariants as kind;
-ghost use Rattle.spk_broker_snapshot.specs.Lines.{any_id, copy_line, grant_line, in_use_line, line, retained_line, session_line, sits_lines, waiting_line, will_packet};
+ghost use Rattle.spk_broker_snapshot.specs.Lines.{any_id, in_flight_line, grant_line, in_use_line, line, retained_line, session_line, sits_lines, waiting_line, will_packet};
 ghost use Rattle.spk_broker.specs.Looking.{message_ref};
 
 use spk_broker::{Broker, MessageRef, SessionRef};
@@ -62,7 +62,7 @@ fn will_packet(alloc: Global, will: &Option<MessageRef<'_>>) -> Result<Option<Pa
 
 /// The line of the connection without CONNECT at this place.
 pub(crate) fn waiting(broker: &Broker, at: usize) -> Option<Line>
-    ensures { option_map kept result ≡ option_map waiting_line (slice_get broker.now.guests at) }
+    ensures { option_map kept result ≡ option_map waiting_line (slice_get broker.now.newcomers at) }
 {
     match broker.connection(at) {
         Some(conn) => Some(Line {
@@ -171,13 +171,13 @@ pub(crate) fn last(session: &SessionRef<'_>) -> Line
 }
 
 /// The line of its message at this place that isn't acknowledged.
-pub(crate) fn copy(
+pub(crate) fn in_flight(
     alloc: Global,
     session: &SessionRef<'_>,
     at: usize,
 ) -> Result<Option<Line>, AllocError>
     ensures { IfOk result (λ o. option_map kept o
-        ≡ option_map copy_line (slice_get session.now.copies at)) }
+        ≡ option_map in_flight_line (slice_get session.now.in_flight at)) }
 {
     match session.kept(at) {
         Some((id, message, handed)) => {

@@ -3,7 +3,7 @@ ghost use Rattle.std.specs.Prelude.{◌≡◌, ◌++◌, ◌∷◌, map, IfErr, 
 ghost use Rattle.std.specs.List.{flat_map};
 ghost use Rattle.spk_packets.specs.Fault.{IsNamed};
 ghost use Rattle.spk_broker_events.specs.declared.line.Kind.TheVariants as kind;
-ghost use Rattle.spk_broker_snapshot.specs.Lines.{copy_line, grant_line, in_use_line, line, lines, retained_line, session_lines, waiting_line};
+ghost use Rattle.spk_broker_snapshot.specs.Lines.{in_flight_line, grant_line, in_use_line, line, lines, retained_line, session_lines, waiting_line};
 ghost use Rattle.spk_broker_journal.specs.Adding.{Begins, IsAdded, IsNamedIn, first_refusal, records};
 
 use crate::adding::{Source, add};
@@ -13,18 +13,18 @@ use std::alloc::Global;
 
 /// The records of the identifier that a session gave last, and of its messages.
 fn add_kept(alloc: Global, of: &SessionRef<'_>, out: &mut Vec<u8>) -> Result<(), PacketFault>
-    ensures added { OnOk result (IsAdded (line kind.Last of.now.last 0 None ∷ map copy_line of.now.copies) out.old.items out.new.items) }
-    ensures refused { IfErr result (λ e. IsNamedIn e (line kind.Last of.now.last 0 None ∷ map copy_line of.now.copies)) }
+    ensures added { OnOk result (IsAdded (line kind.Last of.now.last 0 None ∷ map in_flight_line of.now.in_flight) out.old.items out.new.items) }
+    ensures refused { IfErr result (λ e. IsNamedIn e (line kind.Last of.now.last 0 None ∷ map in_flight_line of.now.in_flight)) }
     ensures err { OnErr result (Begins out.old.items out.new.items) }
 {
     add(alloc, Source::Last(of), out)?;
-    add(alloc, Source::Copies(of), out)
+    add(alloc, Source::InFlight(of), out)
 }
 
 /// These behind its identifiers in use.
 fn add_given(alloc: Global, of: &SessionRef<'_>, out: &mut Vec<u8>) -> Result<(), PacketFault>
-    ensures added { OnOk result (IsAdded (map in_use_line of.now.used ++ (line kind.Last of.now.last 0 None ∷ map copy_line of.now.copies)) out.old.items out.new.items) }
-    ensures refused { IfErr result (λ e. IsNamedIn e (map in_use_line of.now.used ++ (line kind.Last of.now.last 0 None ∷ map copy_line of.now.copies))) }
+    ensures added { OnOk result (IsAdded (map in_use_line of.now.used ++ (line kind.Last of.now.last 0 None ∷ map in_flight_line of.now.in_flight)) out.old.items out.new.items) }
+    ensures refused { IfErr result (λ e. IsNamedIn e (map in_use_line of.now.used ++ (line kind.Last of.now.last 0 None ∷ map in_flight_line of.now.in_flight))) }
     ensures err { OnErr result (Begins out.old.items out.new.items) }
 {
     match add(alloc, Source::InUse(of), out) {
@@ -36,9 +36,9 @@ fn add_given(alloc: Global, of: &SessionRef<'_>, out: &mut Vec<u8>) -> Result<()
 /// These behind its grants.
 fn add_granted(alloc: Global, of: &SessionRef<'_>, out: &mut Vec<u8>) -> Result<(), PacketFault>
     ensures added { OnOk result (IsAdded (map grant_line of.now.grants
-        ++ (map in_use_line of.now.used ++ (line kind.Last of.now.last 0 None ∷ map copy_line of.now.copies))) out.old.items out.new.items) }
+        ++ (map in_use_line of.now.used ++ (line kind.Last of.now.last 0 None ∷ map in_flight_line of.now.in_flight))) out.old.items out.new.items) }
     ensures refused { IfErr result (λ e. IsNamedIn e (map grant_line of.now.grants
-        ++ (map in_use_line of.now.used ++ (line kind.Last of.now.last 0 None ∷ map copy_line of.now.copies)))) }
+        ++ (map in_use_line of.now.used ++ (line kind.Last of.now.last 0 None ∷ map in_flight_line of.now.in_flight)))) }
     ensures err { OnErr result (Begins out.old.items out.new.items) }
 {
     match add(alloc, Source::Grants(of), out) {
@@ -59,8 +59,8 @@ fn add_session(alloc: Global, of: &SessionRef<'_>, out: &mut Vec<u8>) -> Result<
 
 /// The records of all sessions.
 fn add_sessions(alloc: Global, broker: &Broker, out: &mut Vec<u8>) -> Result<(), PacketFault>
-    ensures added { OnOk result (IsAdded (flat_map session_lines broker.now.seats) out.old.items out.new.items) }
-    ensures refused { IfErr result (λ e. IsNamedIn e (flat_map session_lines broker.now.seats)) }
+    ensures added { OnOk result (IsAdded (flat_map session_lines broker.now.sessions) out.old.items out.new.items) }
+    ensures refused { IfErr result (λ e. IsNamedIn e (flat_map session_lines broker.now.sessions)) }
     ensures err { OnErr result (Begins out.old.items out.new.items) }
 {
     for at in 0..usize::MAX {
@@ -77,8 +77,8 @@ fn add_sessions(alloc: Global, broker: &Broker, out: &mut Vec<u8>) -> Result<(),
 
 /// Those of sessions and retained messages.
 fn add_stored(alloc: Global, broker: &Broker, out: &mut Vec<u8>) -> Result<(), PacketFault>
-    ensures added { OnOk result (IsAdded (flat_map session_lines broker.now.seats ++ map retained_line broker.now.retained) out.old.items out.new.items) }
-    ensures refused { IfErr result (λ e. IsNamedIn e (flat_map session_lines broker.now.seats ++ map retained_line broker.now.retained)) }
+    ensures added { OnOk result (IsAdded (flat_map session_lines broker.now.sessions ++ map retained_line broker.now.retained) out.old.items out.new.items) }
+    ensures refused { IfErr result (λ e. IsNamedIn e (flat_map session_lines broker.now.sessions ++ map retained_line broker.now.retained)) }
     ensures err { OnErr result (Begins out.old.items out.new.items) }
 {
     match add_sessions(alloc, broker, out) {
@@ -89,10 +89,10 @@ fn add_stored(alloc: Global, broker: &Broker, out: &mut Vec<u8>) -> Result<(), P
 
 /// These behind those of the connections without CONNECT.
 fn add_behind(alloc: Global, broker: &Broker, out: &mut Vec<u8>) -> Result<(), PacketFault>
-    ensures added { OnOk result (IsAdded (map waiting_line broker.now.guests
-        ++ (flat_map session_lines broker.now.seats ++ map retained_line broker.now.retained)) out.old.items out.new.items) }
-    ensures refused { IfErr result (λ e. IsNamedIn e (map waiting_line broker.now.guests
-        ++ (flat_map session_lines broker.now.seats ++ map retained_line broker.now.retained))) }
+    ensures added { OnOk result (IsAdded (map waiting_line broker.now.newcomers
+        ++ (flat_map session_lines broker.now.sessions ++ map retained_line broker.now.retained)) out.old.items out.new.items) }
+    ensures refused { IfErr result (λ e. IsNamedIn e (map waiting_line broker.now.newcomers
+        ++ (flat_map session_lines broker.now.sessions ++ map retained_line broker.now.retained))) }
     ensures err { OnErr result (Begins out.old.items out.new.items) }
 {
     match add(alloc, Source::Waiting(broker), out) {

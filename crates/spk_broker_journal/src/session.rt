@@ -2,19 +2,23 @@
 ghost use Rattle.std.specs.Prelude.{◌≡◌, ◌&&◌, ◌∷◌, ◌++◌, [], IfErr, IfOk, OnOk, None, Some, false, if◌then◌else◌, true};
 ghost use Rattle.std.specs.Option.{option_map, option_map_or};
 ghost use Rattle.spk_packets.specs.View.{view};
-ghost use Rattle.spk_broker_snapshot.specs.Together.{copies_in, entries_in, kept_line, of_packet, sent_in};
+ghost use Rattle.spk_broker_snapshot.specs.Together.{in_flight_in, entries_in, kept_connection, of_packet, sent_in};
 ghost use Rattle.spk_broker.specs.Restoring.{is_free};
-ghost use Rattle.spk_broker_journal.specs.Fitting.{IsUnfit, is_id, is_kept_message, is_one_grant, is_sent_post, is_will};
+ghost use Rattle.spk_broker_journal.specs.Fitting.{IsUnfit, is_id, is_kept_message, is_one_grant, is_sent_app_message, is_will};
 
 use crate::saying::{entry, message_in};
-use spk_broker::{PartFault, Session};
+use spk_broker::{PartFault, RestoredSession};
 use spk_packets::Packet;
 
 /// Its connection, with the will that this packet says.
-fn sat_with(mut session: Session, conn: u64, packet: Packet) -> Result<Session, PartFault>
-    ensures done { IfOk result (λ s. s ≡ record session { here = Some (kept_line conn (option_map (λ x. x.post) (sent_in (view packet)))) }) }
-    ensures fit { OnOk result (option_map_or is_sent_post (sent_in (view packet)) false ≡ true) }
-    ensures refused { IfErr result (IsUnfit (option_map_or is_sent_post (sent_in (view packet)) false)) }
+fn sat_with(
+    mut session: RestoredSession,
+    conn: u64,
+    packet: Packet,
+) -> Result<RestoredSession, PartFault>
+    ensures done { IfOk result (λ s. s ≡ record session { here = Some (kept_connection conn (option_map (λ x. x.app_message) (sent_in (view packet)))) }) }
+    ensures fit { OnOk result (option_map_or is_sent_app_message (sent_in (view packet)) false ≡ true) }
+    ensures refused { IfErr result (IsUnfit (option_map_or is_sent_app_message (sent_in (view packet)) false)) }
 {
     let Some(will) = message_in(packet) else {
         return Err(PartFault::Unfit);
@@ -25,11 +29,11 @@ fn sat_with(mut session: Session, conn: u64, packet: Packet) -> Result<Session, 
 
 /// Its connection.
 pub(crate) fn sat(
-    mut session: Session,
+    mut session: RestoredSession,
     conn: u64,
     packet: Option<Packet>,
-) -> Result<Session, PartFault>
-    ensures done { IfOk result (λ s. s ≡ record session { here = Some (kept_line conn (option_map (λ x. x.post) (of_packet sent_in (option_map view packet)))) }) }
+) -> Result<RestoredSession, PartFault>
+    ensures done { IfOk result (λ s. s ≡ record session { here = Some (kept_connection conn (option_map (λ x. x.app_message) (of_packet sent_in (option_map view packet)))) }) }
     ensures fit { OnOk result (is_will (option_map view packet) ≡ true) }
     ensures refused { IfErr result (IsUnfit (is_will (option_map view packet))) }
 {
@@ -43,7 +47,10 @@ pub(crate) fn sat(
 }
 
 /// One more grant.
-pub(crate) fn granted(mut session: Session, packet: Option<Packet>) -> Result<Session, PartFault>
+pub(crate) fn granted(
+    mut session: RestoredSession,
+    packet: Option<Packet>,
+) -> Result<RestoredSession, PartFault>
     ensures done { IfOk result (λ s. s ≡ record session { grants = session.grants ++ option_map_or entries_in (option_map view packet) [] }) }
     ensures fit { OnOk result (is_one_grant (option_map view packet) ≡ true) }
     ensures refused { IfErr result (IsUnfit (is_one_grant (option_map view packet))) }
@@ -69,7 +76,7 @@ fn id_of(number: u64) -> Option<u16>
 }
 
 /// One more identifier in use.
-pub(crate) fn gave(mut session: Session, number: u64) -> Result<Session, PartFault>
+pub(crate) fn gave(mut session: RestoredSession, number: u64) -> Result<RestoredSession, PartFault>
     ensures done { IfOk result (λ s. s ≡ record session { used = session.used ++ number ∷ []; last = number }) }
     ensures fit { OnOk result ((is_id number && is_free number session.used) ≡ true) }
     ensures refused { IfErr result (IsUnfit (is_id number && is_free number session.used)) }
@@ -82,7 +89,7 @@ pub(crate) fn gave(mut session: Session, number: u64) -> Result<Session, PartFau
 }
 
 /// The identifier given last.
-pub(crate) fn last(mut session: Session, number: u64) -> Result<Session, PartFault>
+pub(crate) fn last(mut session: RestoredSession, number: u64) -> Result<RestoredSession, PartFault>
     ensures done { IfOk result (λ s. s ≡ record session { last = number }) }
     ensures fit { OnOk result (is_id number ≡ true) }
     ensures refused { IfErr result (IsUnfit (is_id number)) }
@@ -95,20 +102,23 @@ pub(crate) fn last(mut session: Session, number: u64) -> Result<Session, PartFau
 }
 
 /// One more message that isn't acknowledged.
-pub(crate) fn copied(mut session: Session, packet: Option<Packet>) -> Result<Session, PartFault>
-    ensures done { IfOk result (λ s. s ≡ record session { copies = session.copies ++ copies_in (option_map view packet) }) }
+pub(crate) fn copied(
+    mut session: RestoredSession,
+    packet: Option<Packet>,
+) -> Result<RestoredSession, PartFault>
+    ensures done { IfOk result (λ s. s ≡ record session { in_flight = session.in_flight ++ in_flight_in (option_map view packet) }) }
     ensures fit { OnOk result (is_kept_message (option_map view packet) ≡ true) }
     ensures refused { IfErr result (IsUnfit (is_kept_message (option_map view packet))) }
 {
     let Some(packet) = packet else {
         return Err(PartFault::Unfit);
     };
-    let Some(copy) = message_in(packet) else {
+    let Some(in_flight) = message_in(packet) else {
         return Err(PartFault::Unfit);
     };
-    let Some(id) = copy.id else {
+    let Some(id) = in_flight.id else {
         return Err(PartFault::Unfit);
     };
-    session.keep(id, copy.message, copy.dup)?;
+    session.keep(id, in_flight.message, in_flight.dup)?;
     Ok(session)
 }

@@ -6,7 +6,7 @@ use Rattle.std.proofs.lemmas.Bool.{ne_eqb}
 use Rattle.std.proofs.lemmas.Bool.Decides.{eqb_tells}
 use Rattle.spk_session.specs.PacketIds.{next_id}
 use Rattle.spk_session.specs.Step.{has_room, without}
-use Rattle.spk_broker_rules.specs.Data.{Post}
+use Rattle.spk_broker_rules.specs.Data.{AppMessage}
 use Rattle.spk_broker_rules.specs.Words.{best, level, sent_as, option_list}
 use Rattle.spk_broker_rules.specs.Past.{Past, OfSession, Deed, Made, Joined, Left, Over, Granted, TakenBack, Numbered, Acked, Joining, deeds, made, is_making, made_by, sessions, here, routed, used, last_id, grants}
 use Rattle.spk_broker_rules.specs.Story.{share, share_at, given_at, ends_at, numbers, session_facts, will_of}
@@ -15,7 +15,7 @@ use Rattle.spk_broker_limits.proofs.Summing.{Told, same, none_some, is_the, sum,
 
 -- ---- counting
 
-pub count_append : (q : Post → Bool) (xs ys : List Post) → count q (xs ++ ys) ≡ count q xs + count q ys
+pub count_append : (q : AppMessage → Bool) (xs ys : List AppMessage) → count q (xs ++ ys) ≡ count q xs + count q ys
 count_append q [] ys = omega arith
 count_append q (x ∷ xs) ys = by (q x) (count_append q xs ys)
   where
@@ -25,11 +25,11 @@ count_append q (x ∷ xs) ys = by (q x) (count_append q xs ys)
     by false rest = rest
 
 -- of a connection's will, where it sits
-abbrev pub worth : (Post → Bool) → Option Joining → ℕ
+abbrev pub worth : (AppMessage → Bool) → Option Joining → ℕ
 worth q j = count q (will_of true j)
 
 -- of the wills of the connections that sit
-abbrev pub standing : (Post → Bool) → Past → ℕ
+abbrev pub standing : (AppMessage → Bool) → Past → ℕ
 standing q h = sum (λ s. worth q (here (deeds h s))) (sessions h)
 
 -- Sessions stand once each, their numbers were given, and where one is over no connection sits.
@@ -65,7 +65,7 @@ kept_fact K h s d p k t j e = by (s == t) e
     by true f = k t j (quiet_here d p (deeds h t) j f)
     by false f = k t j f
 
-pub kept_joined : (K : ℕ → Joining → Type 0) (h : Past) (s c a : ℕ) (w : Option Post) → K s (record { conn = c; alive = a; will = w }) → Keeps K h → Keeps K (OfSession s (Joined c a w) ∷ h)
+pub kept_joined : (K : ℕ → Joining → Type 0) (h : Past) (s c a : ℕ) (w : Option AppMessage) → K s (record { conn = c; alive = a; will = w }) → Keeps K h → Keeps K (OfSession s (Joined c a w) ∷ h)
 kept_joined K h s c a w new k t j e = by (eqb_tells s t)
   where
     at : (b : Bool) → (s == t) ≡ b → here (cond b (Joined c a w ∷ deeds h t) (deeds h t)) ≡ Some j
@@ -131,7 +131,7 @@ here_at h s d e t = by (s == t)
     by true = e (deeds h t)
     by false = refl
 
-pub plain_sum : (q : Post → Bool) (h : Past) (s : ℕ) (d : Deed) → IsPlain d → standing q (OfSession s d ∷ h) ≡ standing q h
+pub plain_sum : (q : AppMessage → Bool) (h : Past) (s : ℕ) (d : Deed) → IsPlain d → standing q (OfSession s d ∷ h) ≡ standing q h
 plain_sum q h s d p =
     ap (sum (λ t. worth q (here (deeds (OfSession s d ∷ h) t)))) (same_sessions d p s (sessions h))
     ∙ sum_same (λ t. worth q (here (deeds (OfSession s d ∷ h) t))) (λ t. worth q (here (deeds h t))) (λ t. ap (worth q) (here_at h s d (same_here d p) t)) (sessions h)
@@ -147,10 +147,10 @@ plain_tidy h s d p tidy =
 
 -- ---- a connection leaves, and a session is over
 
-abbrev pub now : (Post → Bool) → Past → ℕ → ℕ
+abbrev pub now : (AppMessage → Bool) → Past → ℕ → ℕ
 now q h t = worth q (here (deeds h t))
 
-off_at : (q : Post → Bool) (h : Past) (s : ℕ) (d : Deed) (t : ℕ) → (s == t) ≡ false → now q h t ≡ now q (OfSession s d ∷ h) t
+off_at : (q : AppMessage → Bool) (h : Past) (s : ℕ) (d : Deed) (t : ℕ) → (s == t) ≡ false → now q h t ≡ now q (OfSession s d ∷ h) t
 off_at q h s d t i = ap (λ b. worth q (here (cond b (d ∷ deeds h t) (deeds h t)))) (sym i)
 
 pub deed_at : (h : Past) (s : ℕ) (d : Deed) → deeds (OfSession s d ∷ h) s ≡ d ∷ deeds h s
@@ -162,7 +162,7 @@ deed_off h s d t i = ap (λ b. cond b (d ∷ deeds h t) (deeds h t)) i
 pub left_here : (h : Past) (s c : ℕ) → here (deeds (OfSession s (Left c) ∷ h) s) ≡ None
 left_here h s c = ap here (deed_at h s (Left c))
 
-pub left_sum : (q : Post → Bool) (h : Past) (s c : ℕ) → times s (sessions h) ≡ 1 → standing q (OfSession s (Left c) ∷ h) + worth q (here (deeds h s)) ≡ standing q h
+pub left_sum : (q : AppMessage → Bool) (h : Past) (s c : ℕ) → times s (sessions h) ≡ 1 → standing q (OfSession s (Left c) ∷ h) + worth q (here (deeds h s)) ≡ standing q h
 left_sum q h s c e =
     let at : standing q (OfSession s (Left c) ∷ h) + worth q (here (deeds h s)) ≡ standing q h + now q (OfSession s (Left c) ∷ h) s =
     sum_at (now q h) (now q (OfSession s (Left c) ∷ h)) s (off_at q h s (Left c)) (sessions h) e in
@@ -176,7 +176,7 @@ left_tidy h s c tidy = record { once = λ t. tidy.once t; fresh = λ t m. tidy.f
     by true t e = refl
     by false t e = e
 
-pub over_sum : (q : Post → Bool) (h : Past) (s : ℕ) → here (deeds h s) ≡ None → standing q (OfSession s Over ∷ h) ≡ standing q h
+pub over_sum : (q : AppMessage → Bool) (h : Past) (s : ℕ) → here (deeds h s) ≡ None → standing q (OfSession s Over ∷ h) ≡ standing q h
 over_sum q h s none =
     sum_same (now q (OfSession s Over ∷ h)) (now q h) (λ t. ap (worth q) (here_at h s Over (λ ds. refl) t)) (without s (sessions h))
     ∙ sum_without (now q h) s (sessions h) (ap (worth q) none)
@@ -194,7 +194,7 @@ over_tidy h s none tidy = record {
 
 -- ---- a session is made, and a connection joins
 
-pub made_sum : (q : Post → Bool) (h : Past) (c : List ℕ) (k : Bool) → Tidy h → standing q (OfSession (made h + 1) (Made c k) ∷ h) ≡ standing q h
+pub made_sum : (q : AppMessage → Bool) (h : Past) (c : List ℕ) (k : Bool) → Tidy h → standing q (OfSession (made h + 1) (Made c k) ∷ h) ≡ standing q h
 made_sum q h c k tidy =
     let s : ℕ = made h + 1 in
     let g : Past = OfSession (made h + 1) (Made c k) ∷ h in
@@ -242,7 +242,7 @@ made_once h c k tidy =
     let one : bit (made h + 1 == made h + 1) ≡ 1 = ap bit (same (made h + 1)) in
     omega arith
 
-pub joined_sum : (q : Post → Bool) (h : Past) (s c a : ℕ) (w : Option Post) → times s (sessions h) ≡ 1 → here (deeds h s) ≡ None
+pub joined_sum : (q : AppMessage → Bool) (h : Past) (s c a : ℕ) (w : Option AppMessage) → times s (sessions h) ≡ 1 → here (deeds h s) ≡ None
     → standing q (OfSession s (Joined c a w) ∷ h) ≡ standing q h + count q (option_list w)
 joined_sum q h s c a w e free =
     let g : Past = OfSession s (Joined c a w) ∷ h in
@@ -252,7 +252,7 @@ joined_sum q h s c a w e free =
     let new : now q (OfSession s (Joined c a w) ∷ h) s ≡ count q (option_list w) = ap (λ ds. worth q (here ds)) (deed_at h s (Joined c a w)) in
     omega arith
 
-pub joined_tidy : (h : Past) (s c a : ℕ) (w : Option Post) → times s (sessions h) ≡ 1 → Tidy h → Tidy (OfSession s (Joined c a w) ∷ h)
+pub joined_tidy : (h : Past) (s c a : ℕ) (w : Option AppMessage) → times s (sessions h) ≡ 1 → Tidy h → Tidy (OfSession s (Joined c a w) ∷ h)
 joined_tidy h s c a w one tidy = record { once = λ t. tidy.once t; fresh = λ t m. tidy.fresh t m; gone = λ t e. by t (eqb_tells s t) e }
   where
     by : (t : ℕ) → Told s t → times t (sessions h) ≡ 0 → here (deeds (OfSession s (Joined c a w) ∷ h) t) ≡ None
@@ -262,7 +262,7 @@ joined_tidy h s c a w one tidy = record { once = λ t. tidy.once t; fresh = λ t
 -- ---- what one message does to one session
 
 -- facts of one session, and the will that they free
-pub record Grown (q : Post → Bool) (K : ℕ → Joining → Type 0) (s : ℕ) (h g : Past) (freed : List Post) : Type 0 where
+pub record Grown (q : AppMessage → Bool) (K : ℕ → Joining → Type 0) (s : ℕ) (h g : Past) (freed : List AppMessage) : Type 0 where
   pub tidy : Tidy g
   pub old : Keeps K g
   pub sum_ : standing q h ≡ standing q g + count q freed
@@ -270,10 +270,10 @@ pub record Grown (q : Post → Bool) (K : ℕ → Joining → Type 0) (s : ℕ) 
   pub off : (t : ℕ) → (s == t) ≡ false → deeds g t ≡ deeds h t
   pub there : (t : ℕ) → (s == t) ≡ false → times t (sessions g) ≡ times t (sessions h)
 
-pub nothing : (q : Post → Bool) (K : ℕ → Joining → Type 0) (s : ℕ) (h : Past) → Tidy h → Keeps K h → Grown q K s h h []
+pub nothing : (q : AppMessage → Bool) (K : ℕ → Joining → Type 0) (s : ℕ) (h : Past) → Tidy h → Keeps K h → Grown q K s h h []
 nothing q K s h tidy old = record { tidy = tidy; old = old; sum_ = omega arith; routed_ = refl; off = λ t i. refl; there = λ t i. refl }
 
-pub plain_grown : (q : Post → Bool) (K : ℕ → Joining → Type 0) (s : ℕ) (d : Deed) (h : Past) → IsPlain d → Tidy h → Keeps K h → Grown q K s h (OfSession s d ∷ h) []
+pub plain_grown : (q : AppMessage → Bool) (K : ℕ → Joining → Type 0) (s : ℕ) (d : Deed) (h : Past) → IsPlain d → Tidy h → Keeps K h → Grown q K s h (OfSession s d ∷ h) []
 plain_grown q K s d h p tidy old = record {
   tidy = plain_tidy h s d p tidy;
   old = kept_fact K h s d (plain_quiet d p) old;
@@ -289,7 +289,7 @@ differ s t i e = no (sym (ap (λ u. s == u) (sym e) ∙ same s) ∙ i)
     no : true ≡ false → ⊥
     no e = cc
 
-pub over_grown : (q : Post → Bool) (K : ℕ → Joining → Type 0) (s : ℕ) (h : Past) → here (deeds h s) ≡ None → Tidy h → Keeps K h → Grown q K s h (OfSession s Over ∷ h) []
+pub over_grown : (q : AppMessage → Bool) (K : ℕ → Joining → Type 0) (s : ℕ) (h : Past) → here (deeds h s) ≡ None → Tidy h → Keeps K h → Grown q K s h (OfSession s Over ∷ h) []
 over_grown q K s h none tidy old = record {
   tidy = over_tidy h s none tidy;
   old = kept_fact K h s Over tt old;
@@ -299,7 +299,7 @@ over_grown q K s h none tidy old = record {
   there = λ t i. times_other t s (sessions h) (differ s t i);
 }
 
-pub left_grown : (q : Post → Bool) (K : ℕ → Joining → Type 0) (s c : ℕ) (h : Past) → times s (sessions h) ≡ 1 → Tidy h → Keeps K h
+pub left_grown : (q : AppMessage → Bool) (K : ℕ → Joining → Type 0) (s c : ℕ) (h : Past) → times s (sessions h) ≡ 1 → Tidy h → Keeps K h
     → Grown q K s h (OfSession s (Left c) ∷ h) (will_of true (here (deeds h s)))
 left_grown q K s c h one tidy old = record {
   tidy = left_tidy h s c tidy;
@@ -311,7 +311,7 @@ left_grown q K s c h one tidy old = record {
 }
 
 -- one after another, where the second frees nothing
-pub then : (q : Post → Bool) (K : ℕ → Joining → Type 0) (s : ℕ) (h g f : Past) (freed : List Post) → Grown q K s h g freed → Grown q K s g f [] → Grown q K s h f freed
+pub then : (q : AppMessage → Bool) (K : ℕ → Joining → Type 0) (s : ℕ) (h g f : Past) (freed : List AppMessage) → Grown q K s h g freed → Grown q K s g f [] → Grown q K s h f freed
 then q K s h g f freed a b = record {
   tidy = b.tidy;
   old = b.old;
@@ -321,14 +321,14 @@ then q K s h g f freed a b = record {
   there = λ t i. b.there t i ∙ a.there t i;
 }
 
-pub left_over : (q : Post → Bool) (K : ℕ → Joining → Type 0) (s c : ℕ) (h : Past) → times s (sessions h) ≡ 1 → Tidy h → Keeps K h
+pub left_over : (q : AppMessage → Bool) (K : ℕ → Joining → Type 0) (s c : ℕ) (h : Past) → times s (sessions h) ≡ 1 → Tidy h → Keeps K h
     → Grown q K s h (OfSession s Over ∷ OfSession s (Left c) ∷ h) (will_of true (here (deeds h s)))
 left_over q K s c h one tidy old =
     let a = left_grown q K s c h one tidy old in
     then q K s h (OfSession s (Left c) ∷ h) (OfSession s Over ∷ OfSession s (Left c) ∷ h) (will_of true (here (deeds h s))) a
     (over_grown q K s (OfSession s (Left c) ∷ h) (left_here h s c) a.tidy a.old)
 
-pub given_grown : (qos : ℕ) (q : Post → Bool) (K : ℕ → Joining → Type 0) (s : ℕ) (m : Post) (past h : Past) → deeds h s ≡ deeds past s → times s (sessions h) ≡ 1 → Tidy h → Keeps K h
+pub given_grown : (qos : ℕ) (q : AppMessage → Bool) (K : ℕ → Joining → Type 0) (s : ℕ) (m : AppMessage) (past h : Past) → deeds h s ≡ deeds past s → times s (sessions h) ≡ 1 → Tidy h → Keeps K h
     → Grown q K s h (session_facts s (given_at qos past s m).deeds ++ h) (given_at qos past s m).wills
 given_grown zero q K s m past h e one tidy old = nothing q K s h tidy old
 given_grown (suc n) q K s m past h e one tidy old = by (has_room (used (deeds past s)))
@@ -342,7 +342,7 @@ given_grown (suc n) q K s m past h e one tidy old = by (has_room (used (deeds pa
     by true = plain_grown q K s (Numbered (next_id (used (deeds past s)) (last_id (deeds past s))) m (is_some (here (deeds past s)))) h tt tidy old
     by false = end (here (deeds past s)) refl
 
-share_grown : (q : Post → Bool) (K : ℕ → Joining → Type 0) (s : ℕ) (m : Post) (past h : Past) → deeds h s ≡ deeds past s → times s (sessions h) ≡ 1 → Tidy h → Keeps K h
+share_grown : (q : AppMessage → Bool) (K : ℕ → Joining → Type 0) (s : ℕ) (m : AppMessage) (past h : Past) → deeds h s ≡ deeds past s → times s (sessions h) ≡ 1 → Tidy h → Keeps K h
     → Grown q K s h (session_facts s (share past m s).deeds ++ h) (share past m s).wills
 share_grown q K s m past h e one tidy old = by (level m.qos (best m.topic (grants (deeds past s))))
   where
@@ -352,13 +352,13 @@ share_grown q K s m past h e one tidy old = by (level m.qos (best m.topic (grant
 
 -- ---- what one message does to all of them
 
-abbrev pub all_facts : Past → Post → List ℕ → Past
+abbrev pub all_facts : Past → AppMessage → List ℕ → Past
 all_facts past m ss = flat_map (λ s. session_facts s (share past m s).deeds) ss
 
-abbrev pub all_freed : Past → Post → List ℕ → List Post
+abbrev pub all_freed : Past → AppMessage → List ℕ → List AppMessage
 all_freed past m ss = flat_map (λ s. (share past m s).wills) ss
 
-pub record Round (q : Post → Bool) (K : ℕ → Joining → Type 0) (ss : List ℕ) (h g : Past) (freed : List Post) : Type 0 where
+pub record Round (q : AppMessage → Bool) (K : ℕ → Joining → Type 0) (ss : List ℕ) (h g : Past) (freed : List AppMessage) : Type 0 where
   pub tidy : Tidy g
   pub old : Keeps K g
   pub sum_ : standing q h ≡ standing q g + count q freed
@@ -366,7 +366,7 @@ pub record Round (q : Post → Bool) (K : ℕ → Joining → Type 0) (ss : List
   pub off : (t : ℕ) → times t ss ≡ 0 → deeds g t ≡ deeds h t
   pub there : (t : ℕ) → times t ss ≡ 0 → times t (sessions g) ≡ times t (sessions h)
 
-pub round : (q : Post → Bool) (K : ℕ → Joining → Type 0) (m : Post) (past : Past) (ss : List ℕ) → ((t : ℕ) → times t ss ≤ times t (sessions past)) → Tidy past → Keeps K past
+pub round : (q : AppMessage → Bool) (K : ℕ → Joining → Type 0) (m : AppMessage) (past : Past) (ss : List ℕ) → ((t : ℕ) → times t ss ≤ times t (sessions past)) → Tidy past → Keeps K past
     → Round q K ss past (all_facts past m ss ++ past) (all_freed past m ss)
 round q K m past [] sub tidy old = record { tidy = tidy; old = old; sum_ = omega arith; routed_ = refl; off = λ t i. refl; there = λ t i. refl }
 round q K m past (s ∷ ss) sub tidy old =

@@ -4,14 +4,14 @@ use Rattle.std.specs.List.{filter, find}
 use Rattle.std.specs.Option.{option_map, option_map_or, is_some}
 use Rattle.std.proofs.lemmas.Bool.Decides.{eqb_tells}
 use Rattle.spk_packets.specs.Message.{Connect, Disconnect, WillData}
-use Rattle.spk_broker_rules.specs.Data.{Post, Line, Seat, Broker}
+use Rattle.spk_broker_rules.specs.Data.{AppMessage, Connection, Session, Broker}
 use Rattle.spk_broker_rules.specs.Knowing.{IsWelcomed, is_opening}
 use Rattle.spk_broker_rules.specs.Lawful.{IsLow, IsLawful}
 use Rattle.spk_broker_rules.specs.Listening.{is_closed_in, is_joined, lets_go}
-use Rattle.spk_broker_rules.specs.Words.{option_list, will_post}
+use Rattle.spk_broker_rules.specs.Words.{option_list, will_message}
 use Rattle.spk_broker_rules.specs.Plan.{Event, Packet}
-use Rattle.spk_broker_rules.specs.Past.{Past, Joining, deeds, sessions, here, session_at, seat_of, line_of, is_open, broker_of}
-use Rattle.spk_broker_rules.specs.Step.{after, is_guest, knows, seat_at, sits, step}
+use Rattle.spk_broker_rules.specs.Past.{Past, Joining, deeds, sessions, here, session_at, session_of, connection_of, is_open, broker_of}
+use Rattle.spk_broker_rules.specs.Step.{after, is_newcomer, knows, session_by, sits, step}
 use Rattle.spk_broker_rules.specs.Telling.{Leads}
 use Rattle.spk_broker_limits.specs.Wills.{all_lost, disconnects, is_lost, lost, of_conn, will_in, will_where, wills_where}
 use Rattle.spk_broker_limits.proofs.Totals.{found}
@@ -23,7 +23,7 @@ use Rattle.spk_broker_limits.proofs.Routed.{Known, apart_pairs, tidy_after, join
 
 -- ---- the wills of one connection among those that are meant
 
-of_both : (c : ℕ) (xs ys : List (ℕ × Post)) → of_conn c (xs ++ ys) ≡ of_conn c xs ++ of_conn c ys
+of_both : (c : ℕ) (xs ys : List (ℕ × AppMessage)) → of_conn c (xs ++ ys) ≡ of_conn c xs ++ of_conn c ys
 of_both c [] ys = refl
 of_both c (x ∷ xs) ys = by (x.0 == c) (of_both c xs ys)
   where
@@ -31,70 +31,70 @@ of_both c (x ∷ xs) ys = by (x.0 == c) (of_both c xs ys)
     by true rest = ap (λ zs. x ∷ zs) rest
     by false rest = rest
 
-abbrev pub own : ℕ → Option Post → List (ℕ × Post)
-own c will = map (λ (m : Post). (c, m)) (option_list will)
+abbrev pub own : ℕ → Option AppMessage → List (ℕ × AppMessage)
+own c will = map (λ (m : AppMessage). (c, m)) (option_list will)
 
-abbrev will_at : Option Seat → Option Post
-will_at o = option_map_or (λ (s : Seat). option_map_or (λ (l : Line). l.will) s.here None) o None
+abbrev will_at : Option Session → Option AppMessage
+will_at o = option_map_or (λ (s : Session). option_map_or (λ (l : Connection). l.will) s.here None) o None
 
-other : (meant : ℕ → Bool) (c : ℕ) (l : Line) → (l.conn == c) ≡ false → of_conn c (will_where meant l) ≡ []
+other : (meant : ℕ → Bool) (c : ℕ) (l : Connection) → (l.conn == c) ≡ false → of_conn c (will_where meant l) ≡ []
 other meant c l e = by (meant l.conn) l.will
   where
-    by : (b : Bool) (w : Option Post) → of_conn c (cond b (map (λ (m : Post). (l.conn, m)) (option_list w)) []) ≡ []
+    by : (b : Bool) (w : Option AppMessage) → of_conn c (cond b (map (λ (m : AppMessage). (l.conn, m)) (option_list w)) []) ≡ []
     by true None = refl
     by true (Some m) = ap (λ k. cond k ((l.conn, m) ∷ []) []) e
     by false w = refl
 
-its_own : (meant : ℕ → Bool) (c : ℕ) (l : Line) → l.conn ≡ c → of_conn c (will_where meant l) ≡ cond (meant c) (own c l.will) []
+its_own : (meant : ℕ → Bool) (c : ℕ) (l : Connection) → l.conn ≡ c → of_conn c (will_where meant l) ≡ cond (meant c) (own c l.will) []
 its_own meant c l e = subst (λ d. of_conn d (will_where meant l) ≡ cond (meant d) (own d l.will) []) e (by (meant l.conn) l.will)
   where
-    by : (b : Bool) (w : Option Post) → of_conn l.conn (cond b (map (λ (m : Post). (l.conn, m)) (option_list w)) []) ≡ cond b (own l.conn w) []
+    by : (b : Bool) (w : Option AppMessage) → of_conn l.conn (cond b (map (λ (m : AppMessage). (l.conn, m)) (option_list w)) []) ≡ cond b (own l.conn w) []
     by true None = refl
     by true (Some m) = ap (λ k. cond k ((l.conn, m) ∷ []) []) (same l.conn)
     by false w = refl
 
-none_of : (meant : ℕ → Bool) (c : ℕ) (ss : List Seat) → length (filter (sits c) ss) ≡ 0 → of_conn c (wills_where meant ss) ≡ []
+none_of : (meant : ℕ → Bool) (c : ℕ) (ss : List Session) → length (filter (sits c) ss) ≡ 0 → of_conn c (wills_where meant ss) ≡ []
 none_of meant c [] e = refl
 none_of meant c (s ∷ ss) e = of_both c (option_map_or (will_where meant) s.here []) (wills_where meant ss) ∙ by s.here e (none_of meant c ss)
   where
-    on : (l : Line) (b : Bool) → (l.conn == c) ≡ b → length (cond b (s ∷ filter (sits c) ss) (filter (sits c) ss)) ≡ 0 → (length (filter (sits c) ss) ≡ 0 → of_conn c (wills_where meant ss) ≡ [])
+    on : (l : Connection) (b : Bool) → (l.conn == c) ≡ b → length (cond b (s ∷ filter (sits c) ss) (filter (sits c) ss)) ≡ 0 → (length (filter (sits c) ss) ≡ 0 → of_conn c (wills_where meant ss) ≡ [])
         → of_conn c (will_where meant l) ++ of_conn c (wills_where meant ss) ≡ []
     on l true i f rest = absurd (omega arith)
     on l false i f rest = ap (λ xs. xs ++ of_conn c (wills_where meant ss)) (other meant c l i) ∙ rest f
 
-    by : (o : Option Line) → length (cond (option_map_or (λ (l : Line). l.conn == c) o false) (s ∷ filter (sits c) ss) (filter (sits c) ss)) ≡ 0 → (length (filter (sits c) ss) ≡ 0 → of_conn c (wills_where meant ss) ≡ [])
+    by : (o : Option Connection) → length (cond (option_map_or (λ (l : Connection). l.conn == c) o false) (s ∷ filter (sits c) ss) (filter (sits c) ss)) ≡ 0 → (length (filter (sits c) ss) ≡ 0 → of_conn c (wills_where meant ss) ≡ [])
         → of_conn c (option_map_or (will_where meant) o []) ++ of_conn c (wills_where meant ss) ≡ []
     by None f rest = rest f
     by (Some l) f rest = on l (l.conn == c) refl f rest
 
-nil_end : (xs : List (ℕ × Post)) → xs ++ [] ≡ xs
+nil_end : (xs : List (ℕ × AppMessage)) → xs ++ [] ≡ xs
 nil_end [] = refl
 nil_end (x ∷ xs) = ap (λ zs. x ∷ zs) (nil_end xs)
 
-none_either : (b : Bool) (xs : List (ℕ × Post)) → xs ≡ [] → cond b xs [] ≡ []
+none_either : (b : Bool) (xs : List (ℕ × AppMessage)) → xs ≡ [] → cond b xs [] ≡ []
 none_either true xs e = e
 none_either false xs e = refl
 
-one_of : (meant : ℕ → Bool) (c : ℕ) (ss : List Seat) → length (filter (sits c) ss) ≤ 1 → of_conn c (wills_where meant ss) ≡ cond (meant c) (own c (will_at (seat_at c ss))) []
+one_of : (meant : ℕ → Bool) (c : ℕ) (ss : List Session) → length (filter (sits c) ss) ≤ 1 → of_conn c (wills_where meant ss) ≡ cond (meant c) (own c (will_at (session_by c ss))) []
 one_of meant c [] n = sym (none_either (meant c) (own c None) refl)
 one_of meant c (s ∷ ss) n = of_both c (option_map_or (will_where meant) s.here []) (wills_where meant ss) ∙ by s.here refl n (one_of meant c ss)
   where
-    on : (l : Line) → s.here ≡ Some l → Told l.conn c → length (cond (l.conn == c) (s ∷ filter (sits c) ss) (filter (sits c) ss)) ≤ 1
-        → (length (filter (sits c) ss) ≤ 1 → of_conn c (wills_where meant ss) ≡ cond (meant c) (own c (will_at (seat_at c ss))) [])
-        → of_conn c (will_where meant l) ++ of_conn c (wills_where meant ss) ≡ cond (meant c) (own c (will_at (cond (l.conn == c) (Some s) (seat_at c ss)))) []
+    on : (l : Connection) → s.here ≡ Some l → Told l.conn c → length (cond (l.conn == c) (s ∷ filter (sits c) ss) (filter (sits c) ss)) ≤ 1
+        → (length (filter (sits c) ss) ≤ 1 → of_conn c (wills_where meant ss) ≡ cond (meant c) (own c (will_at (session_by c ss))) [])
+        → of_conn c (will_where meant l) ++ of_conn c (wills_where meant ss) ≡ cond (meant c) (own c (will_at (cond (l.conn == c) (Some s) (session_by c ss)))) []
     on l i (inl t) m rest =
         let few : suc (length (filter (sits c) ss)) ≤ 1 = subst (λ b. length (cond b (s ∷ filter (sits c) ss) (filter (sits c) ss)) ≤ 1) t.0 m in
         ap (λ xs. of_conn c (will_where meant l) ++ xs) (none_of meant c ss (omega arith)) ∙ nil_end (of_conn c (will_where meant l)) ∙ its_own meant c l t.1
-        ∙ ap (λ w. cond (meant c) (own c w) []) (ap (λ o. option_map_or (λ (k : Line). k.will) o None) (sym i))
-        ∙ ap (λ b. cond (meant c) (own c (will_at (cond b (Some s) (seat_at c ss)))) []) (sym t.0)
+        ∙ ap (λ w. cond (meant c) (own c w) []) (ap (λ o. option_map_or (λ (k : Connection). k.will) o None) (sym i))
+        ∙ ap (λ b. cond (meant c) (own c (will_at (cond b (Some s) (session_by c ss)))) []) (sym t.0)
     on l i (inr t) m rest =
         ap (λ xs. xs ++ of_conn c (wills_where meant ss)) (other meant c l t.0)
         ∙ rest (subst (λ b. length (cond b (s ∷ filter (sits c) ss) (filter (sits c) ss)) ≤ 1) t.0 m)
-        ∙ ap (λ b. cond (meant c) (own c (will_at (cond b (Some s) (seat_at c ss)))) []) (sym t.0)
+        ∙ ap (λ b. cond (meant c) (own c (will_at (cond b (Some s) (session_by c ss)))) []) (sym t.0)
 
-    by : (o : Option Line) → s.here ≡ o → length (cond (option_map_or (λ (l : Line). l.conn == c) o false) (s ∷ filter (sits c) ss) (filter (sits c) ss)) ≤ 1
-        → (length (filter (sits c) ss) ≤ 1 → of_conn c (wills_where meant ss) ≡ cond (meant c) (own c (will_at (seat_at c ss))) [])
-        → of_conn c (option_map_or (will_where meant) o []) ++ of_conn c (wills_where meant ss) ≡ cond (meant c) (own c (will_at (cond (option_map_or (λ (l : Line). l.conn == c) o false) (Some s) (seat_at c ss)))) []
+    by : (o : Option Connection) → s.here ≡ o → length (cond (option_map_or (λ (l : Connection). l.conn == c) o false) (s ∷ filter (sits c) ss) (filter (sits c) ss)) ≤ 1
+        → (length (filter (sits c) ss) ≤ 1 → of_conn c (wills_where meant ss) ≡ cond (meant c) (own c (will_at (session_by c ss))) [])
+        → of_conn c (option_map_or (will_where meant) o []) ++ of_conn c (wills_where meant ss) ≡ cond (meant c) (own c (will_at (cond (option_map_or (λ (l : Connection). l.conn == c) o false) (Some s) (session_by c ss)))) []
     by None i m rest = rest m
     by (Some l) i m rest = on l i (eqb_tells l.conn c) m rest
 
@@ -123,9 +123,9 @@ stays_over : (limit : ℕ) → Lawfully limit → (b : Broker) (c : ℕ) (e : Ev
 stays_over limit k b c e l o = (let low = o.0 in let le = grows limit k b e l in omega arith, k.gone b c e l o.0 o.1)
 
 low : (b : Broker) (c : ℕ) → IsLawful b → is_joined b c ≡ true → c ≤ b.given
-low b c l j = by (seat_at c b.seats) refl j
+low b c l j = by (session_by c b.sessions) refl j
   where
-    at : (s : Seat) (o : Option Line) → s.here ≡ o → IsLow b.given o → option_map_or (λ (x : Line). x.conn == c) o false ≡ true → c ≤ b.given
+    at : (s : Session) (o : Option Connection) → s.here ≡ o → IsLow b.given o → option_map_or (λ (x : Connection). x.conn == c) o false ≡ true → c ≤ b.given
     at s None i p t = yes_no (sym t)
     at s (Some x) i p t = is (eqb_tells x.conn c)
       where
@@ -133,9 +133,9 @@ low b c l j = by (seat_at c b.seats) refl j
         is (inl f) = subst (λ d. d ≤ b.given) f.1 p
         is (inr f) = yes_no (sym t ∙ f.0)
 
-    by : (o : Option Seat) → seat_at c b.seats ≡ o → is_some o ≡ true → c ≤ b.given
+    by : (o : Option Session) → session_by c b.sessions ≡ o → is_some o ≡ true → c ≤ b.given
     by None e f = yes_no (sym f)
-    by (Some s) e f = at s s.here refl (found (λ (x : Seat). IsLow b.given x.here) (sits c) b.seats s l.lines e) (passes (sits c) b.seats s e)
+    by (Some s) e f = at s s.here refl (found (λ (x : Session). IsLow b.given x.here) (sits c) b.sessions s l.connections e) (passes (sits c) b.sessions s e)
 
 -- who is joined no more is over
 falls : (limit : ℕ) → Lawfully limit → (b : Broker) (c : ℕ) (e : Event) → IsLawful b → is_joined b c ≡ true → is_joined (step b e).broker c ≡ false → IsOver (step b e).broker c
@@ -153,13 +153,13 @@ falls limit k b c e l j n = (let least = low b c l j in let le = grows limit k b
 
 pub lost_is : (limit : ℕ) → Lawfully limit → (es : List Event) (e : Event) (c : ℕ) → of_conn c (lost (after limit es) e) ≡ cond (is_lost (after limit es) e c) (own c (will_in (after limit es) c)) []
 lost_is limit k es e c =
-    let most : length (filter (is_guest c) (after limit es).guests) + length (filter (sits c) (after limit es).seats) ≤ 1 = (k.lawful es).apart c in
-    one_of (is_lost (after limit es) e) c (after limit es).seats (omega arith)
+    let most : length (filter (is_newcomer c) (after limit es).newcomers) + length (filter (sits c) (after limit es).sessions) ≤ 1 = (k.lawful es).apart c in
+    one_of (is_lost (after limit es) e) c (after limit es).sessions (omega arith)
 
 not_joined : (b : Broker) (c : ℕ) → is_joined b c ≡ false → will_in b c ≡ None
-not_joined b c e = by (seat_at c b.seats) e
+not_joined b c e = by (session_by c b.sessions) e
   where
-    by : (o : Option Seat) → is_some o ≡ false → will_at o ≡ None
+    by : (o : Option Session) → is_some o ≡ false → will_at o ≡ None
     by None f = refl
     by (Some s) f = yes_no f
 
@@ -186,7 +186,7 @@ fate : (limit : ℕ) → Lawfully limit → (c : ℕ) (es : List Event) → Fate
 fate limit k c [] = inl refl
 fate limit k c (e ∷ es) = by (fate limit k c es)
   where
-    new : of_conn c (all_lost limit es) ≡ [] → is_joined (after limit es) c ≡ true → (b : Bool) → is_lost (after limit es) e c ≡ b → (w : Option Post) → will_in (after limit es) c ≡ w → Fate limit c (e ∷ es)
+    new : of_conn c (all_lost limit es) ≡ [] → is_joined (after limit es) c ≡ true → (b : Bool) → is_lost (after limit es) e c ≡ b → (w : Option AppMessage) → will_in (after limit es) c ≡ w → Fate limit c (e ∷ es)
     new f j false i w g = inl (both_parts limit c es e ∙ ap (λ xs. xs ++ of_conn c (all_lost limit es)) (lost_is limit k es e c ∙ ap (λ b. cond b (own c (will_in (after limit es) c)) []) i) ∙ f)
     new f j true i None g = inl (both_parts limit c es e ∙ ap (λ xs. xs ++ of_conn c (all_lost limit es)) (lost_is limit k es e c ∙ ap (λ b. cond b (own c (will_in (after limit es) c)) []) i ∙ ap (own c) g) ∙ f)
     new f j true i (Some m) g = inr (
@@ -249,13 +249,13 @@ discarded limit k es c moment more j =
     and_false true b e = ap not e
     and_false false b e = refl
 
-pub now_lost : (limit : ℕ) → Lawfully limit → (es : List Event) (e : Event) (c : ℕ) (will : Post) → will_in (after limit es) c ≡ Some will → is_joined (after limit (e ∷ es)) c ≡ false → disconnects c e ≡ false
+pub now_lost : (limit : ℕ) → Lawfully limit → (es : List Event) (e : Event) (c : ℕ) (will : AppMessage) → will_in (after limit es) c ≡ Some will → is_joined (after limit (e ∷ es)) c ≡ false → disconnects c e ≡ false
     → of_conn c (lost (after limit es) e) ≡ (c, will) ∷ []
 now_lost limit k es e c will w n d =
     let lost_ : is_lost (after limit es) e c ≡ true = ap (λ b. not b && not (disconnects c e)) n ∙ ap not d in
     lost_is limit k es e c ∙ ap (λ b. cond b (own c (will_in (after limit es) c)) []) lost_ ∙ ap (own c) w
 
-pub ended : (limit : ℕ) → Lawfully limit → (es : List Event) (e : Event) (c : ℕ) (will : Post) (more : List Event) → is_joined (after limit es) c ≡ true → will_in (after limit es) c ≡ Some will
+pub ended : (limit : ℕ) → Lawfully limit → (es : List Event) (e : Event) (c : ℕ) (will : AppMessage) (more : List Event) → is_joined (after limit es) c ≡ true → will_in (after limit es) c ≡ Some will
     → is_joined (after limit (e ∷ es)) c ≡ false → disconnects c e ≡ false → of_conn c (all_lost limit (more ++ e ∷ es)) ≡ (c, will) ∷ []
 ended limit k es e c will more j w n d =
     let over : IsOver (step (after limit es) e).broker c = falls limit k (after limit es) c e (k.lawful es) j n in
@@ -267,25 +267,25 @@ ended limit k es e c will more j w n d =
 -- ---- which will it is
 
 -- a connection that sits, as the past has it
-record Sat (h : Past) (c : ℕ) (w : Option Post) : Type 0 where
-  seat : ℕ
+record Sat (h : Past) (c : ℕ) (w : Option AppMessage) : Type 0 where
+  session : ℕ
   who : Joining
-  is : here (deeds h seat) ≡ Some who
+  is : here (deeds h session) ≡ Some who
   conn : who.conn ≡ c
   will : who.will ≡ w
 
-sat : (h : Past) (c : ℕ) (ss : List ℕ) → has c (pairs_in h ss) ≡ true → Sat h c (will_at (find (sits c) (map (seat_of h) ss)))
+sat : (h : Past) (c : ℕ) (ss : List ℕ) → has c (pairs_in h ss) ≡ true → Sat h c (will_at (find (sits c) (map (session_of h) ss)))
 sat h c [] e = yes_no (sym e)
 sat h c (s ∷ ss) e = by (here (deeds h s)) refl e (sat h c ss)
   where
     on : (j : Joining) → here (deeds h s) ≡ Some j → (b : Bool) → (j.conn == c) ≡ b → Told j.conn c → (b || has c (pairs_in h ss)) ≡ true
-        → (has c (pairs_in h ss) ≡ true → Sat h c (will_at (find (sits c) (map (seat_of h) ss)))) → Sat h c (will_at (cond b (Some (seat_of h s)) (find (sits c) (map (seat_of h) ss))))
-    on j i true t (inl f) g rest = record { seat = s; who = j; is = i; conn = f.1; will = sym (ap (λ o. option_map_or (λ (l : Line). l.will) (option_map (line_of h) o) None) i) }
+        → (has c (pairs_in h ss) ≡ true → Sat h c (will_at (find (sits c) (map (session_of h) ss)))) → Sat h c (will_at (cond b (Some (session_of h s)) (find (sits c) (map (session_of h) ss))))
+    on j i true t (inl f) g rest = record { session = s; who = j; is = i; conn = f.1; will = sym (ap (λ o. option_map_or (λ (l : Connection). l.will) (option_map (connection_of h) o) None) i) }
     on j i true t (inr f) g rest = yes_no (sym t ∙ f.0)
     on j i false t f g rest = rest g
 
-    by : (o : Option Joining) → here (deeds h s) ≡ o → has c (pair_of o ++ pairs_in h ss) ≡ true → (has c (pairs_in h ss) ≡ true → Sat h c (will_at (find (sits c) (map (seat_of h) ss))))
-        → Sat h c (will_at (cond (option_map_or (λ (l : Line). l.conn == c) (option_map (line_of h) o) false) (Some (seat_of h s)) (find (sits c) (map (seat_of h) ss))))
+    by : (o : Option Joining) → here (deeds h s) ≡ o → has c (pair_of o ++ pairs_in h ss) ≡ true → (has c (pairs_in h ss) ≡ true → Sat h c (will_at (find (sits c) (map (session_of h) ss))))
+        → Sat h c (will_at (cond (option_map_or (λ (l : Connection). l.conn == c) (option_map (connection_of h) o) false) (Some (session_of h s)) (find (sits c) (map (session_of h) ss))))
     by None i g rest = rest g
     by (Some j) i g rest = on j i (j.conn == c) refl (eqb_tells j.conn c) g rest
 
@@ -319,15 +319,15 @@ its_will limit k es e h c (g, l, m, t, is) j =
     let tidy = tidy_after limit es g l in
     let r = runs limit (λ q. true) g e t tidy in
     let s : Sat t.end.past c (will_in (after limit (e ∷ es)) c) = sat_in limit (after limit (e ∷ es)) t.end.past c then_ j in
-    by g now_ tidy (apart_pairs limit k es g l) r.fresh s (r.old s.seat s.who s.is) (λ f. (r.new s.who f).0) (λ f. r.says s.who f)
+    by g now_ tidy (apart_pairs limit k es g l) r.fresh s (r.old s.session s.who s.is) (λ f. (r.new s.who f).0) (λ f. r.says s.who f)
   where
-    by : (g : Past) → after limit es ≡ broker_of limit g → Tidy g → Apart (pairs g) → (fresh : Option Joining) → {x : Past} → (s : Sat x c (will_in (after limit (e ∷ es)) c)) → Old g fresh s.seat s.who
+    by : (g : Past) → after limit es ≡ broker_of limit g → Tidy g → Apart (pairs g) → (fresh : Option Joining) → {x : Past} → (s : Sat x c (will_in (after limit (e ∷ es)) c)) → Old g fresh s.session s.who
         → (fresh ≡ Some s.who → is_some (session_at g s.who.conn) ≡ false) → (fresh ≡ Some s.who → SaysIn e s.who) → Is limit es e c
     by g now_ tidy a fresh s (inl f) new says = (
       λ y. (let u : Sat g c (will_in (after limit es) c) = sat_in limit (after limit es) g c now_ y in
-          sym s.will ∙ one_joining g s.seat u.seat s.who u.who a tidy f u.is (s.conn ∙ sym u.conn) ∙ u.will),
+          sym s.will ∙ one_joining g s.session u.session s.who u.who a tidy f u.is (s.conn ∙ sym u.conn) ∙ u.will),
       λ n. yes_no (sym (has_found c (pairs g) (s.who.conn, s.who.will) (subst (λ d. pair_at d (pairs g) ≡ Some (s.who.conn, s.who.will)) s.conn
-          (member g s.seat s.who (sessions g) f (there g s.seat s.who tidy f) a))) ∙ sym (joined_is limit (after limit es) g c now_) ∙ n),
+          (member g s.session s.who (sessions g) f (there g s.session s.who tidy f) a))) ∙ sym (joined_is limit (after limit es) g c now_) ∙ n),
     )
     by g now_ tidy a fresh s (inr f) new says = (
       λ y. yes_no (sym y ∙ joined_is limit (after limit es) g c now_ ∙ ap (λ d. has d (pairs g)) (sym s.conn) ∙ has_session g s.who.conn (sessions g) ∙ new f),
@@ -340,7 +340,7 @@ pub accepted : (limit : ℕ) → Known limit
     → ((es : List Event) (h : Past) (conn : ℕ) → Leads limit es h → knows (after limit es) conn ≡ is_open h conn)
     → (es : List Event) (h : Past) (conn moment : ℕ) (client : List ℕ) (clean : Bool) (alive : ℕ) (will : Option WillData) → Leads limit (Packet conn (Connect client clean alive will) moment ∷ es) h
     → is_joined (after limit es) conn ≡ false → IsWelcomed (after limit es) client clean alive will
-    → will_in (after limit (Packet conn (Connect client clean alive will) moment ∷ es)) conn ≡ option_map will_post will
+    → will_in (after limit (Packet conn (Connect client clean alive will) moment ∷ es)) conn ≡ option_map will_message will
 accepted limit k joins known es h conn moment client clean alive will (g, l, m, t, is) n w =
     let j : is_joined (step (after limit es) (Packet conn (Connect client clean alive will) moment)).broker conn ≡ true =
     joins (after limit es) conn moment client clean alive will (k.lawful es) (known es g conn l ∙ m) n w in

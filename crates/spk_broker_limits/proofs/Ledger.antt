@@ -3,7 +3,7 @@ use Rattle.std.proofs.Common.{◌≡◌, inl, inr, ℕ, ◌+◌, ◌≤◌, ◌=
 use Rattle.std.specs.List.{find, fold, flat_map}
 use Rattle.std.specs.Option.{is_some}
 use Rattle.std.proofs.lemmas.Bool.Decides.{eqb_tells}
-use Rattle.spk_broker_rules.specs.Data.{Post}
+use Rattle.spk_broker_rules.specs.Data.{AppMessage}
 use Rattle.spk_broker_rules.specs.Words.{option_list, granted_of, offers_to}
 use Rattle.spk_broker_rules.specs.Plan.{Act, Opens, At, Hear, Drop, Say, Leave, Tell, Queue, Route, Forget, Accept, Give, Take, Ack}
 use Rattle.spk_broker_rules.specs.Past.{Past, OfSession, Made, Joined, Granted, TakenBack, Acked, Joining, deeds, made, sessions, here, routed, kept, grants, retained, session_at, sits_at, is_of, other_pairs}
@@ -13,24 +13,24 @@ use Rattle.spk_broker_limits.proofs.Summing.{Told, same, none_some, yes_no, time
 use Rattle.spk_broker_limits.proofs.Facts.{count_append, worth, standing, Tidy, Keeps, kept_joined, plain_sum, plain_grown, over_grown, left_grown, left_over, given_grown, made_sum, made_tidy, made_once, joined_sum, joined_tidy, kept_fact, deed_at, all_facts, all_freed, round}
 
 -- what was routed, what waits, and the wills of who sits
-abbrev pub ledger : (Post → Bool) → Story → ℕ
+abbrev pub ledger : (AppMessage → Bool) → Story → ℕ
 ledger q t = count q (routed t.past) + (count q t.waiting + standing q t.past)
 
 -- the same sum
-pub record Same (q : Post → Bool) (K : ℕ → Joining → Type 0) (t u : Story) : Type 0 where
+pub record Same (q : AppMessage → Bool) (K : ℕ → Joining → Type 0) (t u : Story) : Type 0 where
   pub tidy : Tidy u.past
   pub old : Keeps K u.past
   pub sum_ : ledger q u ≡ ledger q t
 
-pub itself : (q : Post → Bool) (K : ℕ → Joining → Type 0) (t : Story) → Tidy t.past → Keeps K t.past → Same q K t t
+pub itself : (q : AppMessage → Bool) (K : ℕ → Joining → Type 0) (t : Story) → Tidy t.past → Keeps K t.past → Same q K t t
 itself q K t tidy old = record { tidy = tidy; old = old; sum_ = refl }
 
-pub next : (q : Post → Bool) (K : ℕ → Joining → Type 0) (t u v : Story) → Same q K t u → Same q K u v → Same q K t v
+pub next : (q : AppMessage → Bool) (K : ℕ → Joining → Type 0) (t u v : Story) → Same q K t u → Same q K u v → Same q K t v
 next q K t u v a b = record { tidy = b.tidy; old = b.old; sum_ = b.sum_ ∙ a.sum_ }
 
 -- ---- routing
 
-one : (q : Post → Bool) (K : ℕ → Joining → Type 0) (t : Story) (m : Post) (ms : List Post) → t.waiting ≡ m ∷ ms → Tidy t.past → Keeps K t.past → Same q K t (told_one m (record t { waiting = ms }))
+one : (q : AppMessage → Bool) (K : ℕ → Joining → Type 0) (t : Story) (m : AppMessage) (ms : List AppMessage) → t.waiting ≡ m ∷ ms → Tidy t.past → Keeps K t.past → Same q K t (told_one m (record t { waiting = ms }))
 one q K t m ms e tidy old =
     let r = round q K m t.past (sessions t.past) (λ s. omega arith) tidy old in
     record {
@@ -48,11 +48,11 @@ one q K t m ms e tidy old =
     }
 
 -- and nothing waits
-pub record Done (q : Post → Bool) (K : ℕ → Joining → Type 0) (t u : Story) : Type 0 where
+pub record Done (q : AppMessage → Bool) (K : ℕ → Joining → Type 0) (t u : Story) : Type 0 where
   pub same : Same q K t u
   pub done : u.waiting ≡ []
 
-pub routes : (q : Post → Bool) (K : ℕ → Joining → Type 0) (t u : Story) → Routes t u → Tidy t.past → Keeps K t.past → Done q K t u
+pub routes : (q : AppMessage → Bool) (K : ℕ → Joining → Type 0) (t u : Story) → Routes t u → Tidy t.past → Keeps K t.past → Done q K t u
 routes q K t u (nothing_waits _ _ a e) tidy old = subst (Done q K t) e (record { same = itself q K t tidy old; done = a })
 routes q K t u (goes_on _ _ m ms a r) tidy old =
     let first = one q K t m ms a tidy old in
@@ -64,7 +64,7 @@ routes q K t u (goes_on _ _ m ms a r) tidy old =
 once_of : (h : Past) (p : ℕ → Bool) (s : ℕ) → Tidy h → find p (sessions h) ≡ Some s → times s (sessions h) ≡ 1
 once_of h p s tidy e = let most = tidy.once s in let some = found_times p (sessions h) s e in omega arith
 
-pub left : (q : Post → Bool) (K : ℕ → Joining → Type 0) (c : ℕ) (t : Story) (o : Option ℕ) → session_at t.past c ≡ o → Tidy t.past → Keeps K t.past → Same q K t (told_leave o c true t)
+pub left : (q : AppMessage → Bool) (K : ℕ → Joining → Type 0) (c : ℕ) (t : Story) (o : Option ℕ) → session_at t.past c ≡ o → Tidy t.past → Keeps K t.past → Same q K t (told_leave o c true t)
 left q K c t None e tidy old = record {
   tidy = record { once = λ s. tidy.once s; fresh = λ s l. tidy.fresh s l; gone = λ s z. tidy.gone s z };
   old = λ s j z. old s j z;
@@ -86,17 +86,17 @@ left q K c t (Some s) e tidy old = by (kept (deeds t.past s))
         record { tidy = g.tidy; old = g.old; sum_ = (let a = g.sum_ in omega arith) }
 
 -- by DISCONNECT: the will is discarded
-pub record Less (q : Post → Bool) (K : ℕ → Joining → Type 0) (lost : ℕ) (t u : Story) : Type 0 where
+pub record Less (q : AppMessage → Bool) (K : ℕ → Joining → Type 0) (lost : ℕ) (t u : Story) : Type 0 where
   pub tidy : Tidy u.past
   pub old : Keeps K u.past
   pub sum_ : ledger q u + lost ≡ ledger q t
   pub done : u.waiting ≡ t.waiting
 
-abbrev pub worth_at : (Post → Bool) → Past → Option ℕ → ℕ
+abbrev pub worth_at : (AppMessage → Bool) → Past → Option ℕ → ℕ
 worth_at q h None = 0
 worth_at q h (Some s) = worth q (here (deeds h s))
 
-pub discarded : (q : Post → Bool) (K : ℕ → Joining → Type 0) (c : ℕ) (t : Story) (o : Option ℕ) → t.waiting ≡ [] → session_at t.past c ≡ o → Tidy t.past → Keeps K t.past
+pub discarded : (q : AppMessage → Bool) (K : ℕ → Joining → Type 0) (c : ℕ) (t : Story) (o : Option ℕ) → t.waiting ≡ [] → session_at t.past c ≡ o → Tidy t.past → Keeps K t.past
     → Less q K (worth_at q t.past o) t (told_leave o c false t)
 discarded q K c t None w e tidy old = record {
   tidy = record { once = λ s. tidy.once s; fresh = λ s l. tidy.fresh s l; gone = λ s z. tidy.gone s z };
@@ -136,27 +136,27 @@ away_none h client s e = by (here (deeds h s)) (two (kept (deeds h s)) (not (is_
     by None f = refl
     by (Some j) f = yes_no (sym f)
 
-pub forgot : (q : Post → Bool) (K : ℕ → Joining → Type 0) (client : List ℕ) (t : Story) (o : Option ℕ) → find (is_away t.past client) (sessions t.past) ≡ o → Tidy t.past → Keeps K t.past
+pub forgot : (q : AppMessage → Bool) (K : ℕ → Joining → Type 0) (client : List ℕ) (t : Story) (o : Option ℕ) → find (is_away t.past client) (sessions t.past) ≡ o → Tidy t.past → Keeps K t.past
     → Same q K t (told_forget o t)
 forgot q K client t None e tidy old = itself q K t tidy old
 forgot q K client t (Some s) e tidy old =
     let g = over_grown q K s t.past (away_none t.past client s e) tidy old in
     record { tidy = g.tidy; old = g.old; sum_ = (let a = g.sum_ in omega arith) }
 
-abbrev pub joining : ℕ → ℕ → Option Post → Joining
+abbrev pub joining : ℕ → ℕ → Option AppMessage → Joining
 joining conn alive will = record { conn = conn; alive = alive; will = will }
 
 -- whoever joins brings a will
-pub record Came (q : Post → Bool) (K : ℕ → Joining → Type 0) (c alive : ℕ) (will : Option Post) (t u : Story) : Type 0 where
+pub record Came (q : AppMessage → Bool) (K : ℕ → Joining → Type 0) (c alive : ℕ) (will : Option AppMessage) (t u : Story) : Type 0 where
   pub tidy : Tidy u.past
   pub old : Keeps K u.past
   pub sum_ : ledger q u ≡ ledger q t + count q (option_list will)
   pub done : u.waiting ≡ t.waiting
-  pub seat : ℕ
-  pub there : times seat (sessions u.past) ≡ 1
-  pub sits : here (deeds u.past seat) ≡ Some (joining c alive will)
+  pub session : ℕ
+  pub there : times session (sessions u.past) ≡ 1
+  pub sits : here (deeds u.past session) ≡ Some (joining c alive will)
 
-pub came : (q : Post → Bool) (K : ℕ → Joining → Type 0) (c : ℕ) (client : List ℕ) (keeps : Bool) (alive : ℕ) (will : Option Post) (t : Story) (o : Option ℕ) → away_for t.past keeps client ≡ o
+pub came : (q : AppMessage → Bool) (K : ℕ → Joining → Type 0) (c : ℕ) (client : List ℕ) (keeps : Bool) (alive : ℕ) (will : Option AppMessage) (t : Story) (o : Option ℕ) → away_for t.past keeps client ≡ o
     → ((s : ℕ) → K s (joining c alive will)) → Tidy t.past → Keeps K t.past → Came q K c alive will t (told_take_up o c client keeps alive will t)
 came q K c client keeps alive will t None e new tidy old =
     let s : ℕ = made t.past + 1 in
@@ -173,7 +173,7 @@ came q K c client keeps alive will t None e new tidy old =
           omega arith
           );
       done = refl;
-      seat = s;
+      session = s;
       there = there;
       sits = ap here (deed_at g s (Joined c alive will));
     }
@@ -188,7 +188,7 @@ came q K c client keeps alive will t (Some s) e new tidy old = by keeps e
           old = kept_joined K t.past s c alive will (new s) old;
           sum_ = (let a = joined_sum q t.past s c alive will there free in omega arith);
           done = refl;
-          seat = s;
+          session = s;
           there = there;
           sits = ap here (deed_at t.past s (Joined c alive will));
         }
@@ -197,20 +197,20 @@ came q K c client keeps alive will t (Some s) e new tidy old = by keeps e
 -- ---- SUBSCRIBE, UNSUBSCRIBE, PUBACK
 
 -- facts that change no will
-pub record Calm (q : Post → Bool) (K : ℕ → Joining → Type 0) (h g : Past) : Type 0 where
+pub record Calm (q : AppMessage → Bool) (K : ℕ → Joining → Type 0) (h g : Past) : Type 0 where
   pub tidy : Tidy g
   pub old : Keeps K g
   pub sum_ : standing q g ≡ standing q h
   pub routed_ : routed g ≡ routed h
 
-granted_calm : (q : Post → Bool) (K : ℕ → Joining → Type 0) (s : ℕ) (es : List (List ℕ × ℕ)) (h : Past) → Tidy h → Keeps K h → Calm q K h (fold (granting s) h es)
+granted_calm : (q : AppMessage → Bool) (K : ℕ → Joining → Type 0) (s : ℕ) (es : List (List ℕ × ℕ)) (h : Past) → Tidy h → Keeps K h → Calm q K h (fold (granting s) h es)
 granted_calm q K s [] h tidy old = record { tidy = tidy; old = old; sum_ = refl; routed_ = refl }
 granted_calm q K s (e ∷ es) h tidy old =
     let g = plain_grown q K s (Granted e.0 e.1) h tt tidy old in
     let rest = granted_calm q K s es (OfSession s (Granted e.0 e.1) ∷ h) g.tidy g.old in
     record { tidy = rest.tidy; old = rest.old; sum_ = rest.sum_ ∙ plain_sum q h s (Granted e.0 e.1) tt; routed_ = rest.routed_ }
 
-taken_calm : (q : Post → Bool) (K : ℕ → Joining → Type 0) (s : ℕ) (fs : List (List ℕ)) (h : Past) → Tidy h → Keeps K h → Calm q K h (fold (taking_back s) h fs)
+taken_calm : (q : AppMessage → Bool) (K : ℕ → Joining → Type 0) (s : ℕ) (fs : List (List ℕ)) (h : Past) → Tidy h → Keeps K h → Calm q K h (fold (taking_back s) h fs)
 taken_calm q K s [] h tidy old = record { tidy = tidy; old = old; sum_ = refl; routed_ = refl }
 taken_calm q K s (f ∷ fs) h tidy old =
     let g = plain_grown q K s (TakenBack f) h tt tidy old in
@@ -228,7 +228,7 @@ is_there xs s e = by (find (λ t. t == s) xs) refl e
         is (inl h) i = subst (λ u. 1 ≤ times u xs) h.1 (found_times (λ x. x == s) xs t f)
         is (inr h) i = yes_no (sym i ∙ h.0)
 
-offered : (q : Post → Bool) (K : ℕ → Joining → Type 0) (s : ℕ) (m : Post) (t : Story) (b : Bool) → stands t.past s ≡ b → Tidy t.past → Keeps K t.past → Same q K t (told_offer_at b s m t)
+offered : (q : AppMessage → Bool) (K : ℕ → Joining → Type 0) (s : ℕ) (m : AppMessage) (t : Story) (b : Bool) → stands t.past s ≡ b → Tidy t.past → Keeps K t.past → Same q K t (told_offer_at b s m t)
 offered q K s m t false e tidy old = itself q K t tidy old
 offered q K s m t true e tidy old =
     let most = tidy.once s in
@@ -245,13 +245,13 @@ offered q K s m t true e tidy old =
           );
     }
 
-offers : (q : Post → Bool) (K : ℕ → Joining → Type 0) (s : ℕ) (ms : List Post) (t : Story) → Tidy t.past → Keeps K t.past → Same q K t (fold (told_offer s) t ms)
+offers : (q : AppMessage → Bool) (K : ℕ → Joining → Type 0) (s : ℕ) (ms : List AppMessage) (t : Story) → Tidy t.past → Keeps K t.past → Same q K t (fold (told_offer s) t ms)
 offers q K s [] t tidy old = itself q K t tidy old
 offers q K s (m ∷ ms) t tidy old =
     let first = offered q K s m t (stands t.past s) refl tidy old in
     next q K t (told_offer s t m) (fold (told_offer s) t (m ∷ ms)) first (offers q K s ms (told_offer s t m) first.tidy first.old)
 
-pub given : (q : Post → Bool) (K : ℕ → Joining → Type 0) (c id : ℕ) (es : List (List ℕ × ℕ)) (t : Story) (o : Option ℕ) → Tidy t.past → Keeps K t.past → Same q K t (told_give o c id es t)
+pub given : (q : AppMessage → Bool) (K : ℕ → Joining → Type 0) (c id : ℕ) (es : List (List ℕ × ℕ)) (t : Story) (o : Option ℕ) → Tidy t.past → Keeps K t.past → Same q K t (told_give o c id es t)
 given q K c id es t None tidy old = itself q K t tidy old
 given q K c id es t (Some s) tidy old =
     let entries = granted_of (other_pairs t.past s) (grants (deeds t.past s)) es in
@@ -263,13 +263,13 @@ given q K c id es t (Some s) tidy old =
       sum_ = rest.sum_ ∙ (let a = calm.sum_ in let b = ap (count q) calm.routed_ in omega arith);
     }
 
-pub taken_back : (q : Post → Bool) (K : ℕ → Joining → Type 0) (fs : List (List ℕ)) (t : Story) (o : Option ℕ) → Tidy t.past → Keeps K t.past → Same q K t (told_take o fs t)
+pub taken_back : (q : AppMessage → Bool) (K : ℕ → Joining → Type 0) (fs : List (List ℕ)) (t : Story) (o : Option ℕ) → Tidy t.past → Keeps K t.past → Same q K t (told_take o fs t)
 taken_back q K fs t None tidy old = itself q K t tidy old
 taken_back q K fs t (Some s) tidy old =
     let calm = taken_calm q K s fs t.past tidy old in
     record { tidy = calm.tidy; old = calm.old; sum_ = (let a = calm.sum_ in let b = ap (count q) calm.routed_ in omega arith) }
 
-pub acked : (q : Post → Bool) (K : ℕ → Joining → Type 0) (id : ℕ) (t : Story) (o : Option ℕ) → Tidy t.past → Keeps K t.past → Same q K t (told_ack o id t)
+pub acked : (q : AppMessage → Bool) (K : ℕ → Joining → Type 0) (id : ℕ) (t : Story) (o : Option ℕ) → Tidy t.past → Keeps K t.past → Same q K t (told_ack o id t)
 acked q K id t None tidy old = itself q K t tidy old
 acked q K id t (Some s) tidy old =
     let g = plain_grown q K s (Acked id) t.past tt tidy old in
@@ -279,11 +279,11 @@ acked q K id t (Some s) tidy old =
 
 abbrev pub IsFair : Act → Type 0
 IsFair (Leave conn false) = ⊥
-IsFair (Queue post) = ⊥
+IsFair (Queue app_message) = ⊥
 IsFair (Accept conn client kept alive will) = ⊥
 IsFair _ = Unit {0}
 
-pub fair : (q : Post → Bool) (K : ℕ → Joining → Type 0) (a : Act) → IsFair a → (t u : Story) → Tells a t u → Tidy t.past → Keeps K t.past → Same q K t u
+pub fair : (q : AppMessage → Bool) (K : ℕ → Joining → Type 0) (a : Act) → IsFair a → (t u : Story) → Tells a t u → Tidy t.past → Keeps K t.past → Same q K t u
 fair q K Opens f t u e tidy old = subst (Same q K t) (sym e) (record { tidy = record { once = λ s. tidy.once s; fresh = λ s l. tidy.fresh s l; gone = λ s z. tidy.gone s z }; old = λ s j z. old s j z; sum_ = refl })
 fair q K (At moment) f t u e tidy old = subst (Same q K t) (sym e) (record { tidy = record { once = λ s. tidy.once s; fresh = λ s l. tidy.fresh s l; gone = λ s z. tidy.gone s z }; old = λ s j z. old s j z; sum_ = refl })
 fair q K (Hear c) f t u e tidy old = subst (Same q K t) (sym e) (record { tidy = record { once = λ s. tidy.once s; fresh = λ s l. tidy.fresh s l; gone = λ s z. tidy.gone s z }; old = λ s j z. old s j z; sum_ = refl })
@@ -292,7 +292,7 @@ fair q K (Say c p) f t u e tidy old = subst (Same q K t) (sym e) (record { tidy 
 fair q K (Leave c true) f t u e tidy old = subst (Same q K t) (sym e) (left q K c t (session_at t.past c) refl tidy old)
 fair q K (Leave c false) f t u e tidy old = elim f [ ]
 fair q K (Tell c) f t u e tidy old = subst (Same q K t) (sym e) (record { tidy = tidy; old = old; sum_ = refl })
-fair q K (Queue post) f t u e tidy old = elim f [ ]
+fair q K (Queue app_message) f t u e tidy old = elim f [ ]
 fair q K Route f t u e tidy old = (routes q K t u e tidy old).same
 fair q K (Forget client) f t u e tidy old = subst (Same q K t) (sym e) (forgot q K client t (find (is_away t.past client) (sessions t.past)) refl tidy old)
 fair q K (Accept c client kept alive will) f t u e tidy old = elim f [ ]
@@ -304,7 +304,7 @@ abbrev pub AllFair : List Act → Type 0
 AllFair [] = Unit {0}
 AllFair (a ∷ as_list) = IsFair a × AllFair as_list
 
-pub fair_all : (q : Post → Bool) (K : ℕ → Joining → Type 0) (as_list : List Act) → AllFair as_list → (t u : Story) → TellsAll as_list t u → Tidy t.past → Keeps K t.past → Same q K t u
+pub fair_all : (q : AppMessage → Bool) (K : ℕ → Joining → Type 0) (as_list : List Act) → AllFair as_list → (t u : Story) → TellsAll as_list t u → Tidy t.past → Keeps K t.past → Same q K t u
 fair_all q K [] f t u e tidy old = subst (Same q K t) e (itself q K t tidy old)
 fair_all q K (a ∷ as_list) f t u (v, x, d) tidy old =
     let first = fair q K a f.0 t v x tidy old in

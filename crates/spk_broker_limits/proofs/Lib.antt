@@ -1,4 +1,4 @@
-mod Seats
+mod Sessions
 mod Each
 mod Topics
 mod Totals

@@ -4,9 +4,9 @@ use Rattle.std.specs.List.{filter, find, flat_map, AllByRecursion}
 use Rattle.std.specs.Option.{option_map, option_map_or, is_some}
 use Rattle.std.proofs.lemmas.Bool.Decides.{eqb_tells}
 use Rattle.std.proofs.lemmas.List.{map-append}
-use Rattle.spk_broker_rules.specs.Data.{Post, Line}
+use Rattle.spk_broker_rules.specs.Data.{AppMessage, Connection}
 use Rattle.spk_broker_rules.specs.Words.{option_list}
-use Rattle.spk_broker_rules.specs.Past.{Past, Joining, deeds, sessions, here, line_of, seat_of, sits_at, session_at}
+use Rattle.spk_broker_rules.specs.Past.{Past, Joining, deeds, sessions, here, connection_of, session_of, sits_at, session_at}
 use Rattle.spk_broker_rules.specs.Step.{sits}
 use Rattle.spk_broker_limits.specs.Wills.{count, messages, will_where, wills_where}
 use Rattle.spk_broker_limits.proofs.Summing.{Told, same, none_some, yes_no, bit, sum, times, passes, found_times, Pair, total, named, has, pair_at, Apart, total_append, named_append, only, only_none, only_one, none_has}
@@ -23,12 +23,12 @@ pairs_in h ss = flat_map (λ s. pair_of (here (deeds h s))) ss
 abbrev pub pairs : Past → List Pair
 pairs h = pairs_in h (sessions h)
 
-abbrev pub weight : (Post → Bool) → Pair → ℕ
+abbrev pub weight : (AppMessage → Bool) → Pair → ℕ
 weight q x = count q (option_list x.1)
 
 -- ---- what the past says
 
-pub standing_is : (q : Post → Bool) (h : Past) (ss : List ℕ) → sum (λ s. worth q (here (deeds h s))) ss ≡ total (weight q) (pairs_in h ss)
+pub standing_is : (q : AppMessage → Bool) (h : Past) (ss : List ℕ) → sum (λ s. worth q (here (deeds h s))) ss ≡ total (weight q) (pairs_in h ss)
 standing_is q h [] = refl
 standing_is q h (s ∷ ss) =
     let rest : sum (λ t. worth q (here (deeds h t))) ss ≡ total (weight q) (pairs_in h ss) = standing_is q h ss in
@@ -103,7 +103,7 @@ all_found h xs f (s ∷ ss) = by (here (deeds h s)) refl (all_found h xs f ss)
     by (Some j) e rest = (f s j e, rest)
 
 -- the will of the connection whose session this is
-pub alone : (q : Post → Bool) (h : Past) (c : ℕ) → Apart (pairs h) → total (only (weight q) c) (pairs h) ≡ worth_at q h (session_at h c)
+pub alone : (q : AppMessage → Bool) (h : Past) (c : ℕ) → Apart (pairs h) → total (only (weight q) c) (pairs h) ≡ worth_at q h (session_at h c)
 alone q h c a = by (session_at h c) refl
   where
     sat : (s : ℕ) (o : Option Joining) → here (deeds h s) ≡ o → option_map_or (λ (j : Joining). j.conn == c) o false ≡ true → 1 ≤ times s (sessions h) → total (only (weight q) c) (pairs h) ≡ worth q o
@@ -128,59 +128,59 @@ has_found c (x ∷ xs) y e = by (x.0 == c) e (has_found c xs y)
 
 -- ---- what the data say
 
-pub named_seats : (h : Past) (c : ℕ) (ss : List ℕ) → named c (pairs_in h ss) ≡ length (filter (sits c) (map (seat_of h) ss))
-named_seats h c [] = refl
-named_seats h c (s ∷ ss) = by (here (deeds h s)) (named_seats h c ss)
+pub named_sessions : (h : Past) (c : ℕ) (ss : List ℕ) → named c (pairs_in h ss) ≡ length (filter (sits c) (map (session_of h) ss))
+named_sessions h c [] = refl
+named_sessions h c (s ∷ ss) = by (here (deeds h s)) (named_sessions h c ss)
   where
-    on : (b : Bool) → named c (pairs_in h ss) ≡ length (filter (sits c) (map (seat_of h) ss))
-        → bit b + named c (pairs_in h ss) ≡ length (cond b (seat_of h s ∷ filter (sits c) (map (seat_of h) ss)) (filter (sits c) (map (seat_of h) ss)))
+    on : (b : Bool) → named c (pairs_in h ss) ≡ length (filter (sits c) (map (session_of h) ss))
+        → bit b + named c (pairs_in h ss) ≡ length (cond b (session_of h s ∷ filter (sits c) (map (session_of h) ss)) (filter (sits c) (map (session_of h) ss)))
     on true rest = omega arith
     on false rest = omega arith
 
-    by : (o : Option Joining) → named c (pairs_in h ss) ≡ length (filter (sits c) (map (seat_of h) ss))
+    by : (o : Option Joining) → named c (pairs_in h ss) ≡ length (filter (sits c) (map (session_of h) ss))
         → named c (pair_of o ++ pairs_in h ss)
-        ≡ length (cond (option_map_or (λ (l : Line). l.conn == c) (option_map (line_of h) o) false) (seat_of h s ∷ filter (sits c) (map (seat_of h) ss)) (filter (sits c) (map (seat_of h) ss)))
+        ≡ length (cond (option_map_or (λ (l : Connection). l.conn == c) (option_map (connection_of h) o) false) (session_of h s ∷ filter (sits c) (map (session_of h) ss)) (filter (sits c) (map (session_of h) ss)))
     by None rest = rest
     by (Some j) rest = on (j.conn == c) rest
 
-pub has_seat : (h : Past) (c : ℕ) (ss : List ℕ) → has c (pairs_in h ss) ≡ is_some (find (sits c) (map (seat_of h) ss))
-has_seat h c [] = refl
-has_seat h c (s ∷ ss) = by (here (deeds h s)) (has_seat h c ss)
+pub holds_session : (h : Past) (c : ℕ) (ss : List ℕ) → has c (pairs_in h ss) ≡ is_some (find (sits c) (map (session_of h) ss))
+holds_session h c [] = refl
+holds_session h c (s ∷ ss) = by (here (deeds h s)) (holds_session h c ss)
   where
-    on : (b : Bool) → has c (pairs_in h ss) ≡ is_some (find (sits c) (map (seat_of h) ss)) → (b || has c (pairs_in h ss)) ≡ is_some (cond b (Some (seat_of h s)) (find (sits c) (map (seat_of h) ss)))
+    on : (b : Bool) → has c (pairs_in h ss) ≡ is_some (find (sits c) (map (session_of h) ss)) → (b || has c (pairs_in h ss)) ≡ is_some (cond b (Some (session_of h s)) (find (sits c) (map (session_of h) ss)))
     on true rest = refl
     on false rest = rest
 
-    by : (o : Option Joining) → has c (pairs_in h ss) ≡ is_some (find (sits c) (map (seat_of h) ss))
-        → has c (pair_of o ++ pairs_in h ss) ≡ is_some (cond (option_map_or (λ (l : Line). l.conn == c) (option_map (line_of h) o) false) (Some (seat_of h s)) (find (sits c) (map (seat_of h) ss)))
+    by : (o : Option Joining) → has c (pairs_in h ss) ≡ is_some (find (sits c) (map (session_of h) ss))
+        → has c (pair_of o ++ pairs_in h ss) ≡ is_some (cond (option_map_or (λ (l : Connection). l.conn == c) (option_map (connection_of h) o) false) (Some (session_of h s)) (find (sits c) (map (session_of h) ss)))
     by None rest = rest
     by (Some j) rest = on (j.conn == c) rest
 
 -- those that are meant
-abbrev pub where_ : (Post → Bool) → (ℕ → Bool) → Pair → ℕ
+abbrev pub where_ : (AppMessage → Bool) → (ℕ → Bool) → Pair → ℕ
 where_ q meant x = cond (meant x.0) (weight q x) 0
 
-pub wills_are : (q : Post → Bool) (meant : ℕ → Bool) (h : Past) (ss : List ℕ) → count q (messages (wills_where meant (map (seat_of h) ss))) ≡ total (where_ q meant) (pairs_in h ss)
+pub wills_are : (q : AppMessage → Bool) (meant : ℕ → Bool) (h : Past) (ss : List ℕ) → count q (messages (wills_where meant (map (session_of h) ss))) ≡ total (where_ q meant) (pairs_in h ss)
 wills_are q meant h [] = refl
 wills_are q meant h (s ∷ ss) =
-    let rest : count q (messages (wills_where meant (map (seat_of h) ss))) ≡ total (where_ q meant) (pairs_in h ss) = wills_are q meant h ss in
-    let one : count q (messages (option_map_or (will_where meant) (option_map (line_of h) (here (deeds h s))) [])) ≡ total (where_ q meant) (pair_of (here (deeds h s))) = by (here (deeds h s)) in
+    let rest : count q (messages (wills_where meant (map (session_of h) ss))) ≡ total (where_ q meant) (pairs_in h ss) = wills_are q meant h ss in
+    let one : count q (messages (option_map_or (will_where meant) (option_map (connection_of h) (here (deeds h s))) [])) ≡ total (where_ q meant) (pair_of (here (deeds h s))) = by (here (deeds h s)) in
     let both : total (where_ q meant) (pair_of (here (deeds h s)) ++ pairs_in h ss) ≡ total (where_ q meant) (pair_of (here (deeds h s))) + total (where_ q meant) (pairs_in h ss) =
     total_append (where_ q meant) (pair_of (here (deeds h s))) (pairs_in h ss) in
-    let parts : count q (messages (option_map_or (will_where meant) (option_map (line_of h) (here (deeds h s))) [] ++ wills_where meant (map (seat_of h) ss)))
-    ≡ count q (messages (option_map_or (will_where meant) (option_map (line_of h) (here (deeds h s))) [])) + count q (messages (wills_where meant (map (seat_of h) ss))) =
-    ap (count q) (map-append (λ (w : ℕ × Post). w.1) (option_map_or (will_where meant) (option_map (line_of h) (here (deeds h s))) []) (wills_where meant (map (seat_of h) ss)))
-    ∙ count_append q (messages (option_map_or (will_where meant) (option_map (line_of h) (here (deeds h s))) [])) (messages (wills_where meant (map (seat_of h) ss))) in
+    let parts : count q (messages (option_map_or (will_where meant) (option_map (connection_of h) (here (deeds h s))) [] ++ wills_where meant (map (session_of h) ss)))
+    ≡ count q (messages (option_map_or (will_where meant) (option_map (connection_of h) (here (deeds h s))) [])) + count q (messages (wills_where meant (map (session_of h) ss))) =
+    ap (count q) (map-append (λ (w : ℕ × AppMessage). w.1) (option_map_or (will_where meant) (option_map (connection_of h) (here (deeds h s))) []) (wills_where meant (map (session_of h) ss)))
+    ∙ count_append q (messages (option_map_or (will_where meant) (option_map (connection_of h) (here (deeds h s))) [])) (messages (wills_where meant (map (session_of h) ss))) in
     omega arith
   where
-    will : (c : ℕ) (w : Option Post) → count q (messages (map (λ (m : Post). (c, m)) (option_list w))) ≡ count q (option_list w)
+    will : (c : ℕ) (w : Option AppMessage) → count q (messages (map (λ (m : AppMessage). (c, m)) (option_list w))) ≡ count q (option_list w)
     will c None = refl
     will c (Some m) = refl
 
-    on : (c : ℕ) (w : Option Post) (b : Bool) → count q (messages (cond b (map (λ (m : Post). (c, m)) (option_list w)) [])) ≡ cond b (count q (option_list w)) 0 + 0
+    on : (c : ℕ) (w : Option AppMessage) (b : Bool) → count q (messages (cond b (map (λ (m : AppMessage). (c, m)) (option_list w)) [])) ≡ cond b (count q (option_list w)) 0 + 0
     on c w true = let is = will c w in omega arith
     on c w false = omega arith
 
-    by : (o : Option Joining) → count q (messages (option_map_or (will_where meant) (option_map (line_of h) o) [])) ≡ total (where_ q meant) (pair_of o)
+    by : (o : Option Joining) → count q (messages (option_map_or (will_where meant) (option_map (connection_of h) o) [])) ≡ total (where_ q meant) (pair_of o)
     by None = refl
     by (Some j) = on j.conn j.will (meant j.conn)

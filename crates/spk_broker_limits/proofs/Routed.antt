@@ -7,19 +7,19 @@ use Rattle.std.proofs.lemmas.List.{map-append}
 use Rattle.spk_packets.specs.Fault.{first_of}
 use Rattle.spk_packets.specs.Message.{Message, Disconnect}
 use Rattle.spk_packets.specs.Spelling.{unwritable}
-use Rattle.spk_broker_rules.specs.Data.{Post, Broker}
+use Rattle.spk_broker_rules.specs.Data.{AppMessage, Broker}
 use Rattle.spk_broker_rules.specs.Words.{option_list}
 use Rattle.spk_broker_rules.specs.Lawful.{IsLawful}
 use Rattle.spk_broker_rules.specs.Plan.{Event, Open, Packet, Fault, Closed, Tick, Refused}
-use Rattle.spk_broker_rules.specs.Past.{Past, Joining, deeds, sessions, here, routed, session_at, seat_of, broker_of}
+use Rattle.spk_broker_rules.specs.Past.{Past, Joining, deeds, sessions, here, routed, session_at, session_of, broker_of}
 use Rattle.spk_broker_rules.specs.Listening.{is_disconnect, is_joined, lets_go}
-use Rattle.spk_broker_rules.specs.Step.{is_guest, sits, seat_at, after, step, knows}
+use Rattle.spk_broker_rules.specs.Step.{is_newcomer, sits, session_by, after, step, knows}
 use Rattle.spk_broker_rules.specs.Telling.{Telling, Leads, may_be}
 use Rattle.spk_broker_limits.specs.Wills.{count, messages, message_of, disconnects, is_lost, wills_where, lost, all_lost, taken, all_taken}
 use Rattle.spk_broker_limits.proofs.Summing.{Told, same, none_some, yes_no, bit, times, Pair, total, named, has, pair_at, Apart, total_same, total_both, total_none, total_append, named_append, only, none_has, also_in, within}
 use Rattle.spk_broker_limits.proofs.Facts.{count_append, worth, standing, Tidy}
 use Rattle.spk_broker_limits.proofs.Runs.{Old, Sits, gives_up, brought, discards, runs}
-use Rattle.spk_broker_limits.proofs.Pairs.{pair_of, pairs, weight, standing_is, has_session, member, all_found, alone, has_found, named_seats, has_seat, where_, wills_are}
+use Rattle.spk_broker_limits.proofs.Pairs.{pair_of, pairs, weight, standing_is, has_session, member, all_found, alone, has_found, named_sessions, holds_session, where_, wills_are}
 
 -- ---- lists
 
@@ -42,10 +42,10 @@ find_back c (x ∷ xs) ys e = by (x.0 == c) e (find_back c xs ys)
 -- ---- one event, from past to past
 
 -- where the connections that sit are those that sat, the new one, or gone
-pub record Sum (q : Post → Bool) (h g : Past) (fresh : Option Joining) : Type 0 where
+pub record Sum (q : AppMessage → Bool) (h g : Past) (fresh : Option Joining) : Type 0 where
   pub stay : standing q g ≡ total (also_in (weight q) (pairs g)) (pairs h) + worth q fresh
 
-sums : (q : Post → Bool) (h g : Past) (fresh : Option Joining) → Tidy h → Apart (pairs h) → Apart (pairs g) → ((s : ℕ) (j : Joining) → here (deeds g s) ≡ Some j → Old h fresh s j)
+sums : (q : AppMessage → Bool) (h g : Past) (fresh : Option Joining) → Tidy h → Apart (pairs h) → Apart (pairs g) → ((s : ℕ) (j : Joining) → here (deeds g s) ≡ Some j → Old h fresh s j)
     → ((j : Joining) → fresh ≡ Some j → (is_some (session_at h j.conn) ≡ false) × Sits g j) → Sum q h g fresh
 sums q h g fresh tidy a b old new =
     let xs : List Pair = pairs h ++ pair_of fresh in
@@ -96,13 +96,13 @@ sums q h g fresh tidy a b old new =
     last None n = refl
     last (Some j) n =
         let s : Sits g j = (n j refl).1 in
-        let some : 1 ≤ times s.seat (sessions g) = (let one = s.there in omega arith) in
-        let yes : has j.conn (pairs g) ≡ true = has_found j.conn (pairs g) (j.conn, j.will) (member g s.seat j (sessions g) s.sits some b) in
+        let some : 1 ≤ times s.session (sessions g) = (let one = s.there in omega arith) in
+        let yes : has j.conn (pairs g) ≡ true = has_found j.conn (pairs g) (j.conn, j.will) (member g s.session j (sessions g) s.sits some b) in
         let is : cond (has j.conn (pairs g)) (count q (option_list j.will)) 0 ≡ count q (option_list j.will) = ap (λ k. cond k (count q (option_list j.will)) 0) yes in
         omega arith
 
 -- what a DISCONNECT discards
-given_up : (q : Post → Bool) (h : Past) (conn : ℕ) (p : Message) → Apart (pairs h) → total (where_ q (λ c. (conn == c) && is_disconnect p)) (pairs h) ≡ gives_up q h conn p
+given_up : (q : AppMessage → Bool) (h : Past) (conn : ℕ) (p : Message) → Apart (pairs h) → total (where_ q (λ c. (conn == c) && is_disconnect p)) (pairs h) ≡ gives_up q h conn p
 given_up q h conn Disconnect a =
     total_same (where_ q (λ c. (conn == c) && true)) (only (weight q) conn) (λ x. by x (eqb_tells x.0 conn)) (pairs h) ∙ alone q h conn a
   where
@@ -124,10 +124,10 @@ given_up q h conn _ a = total_none (where_ q (λ c. (conn == c) && false)) (λ x
     by x true = refl
     by x false = refl
 
-none_up : (q : Post → Bool) (h : Past) → total (where_ q (λ c. false)) (pairs h) ≡ 0
+none_up : (q : AppMessage → Bool) (h : Past) → total (where_ q (λ c. false)) (pairs h) ≡ 0
 none_up q h = total_none (where_ q (λ c. false)) (λ x. refl) (pairs h)
 
-discarded : (q : Post → Bool) (h : Past) (e : Event) → Apart (pairs h) → total (where_ q (λ c. disconnects c e)) (pairs h) ≡ discards q h e
+discarded : (q : AppMessage → Bool) (h : Past) (e : Event) → Apart (pairs h) → total (where_ q (λ c. disconnects c e)) (pairs h) ≡ discards q h e
 discarded q h (Open moment) a = none_up q h
 discarded q h (Packet conn p moment) a = given_up q h conn p a
 discarded q h (Fault conn f moment) a = none_up q h
@@ -136,7 +136,7 @@ discarded q h (Tick moment) a = none_up q h
 discarded q h (Refused conn s moment) a = none_up q h
 
 -- a connection stays, or its DISCONNECT came, or its will is lost
-shares : (q : Post → Bool) (h g : Past) (e : Event) → ((c : ℕ) → disconnects c e ≡ true → has c (pairs g) ≡ false)
+shares : (q : AppMessage → Bool) (h g : Past) (e : Event) → ((c : ℕ) → disconnects c e ≡ true → has c (pairs g) ≡ false)
     → total (weight q) (pairs h) ≡ total (also_in (weight q) (pairs g)) (pairs h) + (total (where_ q (λ c. not (has c (pairs g)) && not (disconnects c e))) (pairs h) + total (where_ q (λ c. disconnects c e)) (pairs h))
 shares q h g e ended =
     let first : total (weight q) (pairs h) ≡ total (also_in (weight q) (pairs g)) (pairs h) + total (where_ q (λ c. not (has c (pairs g)))) (pairs h) =
@@ -156,7 +156,7 @@ shares q h g e ended =
     two x false true f = omega arith
     two x false false f = omega arith
 
-past_event : (q : Post → Bool) (h g : Past) (e : Event) (b : List Post) → Tidy h → Apart (pairs h) → Apart (pairs g) → ((c : ℕ) → disconnects c e ≡ true → has c (pairs g) ≡ false)
+past_event : (q : AppMessage → Bool) (h g : Past) (e : Event) (b : List AppMessage) → Tidy h → Apart (pairs h) → Apart (pairs g) → ((c : ℕ) → disconnects c e ≡ true → has c (pairs g) ≡ false)
     → (fresh : Option Joining) → ((s : ℕ) (j : Joining) → here (deeds g s) ≡ Some j → Old h fresh s j) → ((j : Joining) → fresh ≡ Some j → (is_some (session_at h j.conn) ≡ false) × Sits g j)
     → count q (routed g) + (standing q g + discards q h e) ≡ count q (routed h) + (standing q h + (count q b + worth q fresh))
     → count q (routed g) ≡ count q (routed h) + (count q b + total (where_ q (λ c. not (has c (pairs g)) && not (disconnects c e))) (pairs h))
@@ -176,9 +176,9 @@ pub record Known (limit : ℕ) : Type 0 where
 
 pub apart_pairs : (limit : ℕ) → Known limit → (es : List Event) (h : Past) → Leads limit es h → Apart (pairs h)
 apart_pairs limit k es h l c =
-    let is = named_seats h c (sessions h) in
+    let is = named_sessions h c (sessions h) in
     let most = (subst IsLawful (k.asked es h l) (k.lawful es)).apart c in
-    let m : length (filter (is_guest c) (broker_of limit h).guests) + length (filter (sits c) (broker_of limit h).seats) ≤ 1 = most in
+    let m : length (filter (is_newcomer c) (broker_of limit h).newcomers) + length (filter (sits c) (broker_of limit h).sessions) ≤ 1 = most in
     omega arith
 
 pub tidy_after : (limit : ℕ) (es : List Event) (h : Past) → Leads limit es h → Tidy h
@@ -186,7 +186,7 @@ tidy_after limit [] h l = subst Tidy (sym l) (record { once = λ s. omega arith;
 tidy_after limit (e ∷ es) h (g, l, m, t, is) = subst Tidy is (runs limit (λ q. true) g e t (tidy_after limit es g l)).tidy
 
 pub joined_is : (limit : ℕ) (b : Broker) (h : Past) (c : ℕ) → b ≡ broker_of limit h → is_joined b c ≡ has c (pairs h)
-joined_is limit b h c e = ap (λ (x : Broker). is_joined x c) e ∙ sym (has_seat h c (sessions h))
+joined_is limit b h c e = ap (λ (x : Broker). is_joined x c) e ∙ sym (holds_session h c (sessions h))
 
 disconnected : (e : Event) (c : ℕ) → disconnects c e ≡ true → lets_go c e ≡ true
 disconnected (Open moment) c f = f
@@ -197,7 +197,7 @@ disconnected (Tick moment) c f = f
 disconnected (Refused conn s moment) c f = f
 
 pub unknown : (b : Broker) (c : ℕ) → knows b c ≡ false → is_joined b c ≡ false
-unknown b c e = last (list_any (is_guest c) b.guests) (is_some (seat_at c b.seats)) e
+unknown b c e = last (list_any (is_newcomer c) b.newcomers) (is_some (session_by c b.sessions)) e
   where
     last : (x y : Bool) → (x || y) ≡ false → y ≡ false
     last true y f = yes_no f
@@ -214,7 +214,7 @@ taken_is limit b h (Refused conn s moment) is = refl
 
 -- ---- an event, and a list of them
 
-pub at_once : (limit : ℕ) → Known limit → (es : List Event) (h : Past) (e : Event) → Leads limit es h → may_be h e ≡ true → (t : Telling limit h e) (q : Post → Bool)
+pub at_once : (limit : ℕ) → Known limit → (es : List Event) (h : Past) (e : Event) → Leads limit es h → may_be h e ≡ true → (t : Telling limit h e) (q : AppMessage → Bool)
     → count q (routed t.end.past) ≡ count q (routed h) + (count q (taken (after limit es) e) + count q (messages (lost (after limit es) e)))
 at_once limit k es h e l m t q =
     let g : Past = t.end.past in
@@ -228,15 +228,15 @@ at_once limit k es h e l m t q =
     (λ c f. sym (joined_is limit (step (after limit es) e).broker t.end.past c then_) ∙ unknown (step (after limit es) e).broker c (k.ended (after limit es) c e (k.lawful es) (disconnected e c f)))
     r.fresh r.old r.new r.sum_ in
     let brought_ : count q (taken (after limit es) e) ≡ count q (brought h e) = ap (count q) (taken_is limit (after limit es) h e now_) in
-    let seats : (after limit es).seats ≡ map (seat_of h) (sessions h) = ap (λ (b : Broker). b.seats) now_ in
+    let sessions_are : (after limit es).sessions ≡ map (session_of h) (sessions h) = ap (λ (b : Broker). b.sessions) now_ in
     let lost_ : count q (messages (lost (after limit es) e)) ≡ total (where_ q (is_lost (after limit es) e)) (pairs h) =
-    ap (λ ss. count q (messages (wills_where (is_lost (after limit es) e) ss))) seats ∙ wills_are q (is_lost (after limit es) e) h (sessions h) in
+    ap (λ ss. count q (messages (wills_where (is_lost (after limit es) e) ss))) sessions_are ∙ wills_are q (is_lost (after limit es) e) h (sessions h) in
     let same_ : total (where_ q (is_lost (after limit es) e)) (pairs h) ≡ total (where_ q (λ c. not (has c (pairs t.end.past)) && not (disconnects c e))) (pairs h) =
     total_same (where_ q (is_lost (after limit es) e)) (where_ q (λ c. not (has c (pairs t.end.past)) && not (disconnects c e)))
     (λ x. ap (λ b. cond (not b && not (disconnects x.0 e)) (weight q x) 0) (joined_is limit (step (after limit es) e).broker t.end.past x.0 then_)) (pairs h) in
     omega arith
 
-pub in_all : (limit : ℕ) → Known limit → (es : List Event) (h : Past) → Leads limit es h → (q : Post → Bool)
+pub in_all : (limit : ℕ) → Known limit → (es : List Event) (h : Past) → Leads limit es h → (q : AppMessage → Bool)
     → count q (routed h) ≡ count q (all_taken limit es) + count q (messages (all_lost limit es))
 in_all limit k [] h l q = ap (λ g. count q (routed g)) l
 in_all limit k (e ∷ es) h (g, l, m, t, is) q =
@@ -245,5 +245,5 @@ in_all limit k (e ∷ es) h (g, l, m, t, is) q =
     let here_ : count q (routed t.end.past) ≡ count q (routed h) = ap (λ x. count q (routed x)) is in
     let brought_ : count q (taken (after limit es) e ++ all_taken limit es) ≡ count q (taken (after limit es) e) + count q (all_taken limit es) = count_append q (taken (after limit es) e) (all_taken limit es) in
     let lost_ : count q (messages (lost (after limit es) e ++ all_lost limit es)) ≡ count q (messages (lost (after limit es) e)) + count q (messages (all_lost limit es)) =
-    ap (count q) (map-append (λ (w : ℕ × Post). w.1) (lost (after limit es) e) (all_lost limit es)) ∙ count_append q (messages (lost (after limit es) e)) (messages (all_lost limit es)) in
+    ap (count q) (map-append (λ (w : ℕ × AppMessage). w.1) (lost (after limit es) e) (all_lost limit es)) ∙ count_append q (messages (lost (after limit es) e)) (messages (all_lost limit es)) in
     omega arith

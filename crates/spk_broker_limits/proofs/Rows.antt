@@ -5,12 +5,12 @@ use Rattle.spk_packets.specs.declared.fault.PacketFault.TheVariants as fault
 use Rattle.spk_packets.specs.Message.{Message, Connect, Publish, Disconnect}
 use Rattle.spk_packets.specs.Spelling.{has_bad_text, has_bad_body, is_qos_two, spelling, body, shortest}
 use Rattle.spk_session.specs.declared.answer.Sort.TheVariants as sort
-use Rattle.spk_broker_rules.specs.Data.{Post}
+use Rattle.spk_broker_rules.specs.Data.{AppMessage}
 use Rattle.spk_broker_rules.specs.Plan.{Event, Open, Packet, Fault, Closed, Tick, Refused}
 use Rattle.spk_broker_rules.specs.Step.{step, route, route_some}
 use Rattle.spk_broker_limits.specs.Wills.{all_lost, all_taken}
 
-abbrev will : Post
+abbrev will : AppMessage
 will = record { topic = codes "w"; payload = codes "6"; qos = 0; retain = false }
 
 -- keep alive 1 second
@@ -21,10 +21,10 @@ abbrev hello : List ℕ → Message
 hello client = Connect client true 0 None
 
 -- connection 1 joins with a will, and then this happens, oldest first
-abbrev wills : List Event → List (ℕ × Post)
+abbrev wills : List Event → List (ℕ × AppMessage)
 wills es = all_lost 128 (reverse (Open 0 ∷ Packet 1 (with_will (codes "x")) 0 ∷ es))
 
-abbrev its_will : List (ℕ × Post)
+abbrev its_will : List (ℕ × AppMessage)
 its_will = (1, will) ∷ []
 
 none_while_it_stands : wills (Tick 1500 ∷ Refused 1 sort.QosZero 0 ∷ []) ≡ []

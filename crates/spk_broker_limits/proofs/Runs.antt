@@ -8,10 +8,10 @@ use Rattle.spk_packets.specs.Message.{Message, WillData, Connect, ConnAck, Publi
 use Rattle.spk_packets.specs.Spelling.{is_empty, unwritable, has_bad_text, has_bad_body, is_qos_two, spelling, body, shortest}
 use Rattle.spk_topics.specs.Text.{filter_refusal, topic_refusal}
 use Rattle.spk_session.specs.declared.answer.Sort.TheVariants as sort
-use Rattle.spk_broker_rules.specs.Data.{Post}
-use Rattle.spk_broker_rules.specs.Words.{will_post}
+use Rattle.spk_broker_rules.specs.Data.{AppMessage}
+use Rattle.spk_broker_rules.specs.Words.{will_message}
 use Rattle.spk_broker_rules.specs.Plan.{Event, Open, Packet, Fault, Closed, Tick, Refused, Act, Opens, Leave, Tell, Queue, Say, Give, Take, Ack, Route, Forget, Accept, Seen, shut, turn_away, take_over, tell_older, join, connect, has_bad_topic, has_bad_filter, is_bad_level, first_packet, next_packet, packet, puback, plan}
-use Rattle.spk_broker_rules.specs.Past.{Past, Moment, OfConn, Heard, Dropped, Joining, clock, deeds, sessions, here, routed, guests, session_at, seen_in}
+use Rattle.spk_broker_rules.specs.Past.{Past, Moment, OfConn, Heard, Dropped, Joining, clock, deeds, sessions, here, routed, newcomers, session_at, seen_in}
 use Rattle.spk_broker_rules.specs.Story.{Story, told_take, told_ack, told_forget, told_accept, told_take_up, away_for, is_away, Tells, TellsAll}
 use Rattle.spk_broker_rules.specs.Telling.{Telling, story_at}
 use Rattle.spk_broker_limits.specs.Wills.{count, message_of}
@@ -26,7 +26,7 @@ split [] bs t u d = (t, refl, d)
 split (a ∷ as_list) bs t u (x, p, d) = let (v, q, r) = split as_list bs x u d in (v, (x, p, q), r)
 
 -- routing comes last
-ends_routed : (q : Post → Bool) (K : ℕ → Joining → Type 0) (as_list : List Act) → AllFair as_list → (t u : Story) → TellsAll (as_list ++ Route ∷ []) t u → Tidy t.past → Keeps K t.past → Done q K t u
+ends_routed : (q : AppMessage → Bool) (K : ℕ → Joining → Type 0) (as_list : List Act) → AllFair as_list → (t u : Story) → TellsAll (as_list ++ Route ∷ []) t u → Tidy t.past → Keeps K t.past → Done q K t u
 ends_routed q K [] f t u (v, r, e) tidy old = subst (Done q K t) e (routes q K t v r tidy old)
 ends_routed q K (a ∷ as_list) f t u (v, x, d) tidy old =
     let first = fair q K a f.0 t v x tidy old in
@@ -79,12 +79,12 @@ abbrev pub Old : Past → Option Joining → ℕ → Joining → Type 0
 Old g fresh s j = (here (deeds g s) ≡ Some j) ⊎ (fresh ≡ Some j)
 
 pub record Sits (h : Past) (j : Joining) : Type 0 where
-  pub seat : ℕ
-  pub there : times seat (sessions h) ≡ 1
-  pub sits : here (deeds h seat) ≡ Some j
+  pub session : ℕ
+  pub there : times session (sessions h) ≡ 1
+  pub sits : here (deeds h session) ≡ Some j
 
 -- From a past to the end of an event: what was brought to be routed, and how much was discarded.
-pub record Run (q : Post → Bool) (M : Joining → Type 0) (g : Past) (brought : List Post) (lost : ℕ) (u : Story) : Type 0 where
+pub record Run (q : AppMessage → Bool) (M : Joining → Type 0) (g : Past) (brought : List AppMessage) (lost : ℕ) (u : Story) : Type 0 where
   pub fresh : Option Joining
   pub tidy : Tidy u.past
   pub old : Keeps (Old g fresh) u.past
@@ -101,7 +101,7 @@ unsaid M j e = absurd cc
 nobody : (g h : Past) (j : Joining) → None ≡ Some j → (is_some (session_at g j.conn) ≡ false) × Sits h j
 nobody g h j e = absurd cc
 
-quiet : (q : Post → Bool) (M : Joining → Type 0) (g : Past) (u : Story) → Done q (Old g None) (story_at g) u → Run q M g [] 0 u
+quiet : (q : AppMessage → Bool) (M : Joining → Type 0) (g : Past) (u : Story) → Done q (Old g None) (story_at g) u → Run q M g [] 0 u
 quiet q M g u d = record {
   fresh = None;
   tidy = d.same.tidy;
@@ -111,38 +111,38 @@ quiet q M g u d = record {
   says = unsaid M;
 }
 
-routed_run : (q : Post → Bool) (M : Joining → Type 0) (g : Past) (as_list : List Act) → AllFair as_list → (u : Story) → TellsAll (as_list ++ Route ∷ []) (story_at g) u → Tidy g → Run q M g [] 0 u
+routed_run : (q : AppMessage → Bool) (M : Joining → Type 0) (g : Past) (as_list : List Act) → AllFair as_list → (u : Story) → TellsAll (as_list ++ Route ∷ []) (story_at g) u → Tidy g → Run q M g [] 0 u
 routed_run q M g as_list f u d tidy = quiet q M g u (ends_routed q (Old g None) as_list f (story_at g) u d tidy (starts g None))
 
-still_run : (q : Post → Bool) (M : Joining → Type 0) (g : Past) (as_list : List Act) → AllFair as_list → AllStill as_list → (u : Story) → TellsAll as_list (story_at g) u → Tidy g → Run q M g [] 0 u
+still_run : (q : AppMessage → Bool) (M : Joining → Type 0) (g : Past) (as_list : List Act) → AllFair as_list → AllStill as_list → (u : Story) → TellsAll as_list (story_at g) u → Tidy g → Run q M g [] 0 u
 still_run q M g as_list f s u d tidy =
     quiet q M g u (record { same = fair_all q (Old g None) as_list f (story_at g) u d tidy (starts g None); done = still_all as_list s (story_at g) u d })
 
-shut_run : (q : Post → Bool) (M : Joining → Type 0) (g : Past) (conn : ℕ) (u : Story) → TellsAll (shut conn) (story_at g) u → Tidy g → Run q M g [] 0 u
+shut_run : (q : AppMessage → Bool) (M : Joining → Type 0) (g : Past) (conn : ℕ) (u : Story) → TellsAll (shut conn) (story_at g) u → Tidy g → Run q M g [] 0 u
 shut_run q M g conn u d tidy = routed_run q M g (Leave conn true ∷ Tell conn ∷ []) (tt, (tt, tt)) u d tidy
 
-away_run : (q : Post → Bool) (M : Joining → Type 0) (g : Past) (conn code : ℕ) (u : Story) → TellsAll (turn_away conn code) (story_at g) u → Tidy g → Run q M g [] 0 u
+away_run : (q : AppMessage → Bool) (M : Joining → Type 0) (g : Past) (conn code : ℕ) (u : Story) → TellsAll (turn_away conn code) (story_at g) u → Tidy g → Run q M g [] 0 u
 away_run q M g conn code u d tidy = routed_run q M g (Say conn (ConnAck false code) ∷ Leave conn true ∷ Tell conn ∷ []) (tt, (tt, (tt, tt))) u d tidy
 
 -- ---- further packets
 
-queue_run : (q : Post → Bool) (M : Joining → Type 0) (g : Past) (t u : Story) (post : Post) → t.past ≡ g → t.waiting ≡ [] → TellsAll (Queue post ∷ Route ∷ []) t u → Tidy g → Run q M g (post ∷ []) 0 u
-queue_run q M g t u post e w (v, a, (x, r, f)) tidy =
+queue_run : (q : AppMessage → Bool) (M : Joining → Type 0) (g : Past) (t u : Story) (app_message : AppMessage) → t.past ≡ g → t.waiting ≡ [] → TellsAll (Queue app_message ∷ Route ∷ []) t u → Tidy g → Run q M g (app_message ∷ []) 0 u
+queue_run q M g t u app_message e w (v, a, (x, r, f)) tidy =
     let past : v.past ≡ g = ap (λ (y : Story). y.past) a ∙ e in
     let d : Done q (Old g None) v x = routes q (Old g None) v x r (subst Tidy (sym past) tidy) (subst (Keeps (Old g None)) (sym past) (starts g None)) in
-    let wait : count q v.waiting ≡ count q (post ∷ []) = ap (λ (y : Story). count q y.waiting) a ∙ ap (λ ws. count q (ws ++ post ∷ [])) w in
+    let wait : count q v.waiting ≡ count q (app_message ∷ []) = ap (λ (y : Story). count q y.waiting) a ∙ ap (λ ws. count q (ws ++ app_message ∷ [])) w in
     let stand : standing q v.past ≡ standing q g = ap (standing q) past in
     let were : count q (routed v.past) ≡ count q (routed g) = ap (λ h. count q (routed h)) past in
     let none : count q x.waiting ≡ 0 = ap (count q) d.done in
     let sum_ : count q (routed x.past) + (count q x.waiting + standing q x.past) ≡ count q (routed v.past) + (count q v.waiting + standing q v.past) = d.same.sum_ in
-    subst (Run q M g (post ∷ []) 0) f (record { fresh = None; tidy = d.same.tidy; old = d.same.old; sum_ = omega arith; new = nobody g x.past; says = unsaid M })
+    subst (Run q M g (app_message ∷ []) 0) f (record { fresh = None; tidy = d.same.tidy; old = d.same.old; sum_ = omega arith; new = nobody g x.past; says = unsaid M })
 
-publish_run : (q : Post → Bool) (M : Joining → Type 0) (g : Past) (conn : ℕ) (id : Option ℕ) (post : Post) (u : Story) → TellsAll (puback conn id ++ Queue post ∷ Route ∷ []) (story_at g) u → Tidy g → Run q M g (post ∷ []) 0 u
-publish_run q M g conn None post u d tidy = queue_run q M g (story_at g) u post refl refl d tidy
-publish_run q M g conn (Some id) post u (v, e, d) tidy = queue_run q M g v u post (ap (λ (y : Story). y.past) e) (ap (λ (y : Story). y.waiting) e) d tidy
+publish_run : (q : AppMessage → Bool) (M : Joining → Type 0) (g : Past) (conn : ℕ) (id : Option ℕ) (app_message : AppMessage) (u : Story) → TellsAll (puback conn id ++ Queue app_message ∷ Route ∷ []) (story_at g) u → Tidy g → Run q M g (app_message ∷ []) 0 u
+publish_run q M g conn None app_message u d tidy = queue_run q M g (story_at g) u app_message refl refl d tidy
+publish_run q M g conn (Some id) app_message u (v, e, d) tidy = queue_run q M g v u app_message (ap (λ (y : Story). y.past) e) (ap (λ (y : Story). y.waiting) e) d tidy
 
 -- what a DISCONNECT discards
-abbrev pub gives_up : (Post → Bool) → Past → ℕ → Message → ℕ
+abbrev pub gives_up : (AppMessage → Bool) → Past → ℕ → Message → ℕ
 gives_up q g conn (Connect client clean alive will) = 0
 gives_up q g conn (ConnAck present code) = 0
 gives_up q g conn (Publish dup qos retain topic id payload) = 0
@@ -155,13 +155,13 @@ gives_up q g conn PingReq = 0
 gives_up q g conn PingResp = 0
 gives_up q g conn Disconnect = worth_at q g (session_at g conn)
 
-next_run : (q : Post → Bool) (M : Joining → Type 0) (g : Past) (s : Seen) (conn : ℕ) (p : Message) (u : Story) → TellsAll (next_packet s conn p) (story_at g) u → Tidy g → Run q M g (message_of p) (gives_up q g conn p) u
+next_run : (q : AppMessage → Bool) (M : Joining → Type 0) (g : Past) (s : Seen) (conn : ℕ) (p : Message) (u : Story) → TellsAll (next_packet s conn p) (story_at g) u → Tidy g → Run q M g (message_of p) (gives_up q g conn p) u
 next_run q M g s conn (Connect client clean alive will) u d tidy = shut_run q M g conn u d tidy
 next_run q M g s conn (ConnAck present code) u d tidy = shut_run q M g conn u d tidy
 next_run q M g s conn (Publish dup qos retain topic id payload) u d tidy = by (is_some (topic_refusal topic)) d
   where
-    post : Post
-    post = record { topic = topic; payload = payload; qos = qos; retain = retain }
+    app_message : AppMessage
+    app_message = record { topic = topic; payload = payload; qos = qos; retain = retain }
 
     by : (b : Bool) → TellsAll (cond b (shut conn) (puback conn id ++ Queue (record { topic = topic; payload = payload; qos = qos; retain = retain }) ∷ Route ∷ [])) (story_at g) u
         → Run q M g (cond b [] (record { topic = topic; payload = payload; qos = qos; retain = retain } ∷ [])) 0 u
@@ -191,16 +191,16 @@ next_run q M g s conn Disconnect u (v, e, f) tidy =
 
 -- ---- the first packet
 
-take_part : (q : Post → Bool) (K : ℕ → Joining → Type 0) (older : Option ℕ) (t u : Story) → t.waiting ≡ [] → TellsAll (take_over older) t u → Tidy t.past → Keeps K t.past → Done q K t u
+take_part : (q : AppMessage → Bool) (K : ℕ → Joining → Type 0) (older : Option ℕ) (t u : Story) → t.waiting ≡ [] → TellsAll (take_over older) t u → Tidy t.past → Keeps K t.past → Done q K t u
 take_part q K None t u w d tidy old = subst (Done q K t) d (record { same = itself q K t tidy old; done = w })
 take_part q K (Some o) t u w d tidy old = ends_routed q K (Leave o true ∷ []) (tt, tt) t u d tidy old
 
-forget_part : (q : Post → Bool) (K : ℕ → Joining → Type 0) (clean : Bool) (client : List ℕ) (t u : Story) → t.waiting ≡ [] → TellsAll (cond clean (Forget client ∷ []) []) t u → Tidy t.past → Keeps K t.past → Done q K t u
+forget_part : (q : AppMessage → Bool) (K : ℕ → Joining → Type 0) (clean : Bool) (client : List ℕ) (t u : Story) → t.waiting ≡ [] → TellsAll (cond clean (Forget client ∷ []) []) t u → Tidy t.past → Keeps K t.past → Done q K t u
 forget_part q K true client t u w d tidy old =
     record { same = fair_all q K (Forget client ∷ []) (tt, tt) t u d tidy old; done = still_all (Forget client ∷ []) (tt, tt) t u d ∙ w }
 forget_part q K false client t u w d tidy old = subst (Done q K t) d (record { same = itself q K t tidy old; done = w })
 
-tell_part : (q : Post → Bool) (K : ℕ → Joining → Type 0) (older : Option ℕ) (t u : Story) → t.waiting ≡ [] → TellsAll (tell_older older) t u → Tidy t.past → Keeps K t.past → Done q K t u
+tell_part : (q : AppMessage → Bool) (K : ℕ → Joining → Type 0) (older : Option ℕ) (t u : Story) → t.waiting ≡ [] → TellsAll (tell_older older) t u → Tidy t.past → Keeps K t.past → Done q K t u
 tell_part q K None t u w d tidy old = subst (Done q K t) d (record { same = itself q K t tidy old; done = w })
 tell_part q K (Some o) t u w d tidy old =
     record { same = fair_all q K (Tell o ∷ []) (tt, tt) t u d tidy old; done = still_all (Tell o ∷ []) (tt, tt) t u d ∙ w }
@@ -209,13 +209,13 @@ same_past : (older : Option ℕ) (t u : Story) → TellsAll (tell_older older) t
 same_past None t u e = ap (λ (x : Story). x.past) (sym e)
 same_past (Some o) t u (v, p, e) = ap (λ (x : Story). x.past) (sym e ∙ p)
 
-join_run : (q : Post → Bool) (M : Joining → Type 0) (g : Past) (older : Option ℕ) (conn : ℕ) (client : List ℕ) (clean : Bool) (alive : ℕ) (will : Option Post) (u : Story) → M (joining conn alive will) → is_some (session_at g conn) ≡ false
+join_run : (q : AppMessage → Bool) (M : Joining → Type 0) (g : Past) (older : Option ℕ) (conn : ℕ) (client : List ℕ) (clean : Bool) (alive : ℕ) (will : Option AppMessage) (u : Story) → M (joining conn alive will) → is_some (session_at g conn) ≡ false
     → TellsAll (join older conn client clean alive will) (story_at g) u → Tidy g → Run q M g [] 0 u
 join_run q M g older conn client clean alive will u said alone d tidy =
     let (v, a, more) = split (take_over older) (cond clean (Forget client ∷ []) [] ++ Accept conn client (not clean) alive will ∷ tell_older older) (story_at g) u d in
     let (x, b, rest) = split (cond clean (Forget client ∷ []) []) (Accept conn client (not clean) alive will ∷ tell_older older) v u more in
     let (y, e, told) = rest in
-    by v a x b y told (find (λ k. k == conn) (guests x.past)) refl e
+    by v a x b y told (find (λ k. k == conn) (newcomers x.past)) refl e
   where
     -- as far as the older one has left
     front : (fresh : Option Joining) (v x : Story) → TellsAll (take_over older) (story_at g) v → TellsAll (cond clean (Forget client ∷ []) []) v x → Done q (Old g fresh) (story_at g) x
@@ -252,7 +252,7 @@ join_run q M g older conn client clean alive will u said alone d tidy =
               omega arith
               );
           new = λ j is. subst (λ (k : Joining). (is_some (session_at g k.conn) ≡ false) × Sits u.past k) (the j is)
-              (alone, subst (λ h. Sits h (joining conn alive will)) (sym same_) (record { seat = two.seat; there = two.there; sits = two.sits }));
+              (alone, subst (λ h. Sits h (joining conn alive will)) (sym same_) (record { session = two.session; there = two.there; sits = two.sits }));
           says = λ j is. subst M (the j is) said;
         }
       where
@@ -260,25 +260,25 @@ join_run q M g older conn client clean alive will u said alone d tidy =
         the j is = cc
 
     by : (v : Story) → TellsAll (take_over older) (story_at g) v → (x : Story) → TellsAll (cond clean (Forget client ∷ []) []) v x → (y : Story) → TellsAll (tell_older older) y u
-        → (o : Option ℕ) → find (λ k. k == conn) (guests x.past) ≡ o → y ≡ told_accept (find (λ k. k == conn) (guests x.past)) client (not clean) alive will x → Run q M g [] 0 u
+        → (o : Option ℕ) → find (λ k. k == conn) (newcomers x.past) ≡ o → y ≡ told_accept (find (λ k. k == conn) (newcomers x.past)) client (not clean) alive will x → Run q M g [] 0 u
     by v a x b y told None i e = none v x y a b told (e ∙ ap (λ o. told_accept o client (not clean) alive will x) i)
     by v a x b y told (Some k) i e = some v x y a b told (e ∙ ap (λ o. told_accept o client (not clean) alive will x) i ∙ ap (λ c. told_take_up (away_for x.past (not clean) client) c client (not clean) alive will x) (is (eqb_tells k conn)))
       where
         is : Told k conn → k ≡ conn
         is (inl f) = f.1
-        is (inr f) = yes_no (sym (passes (λ k. k == conn) (guests x.past) k i) ∙ f.0)
+        is (inr f) = yes_no (sym (passes (λ k. k == conn) (newcomers x.past) k i) ∙ f.0)
 
-connect_run : (q : Post → Bool) (M : Joining → Type 0) (g : Past) (s : Seen) (conn : ℕ) (client : List ℕ) (clean : Bool) (alive : ℕ) (will : Option WillData) (u : Story) → M (joining conn alive (option_map will_post will)) → is_some (session_at g conn) ≡ false
+connect_run : (q : AppMessage → Bool) (M : Joining → Type 0) (g : Past) (s : Seen) (conn : ℕ) (client : List ℕ) (clean : Bool) (alive : ℕ) (will : Option WillData) (u : Story) → M (joining conn alive (option_map will_message will)) → is_some (session_at g conn) ≡ false
     → TellsAll (connect s conn client clean alive will) (story_at g) u → Tidy g → Run q M g [] 0 u
 connect_run q M g s conn client clean alive will u said alone d tidy = by (is_empty client && not clean) (has_bad_topic will) (not clean && not s.welcome) d
   where
-    by : (a b c : Bool) → TellsAll (cond a (turn_away conn 2) (cond b (shut conn) (cond c (turn_away conn 3) (join s.older conn client clean alive (option_map will_post will))))) (story_at g) u → Run q M g [] 0 u
+    by : (a b c : Bool) → TellsAll (cond a (turn_away conn 2) (cond b (shut conn) (cond c (turn_away conn 3) (join s.older conn client clean alive (option_map will_message will))))) (story_at g) u → Run q M g [] 0 u
     by true b c d = away_run q M g conn 2 u d tidy
     by false true c d = shut_run q M g conn u d tidy
     by false false true d = away_run q M g conn 3 u d tidy
-    by false false false d = join_run q M g s.older conn client clean alive (option_map will_post will) u said alone d tidy
+    by false false false d = join_run q M g s.older conn client clean alive (option_map will_message will) u said alone d tidy
 
-nothing_up : (q : Post → Bool) (g : Past) (conn : ℕ) (p : Message) → is_some (session_at g conn) ≡ false → gives_up q g conn p ≡ 0
+nothing_up : (q : AppMessage → Bool) (g : Past) (conn : ℕ) (p : Message) → is_some (session_at g conn) ≡ false → gives_up q g conn p ≡ 0
 nothing_up q g conn Disconnect alone = by (session_at g conn) alone
   where
     by : (o : Option ℕ) → is_some o ≡ false → worth_at q g o ≡ 0
@@ -286,7 +286,7 @@ nothing_up q g conn Disconnect alone = by (session_at g conn) alone
     by (Some s) e = yes_no e
 nothing_up q g conn _ alone = refl
 
-first_run : (q : Post → Bool) (M : Joining → Type 0) (g : Past) (s : Seen) (conn : ℕ) (p : Message) (u : Story) → ((client : List ℕ) (clean : Bool) (alive : ℕ) (will : Option WillData) → p ≡ Connect client clean alive will → M (joining conn alive (option_map will_post will))) → is_some (session_at g conn) ≡ false → TellsAll (first_packet s conn p) (story_at g) u → Tidy g → Run q M g [] 0 u
+first_run : (q : AppMessage → Bool) (M : Joining → Type 0) (g : Past) (s : Seen) (conn : ℕ) (p : Message) (u : Story) → ((client : List ℕ) (clean : Bool) (alive : ℕ) (will : Option WillData) → p ≡ Connect client clean alive will → M (joining conn alive (option_map will_message will))) → is_some (session_at g conn) ≡ false → TellsAll (first_packet s conn p) (story_at g) u → Tidy g → Run q M g [] 0 u
 first_run q M g s conn (Connect client clean alive will) u says alone d tidy = connect_run q M g s conn client clean alive will u (says client clean alive will refl) alone d tidy
 first_run q M g s conn (ConnAck present code) u says alone d tidy = shut_run q M g conn u d tidy
 first_run q M g s conn (Publish dup qos retain topic id payload) u says alone d tidy = shut_run q M g conn u d tidy
@@ -306,14 +306,14 @@ can_disconnect : is_some (first_of (unwritable Disconnect)) ≡ false
 unfolding has_bad_text has_bad_body is_qos_two spelling body shortest
 can_disconnect = refl
 
-unwritten_up : (q : Post → Bool) (g : Past) (conn : ℕ) (p : Message) → is_some (first_of (unwritable p)) ≡ true → gives_up q g conn p ≡ 0
+unwritten_up : (q : AppMessage → Bool) (g : Past) (conn : ℕ) (p : Message) → is_some (first_of (unwritable p)) ≡ true → gives_up q g conn p ≡ 0
 unwritten_up q g conn Disconnect e = yes_no (sym e ∙ can_disconnect)
 unwritten_up q g conn _ e = refl
 
-abbrev pub brought_by : Past → ℕ → Message → List Post
+abbrev pub brought_by : Past → ℕ → Message → List AppMessage
 brought_by g conn p = cond (is_some (first_of (unwritable p))) [] (cond (is_some (session_at g conn)) (message_of p) [])
 
-packet_run : (q : Post → Bool) (M : Joining → Type 0) (g : Past) (s : Seen) (conn : ℕ) (p : Message) (u : Story) → ((client : List ℕ) (clean : Bool) (alive : ℕ) (will : Option WillData) → p ≡ Connect client clean alive will → M (joining conn alive (option_map will_post will))) → s.joined ≡ is_some (session_at g conn) → TellsAll (packet s conn p) (story_at g) u → Tidy g
+packet_run : (q : AppMessage → Bool) (M : Joining → Type 0) (g : Past) (s : Seen) (conn : ℕ) (p : Message) (u : Story) → ((client : List ℕ) (clean : Bool) (alive : ℕ) (will : Option WillData) → p ≡ Connect client clean alive will → M (joining conn alive (option_map will_message will))) → s.joined ≡ is_some (session_at g conn) → TellsAll (packet s conn p) (story_at g) u → Tidy g
     → Run q M g (brought_by g conn p) (gives_up q g conn p) u
 packet_run q M g s conn p u says is d tidy = by (is_some (first_of (unwritable p))) refl (is_some (session_at g conn)) refl
     (subst (λ b. TellsAll (cond (is_some (first_of (unwritable p))) (shut conn) (cond b (next_packet s conn p) (first_packet s conn p))) (story_at g) u) is d)
@@ -330,10 +330,10 @@ all_fair (c ∷ cs) = (tt, (tt, all_fair cs))
 
 -- who joins by an event, and with which will
 abbrev pub SaysIn : Event → Joining → Type 0
-SaysIn (Packet conn (Connect client clean alive will) moment) j = (j.conn ≡ conn) × (j.will ≡ option_map will_post will)
+SaysIn (Packet conn (Connect client clean alive will) moment) j = (j.conn ≡ conn) × (j.will ≡ option_map will_message will)
 SaysIn _ j = Unit {0}
 
-abbrev pub brought : Past → Event → List Post
+abbrev pub brought : Past → Event → List AppMessage
 brought h (Open moment) = []
 brought h (Packet conn p moment) = brought_by h conn p
 brought h (Fault conn f moment) = []
@@ -341,7 +341,7 @@ brought h (Closed conn moment) = []
 brought h (Tick moment) = []
 brought h (Refused conn s moment) = []
 
-abbrev pub discards : (Post → Bool) → Past → Event → ℕ
+abbrev pub discards : (AppMessage → Bool) → Past → Event → ℕ
 discards q h (Open moment) = 0
 discards q h (Packet conn p moment) = gives_up q h conn p
 discards q h (Fault conn f moment) = 0
@@ -350,13 +350,13 @@ discards q h (Tick moment) = 0
 discards q h (Refused conn s moment) = 0
 
 -- what is noted of a moment and of a packet isn't looked at
-moved : (q : Post → Bool) (M : Joining → Type 0) (h : Past) (moment : ℕ) (b : List Post) (n : ℕ) (u : Story) → Run q M (Moment moment ∷ h) b n u → Run q M h b n u
+moved : (q : AppMessage → Bool) (M : Joining → Type 0) (h : Past) (moment : ℕ) (b : List AppMessage) (n : ℕ) (u : Story) → Run q M (Moment moment ∷ h) b n u → Run q M h b n u
 moved q M h moment b n u r = record { fresh = r.fresh; tidy = r.tidy; old = λ s j e. r.old s j e; sum_ = r.sum_; new = λ j e. r.new j e; says = λ j e. r.says j e }
 
 later : (h : Past) (moment : ℕ) → Tidy h → Tidy (Moment moment ∷ h)
 later h moment tidy = record { once = λ s. tidy.once s; fresh = λ s l. tidy.fresh s l; gone = λ s z. tidy.gone s z }
 
-pub runs : (limit : ℕ) (q : Post → Bool) (h : Past) (e : Event) (t : Telling limit h e) → Tidy h → Run q (SaysIn e) h (brought h e) (discards q h e) t.end
+pub runs : (limit : ℕ) (q : AppMessage → Bool) (h : Past) (e : Event) (t : Telling limit h e) → Tidy h → Run q (SaysIn e) h (brought h e) (discards q h e) t.end
 runs limit q h (Open moment) t tidy =
     let (v, e, f) = t.noted in
     moved q (SaysIn (Open moment)) h moment [] 0 t.end (still_run q (SaysIn (Open moment)) (Moment moment ∷ h) (Opens ∷ []) (tt, tt) (tt, tt) t.end
@@ -364,7 +364,7 @@ runs limit q h (Open moment) t tidy =
 runs limit q h (Packet conn p moment) t tidy =
     let (v, e, (w, g, f)) = t.noted in
     let at : t.first ≡ story_at (OfConn conn (Heard (clock (Moment moment ∷ h))) ∷ Moment moment ∷ h) = sym f ∙ g ∙ ap (λ (x : Story). record x { past = OfConn conn (Heard (clock x.past)) ∷ x.past }) e in
-    let r = packet_run q (SaysIn (Packet conn p moment)) (OfConn conn (Heard (clock (Moment moment ∷ h))) ∷ Moment moment ∷ h) (seen_in limit (OfConn conn (Heard (clock (Moment moment ∷ h))) ∷ Moment moment ∷ h) (Packet conn p moment)) conn p t.end (λ client clean alive will is. subst (λ n. SaysIn (Packet conn n moment) (joining conn alive (option_map will_post will))) (sym is) (refl, refl)) refl
+    let r = packet_run q (SaysIn (Packet conn p moment)) (OfConn conn (Heard (clock (Moment moment ∷ h))) ∷ Moment moment ∷ h) (seen_in limit (OfConn conn (Heard (clock (Moment moment ∷ h))) ∷ Moment moment ∷ h) (Packet conn p moment)) conn p t.end (λ client clean alive will is. subst (λ n. SaysIn (Packet conn n moment) (joining conn alive (option_map will_message will))) (sym is) (refl, refl)) refl
     (subst (λ (x : Story). TellsAll (plan (seen_in limit x.past (Packet conn p moment)) (Packet conn p moment)) x t.end) at t.done)
     (record { once = λ s. tidy.once s; fresh = λ s l. tidy.fresh s l; gone = λ s z. tidy.gone s z }) in
     record { fresh = r.fresh; tidy = r.tidy; old = λ s j z. r.old s j z; sum_ = r.sum_; new = λ j z. r.new j z; says = λ j z. r.says j z }

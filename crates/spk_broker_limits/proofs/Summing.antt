@@ -4,7 +4,7 @@ use Rattle.std.specs.List.{find, AllByRecursion}
 use Rattle.std.proofs.lemmas.Bool.{ne_eqb}
 use Rattle.std.proofs.lemmas.Bool.Decides.{eqb_tells}
 use Rattle.spk_session.specs.Step.{without}
-use Rattle.spk_broker_rules.specs.Data.{Post}
+use Rattle.spk_broker_rules.specs.Data.{AppMessage}
 
 abbrev pub Told : ℕ → ℕ → Type 0
 Told s t = (((s == t) ≡ true) × (s ≡ t)) ⊎ (((s == t) ≡ false) × (s ≢ t))
@@ -137,7 +137,7 @@ passes {X} p (x ∷ xs) s e = by (p x) refl e (passes p xs s)
 -- ---- connections, each with its will
 
 abbrev pub Pair : Type 0
-Pair = ℕ × Option Post
+Pair = ℕ × Option AppMessage
 
 abbrev pub total : (Pair → ℕ) → List Pair → ℕ
 total w [] = 0

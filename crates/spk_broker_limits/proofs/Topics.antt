@@ -6,11 +6,11 @@ use Rattle.std.proofs.lemmas.Bool.{ltb-true}
 use Rattle.std.proofs.lemmas.Slice.Eq.{bytes_eq-Decides}
 use Rattle.std.proofs.lemmas.List.{length-append, length-map}
 use Rattle.spk_packets.specs.Spelling.{is_empty}
-use Rattle.spk_broker_rules.specs.Data.{Post, Line, Guest, Seat, Stored, Broker}
+use Rattle.spk_broker_rules.specs.Data.{AppMessage, Connection, Newcomer, Session, Stored, Broker}
 use Rattle.spk_broker_rules.specs.Table.{Table, has, put, remove, replaced}
 use Rattle.spk_broker_rules.specs.Words.{stored, most_topics, granted_of, offers_to}
 use Rattle.spk_broker_rules.specs.Plan.{Event, Act, Opens, At, Hear, Drop, Say, Leave, Tell, Queue, Route, Forget, Accept, Give, Take, Ack, before, plan}
-use Rattle.spk_broker_rules.specs.Step.{Turn, act, acts, after, step, noted, begun, seen, leave_at, seat_at, is_guest, is_away, forget_at, line_of, take_up, away_for, accept_of, other_grants, give_at, take_at, ack_at, offer, offer_at, with_key, retain_in, retained_with, route_one, route_some, route}
+use Rattle.spk_broker_rules.specs.Step.{Turn, act, acts, after, step, noted, begun, seen, leave_at, session_by, is_newcomer, is_away, forget_at, connection_of, take_up, away_for, accept_of, other_grants, give_at, take_at, ack_at, offer, offer_at, with_key, retain_in, retained_with, route_one, route_some, route}
 use Rattle.spk_broker_limits.specs.Limits.{AreApart, IsBounded, IsFull, in_its_place}
 
 -- ---- tables
@@ -105,7 +105,7 @@ put_new key v table e room h = subst IsBounded (sym (ap (λ b. cond b (map (repl
   apart = apart_more key v table e h.apart;
 })
 
-kept_in : (table : Table Stored) (m : Post) → IsBounded table → IsBounded (retain_in table m)
+kept_in : (table : Table Stored) (m : AppMessage) → IsBounded table → IsBounded (retain_in table m)
 kept_in table m h = by (is_empty m.payload)
   where
     known : (b : Bool) → has m.topic table ≡ b → (r : Bool) → ltb (length table) most_topics ≡ r → IsBounded (cond (b || r) (put m.topic (stored m) table) table)
@@ -117,7 +117,7 @@ kept_in table m h = by (is_empty m.payload)
     by true = record { few = (let less = few_fewer m.topic table in let le = h.few in omega arith); apart = apart_fewer m.topic table h.apart }
     by false = known (has m.topic table) refl (ltb (length table) most_topics) refl
 
-kept_with : (table : Table Stored) (m : Post) → IsBounded table → IsBounded (retained_with table m)
+kept_with : (table : Table Stored) (m : AppMessage) → IsBounded table → IsBounded (retained_with table m)
 kept_with table m h = by m.retain
   where
     by : (b : Bool) → IsBounded (cond b (retain_in table m) table)
@@ -132,48 +132,48 @@ routed_some zero t a = a
 routed_some (suc n) t a =
     by t.waiting (λ m ms. routed_some n (route_one m (record t { waiting = ms })) (kept_with t.broker.retained m a))
   where
-    by : (ws : List Post) → ((m : Post) (ms : List Post) → IsBounded (route_some n (route_one m (record t { waiting = ms }))).broker.retained)
+    by : (ws : List AppMessage) → ((m : AppMessage) (ms : List AppMessage) → IsBounded (route_some n (route_one m (record t { waiting = ms }))).broker.retained)
         → IsBounded (elim ws as (λ _. Turn) [ [] ↦ t | m ∷ ms ↦ route_some n (route_one m (record t { waiting = ms })) ]).broker.retained
     by [] rest = a
     by (m ∷ ms) rest = rest m ms
 
 routed : (t : Turn) → IsBounded t.broker.retained → IsBounded (route t).broker.retained
 unfolding route
-routed t a = routed_some (length t.waiting + length t.broker.seats) t a
+routed t a = routed_some (length t.waiting + length t.broker.sessions) t a
 
-left : (c : ℕ) (wills : Bool) (t : Turn) (o : Option Seat) → (leave_at o c wills t).broker.retained ≡ t.broker.retained
+left : (c : ℕ) (wills : Bool) (t : Turn) (o : Option Session) → (leave_at o c wills t).broker.retained ≡ t.broker.retained
 left c wills t None = refl
 left c wills t (Some s) = refl
 
-forgotten : (t : Turn) (o : Option Seat) → (forget_at o t).broker.retained ≡ t.broker.retained
+forgotten : (t : Turn) (o : Option Session) → (forget_at o t).broker.retained ≡ t.broker.retained
 forgotten t None = refl
 forgotten t (Some s) = refl
 
-up : (client : List ℕ) (kept : Bool) (line : Line) (t : Turn) (o : Option Seat) → (take_up o client kept line t).broker.retained ≡ t.broker.retained
-up client kept line t None = refl
-up client kept line t (Some s) = refl
+up : (client : List ℕ) (kept : Bool) (connection : Connection) (t : Turn) (o : Option Session) → (take_up o client kept connection t).broker.retained ≡ t.broker.retained
+up client kept connection t None = refl
+up client kept connection t (Some s) = refl
 
-accepted : (o : Option Guest) (client : List ℕ) (kept : Bool) (alive : ℕ) (will : Option Post) (t : Turn) → (accept_of o client kept alive will t).broker.retained ≡ t.broker.retained
+accepted : (o : Option Newcomer) (client : List ℕ) (kept : Bool) (alive : ℕ) (will : Option AppMessage) (t : Turn) → (accept_of o client kept alive will t).broker.retained ≡ t.broker.retained
 accepted None client kept alive will t = refl
-accepted (Some g) client kept alive will t = up client kept (line_of g alive will) t (away_for kept client t.broker.seats)
+accepted (Some g) client kept alive will t = up client kept (connection_of g alive will) t (away_for kept client t.broker.sessions)
 
-offered_at : (key : ℕ) (post : Post) (t : Turn) (o : Option Seat) → (offer_at o key post t).broker.retained ≡ t.broker.retained
-offered_at key post t None = refl
-offered_at key post t (Some s) = refl
+offered_at : (key : ℕ) (app_message : AppMessage) (t : Turn) (o : Option Session) → (offer_at o key app_message t).broker.retained ≡ t.broker.retained
+offered_at key app_message t None = refl
+offered_at key app_message t (Some s) = refl
 
-offers : (key : ℕ) (posts : List Post) (t : Turn) → (fold (offer key) t posts).broker.retained ≡ t.broker.retained
+offers : (key : ℕ) (app_messages : List AppMessage) (t : Turn) → (fold (offer key) t app_messages).broker.retained ≡ t.broker.retained
 offers key [] t = refl
-offers key (p ∷ ps) t = offers key ps (offer key t p) ∙ offered_at key p t (with_key key t.broker.seats)
+offers key (p ∷ ps) t = offers key ps (offer key t p) ∙ offered_at key p t (with_key key t.broker.sessions)
 
-given : (c id : ℕ) (entries : List (List ℕ × ℕ)) (t : Turn) (o : Option Seat) → (give_at o c id entries t).broker.retained ≡ t.broker.retained
+given : (c id : ℕ) (entries : List (List ℕ × ℕ)) (t : Turn) (o : Option Session) → (give_at o c id entries t).broker.retained ≡ t.broker.retained
 given c id entries t None = refl
-given c id entries t (Some s) = offers s.key (flat_map (offers_to t.broker.retained) (granted_of (other_grants s t.broker.seats) s.grants entries)) _
+given c id entries t (Some s) = offers s.key (flat_map (offers_to t.broker.retained) (granted_of (other_grants s t.broker.sessions) s.grants entries)) _
 
-taken : (filters : List (List ℕ)) (t : Turn) (o : Option Seat) → (take_at o filters t).broker.retained ≡ t.broker.retained
+taken : (filters : List (List ℕ)) (t : Turn) (o : Option Session) → (take_at o filters t).broker.retained ≡ t.broker.retained
 taken filters t None = refl
 taken filters t (Some s) = refl
 
-acked : (id : ℕ) (t : Turn) (o : Option Seat) → (ack_at o id t).broker.retained ≡ t.broker.retained
+acked : (id : ℕ) (t : Turn) (o : Option Session) → (ack_at o id t).broker.retained ≡ t.broker.retained
 acked id t None = refl
 acked id t (Some s) = refl
 
@@ -183,15 +183,15 @@ kept_by (At moment) t h = h
 kept_by (Hear c) t h = h
 kept_by (Drop c) t h = h
 kept_by (Say c p) t h = h
-kept_by (Leave c wills) t h = subst IsBounded (sym (left c wills t (seat_at c t.broker.seats))) h
+kept_by (Leave c wills) t h = subst IsBounded (sym (left c wills t (session_by c t.broker.sessions))) h
 kept_by (Tell c) t h = h
-kept_by (Queue post) t h = h
+kept_by (Queue app_message) t h = h
 kept_by Route t h = routed t h
-kept_by (Forget client) t h = subst IsBounded (sym (forgotten t (find (is_away client) t.broker.seats))) h
-kept_by (Accept c client kept alive will) t h = subst IsBounded (sym (accepted (find (is_guest c) t.broker.guests) client kept alive will t)) h
-kept_by (Give c id entries) t h = subst IsBounded (sym (given c id entries t (seat_at c t.broker.seats))) h
-kept_by (Take c filters) t h = subst IsBounded (sym (taken filters t (seat_at c t.broker.seats))) h
-kept_by (Ack c id) t h = subst IsBounded (sym (acked id t (seat_at c t.broker.seats))) h
+kept_by (Forget client) t h = subst IsBounded (sym (forgotten t (find (is_away client) t.broker.sessions))) h
+kept_by (Accept c client kept alive will) t h = subst IsBounded (sym (accepted (find (is_newcomer c) t.broker.newcomers) client kept alive will t)) h
+kept_by (Give c id entries) t h = subst IsBounded (sym (given c id entries t (session_by c t.broker.sessions))) h
+kept_by (Take c filters) t h = subst IsBounded (sym (taken filters t (session_by c t.broker.sessions))) h
+kept_by (Ack c id) t h = subst IsBounded (sym (acked id t (session_by c t.broker.sessions))) h
 
 kept_by_all : (as_list : List Act) (t : Turn) → IsBounded t.broker.retained → IsBounded (acts as_list t).broker.retained
 kept_by_all [] t h = h
@@ -207,7 +207,7 @@ always limit (e ∷ es) = stepped (after limit es) e (always limit es)
 
 -- ---- a topic that has one
 
-pub replaces : (table : Table Stored) (m : Post) → m.retain ≡ true → is_empty m.payload ≡ false → has m.topic table ≡ true → retained_with table m ≡ in_its_place m table
+pub replaces : (table : Table Stored) (m : AppMessage) → m.retain ≡ true → is_empty m.payload ≡ false → has m.topic table ≡ true → retained_with table m ≡ in_its_place m table
 replaces table m r p h =
     ap (λ b. cond b (retain_in table m) table) r
     ∙ ap (λ b. cond b (remove m.topic table) (cond (has m.topic table || ltb (length table) most_topics) (put m.topic (stored m) table) table)) p
@@ -221,7 +221,7 @@ full table n = by (ltb (length table) most_topics) refl
     by true e = let few : length table < 10000 = ltb-true (length table) most_topics e in absurd (omega arith)
     by false e = refl
 
-pub leaves : (table : Table Stored) (m : Post) → is_empty m.payload ≡ false → has m.topic table ≡ false → IsFull table → retained_with table m ≡ table
+pub leaves : (table : Table Stored) (m : AppMessage) → is_empty m.payload ≡ false → has m.topic table ≡ false → IsFull table → retained_with table m ≡ table
 leaves table m p h n = by m.retain
   where
     by : (b : Bool) → cond b (retain_in table m) table ≡ table

@@ -9,13 +9,13 @@ use Rattle.spk_packets.specs.Message.{Message, WillData, Connect, ConnAck, Publi
 use Rattle.spk_packets.specs.Spelling.{is_empty, unwritable}
 use Rattle.spk_topics.specs.Text.{filter_refusal, topic_refusal}
 use Rattle.spk_session.specs.declared.answer.Sort.TheVariants as sort
-use Rattle.spk_broker_rules.specs.Data.{Post, Line, Guest, Seat, Broker, Send}
-use Rattle.spk_broker_rules.specs.Words.{will_post}
+use Rattle.spk_broker_rules.specs.Data.{AppMessage, Connection, Newcomer, Session, Broker, Send}
+use Rattle.spk_broker_rules.specs.Words.{will_message}
 use Rattle.spk_broker_rules.specs.Plan.{Event, Open, Packet, Fault, Closed, Tick, Refused, Act, Leave, Route, Forget, Accept, Queue, Say, Give, Take, Seen, shut, turn_away, take_over, tell_older, join, connect, has_bad_topic, has_bad_filter, is_bad_level, is_fatal, first_packet, next_packet, packet, puback, bad_bytes, tick, refused, before, client_in}
-use Rattle.spk_broker_rules.specs.Step.{acts, step, noted, begun, seen, sits, seat_at, conn_at, is_guest, older_in, knows}
+use Rattle.spk_broker_rules.specs.Step.{acts, step, noted, begun, seen, sits, session_by, conn_at, is_newcomer, older_in, knows}
 use Rattle.spk_broker_limits.specs.Limits.{IsOfKnown}
 use Rattle.spk_broker_limits.proofs.Totals.{found}
-use Rattle.spk_broker_limits.proofs.Sends.{OnLine, Every, IsIn, AllFit, kept_by_all, silent_in}
+use Rattle.spk_broker_limits.proofs.Sends.{OnConnection, Every, IsIn, AllFit, kept_by_all, silent_in}
 
 -- ---- what is there is known
 
@@ -37,48 +37,48 @@ also : {X : Type 0} (P Q : X → Type 0) → ((x : X) → P x → Q x) → (xs :
 also P Q f [] a = tt
 also P Q f (x ∷ xs) a = (f x a.0, also P Q f xs a.1)
 
-guests_there : (gs : List Guest) → Every (λ (g : Guest). list_any (is_guest g.conn) gs ≡ true) gs
-guests_there [] = tt
-guests_there (g ∷ gs) = (
-  or_left (g.conn == g.conn) (list_any (is_guest g.conn) gs) (same g.conn),
-  also (λ (h : Guest). list_any (is_guest h.conn) gs ≡ true) (λ (h : Guest). list_any (is_guest h.conn) (g ∷ gs) ≡ true) (λ h e. or_right (g.conn == h.conn) (list_any (is_guest h.conn) gs) e) gs (guests_there gs),
+newcomers_there : (gs : List Newcomer) → Every (λ (g : Newcomer). list_any (is_newcomer g.conn) gs ≡ true) gs
+newcomers_there [] = tt
+newcomers_there (g ∷ gs) = (
+  or_left (g.conn == g.conn) (list_any (is_newcomer g.conn) gs) (same g.conn),
+  also (λ (h : Newcomer). list_any (is_newcomer h.conn) gs ≡ true) (λ (h : Newcomer). list_any (is_newcomer h.conn) (g ∷ gs) ≡ true) (λ h e. or_right (g.conn == h.conn) (list_any (is_newcomer h.conn) gs) e) gs (newcomers_there gs),
 )
 
-seat_first : (c : ℕ) (s : Seat) (ss : List Seat) → sits c s ≡ true → is_some (seat_at c (s ∷ ss)) ≡ true
-seat_first c s ss e = ap (λ b. is_some (cond b (Some s) (find (sits c) ss))) e
+session_first : (c : ℕ) (s : Session) (ss : List Session) → sits c s ≡ true → is_some (session_by c (s ∷ ss)) ≡ true
+session_first c s ss e = ap (λ b. is_some (cond b (Some s) (find (sits c) ss))) e
 
-seat_later : (c : ℕ) (s : Seat) (ss : List Seat) → is_some (seat_at c ss) ≡ true → is_some (seat_at c (s ∷ ss)) ≡ true
-seat_later c s ss e = by (sits c s)
+session_later : (c : ℕ) (s : Session) (ss : List Session) → is_some (session_by c ss) ≡ true → is_some (session_by c (s ∷ ss)) ≡ true
+session_later c s ss e = by (sits c s)
   where
     by : (b : Bool) → is_some (cond b (Some s) (find (sits c) ss)) ≡ true
     by true = refl
     by false = e
 
-line_first : (s : Seat) (ss : List Seat) (o : Option Line) → s.here ≡ o → OnLine (λ c. is_some (seat_at c (s ∷ ss)) ≡ true) o
-line_first s ss None e = tt
-line_first s ss (Some l) e = seat_first l.conn s ss (ap (λ o. option_map_or (λ (x : Line). x.conn == l.conn) o false) e ∙ same l.conn)
+connection_first : (s : Session) (ss : List Session) (o : Option Connection) → s.here ≡ o → OnConnection (λ c. is_some (session_by c (s ∷ ss)) ≡ true) o
+connection_first s ss None e = tt
+connection_first s ss (Some l) e = session_first l.conn s ss (ap (λ o. option_map_or (λ (x : Connection). x.conn == l.conn) o false) e ∙ same l.conn)
 
-line_later : (s : Seat) (ss : List Seat) (o : Option Line) → OnLine (λ c. is_some (seat_at c ss) ≡ true) o → OnLine (λ c. is_some (seat_at c (s ∷ ss)) ≡ true) o
-line_later s ss None p = tt
-line_later s ss (Some l) p = seat_later l.conn s ss p
+connection_later : (s : Session) (ss : List Session) (o : Option Connection) → OnConnection (λ c. is_some (session_by c ss) ≡ true) o → OnConnection (λ c. is_some (session_by c (s ∷ ss)) ≡ true) o
+connection_later s ss None p = tt
+connection_later s ss (Some l) p = session_later l.conn s ss p
 
-lines_there : (ss : List Seat) → Every (λ (s : Seat). OnLine (λ c. is_some (seat_at c ss) ≡ true) s.here) ss
-lines_there [] = tt
-lines_there (s ∷ ss) = (
-  line_first s ss s.here refl,
-  also (λ (t : Seat). OnLine (λ c. is_some (seat_at c ss) ≡ true) t.here) (λ (t : Seat). OnLine (λ c. is_some (seat_at c (s ∷ ss)) ≡ true) t.here) (λ t p. line_later s ss t.here p) ss (lines_there ss),
+connections_there : (ss : List Session) → Every (λ (s : Session). OnConnection (λ c. is_some (session_by c ss) ≡ true) s.here) ss
+connections_there [] = tt
+connections_there (s ∷ ss) = (
+  connection_first s ss s.here refl,
+  also (λ (t : Session). OnConnection (λ c. is_some (session_by c ss) ≡ true) t.here) (λ (t : Session). OnConnection (λ c. is_some (session_by c (s ∷ ss)) ≡ true) t.here) (λ t p. connection_later s ss t.here p) ss (connections_there ss),
 )
 
-known_line : (b : Broker) (o : Option Line) → OnLine (λ c. is_some (seat_at c b.seats) ≡ true) o → OnLine (λ c. knows b c ≡ true) o
-known_line b None p = tt
-known_line b (Some l) p = or_right (list_any (is_guest l.conn) b.guests) (is_some (seat_at l.conn b.seats)) p
+known_connection : (b : Broker) (o : Option Connection) → OnConnection (λ c. is_some (session_by c b.sessions) ≡ true) o → OnConnection (λ c. knows b c ≡ true) o
+known_connection b None p = tt
+known_connection b (Some l) p = or_right (list_any (is_newcomer l.conn) b.newcomers) (is_some (session_by l.conn b.sessions)) p
 
 begins : (b : Broker) → IsIn (λ c. knows b c ≡ true) (begun b)
 begins b = record {
   sends = tt;
   closes = tt;
-  guests = also (λ (g : Guest). list_any (is_guest g.conn) b.guests ≡ true) (λ (g : Guest). knows b g.conn ≡ true) (λ g e. or_left (list_any (is_guest g.conn) b.guests) (is_some (seat_at g.conn b.seats)) e) b.guests (guests_there b.guests);
-  lines = also (λ (s : Seat). OnLine (λ c. is_some (seat_at c b.seats) ≡ true) s.here) (λ (s : Seat). OnLine (λ c. knows b c ≡ true) s.here) (λ s p. known_line b s.here p) b.seats (lines_there b.seats);
+  newcomers = also (λ (g : Newcomer). list_any (is_newcomer g.conn) b.newcomers ≡ true) (λ (g : Newcomer). knows b g.conn ≡ true) (λ g e. or_left (list_any (is_newcomer g.conn) b.newcomers) (is_some (session_by g.conn b.sessions)) e) b.newcomers (newcomers_there b.newcomers);
+  connections = also (λ (s : Session). OnConnection (λ c. is_some (session_by c b.sessions) ≡ true) s.here) (λ (s : Session). OnConnection (λ c. knows b c ≡ true) s.here) (λ s p. known_connection b s.here p) b.sessions (connections_there b.sessions);
 }
 
 before_fits : (K : ℕ → Type 0) (e : Event) → AllFit K (before e)
@@ -106,16 +106,16 @@ join_fits : (K : ℕ → Type 0) (xs ys : List Act) → AllFit K xs → AllFit K
 join_fits K [] ys a b = b
 join_fits K (x ∷ xs) ys a b = (a.0, join_fits K xs ys a.1 b)
 
-publish_fits : (K : ℕ → Type 0) (conn : ℕ) (id : Option ℕ) (post : Post) → K conn → AllFit K (puback conn id ++ Queue post ∷ Route ∷ [])
-publish_fits K conn None post k = (tt, (tt, tt))
-publish_fits K conn (Some id) post k = (k, (tt, (tt, tt)))
+publish_fits : (K : ℕ → Type 0) (conn : ℕ) (id : Option ℕ) (app_message : AppMessage) → K conn → AllFit K (puback conn id ++ Queue app_message ∷ Route ∷ [])
+publish_fits K conn None app_message k = (tt, (tt, tt))
+publish_fits K conn (Some id) app_message k = (k, (tt, (tt, tt)))
 
 next_fits : (K : ℕ → Type 0) (s : Seen) (conn : ℕ) (p : Message) → K conn → AllFit K (next_packet s conn p)
 next_fits K s conn (Connect client clean alive will) k = shut_fits K conn k
 next_fits K s conn (ConnAck present code) k = shut_fits K conn k
 next_fits K s conn (Publish dup qos retain topic id payload) k =
-    let post : Post = record { topic = topic; payload = payload; qos = qos; retain = retain } in
-    by_test K (is_some (topic_refusal topic)) (shut conn) (puback conn id ++ Queue post ∷ Route ∷ []) (shut_fits K conn k) (publish_fits K conn id post k)
+    let app_message : AppMessage = record { topic = topic; payload = payload; qos = qos; retain = retain } in
+    by_test K (is_some (topic_refusal topic)) (shut conn) (puback conn id ++ Queue app_message ∷ Route ∷ []) (shut_fits K conn k) (publish_fits K conn id app_message k)
 next_fits K s conn (PubAck id) k = (tt, tt)
 next_fits K s conn (Subscribe id entries) k =
     by_test K (list_any (λ e. is_some (filter_refusal e.0)) entries || s.heavy) (shut conn) (Give conn id entries ∷ Route ∷ []) (shut_fits K conn k) (tt, (tt, tt))
@@ -143,7 +143,7 @@ forget_fits : (K : ℕ → Type 0) (clean : Bool) (client : List ℕ) → AllFit
 forget_fits K true client = (tt, tt)
 forget_fits K false client = tt
 
-join_all : (K : ℕ → Type 0) (older : Option ℕ) (conn : ℕ) (client : List ℕ) (clean : Bool) (alive : ℕ) (will : Option Post) → Older K older → AllFit K (join older conn client clean alive will)
+join_all : (K : ℕ → Type 0) (older : Option ℕ) (conn : ℕ) (client : List ℕ) (clean : Bool) (alive : ℕ) (will : Option AppMessage) → Older K older → AllFit K (join older conn client clean alive will)
 join_all K older conn client clean alive will k =
     join_fits K (take_over older) (cond clean (Forget client ∷ []) [] ++ Accept conn client (not clean) alive will ∷ tell_older older) (take_fits K older)
     (join_fits K (cond clean (Forget client ∷ []) []) (Accept conn client (not clean) alive will ∷ tell_older older) (forget_fits K clean client) (tt, told_fits K older k))
@@ -151,11 +151,11 @@ join_all K older conn client clean alive will k =
 connect_fits : (K : ℕ → Type 0) (s : Seen) (conn : ℕ) (client : List ℕ) (clean : Bool) (alive : ℕ) (will : Option WillData) → K conn → Older K s.older → AllFit K (connect s conn client clean alive will)
 connect_fits K s conn client clean alive will k older =
     by_test K (is_empty client && not clean) (turn_away conn 2)
-    (cond (has_bad_topic will) (shut conn) (cond (not clean && not s.welcome) (turn_away conn 3) (join s.older conn client clean alive (option_map will_post will))))
+    (cond (has_bad_topic will) (shut conn) (cond (not clean && not s.welcome) (turn_away conn 3) (join s.older conn client clean alive (option_map will_message will))))
     (away_fits K conn 2 k)
-    (by_test K (has_bad_topic will) (shut conn) (cond (not clean && not s.welcome) (turn_away conn 3) (join s.older conn client clean alive (option_map will_post will))) (shut_fits K conn k)
-    (by_test K (not clean && not s.welcome) (turn_away conn 3) (join s.older conn client clean alive (option_map will_post will)) (away_fits K conn 3 k)
-    (join_all K s.older conn client clean alive (option_map will_post will) older)))
+    (by_test K (has_bad_topic will) (shut conn) (cond (not clean && not s.welcome) (turn_away conn 3) (join s.older conn client clean alive (option_map will_message will))) (shut_fits K conn k)
+    (by_test K (not clean && not s.welcome) (turn_away conn 3) (join s.older conn client clean alive (option_map will_message will)) (away_fits K conn 3 k)
+    (join_all K s.older conn client clean alive (option_map will_message will) older)))
 
 first_fits : (K : ℕ → Type 0) (s : Seen) (conn : ℕ) (p : Message) → K conn → Older K s.older → AllFit K (first_packet s conn p)
 first_fits K s conn (Connect client clean alive will) k older = connect_fits K s conn client clean alive will k older
@@ -175,19 +175,19 @@ tick_fits K [] a = (tt, tt)
 tick_fits K (c ∷ cs) a = (tt, (a.0, tick_fits K cs a.1))
 
 -- who is taken over sits somewhere
-older_fits : (K : ℕ → Type 0) (client : List ℕ) (ss : List Seat) → Every (λ (s : Seat). OnLine K s.here) ss → Older K (older_in client ss)
-older_fits K client ss a = by (is_empty client) (find (λ (s : Seat). is_some s.here && bytes_eq s.client client) ss) refl
+older_fits : (K : ℕ → Type 0) (client : List ℕ) (ss : List Session) → Every (λ (s : Session). OnConnection K s.here) ss → Older K (older_in client ss)
+older_fits K client ss a = by (is_empty client) (find (λ (s : Session). is_some s.here && bytes_eq s.client client) ss) refl
   where
-    on : (o : Option Line) → OnLine K o → Older K (option_map (λ (l : Line). l.conn) o)
+    on : (o : Option Connection) → OnConnection K o → Older K (option_map (λ (l : Connection). l.conn) o)
     on None p = tt
     on (Some l) p = p
 
-    by : (b : Bool) (o : Option Seat) → find (λ (s : Seat). is_some s.here && bytes_eq s.client client) ss ≡ o
-        → Older K (cond b None (option_map_or conn_at (find (λ (s : Seat). is_some s.here && bytes_eq s.client client) ss) None))
+    by : (b : Bool) (o : Option Session) → find (λ (s : Session). is_some s.here && bytes_eq s.client client) ss ≡ o
+        → Older K (cond b None (option_map_or conn_at (find (λ (s : Session). is_some s.here && bytes_eq s.client client) ss) None))
     by true o e = tt
     by false None e = subst (λ x. Older K (option_map_or conn_at x None)) (sym e) tt
     by false (Some s) e =
-        subst (λ x. Older K (option_map_or conn_at x None)) (sym e) (on s.here (found (λ (u : Seat). OnLine K u.here) (λ (u : Seat). is_some u.here && bytes_eq u.client client) ss s a e))
+        subst (λ x. Older K (option_map_or conn_at x None)) (sym e) (on s.here (found (λ (u : Session). OnConnection K u.here) (λ (u : Session). is_some u.here && bytes_eq u.client client) ss s a e))
 
 -- ---- a whole event
 
@@ -200,7 +200,7 @@ planned b conn p moment k h =
     let s : Seen = seen (noted b (Packet conn p moment)).broker (Packet conn p moment) in
     by_test (λ c. knows b c ≡ true) (is_some (first_of (unwritable p))) (shut conn) (cond s.joined (next_packet s conn p) (first_packet s conn p)) (shut_fits (λ c. knows b c ≡ true) conn k)
     (by_test (λ c. knows b c ≡ true) s.joined (next_packet s conn p) (first_packet s conn p) (next_fits (λ c. knows b c ≡ true) s conn p k)
-    (first_fits (λ c. knows b c ≡ true) s conn p k (older_fits (λ c. knows b c ≡ true) (client_in p) (noted b (Packet conn p moment)).broker.seats h.lines)))
+    (first_fits (λ c. knows b c ≡ true) s conn p k (older_fits (λ c. knows b c ≡ true) (client_in p) (noted b (Packet conn p moment)).broker.sessions h.connections)))
 
 pub stays_in : (b : Broker) (e : Event) → IsOfKnown b e → Every (λ (s : Send). knows b s.conn ≡ true) (step b e).sends × Every (λ c. knows b c ≡ true) (step b e).closes
 unfolding step
@@ -224,7 +224,7 @@ stays_in b (Tick moment) k =
     let h = kept_by_all (λ c. knows b c ≡ true) (before (Tick moment)) (before_fits (λ c. knows b c ≡ true) (Tick moment)) (begun b) (begins b) in
     let s : Seen = seen (noted b (Tick moment)).broker (Tick moment) in
     let done = ends (λ c. knows b c ≡ true) b (Tick moment) (tick s.silent) h
-    (tick_fits (λ c. knows b c ≡ true) s.silent (silent_in (λ c. knows b c ≡ true) (noted b (Tick moment)).broker.clock (noted b (Tick moment)).broker.seats h.lines)) in
+    (tick_fits (λ c. knows b c ≡ true) s.silent (silent_in (λ c. knows b c ≡ true) (noted b (Tick moment)).broker.clock (noted b (Tick moment)).broker.sessions h.connections)) in
     (done.sends, done.closes)
 stays_in b (Refused conn q moment) k =
     let h = kept_by_all (λ c. knows b c ≡ true) (before (Refused conn q moment)) (before_fits (λ c. knows b c ≡ true) (Refused conn q moment)) (begun b) (begins b) in

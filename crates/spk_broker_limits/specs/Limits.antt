@@ -2,20 +2,20 @@
 use Rattle.std.specs.Prelude.{◌≡◌, ◌≢◌, ℕ, ◌≤◌, true, false, List, [], ◌∷◌, map, length}
 use Rattle.std.specs.List.{AllByRecursion, filter}
 use Rattle.spk_packets.specs.Spelling.{is_empty}
-use Rattle.spk_broker_rules.specs.Data.{Broker, Copy, Post, Seat, Stored}
+use Rattle.spk_broker_rules.specs.Data.{Broker, InFlight, AppMessage, Session, Stored}
 use Rattle.spk_broker_rules.specs.Plan.{Event, Open, Packet, Fault, Closed, Tick, Refused}
 use Rattle.spk_broker_rules.specs.Step.{knows}
 use Rattle.spk_broker_rules.specs.Table.{Table, has, replaced}
 use Rattle.spk_broker_rules.specs.Words.{stored}
 
 -- at most 1,024 packet identifiers are in use
-abbrev pub IsWithin : Seat → Type 0
+abbrev pub IsWithin : Session → Type 0
 IsWithin s = length s.used ≤ 1024
 
 -- The identifiers in use are those of the messages that a kept session hasn't acknowledged, in their order; one that isn't kept keeps no message.
-pub record KeepsItsCopies (s : Seat) : Type 0 where
-  pub kept : s.kept ≡ true → map (λ (c : Copy). c.id) s.copies ≡ s.used
-  pub clean : s.kept ≡ false → s.copies ≡ []
+pub record KeepsItsMessages (s : Session) : Type 0 where
+  pub kept : s.kept ≡ true → map (λ (c : InFlight). c.id) s.in_flight ≡ s.used
+  pub clean : s.kept ≡ false → s.in_flight ≡ []
 
 -- no topic stands twice
 abbrev pub AreApart : Table Stored → Type 0
@@ -32,17 +32,17 @@ abbrev pub IsFull : Table Stored → Type 0
 IsFull retained = 10000 ≤ length retained
 
 -- the retained messages with this one in the place of its topic's
-abbrev pub in_its_place : Post → Table Stored → Table Stored
+abbrev pub in_its_place : AppMessage → Table Stored → Table Stored
 in_its_place m retained = map (replaced m.topic (stored m)) retained
 
 -- no two sessions have one client id, but for the empty one
-abbrev pub Singles : List Seat → Type 0
+abbrev pub Singles : List Session → Type 0
 Singles [] = Unit {0}
-Singles (s ∷ ss) = (is_empty s.client ≡ false → AllByRecursion (λ (t : Seat). s.client ≢ t.client) ss) × Singles ss
+Singles (s ∷ ss) = (is_empty s.client ≡ false → AllByRecursion (λ (t : Session). s.client ≢ t.client) ss) × Singles ss
 
 -- how many sessions are kept
-abbrev pub kept_count : List Seat → ℕ
-kept_count seats = length (filter (λ (s : Seat). s.kept) seats)
+abbrev pub kept_count : List Session → ℕ
+kept_count sessions = length (filter (λ (s : Session). s.kept) sessions)
 
 -- an event of a connection that the broker knows, or of none
 abbrev pub IsOfKnown : Broker → Event → Type 0

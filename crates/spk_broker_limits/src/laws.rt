@@ -7,7 +7,7 @@ ghost use Rattle.spk_packets.specs.Message.{Connect, Disconnect, PubAck, Subscri
 ghost use Rattle.spk_packets.specs.Spelling.{is_empty, unwritable};
 ghost use Rattle.spk_session.specs.PacketIds.{next_id};
 ghost use Rattle.spk_session.specs.Step.{has_room};
-ghost use Rattle.spk_broker_rules.specs.Data.{Broker, Post, Seat, Send};
+ghost use Rattle.spk_broker_rules.specs.Data.{Broker, AppMessage, Session, Send};
 ghost use Rattle.spk_broker_rules.specs.Knowing.{IsWelcomed};
 ghost use Rattle.spk_broker_rules.specs.Lawful.{IsLawful};
 ghost use Rattle.spk_broker_rules.specs.Listening.{is_joined};
@@ -16,11 +16,11 @@ ghost use Rattle.spk_broker_rules.specs.Plan.{Event, Give, Packet, Route, shut};
 ghost use Rattle.spk_broker_rules.specs.Step.{Turn, acts, after, all_grants, conn_at, heavy_in, knows, noted, route, route_one, serve, step};
 ghost use Rattle.spk_broker_rules.specs.Table.{has};
 ghost use Rattle.spk_broker_rules.specs.Telling.{Leads, Telling, may_be};
-ghost use Rattle.spk_broker_rules.specs.Words.{best, level, numbered_packet, option_list, sent_as, to_line, will_post};
+ghost use Rattle.spk_broker_rules.specs.Words.{best, level, numbered_packet, option_list, sent_as, to_connection, will_message};
 ghost use Rattle.spk_topics.specs.Text.{filter_refusal};
 ghost use Rattle.spk_broker_limits.specs.Giving.{GetsNothing, published_to};
 ghost use Rattle.spk_broker_limits.specs.Identifiers.{GoesOn, HasIds, HasNext, acked_ids, ids_in};
-ghost use Rattle.spk_broker_limits.specs.Limits.{IsBounded, IsFull, IsOfKnown, IsWithin, KeepsItsCopies, Singles, in_its_place, kept_count};
+ghost use Rattle.spk_broker_limits.specs.Limits.{IsBounded, IsFull, IsOfKnown, IsWithin, KeepsItsMessages, Singles, in_its_place, kept_count};
 ghost use Rattle.spk_broker_limits.specs.Wills.{all_lost, all_taken, count, disconnects, is_its_end, lost, messages, of_conn, taken, will_in, without_will};
 
 use spk_broker_rules::laws;
@@ -28,10 +28,10 @@ use spk_broker_rules::laws;
 /// For every limit of drops and every list of events, newest first.
 pub fn sessions()
     // no session has more than 1,024 packet identifiers in use
-    ensures identifiers { (limit : ℕ) (es : List Event) → AllByRecursion IsWithin (after limit es).seats }
+    ensures identifiers { (limit : ℕ) (es : List Event) → AllByRecursion IsWithin (after limit es).sessions }
 
     // a kept session has a message under each of these, in their order, and no other; a clean one has none
-    ensures copies { (limit : ℕ) (es : List Event) → AllByRecursion KeepsItsCopies (after limit es).seats }
+    ensures in_flight { (limit : ℕ) (es : List Event) → AllByRecursion KeepsItsMessages (after limit es).sessions }
 {}
 
 /// For every limit of drops and every list of events at most 10,000 topics have a retained message, each one.
@@ -42,9 +42,9 @@ pub fn retained()
 /// A retained message takes the place of its topic's, whatever number of topics have one; on a further topic it is left out where 10,000 have one
 /// (MQTT 3.1.1, 3.3.1.3; the number is our own rule). That is so of each message that is routed, whenever.
 pub fn replacing()
-    ensures present { (m : Post) (t : Turn) → m.retain ≡ true → is_empty m.payload ≡ false → has m.topic t.broker.retained ≡ true
+    ensures present { (m : AppMessage) (t : Turn) → m.retain ≡ true → is_empty m.payload ≡ false → has m.topic t.broker.retained ≡ true
         → (route_one m t).broker.retained ≡ in_its_place m t.broker.retained }
-    ensures further { (m : Post) (t : Turn) → is_empty m.payload ≡ false → has m.topic t.broker.retained ≡ false → IsFull t.broker.retained
+    ensures further { (m : AppMessage) (t : Turn) → is_empty m.payload ≡ false → has m.topic t.broker.retained ≡ false → IsFull t.broker.retained
         → (route_one m t).broker.retained ≡ t.broker.retained }
 {}
 
@@ -52,18 +52,18 @@ pub fn replacing()
 /// behind the one given last, also behind an acknowledgement.
 pub fn identifiers()
     // those in use of one session are from 1 to 65,535, no two are equal, and they are at most 1,024
-    ensures distinct { (limit : ℕ) (es : List Event) → AllByRecursion HasIds (after limit es).seats }
+    ensures distinct { (limit : ℕ) (es : List Event) → AllByRecursion HasIds (after limit es).sessions }
 
     // the next one is the first behind the one given last that isn't in use
-    ensures next { (limit : ℕ) (es : List Event) → AllByRecursion HasNext (after limit es).seats }
+    ensures next { (limit : ℕ) (es : List Event) → AllByRecursion HasNext (after limit es).sessions }
 
     // so the one behind it, where that isn't in use, and not the smallest that isn't
-    ensures goes_on { (limit : ℕ) (es : List Event) → AllByRecursion GoesOn (after limit es).seats }
+    ensures goes_on { (limit : ℕ) (es : List Event) → AllByRecursion GoesOn (after limit es).sessions }
 
     // a message that is routed to a session at QoS 1 goes out with the next one, which is then the one given last
-    ensures sent { (m : Post) (s : Seat) (q : ℕ) → level m.qos (best m.topic s.grants) ≡ Some (suc q) → has_room s.used ≡ true
-        → ((serve m s).sends ≡ to_line (conn_at s) (numbered_packet false (next_id s.used s.last) (sent_as m (suc q) false)))
-        × AllByRecursion (λ (t : Seat). t.last ≡ next_id s.used s.last) (serve m s).left }
+    ensures sent { (m : AppMessage) (s : Session) (q : ℕ) → level m.qos (best m.topic s.grants) ≡ Some (suc q) → has_room s.used ≡ true
+        → ((serve m s).sends ≡ to_connection (conn_at s) (numbered_packet false (next_id s.used s.last) (sent_as m (suc q) false)))
+        × AllByRecursion (λ (t : Session). t.last ≡ next_id s.used s.last) (serve m s).left }
 
     // PUBACK takes one out of use, and leaves which was given last
     ensures acknowledged { (b : Broker) (conn id moment : ℕ) → is_some (first_of (unwritable (PubAck id))) ≡ false
@@ -75,7 +75,7 @@ pub fn identifiers()
 
 /// For every limit of drops and every list of events at most 10,000 filters are granted, of all sessions together.
 pub fn grants()
-    ensures { (limit : ℕ) (es : List Event) → all_grants (after limit es).seats ≤ 10000 }
+    ensures { (limit : ℕ) (es : List Event) → all_grants (after limit es).sessions ≤ 10000 }
 {}
 
 /// What a SUBSCRIBE is given of retained messages is bounded (own rule): an event sends no more of it than 64 MB, for every limit of drops and every list
@@ -107,8 +107,8 @@ pub fn giving()
 /// For every limit of drops and every list of events no two sessions have one client id, but for the empty one (MQTT 3.1.1, 3.1.3.1), and at most
 /// 1,000 are kept.
 pub fn clients()
-    ensures single { (limit : ℕ) (es : List Event) → Singles (after limit es).seats }
-    ensures kept { (limit : ℕ) (es : List Event) → kept_count (after limit es).seats ≤ 1000 }
+    ensures single { (limit : ℕ) (es : List Event) → Singles (after limit es).sessions }
+    ensures kept { (limit : ℕ) (es : List Event) → kept_count (after limit es).sessions ≤ 1000 }
 {
     laws::any_list();
 }
@@ -125,7 +125,7 @@ pub fn known()
 pub fn routing()
     // by an event: `routed` is read off its telling
     ensures at_once { (limit : ℕ) (es : List Event) (h : Past) (e : Event) → Leads limit es h → may_be h e ≡ true
-        → (t : Telling limit h e) (such : Post → Bool)
+        → (t : Telling limit h e) (such : AppMessage → Bool)
         → count such (routed t.end.past)
         ≡ count such (routed h) + (count such (taken (after limit es) e) + count such (messages (lost (after limit es) e))) }
 
@@ -135,7 +135,7 @@ pub fn routing()
         × (retained t.end.past ≡ (step (after limit es) e).broker.retained) }
 
     // in all
-    ensures in_all { (limit : ℕ) (es : List Event) (h : Past) → Leads limit es h → (such : Post → Bool)
+    ensures in_all { (limit : ℕ) (es : List Event) (h : Past) → Leads limit es h → (such : AppMessage → Bool)
         → count such (routed h) ≡ count such (all_taken limit es) + count such (messages (all_lost limit es)) }
 {
     laws::any_list();
@@ -149,7 +149,7 @@ pub fn wills()
     ensures accepted { (limit : ℕ) (es : List Event) (h : Past) (conn moment : ℕ) (client : List ℕ) (clean : Bool) (alive : ℕ)
         (will : Option WillData) → Leads limit (Packet conn (Connect client clean alive will) moment ∷ es) h
         → is_joined (after limit es) conn ≡ false → IsWelcomed (after limit es) client clean alive will
-        → will_in (after limit (Packet conn (Connect client clean alive will) moment ∷ es)) conn ≡ option_map will_post will }
+        → will_in (after limit (Packet conn (Connect client clean alive will) moment ∷ es)) conn ≡ option_map will_message will }
 
     // and keeps it while it is joined
     ensures same { (limit : ℕ) (es : List Event) (e : Event) (h : Past) (conn : ℕ) → Leads limit (e ∷ es) h
@@ -180,7 +180,7 @@ pub fn wills()
         → of_conn conn (all_lost limit (later ++ Packet conn Disconnect moment ∷ es)) ≡ [] }
 
     // and exactly once where another event ended it: by that event, and whatever comes later
-    ensures ended { (limit : ℕ) (es later : List Event) (e : Event) (conn : ℕ) (will : Post) → is_joined (after limit es) conn ≡ true
+    ensures ended { (limit : ℕ) (es later : List Event) (e : Event) (conn : ℕ) (will : AppMessage) → is_joined (after limit es) conn ≡ true
         → will_in (after limit es) conn ≡ Some will → is_joined (after limit (e ∷ es)) conn ≡ false → disconnects conn e ≡ false
         → (of_conn conn (lost (after limit es) e) ≡ (conn, will) ∷ [])
         × (of_conn conn (all_lost limit (later ++ e ∷ es)) ≡ (conn, will) ∷ []) }

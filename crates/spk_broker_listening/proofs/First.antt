@@ -7,7 +7,7 @@ use Rattle.spk_packets.specs.Spelling.{unwritable}
 use Rattle.spk_broker_rules.specs.Data.{Broker}
 use Rattle.spk_broker_rules.specs.Listening.{is_closed_in, is_joined}
 use Rattle.spk_broker_rules.specs.Plan.{Packet, Seen, first_packet, next_packet, shut}
-use Rattle.spk_broker_rules.specs.Step.{Turn, acts, noted, seat_at, seen, step}
+use Rattle.spk_broker_rules.specs.Step.{Turn, acts, noted, session_by, seen, step}
 use Rattle.spk_broker_rules.proofs.Lists.{eqb-self}
 use Rattle.spk_broker_rules.proofs.Publishing.{joined-heard}
 use Rattle.spk_broker_listening.specs.Granted.{is_connect}
@@ -38,4 +38,4 @@ pub unjoined : (b : Broker) (conn moment : ℕ) (packet : Message) → is_joined
 unfolding step
 unjoined b conn moment packet e other =
     closes (noted b (Packet conn packet moment)) (seen (noted b (Packet conn packet moment)).broker (Packet conn packet moment)) (is_some (first_of (unwritable packet)))
-    (is_some (seat_at conn (noted b (Packet conn packet moment)).broker.seats)) conn packet (joined-heard conn (max b.clock moment) b.seats ∙ e) other
+    (is_some (session_by conn (noted b (Packet conn packet moment)).broker.sessions)) conn packet (joined-heard conn (max b.clock moment) b.sessions ∙ e) other

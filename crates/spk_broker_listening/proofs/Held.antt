@@ -8,19 +8,19 @@ use Rattle.spk_packets.specs.Fault.{first_of}
 use Rattle.spk_packets.specs.Message.{Connect, ConnAck, Publish, PubAck, Subscribe, SubAck, Unsubscribe, UnsubAck, PingReq, PingResp, Disconnect}
 use Rattle.spk_packets.specs.Spelling.{unwritable}
 use Rattle.spk_topics.specs.Fitting.{is_match}
-use Rattle.spk_broker_rules.specs.Data.{Seat, Broker}
+use Rattle.spk_broker_rules.specs.Data.{Session, Broker}
 use Rattle.spk_broker_rules.specs.Lawful.{IsLawful}
 use Rattle.spk_broker_rules.specs.Listening.{is_closed_in, lets_go, listens, takes_back}
 use Rattle.spk_broker_rules.specs.Table.{Table, has, remove}
 use Rattle.spk_broker_rules.specs.Words.{best}
 use Rattle.spk_broker_rules.specs.Plan.{Event, Open, Packet, Fault, Closed, Tick, Refused, Say, Take, before, has_bad_filter, shut}
-use Rattle.spk_broker_rules.specs.Step.{Turn, acts, after, begun, guest_heard, line_heard, act, noted, seat_at, sits, step, take_at}
+use Rattle.spk_broker_rules.specs.Step.{Turn, acts, after, begun, newcomer_heard, connection_heard, act, noted, session_by, sits, step, take_at}
 use Rattle.spk_broker_rules.proofs.Lists.{eqb-is, eqb-self}
-use Rattle.spk_broker_rules.proofs.Lawfuls.{heard-line}
+use Rattle.spk_broker_rules.proofs.Lawfuls.{heard-connection}
 use Rattle.spk_broker_rules.proofs.Places.{lawful-acts}
 use Rattle.spk_broker_rules.proofs.Staying.{stays-step}
 use Rattle.spk_broker_listening.specs.Granted.{Lasts, holds, takes_off}
-use Rattle.spk_broker_listening.proofs.Fine.{yes_no, no_yes, fine-lines, grants-of, sits-of, stays-swap, told-shut}
+use Rattle.spk_broker_listening.proofs.Fine.{yes_no, no_yes, fine-connections, grants-of, sits-of, stays-swap, told-shut}
 use Rattle.spk_broker_listening.proofs.Given.{has-put}
 
 -- ---- taking others back
@@ -53,16 +53,16 @@ has-removes f (k ∷ ks) g others e =
     has-removes f ks (remove k g) (last-off (bytes_eq k f) (list_any (λ k. bytes_eq k f) ks) others) (has-remove f k g (first-off (bytes_eq k f) (list_any (λ k. bytes_eq k f) ks) others) e)
 
 abbrev Fair : ℕ → List ℕ → Turn → Type 0
-Fair c f t = (list_any (λ (s : Seat). sits c s && has f s.grants) t.broker.seats ≡ true) ⊎ (list_any (λ d. eqb d c) t.closes ≡ true)
+Fair c f t = (list_any (λ (s : Session). sits c s && has f s.grants) t.broker.sessions ≡ true) ⊎ (list_any (λ d. eqb d c) t.closes ≡ true)
 
-fair-take : (c : ℕ) (f : List ℕ) (filters : List (List ℕ)) (t : Turn) (o : Option Seat) → IsLawful t.broker → list_any (λ k. bytes_eq k f) filters ≡ false → seat_at c t.broker.seats ≡ o
+fair-take : (c : ℕ) (f : List ℕ) (filters : List (List ℕ)) (t : Turn) (o : Option Session) → IsLawful t.broker → list_any (λ k. bytes_eq k f) filters ≡ false → session_by c t.broker.sessions ≡ o
     → Fair c f t → Fair c f (take_at o filters t)
 fair-take c f filters t None l others is h = h
 fair-take c f filters t (Some s) l others is (inr h) = inr h
 fair-take c f filters t (Some s) l others is (inl h) =
     inl (stays-swap c (λ g. has f g) (sits c) s ((record s { grants = fold (λ g k. remove k g) s.grants filters }) ∷ []) t.broker l is (λ q. new q) h)
   where
-    new : (sits c s && has f s.grants) ≡ true → list_any (λ (x : Seat). sits c x && has f x.grants) ((record s { grants = fold (λ g k. remove k g) s.grants filters }) ∷ []) ≡ true
+    new : (sits c s && has f s.grants) ≡ true → list_any (λ (x : Session). sits c x && has f x.grants) ((record s { grants = fold (λ g k. remove k g) s.grants filters }) ∷ []) ≡ true
     new q = or_left _ false (ap (λ b. b && has f (fold (λ g k. remove k g) s.grants filters)) (sits-of c (λ g. has f g) s q)
         ∙ has-removes f filters s.grants others (grants-of c (λ g. has f g) s q))
 
@@ -71,9 +71,9 @@ fair-unsubscribe : (t : Turn) (u j k : Bool) (c id : ℕ) (f : List ℕ) (filter
 fair-unsubscribe t true j k c id f filters l others h = inr (told-shut c (λ g. has f g) c t (eqb-self c))
 fair-unsubscribe t false false k c id f filters l others h = inr (told-shut c (λ g. has f g) c t (eqb-self c))
 fair-unsubscribe t false true true c id f filters l others h = inr (told-shut c (λ g. has f g) c t (eqb-self c))
-fair-unsubscribe t false true false c id f filters l others h = said (fair-take c f filters t (seat_at c t.broker.seats) l others refl h)
+fair-unsubscribe t false true false c id f filters l others h = said (fair-take c f filters t (session_by c t.broker.sessions) l others refl h)
   where
-    said : Fair c f (take_at (seat_at c t.broker.seats) filters t) → Fair c f (act (Say c (UnsubAck id)) (take_at (seat_at c t.broker.seats) filters t))
+    said : Fair c f (take_at (session_by c t.broker.sessions) filters t) → Fair c f (act (Say c (UnsubAck id)) (take_at (session_by c t.broker.sessions) filters t))
     said x = x
 
 stays-own : (b : Broker) (c id moment : ℕ) (f : List ℕ) (filters : List (List ℕ)) → IsLawful b → holds b c f ≡ true → list_any (λ x. bytes_eq x f) filters ≡ false
@@ -81,9 +81,9 @@ stays-own : (b : Broker) (c id moment : ℕ) (f : List ℕ) (filters : List (Lis
 unfolding step
 stays-own b c id moment f filters l h others =
     fair-unsubscribe (noted b (Packet c (Unsubscribe id filters) moment)) (is_some (first_of (unwritable (Unsubscribe id filters))))
-    (is_some (seat_at c (noted b (Packet c (Unsubscribe id filters) moment)).broker.seats)) (has_bad_filter filters) c id f filters
+    (is_some (session_by c (noted b (Packet c (Unsubscribe id filters) moment)).broker.sessions)) (has_bad_filter filters) c id f filters
     (lawful-acts (before (Packet c (Unsubscribe id filters) moment)) (begun b) l) others
-    (fine-lines c (λ g. has f g) (guest_heard c (max b.clock moment)) (line_heard c (max b.clock moment)) (heard-line c (max b.clock moment))
+    (fine-connections c (λ g. has f g) (newcomer_heard c (max b.clock moment)) (connection_heard c (max b.clock moment)) (heard-connection c (max b.clock moment))
     (record (begun b) { broker = record b { clock = max b.clock moment } }) (inl h))
 
 -- ---- any event
@@ -140,15 +140,15 @@ best-has f topic (x ∷ g) e m = by (is_match x.0 topic) refl (bytes_eq x.0 f) r
     by false i false j h rest = rest h
 
 pub matched : (b : Broker) (c : ℕ) (f topic : List ℕ) → holds b c f ≡ true → is_match f topic ≡ true → listens b c topic ≡ true
-matched b c f topic h m = all b.seats h
+matched b c f topic h m = all b.sessions h
   where
-    all : (ss : List Seat) → list_any (λ (s : Seat). sits c s && has f s.grants) ss ≡ true → list_any (λ (s : Seat). sits c s && is_some (best topic s.grants)) ss ≡ true
+    all : (ss : List Session) → list_any (λ (s : Session). sits c s && has f s.grants) ss ≡ true → list_any (λ (s : Session). sits c s && is_some (best topic s.grants)) ss ≡ true
     all [] e = absurd (no_yes e)
     all (s ∷ ss) e = by (sits c s) (has f s.grants) refl e (all ss)
       where
-        by : (a x : Bool) → has f s.grants ≡ x → ((a && x) || list_any (λ (s : Seat). sits c s && has f s.grants) ss) ≡ true
-            → (list_any (λ (s : Seat). sits c s && has f s.grants) ss ≡ true → list_any (λ (s : Seat). sits c s && is_some (best topic s.grants)) ss ≡ true)
-            → ((a && is_some (best topic s.grants)) || list_any (λ (s : Seat). sits c s && is_some (best topic s.grants)) ss) ≡ true
+        by : (a x : Bool) → has f s.grants ≡ x → ((a && x) || list_any (λ (s : Session). sits c s && has f s.grants) ss) ≡ true
+            → (list_any (λ (s : Session). sits c s && has f s.grants) ss ≡ true → list_any (λ (s : Session). sits c s && is_some (best topic s.grants)) ss ≡ true)
+            → ((a && is_some (best topic s.grants)) || list_any (λ (s : Session). sits c s && is_some (best topic s.grants)) ss) ≡ true
         by true true i g rest = or_left (is_some (best topic s.grants)) _ (best-has f topic s.grants i m)
         by true false i g rest = or_right (is_some (best topic s.grants)) _ (rest g)
         by false x i g rest = rest g

@@ -3,7 +3,7 @@ use Rattle.std.specs.Prelude.{◌≡◌, ◌≢◌, ◌⊎◌, ◌==◌, ◌&&�
 use Rattle.std.specs.List.{list_any}
 use Rattle.std.specs.Str.{bytes_eq}
 use Rattle.spk_packets.specs.Message.{Message, Connect, ConnAck, Publish, PubAck, Subscribe, SubAck, Unsubscribe, UnsubAck, PingReq, PingResp, Disconnect}
-use Rattle.spk_broker_rules.specs.Data.{Seat, Broker, Send}
+use Rattle.spk_broker_rules.specs.Data.{Session, Broker, Send}
 use Rattle.spk_broker_rules.specs.Listening.{is_closed_in, lets_go}
 use Rattle.spk_broker_rules.specs.Plan.{Event, Open, Packet, Fault, Closed, Tick, Refused}
 use Rattle.spk_broker_rules.specs.Step.{after, sits, step}
@@ -11,7 +11,7 @@ use Rattle.spk_broker_rules.specs.Table.{has}
 
 -- the connection's session has a grant of this filter
 abbrev pub holds : Broker → ℕ → List ℕ → Bool
-holds b conn filter = list_any (λ (s : Seat). sits conn s && has filter s.grants) b.seats
+holds b conn filter = list_any (λ (s : Session). sits conn s && has filter s.grants) b.sessions
 
 -- one of these entries has this filter, and its code isn't 128; codes stand in the order of the entries (3.9.3)
 abbrev pub Grants : List ℕ → List (List ℕ × ℕ) → List ℕ → Type 0

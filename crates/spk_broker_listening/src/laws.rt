@@ -32,7 +32,7 @@ pub fn subscribed()
         → is_joined b conn ≡ true → is_some (first_of (unwritable (Subscribe id entries))) ≡ false
         → list_any (λ (e : List ℕ × ℕ). is_some (filter_refusal e.0)) entries ≡ false
         → heavy_in conn entries b ≡ false
-        → all_grants b.seats + length entries ≤ 10000
+        → all_grants b.sessions + length entries ≤ 10000
         → (codes : List ℕ) × IsAnswered b (Packet conn (Subscribe id entries) moment) conn id codes
         × ((filter : List ℕ) → asks_for filter entries ≡ true → Grants filter entries codes) }
 

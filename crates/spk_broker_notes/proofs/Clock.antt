@@ -6,9 +6,9 @@ use Rattle.spk_packets.specs.Message.{Message, WillData, Connect, ConnAck, Publi
 use Rattle.spk_packets.specs.Spelling.{unwritable}
 use Rattle.spk_session.specs.declared.answer.Sort.TheVariants as sort
 use Rattle.spk_topics.specs.Text.{topic_refusal}
-use Rattle.spk_broker_rules.specs.Data.{Post, Guest, Seat, Broker}
+use Rattle.spk_broker_rules.specs.Data.{AppMessage, Newcomer, Session, Broker}
 use Rattle.spk_broker_rules.specs.Plan.{Act, Opens, At, Hear, Drop, Say, Leave, Tell, Queue, Route, Forget, Accept, Give, Take, Ack, Event, Open, Packet, Fault, Closed, Tick, Refused, Seen, shut, turn_away, take_over, tell_older, join, has_bad_topic, connect, first_packet, puback, publish, has_bad_filter, next_packet, packet, is_bad_level, tick, is_fatal, plan}
-use Rattle.spk_broker_rules.specs.Step.{Turn, act, acts, route_one, route_some, route, most, leave_at, forget_at, is_away, is_guest, seat_at, line_of, take_up, away_for, accept_of, with_key, offer_at, offer, give_at, take_at, ack_at, other_grants, swap, with_seats, noted, seen, step}
+use Rattle.spk_broker_rules.specs.Step.{Turn, act, acts, route_one, route_some, route, most, leave_at, forget_at, is_away, is_newcomer, session_by, connection_of, take_up, away_for, accept_of, with_key, offer_at, offer, give_at, take_at, ack_at, other_grants, swap, with_sessions, noted, seen, step}
 use Rattle.spk_broker_rules.specs.Words.{codes_of, granted_of, offers_to, with_entry}
 use Rattle.spk_broker_notes.specs.Noted.{moment_of}
 
@@ -22,7 +22,7 @@ unfolding route_some
 routed-some zero t = refl
 routed-some (suc n) t = by t.waiting (λ m ms. routed-some n (route_one m (record t { waiting = ms })))
   where
-    by : (ws : List Post) → ((m : Post) (ms : List Post) → Shows t.broker.clock (route_some n (route_one m (record t { waiting = ms }))))
+    by : (ws : List AppMessage) → ((m : AppMessage) (ms : List AppMessage) → Shows t.broker.clock (route_some n (route_one m (record t { waiting = ms }))))
         → Shows t.broker.clock (elim ws [ [] ↦ t | m ∷ ms ↦ route_some n (route_one m (record t { waiting = ms })) ])
     by [] rest = refl
     by (m ∷ ms) rest = rest m ms
@@ -41,7 +41,7 @@ Still (Drop c) = Unit {0}
 Still (Say c p) = Unit {0}
 Still (Leave c wills) = Unit {0}
 Still (Tell c) = Unit {0}
-Still (Queue post) = Unit {0}
+Still (Queue app_message) = Unit {0}
 Still Route = Unit {0}
 Still (Forget client) = Unit {0}
 Still (Accept c client kept alive will) = Unit {0}
@@ -49,43 +49,43 @@ Still (Give c id entries) = Unit {0}
 Still (Take c filters) = Unit {0}
 Still (Ack c id) = Unit {0}
 
-left : (o : Option Seat) (c : ℕ) (wills : Bool) (t : Turn) → (leave_at o c wills t).broker.clock ≡ t.broker.clock
+left : (o : Option Session) (c : ℕ) (wills : Bool) (t : Turn) → (leave_at o c wills t).broker.clock ≡ t.broker.clock
 left None c wills t = refl
 left (Some s) c wills t = refl
 
-forgot : (o : Option Seat) (t : Turn) → (forget_at o t).broker.clock ≡ t.broker.clock
+forgot : (o : Option Session) (t : Turn) → (forget_at o t).broker.clock ≡ t.broker.clock
 forgot None t = refl
 forgot (Some s) t = refl
 
-accepted : (o : Option Guest) (client : List ℕ) (kept : Bool) (alive : ℕ) (will : Option Post) (t : Turn) → (accept_of o client kept alive will t).broker.clock ≡ t.broker.clock
+accepted : (o : Option Newcomer) (client : List ℕ) (kept : Bool) (alive : ℕ) (will : Option AppMessage) (t : Turn) → (accept_of o client kept alive will t).broker.clock ≡ t.broker.clock
 accepted None client kept alive will t = refl
-accepted (Some g) client kept alive will t = by (away_for kept client t.broker.seats)
+accepted (Some g) client kept alive will t = by (away_for kept client t.broker.sessions)
   where
-    by : (o : Option Seat) → (take_up o client kept (line_of g alive will) t).broker.clock ≡ t.broker.clock
+    by : (o : Option Session) → (take_up o client kept (connection_of g alive will) t).broker.clock ≡ t.broker.clock
     by None = refl
     by (Some s) = refl
 
-offered : (o : Option Seat) (key : ℕ) (post : Post) (t : Turn) → (offer_at o key post t).broker.clock ≡ t.broker.clock
-offered None key post t = refl
-offered (Some s) key post t = refl
+offered : (o : Option Session) (key : ℕ) (app_message : AppMessage) (t : Turn) → (offer_at o key app_message t).broker.clock ≡ t.broker.clock
+offered None key app_message t = refl
+offered (Some s) key app_message t = refl
 
-offered-all : (key : ℕ) (posts : List Post) (t : Turn) → (fold (offer key) t posts).broker.clock ≡ t.broker.clock
+offered-all : (key : ℕ) (app_messages : List AppMessage) (t : Turn) → (fold (offer key) t app_messages).broker.clock ≡ t.broker.clock
 offered-all key [] t = refl
-offered-all key (m ∷ ms) t = offered-all key ms (offer key t m) ∙ offered (with_key key t.broker.seats) key m t
+offered-all key (m ∷ ms) t = offered-all key ms (offer key t m) ∙ offered (with_key key t.broker.sessions) key m t
 
-given : (o : Option Seat) (c id : ℕ) (entries : List (List ℕ × ℕ)) (t : Turn) → (give_at o c id entries t).broker.clock ≡ t.broker.clock
+given : (o : Option Session) (c id : ℕ) (entries : List (List ℕ × ℕ)) (t : Turn) → (give_at o c id entries t).broker.clock ≡ t.broker.clock
 given None c id entries t = refl
 given (Some s) c id entries t = offered-all s.key
-    (flat_map (offers_to t.broker.retained) (granted_of (other_grants s t.broker.seats) s.grants entries))
-    (record (with_seats (swap s.key ((record s { grants = fold (with_entry (other_grants s t.broker.seats)) s.grants entries }) ∷ []) t.broker.seats) t) {
-      sends = t.sends ++ (record { conn = c; packet = SubAck id (codes_of (other_grants s t.broker.seats) s.grants entries) }) ∷ [];
+    (flat_map (offers_to t.broker.retained) (granted_of (other_grants s t.broker.sessions) s.grants entries))
+    (record (with_sessions (swap s.key ((record s { grants = fold (with_entry (other_grants s t.broker.sessions)) s.grants entries }) ∷ []) t.broker.sessions) t) {
+      sends = t.sends ++ (record { conn = c; packet = SubAck id (codes_of (other_grants s t.broker.sessions) s.grants entries) }) ∷ [];
     })
 
-taken : (o : Option Seat) (filters : List (List ℕ)) (t : Turn) → (take_at o filters t).broker.clock ≡ t.broker.clock
+taken : (o : Option Session) (filters : List (List ℕ)) (t : Turn) → (take_at o filters t).broker.clock ≡ t.broker.clock
 taken None filters t = refl
 taken (Some s) filters t = refl
 
-acked : (o : Option Seat) (id : ℕ) (t : Turn) → (ack_at o id t).broker.clock ≡ t.broker.clock
+acked : (o : Option Session) (id : ℕ) (t : Turn) → (ack_at o id t).broker.clock ≡ t.broker.clock
 acked None id t = refl
 acked (Some s) id t = refl
 
@@ -95,15 +95,15 @@ act-still Opens t s = refl
 act-still (Hear c) t s = refl
 act-still (Drop c) t s = refl
 act-still (Say c p) t s = refl
-act-still (Leave c wills) t s = left (seat_at c t.broker.seats) c wills t
+act-still (Leave c wills) t s = left (session_by c t.broker.sessions) c wills t
 act-still (Tell c) t s = refl
-act-still (Queue post) t s = refl
+act-still (Queue app_message) t s = refl
 act-still Route t s = routed t
-act-still (Forget client) t s = forgot (find (is_away client) t.broker.seats) t
-act-still (Accept c client kept alive will) t s = accepted (find (is_guest c) t.broker.guests) client kept alive will t
-act-still (Give c id entries) t s = given (seat_at c t.broker.seats) c id entries t
-act-still (Take c filters) t s = taken (seat_at c t.broker.seats) filters t
-act-still (Ack c id) t s = acked (seat_at c t.broker.seats) id t
+act-still (Forget client) t s = forgot (find (is_away client) t.broker.sessions) t
+act-still (Accept c client kept alive will) t s = accepted (find (is_newcomer c) t.broker.newcomers) client kept alive will t
+act-still (Give c id entries) t s = given (session_by c t.broker.sessions) c id entries t
+act-still (Take c filters) t s = taken (session_by c t.broker.sessions) filters t
+act-still (Ack c id) t s = acked (session_by c t.broker.sessions) id t
 
 acts-still : (as_list : List Act) (t : Turn) → AllByRecursion Still as_list → (acts as_list t).broker.clock ≡ t.broker.clock
 acts-still [] t s = refl
@@ -119,7 +119,7 @@ both : (xs ys : List Act) → AllByRecursion Still xs → AllByRecursion Still y
 both [] ys s t = t
 both (x ∷ xs) ys s t = (s.0, both xs ys s.1 t)
 
-join-still : (older : Option ℕ) (c : ℕ) (client : List ℕ) (clean : Bool) (alive : ℕ) (will : Option Post) → AllByRecursion Still (join older c client clean alive will)
+join-still : (older : Option ℕ) (c : ℕ) (client : List ℕ) (clean : Bool) (alive : ℕ) (will : Option AppMessage) → AllByRecursion Still (join older c client clean alive will)
 join-still older c client clean alive will =
     both (take_over older) (cond clean (Forget client ∷ []) [] ++ Accept c client (not clean) alive will ∷ tell_older older) (over older)
     (both (cond clean (Forget client ∷ []) []) (Accept c client (not clean) alive will ∷ tell_older older) (either clean (Forget client ∷ []) [] (tt, tt) tt) (tt, told older))
@@ -150,8 +150,8 @@ first-still s c PingReq = (tt, (tt, (tt, tt)))
 first-still s c PingResp = (tt, (tt, (tt, tt)))
 first-still s c Disconnect = (tt, (tt, (tt, tt)))
 
-publish-still : (c : ℕ) (id : Option ℕ) (post : Post) → AllByRecursion Still (publish c id post)
-publish-still c id post = either (is_some (topic_refusal post.topic)) (shut c) (puback c id ++ Queue post ∷ Route ∷ []) (tt, (tt, (tt, tt))) (both (puback c id) (Queue post ∷ Route ∷ []) (acked-by id) (tt, (tt, tt)))
+publish-still : (c : ℕ) (id : Option ℕ) (app_message : AppMessage) → AllByRecursion Still (publish c id app_message)
+publish-still c id app_message = either (is_some (topic_refusal app_message.topic)) (shut c) (puback c id ++ Queue app_message ∷ Route ∷ []) (tt, (tt, (tt, tt))) (both (puback c id) (Queue app_message ∷ Route ∷ []) (acked-by id) (tt, (tt, tt)))
   where
     acked-by : (o : Option ℕ) → AllByRecursion Still (puback c o)
     acked-by None = tt

@@ -29,7 +29,7 @@ wound_to moment n = record n { clock = moment }
 
 -- what is noted of a tick at this clock
 abbrev pub late_at : ℕ → Broker → Notes → List Event
-late_at clock b n = late (flat_map (silent_at clock) b.seats) clock (n.clock + pause) b.seats
+late_at clock b n = late (flat_map (silent_at clock) b.sessions) clock (n.clock + pause) b.sessions
 
 abbrev pub with_late : ℕ → Broker → Notes → Notes
 with_late clock b n = record { clock = clock_behind n.clock (late_at clock b n); bytes = n.bytes ++ records (late_at clock b n) }

@@ -5,7 +5,7 @@ use Rattle.std.specs.Option.{option_map, option_map_or}
 use Rattle.spk_packets.specs.Fault.{first_of}
 use Rattle.spk_packets.specs.Message.{Message}
 use Rattle.spk_packets.specs.Spelling.{unwritable}
-use Rattle.spk_broker_rules.specs.Data.{Seat, Broker}
+use Rattle.spk_broker_rules.specs.Data.{Session, Broker}
 use Rattle.spk_broker_rules.specs.Plan.{Event, Open, Packet, Fault, Closed, Tick, Refused}
 use Rattle.spk_broker_rules.specs.Step.{silent_at, step}
 use Rattle.spk_broker_replay.specs.Replay.{notes, pause, timeless}
@@ -70,8 +70,8 @@ abbrev pub is_unwritten : Option Notes → Message → Bool
 is_unwritten o p = is_some o && is_some (first_of (unwritable (timeless p)))
 
 -- somebody is silent for too long at this clock
-abbrev pub is_late : ℕ → List Seat → Bool
-is_late clock seats = elim (flat_map (silent_at clock) seats) [ [] ↦ false | c ∷ cs ↦ true ]
+abbrev pub is_late : ℕ → List Session → Bool
+is_late clock sessions = elim (flat_map (silent_at clock) sessions) [ [] ↦ false | c ∷ cs ↦ true ]
 
 -- the clock of the replay has no such moment any more
 abbrev pub is_past : ℕ → Bool
@@ -79,7 +79,7 @@ is_past clock = not (nat_le (clock + pause) 18446744073709551615)
 
 -- the time is to be noted, and the clock of the replay can't go on
 abbrev pub is_over_at : ℕ → Broker → Option Notes → Bool
-is_over_at clock b o = option_map_or (λ (n : Notes). is_late clock b.seats && is_past n.clock) o false
+is_over_at clock b o = option_map_or (λ (n : Notes). is_late clock b.sessions && is_past n.clock) o false
 
 abbrev pub is_over : Noted → ℕ → Bool
 is_over x moment = is_over_at (max x.broker.clock moment) x.broker x.notes

@@ -21,7 +21,7 @@ const PAUSE: u64 = 2_000;
 
 /// Whether a connection is silent for too long (section 3.1.2.10).
 fn is_late(broker: &Broker, clock: u64) -> Result<bool, AllocError>
-    ensures { IfOk result (λ late. late ≡ is_late clock broker.now.seats) }
+    ensures { IfOk result (λ late. late ≡ is_late clock broker.now.sessions) }
 {
     for at in 0..usize::MAX {
         let Some(session) = broker.session(at) else {
@@ -68,7 +68,7 @@ fn add_pings(
     moment: u64,
     bytes: &mut Vec<u8>,
 ) -> Result<(), PacketFault>
-    ensures added { OnOk result (bytes.new.items ≡ bytes.old.items ++ records (map (ping moment) (flat_map (heard_at clock) broker.now.seats))) }
+    ensures added { OnOk result (bytes.new.items ≡ bytes.old.items ++ records (map (ping moment) (flat_map (heard_at clock) broker.now.sessions))) }
     ensures err { OnErr result (Begins bytes.old.items bytes.new.items) }
 {
     for at in 0..usize::MAX {
@@ -89,7 +89,7 @@ fn add_late(
     moment: u64,
     bytes: &mut Vec<u8>,
 ) -> Result<(), PacketFault>
-    ensures added { OnOk result (bytes.new.items ≡ bytes.old.items ++ records (map (ping moment) (flat_map (heard_at clock) broker.now.seats) ++ Tick moment ∷ [])) }
+    ensures added { OnOk result (bytes.new.items ≡ bytes.old.items ++ records (map (ping moment) (flat_map (heard_at clock) broker.now.sessions) ++ Tick moment ∷ [])) }
     ensures err { OnErr result (Begins bytes.old.items bytes.new.items) }
 {
     add_pings(alloc, broker, clock, moment, bytes)?;

@@ -7,168 +7,168 @@ use Rattle.std.proofs.lemmas.List.{map-append, length-map}
 use Rattle.spk_session.specs.PacketIds.{next_id}
 use Rattle.spk_session.specs.Step.{has_room, without, one_more}
 use Rattle.spk_packets.specs.Message.{SubAck}
-use Rattle.spk_broker_rules.specs.Data.{Post, Copy, Line, Guest, Seat, Stored}
+use Rattle.spk_broker_rules.specs.Data.{AppMessage, InFlight, Connection, Newcomer, Session, Stored}
 use Rattle.spk_broker_rules.specs.Table.{Table, remove}
 use Rattle.spk_broker_rules.specs.Words.{best, level, sent_as, option_list, handed_out, without_id, offers_to, granted_of, codes_of, with_entry}
 use Rattle.spk_broker_rules.specs.Plan.{Act, Opens, At, Hear, Drop, Say, Leave, Tell, Queue, Route, Forget, Accept, Give, Take, Ack}
-use Rattle.spk_broker_rules.specs.Step.{Turn, act, acts, opens, on_lines, guest_heard, line_heard, guest_dropped, line_dropped, conn_at, sits, seat_at, is_guest, other_guests, is_away, swap, with_seats, bursts, numbered, hand_at, hand, serve_at, serve, retained_with, route_one, route_some, route, most, left_behind, will_at, leave_at, forget_at, line_of, new_seat, take_up, away_for, accept_of, offer_at, with_key, offer, all_grants, other_grants, give_with, give_at, take_at, ack_at}
+use Rattle.spk_broker_rules.specs.Step.{Turn, act, acts, opens, on_connections, newcomer_heard, connection_heard, newcomer_dropped, connection_dropped, conn_at, sits, session_by, is_newcomer, other_newcomers, is_away, swap, with_sessions, bursts, numbered, hand_at, hand, serve_at, serve, retained_with, route_one, route_some, route, most, left_behind, will_at, leave_at, forget_at, connection_of, new_session, take_up, away_for, accept_of, offer_at, with_key, offer, all_grants, other_grants, give_with, give_at, take_at, ack_at}
 use Rattle.spk_broker_rules.proofs.Lists.{find-map, filter-map, map-map, flat_map-map}
-use Rattle.spk_broker_replay.specs.Replay.{bare_line, bare_guest, bare_seat}
+use Rattle.spk_broker_replay.specs.Replay.{bare_connection, bare_newcomer, bare_session}
 
 -- a turn without time, drops, sends and closes
-abbrev pub turn_with : ℕ → ℕ → List Guest → List Seat → Table Stored → List Post → Turn
-turn_with given made guests seats retained waiting = record {
-  broker = record { limit = 0; given = given; made = made; clock = 0; guests = guests; seats = seats; retained = retained };
+abbrev pub turn_with : ℕ → ℕ → List Newcomer → List Session → Table Stored → List AppMessage → Turn
+turn_with given made newcomers sessions retained waiting = record {
+  broker = record { limit = 0; given = given; made = made; clock = 0; newcomers = newcomers; sessions = sessions; retained = retained };
   sends = [];
   closes = [];
   waiting = waiting;
 }
 
 abbrev pub strip : Turn → Turn
-strip t = turn_with t.broker.given t.broker.made (map bare_guest t.broker.guests) (map bare_seat t.broker.seats) t.broker.retained t.waiting
+strip t = turn_with t.broker.given t.broker.made (map bare_newcomer t.broker.newcomers) (map bare_session t.broker.sessions) t.broker.retained t.waiting
 
 -- ---- twice is once
 
-here-twice : (o : Option Line) → option_map bare_line (option_map bare_line o) ≡ option_map bare_line o
+here-twice : (o : Option Connection) → option_map bare_connection (option_map bare_connection o) ≡ option_map bare_connection o
 here-twice None = refl
 here-twice (Some l) = refl
 
-pub seat-twice : (s : Seat) → bare_seat (bare_seat s) ≡ bare_seat s
-seat-twice s = ap (λ o. record s { here = o }) (here-twice s.here)
+pub session-twice : (s : Session) → bare_session (bare_session s) ≡ bare_session s
+session-twice s = ap (λ o. record s { here = o }) (here-twice s.here)
 
-pub guests-twice : (gs : List Guest) → map bare_guest (map bare_guest gs) ≡ map bare_guest gs
-guests-twice gs = map-map bare_guest bare_guest bare_guest (λ g. refl) gs
+pub newcomers-twice : (gs : List Newcomer) → map bare_newcomer (map bare_newcomer gs) ≡ map bare_newcomer gs
+newcomers-twice gs = map-map bare_newcomer bare_newcomer bare_newcomer (λ g. refl) gs
 
-pub seats-twice : (ss : List Seat) → map bare_seat (map bare_seat ss) ≡ map bare_seat ss
-seats-twice ss = map-map bare_seat bare_seat bare_seat seat-twice ss
+pub sessions-twice : (ss : List Session) → map bare_session (map bare_session ss) ≡ map bare_session ss
+sessions-twice ss = map-map bare_session bare_session bare_session session-twice ss
 
 pub strip-twice : (t : Turn) → strip (strip t) ≡ strip t
-strip-twice t = ap₂ (λ gs ss. turn_with t.broker.given t.broker.made gs ss t.broker.retained t.waiting) (guests-twice t.broker.guests) (seats-twice t.broker.seats)
+strip-twice t = ap₂ (λ gs ss. turn_with t.broker.given t.broker.made gs ss t.broker.retained t.waiting) (newcomers-twice t.broker.newcomers) (sessions-twice t.broker.sessions)
 
 -- ---- looking up
 
-line-conn : (c : ℕ) (o : Option Line) → option_map_or (λ (l : Line). eqb l.conn c) (option_map bare_line o) false ≡ option_map_or (λ (l : Line). eqb l.conn c) o false
-line-conn c None = refl
-line-conn c (Some l) = refl
+connection-conn : (c : ℕ) (o : Option Connection) → option_map_or (λ (l : Connection). eqb l.conn c) (option_map bare_connection o) false ≡ option_map_or (λ (l : Connection). eqb l.conn c) o false
+connection-conn c None = refl
+connection-conn c (Some l) = refl
 
-pub sits-bare : (c : ℕ) (s : Seat) → sits c (bare_seat s) ≡ sits c s
-sits-bare c s = line-conn c s.here
+pub sits-bare : (c : ℕ) (s : Session) → sits c (bare_session s) ≡ sits c s
+sits-bare c s = connection-conn c s.here
 
-pub here-bare : (o : Option Line) → is_some (option_map bare_line o) ≡ is_some o
+pub here-bare : (o : Option Connection) → is_some (option_map bare_connection o) ≡ is_some o
 here-bare None = refl
 here-bare (Some l) = refl
 
-pub conn-bare : (s : Seat) → conn_at (bare_seat s) ≡ conn_at s
+pub conn-bare : (s : Session) → conn_at (bare_session s) ≡ conn_at s
 conn-bare s = by s.here
   where
-    by : (o : Option Line) → option_map (λ (l : Line). l.conn) (option_map bare_line o) ≡ option_map (λ (l : Line). l.conn) o
+    by : (o : Option Connection) → option_map (λ (l : Connection). l.conn) (option_map bare_connection o) ≡ option_map (λ (l : Connection). l.conn) o
     by None = refl
     by (Some l) = refl
 
-away-bare : (client : List ℕ) (s : Seat) → is_away client (bare_seat s) ≡ is_away client s
+away-bare : (client : List ℕ) (s : Session) → is_away client (bare_session s) ≡ is_away client s
 away-bare client s = ap (λ h. s.kept && (not h && bytes_eq s.client client)) (here-bare s.here)
 
-pub seat_at-bare : (c : ℕ) (ss : List Seat) → seat_at c (map bare_seat ss) ≡ option_map bare_seat (seat_at c ss)
-seat_at-bare c ss = find-map bare_seat (sits c) (sits c) (sits-bare c) ss
+pub session_by-bare : (c : ℕ) (ss : List Session) → session_by c (map bare_session ss) ≡ option_map bare_session (session_by c ss)
+session_by-bare c ss = find-map bare_session (sits c) (sits c) (sits-bare c) ss
 
-pub guest_at-bare : (c : ℕ) (gs : List Guest) → find (is_guest c) (map bare_guest gs) ≡ option_map bare_guest (find (is_guest c) gs)
-guest_at-bare c gs = find-map bare_guest (is_guest c) (is_guest c) (λ g. refl) gs
+pub newcomer_at-bare : (c : ℕ) (gs : List Newcomer) → find (is_newcomer c) (map bare_newcomer gs) ≡ option_map bare_newcomer (find (is_newcomer c) gs)
+newcomer_at-bare c gs = find-map bare_newcomer (is_newcomer c) (is_newcomer c) (λ g. refl) gs
 
-found-away-bare : (client : List ℕ) (ss : List Seat) → find (is_away client) (map bare_seat ss) ≡ option_map bare_seat (find (is_away client) ss)
-found-away-bare client ss = find-map bare_seat (is_away client) (is_away client) (away-bare client) ss
+found-away-bare : (client : List ℕ) (ss : List Session) → find (is_away client) (map bare_session ss) ≡ option_map bare_session (find (is_away client) ss)
+found-away-bare client ss = find-map bare_session (is_away client) (is_away client) (away-bare client) ss
 
-key-bare : (key : ℕ) (ss : List Seat) → with_key key (map bare_seat ss) ≡ option_map bare_seat (with_key key ss)
-key-bare key ss = find-map bare_seat (λ (s : Seat). eqb s.key key) (λ (s : Seat). eqb s.key key) (λ s. refl) ss
+key-bare : (key : ℕ) (ss : List Session) → with_key key (map bare_session ss) ≡ option_map bare_session (with_key key ss)
+key-bare key ss = find-map bare_session (λ (s : Session). eqb s.key key) (λ (s : Session). eqb s.key key) (λ s. refl) ss
 
 -- ---- lists
 
--- seats that are made of seats
-flat-through : (f : Seat → List Seat) → ((s : Seat) → map bare_seat (f s) ≡ map bare_seat (f (bare_seat s)))
-    → (ss : List Seat) → map bare_seat (flat_map f ss) ≡ map bare_seat (flat_map f (map bare_seat ss))
+-- sessions that are made of sessions
+flat-through : (f : Session → List Session) → ((s : Session) → map bare_session (f s) ≡ map bare_session (f (bare_session s)))
+    → (ss : List Session) → map bare_session (flat_map f ss) ≡ map bare_session (flat_map f (map bare_session ss))
 flat-through f h [] = refl
 flat-through f h (s ∷ ss) =
-    map-append bare_seat (f s) (flat_map f ss)
+    map-append bare_session (f s) (flat_map f ss)
     ∙ ap₂ (λ xs ys. xs ++ ys) (h s) (flat-through f h ss)
-    ∙ sym (map-append bare_seat (f (bare_seat s)) (flat_map f (map bare_seat ss)))
+    ∙ sym (map-append bare_session (f (bare_session s)) (flat_map f (map bare_session ss)))
 
-swap-through : (key : ℕ) (new other ss : List Seat) → map bare_seat new ≡ map bare_seat other → map bare_seat (swap key new ss) ≡ map bare_seat (swap key other (map bare_seat ss))
+swap-through : (key : ℕ) (new other ss : List Session) → map bare_session new ≡ map bare_session other → map bare_session (swap key new ss) ≡ map bare_session (swap key other (map bare_session ss))
 swap-through key new other [] e = refl
 swap-through key new other (s ∷ ss) e =
-    map-append bare_seat (cond (eqb s.key key) new (s ∷ [])) (swap key new ss)
+    map-append bare_session (cond (eqb s.key key) new (s ∷ [])) (swap key new ss)
     ∙ ap₂ (λ xs ys. xs ++ ys) (by (eqb s.key key)) (swap-through key new other ss e)
-    ∙ sym (map-append bare_seat (cond (eqb s.key key) other (bare_seat s ∷ [])) (swap key other (map bare_seat ss)))
+    ∙ sym (map-append bare_session (cond (eqb s.key key) other (bare_session s ∷ [])) (swap key other (map bare_session ss)))
   where
-    by : (b : Bool) → map bare_seat (cond b new (s ∷ [])) ≡ map bare_seat (cond b other (bare_seat s ∷ []))
+    by : (b : Bool) → map bare_session (cond b new (s ∷ [])) ≡ map bare_session (cond b other (bare_session s ∷ []))
     by true = e
-    by false = ap (λ x. x ∷ []) (sym (seat-twice s))
+    by false = ap (λ x. x ∷ []) (sym (session-twice s))
 
-others-through : (c : ℕ) (gs : List Guest) → map bare_guest (other_guests c gs) ≡ map bare_guest (other_guests c (map bare_guest gs))
+others-through : (c : ℕ) (gs : List Newcomer) → map bare_newcomer (other_newcomers c gs) ≡ map bare_newcomer (other_newcomers c (map bare_newcomer gs))
 others-through c gs =
-    sym (guests-twice (other_guests c gs))
-    ∙ ap (map bare_guest) (sym (filter-map bare_guest (λ (g : Guest). not (eqb g.conn c)) (λ (g : Guest). not (eqb g.conn c)) (λ g. refl) gs))
+    sym (newcomers-twice (other_newcomers c gs))
+    ∙ ap (map bare_newcomer) (sym (filter-map bare_newcomer (λ (g : Newcomer). not (eqb g.conn c)) (λ (g : Newcomer). not (eqb g.conn c)) (λ g. refl) gs))
 
 -- ---- one message and one session
 
-will-bare : (o : Option Line) → option_map_or (λ (l : Line). option_list l.will) o [] ≡ option_map_or (λ (l : Line). option_list l.will) (option_map bare_line o) []
+will-bare : (o : Option Connection) → option_map_or (λ (l : Connection). option_list l.will) o [] ≡ option_map_or (λ (l : Connection). option_list l.will) (option_map bare_connection o) []
 will-bare None = refl
 will-bare (Some l) = refl
 
-hand-left : (q : ℕ) (post : Post) (s : Seat) → map bare_seat (hand_at q post s).left ≡ map bare_seat (hand_at q post (bare_seat s)).left
-hand-left zero post s = ap (λ x. x ∷ []) (sym (seat-twice s))
-hand-left (suc q) post s = by (has_room s.used)
+hand-left : (q : ℕ) (app_message : AppMessage) (s : Session) → map bare_session (hand_at q app_message s).left ≡ map bare_session (hand_at q app_message (bare_session s)).left
+hand-left zero app_message s = ap (λ x. x ∷ []) (sym (session-twice s))
+hand-left (suc q) app_message s = by (has_room s.used)
   where
     id : ℕ
     id = next_id s.used s.last
 
-    copy : Bool → List Copy
-    copy h = cond s.kept (s.copies ++ (record { id = id; post = post; handed = h }) ∷ []) s.copies
+    message : Bool → List InFlight
+    message h = cond s.kept (s.in_flight ++ (record { id = id; app_message = app_message; handed = h }) ∷ []) s.in_flight
 
-    numbered-left : map bare_seat (numbered s post id).left ≡ map bare_seat (numbered (bare_seat s) post id).left
-    numbered-left = ap₂ (λ o h. (record s { here = o; used = s.used ++ id ∷ []; last = id; copies = copy h }) ∷ []) (sym (here-twice s.here)) (sym (here-bare s.here))
+    numbered-left : map bare_session (numbered s app_message id).left ≡ map bare_session (numbered (bare_session s) app_message id).left
+    numbered-left = ap₂ (λ o h. (record s { here = o; used = s.used ++ id ∷ []; last = id; in_flight = message h }) ∷ []) (sym (here-twice s.here)) (sym (here-bare s.here))
 
-    by : (b : Bool) → map bare_seat (cond b (numbered s post id) (bursts s)).left ≡ map bare_seat (cond b (numbered (bare_seat s) post id) (bursts (bare_seat s))).left
+    by : (b : Bool) → map bare_session (cond b (numbered s app_message id) (bursts s)).left ≡ map bare_session (cond b (numbered (bare_session s) app_message id) (bursts (bare_session s))).left
     by true = numbered-left
     by false = refl
 
-hand-wills : (q : ℕ) (post : Post) (s : Seat) → (hand_at q post s).wills ≡ (hand_at q post (bare_seat s)).wills
-hand-wills zero post s = refl
-hand-wills (suc q) post s = by (has_room s.used)
+hand-wills : (q : ℕ) (app_message : AppMessage) (s : Session) → (hand_at q app_message s).wills ≡ (hand_at q app_message (bare_session s)).wills
+hand-wills zero app_message s = refl
+hand-wills (suc q) app_message s = by (has_room s.used)
   where
     id : ℕ
     id = next_id s.used s.last
 
-    by : (b : Bool) → (cond b (numbered s post id) (bursts s)).wills ≡ (cond b (numbered (bare_seat s) post id) (bursts (bare_seat s))).wills
+    by : (b : Bool) → (cond b (numbered s app_message id) (bursts s)).wills ≡ (cond b (numbered (bare_session s) app_message id) (bursts (bare_session s))).wills
     by true = refl
     by false = will-bare s.here
 
-serve-left : (m : Post) (s : Seat) → map bare_seat (serve m s).left ≡ map bare_seat (serve m (bare_seat s)).left
+serve-left : (m : AppMessage) (s : Session) → map bare_session (serve m s).left ≡ map bare_session (serve m (bare_session s)).left
 serve-left m s = by (level m.qos (best m.topic s.grants))
   where
-    by : (o : Option ℕ) → map bare_seat (serve_at o m s).left ≡ map bare_seat (serve_at o m (bare_seat s)).left
-    by None = ap (λ x. x ∷ []) (sym (seat-twice s))
+    by : (o : Option ℕ) → map bare_session (serve_at o m s).left ≡ map bare_session (serve_at o m (bare_session s)).left
+    by None = ap (λ x. x ∷ []) (sym (session-twice s))
     by (Some q) = hand-left q (sent_as m q false) s
 
-serve-wills : (m : Post) (s : Seat) → (serve m (bare_seat s)).wills ≡ (serve m s).wills
+serve-wills : (m : AppMessage) (s : Session) → (serve m (bare_session s)).wills ≡ (serve m s).wills
 serve-wills m s = by (level m.qos (best m.topic s.grants))
   where
-    by : (o : Option ℕ) → (serve_at o m (bare_seat s)).wills ≡ (serve_at o m s).wills
+    by : (o : Option ℕ) → (serve_at o m (bare_session s)).wills ≡ (serve_at o m s).wills
     by None = refl
     by (Some q) = sym (hand-wills q (sent_as m q false) s)
 
 -- ---- routing
 
-one-through : (m : Post) (t : Turn) → strip (route_one m t) ≡ strip (route_one m (strip t))
+one-through : (m : AppMessage) (t : Turn) → strip (route_one m t) ≡ strip (route_one m (strip t))
 one-through m t =
-    ap (λ gs. turn_with t.broker.given t.broker.made gs (map bare_seat (flat_map (λ (s : Seat). (serve m s).left) t.broker.seats)) (retained_with t.broker.retained m) (t.waiting ++ flat_map (λ (s : Seat). (serve m s).wills) t.broker.seats))
-    (sym (guests-twice t.broker.guests))
-    ∙ ap₂ (λ ss ws. turn_with t.broker.given t.broker.made (map bare_guest (map bare_guest t.broker.guests)) ss (retained_with t.broker.retained m) (t.waiting ++ ws))
-    (flat-through (λ (s : Seat). (serve m s).left) (serve-left m) t.broker.seats)
-    (sym (flat_map-map bare_seat (λ (s : Seat). (serve m s).wills) (λ (s : Seat). (serve m s).wills) (serve-wills m) t.broker.seats))
+    ap (λ gs. turn_with t.broker.given t.broker.made gs (map bare_session (flat_map (λ (s : Session). (serve m s).left) t.broker.sessions)) (retained_with t.broker.retained m) (t.waiting ++ flat_map (λ (s : Session). (serve m s).wills) t.broker.sessions))
+    (sym (newcomers-twice t.broker.newcomers))
+    ∙ ap₂ (λ ss ws. turn_with t.broker.given t.broker.made (map bare_newcomer (map bare_newcomer t.broker.newcomers)) ss (retained_with t.broker.retained m) (t.waiting ++ ws))
+    (flat-through (λ (s : Session). (serve m s).left) (serve-left m) t.broker.sessions)
+    (sym (flat_map-map bare_session (λ (s : Session). (serve m s).wills) (λ (s : Session). (serve m s).wills) (serve-wills m) t.broker.sessions))
 
-abbrev waits : Turn → List Post → Turn
+abbrev waits : Turn → List AppMessage → Turn
 waits t ms = record t { waiting = ms }
 
-one-alike : (m : Post) (t u : Turn) → strip t ≡ strip u → strip (route_one m t) ≡ strip (route_one m u)
+one-alike : (m : AppMessage) (t u : Turn) → strip t ≡ strip u → strip (route_one m t) ≡ strip (route_one m u)
 one-alike m t u e = one-through m t ∙ ap (λ x. strip (route_one m x)) e ∙ sym (one-through m u)
 
 some-done : (n : ℕ) (t : Turn) → t.waiting ≡ [] → route_some n t ≡ t
@@ -176,7 +176,7 @@ unfolding route_some
 some-done zero t is = refl
 some-done (suc n) t is = rw is refl
 
-some-next : (n : ℕ) (m : Post) (ms : List Post) (t : Turn) → t.waiting ≡ m ∷ ms → route_some (suc n) t ≡ route_some n (route_one m (waits t ms))
+some-next : (n : ℕ) (m : AppMessage) (ms : List AppMessage) (t : Turn) → t.waiting ≡ m ∷ ms → route_some (suc n) t ≡ route_some n (route_one m (waits t ms))
 unfolding route_some
 some-next n m ms t is = rw is refl
 
@@ -189,19 +189,19 @@ some-alike zero t u e = ap strip (some-none t) ∙ e ∙ ap strip (sym (some-non
 some-alike (suc n) t u e = by t.waiting refl (sym (ap (λ (x : Turn). x.waiting) e))
     (λ m ms. some-alike n (route_one m (waits t ms)) (route_one m (waits u ms)) (one-alike m (waits t ms) (waits u ms) (ap (λ (x : Turn). waits x ms) e)))
   where
-    by : (ws : List Post) → t.waiting ≡ ws → u.waiting ≡ t.waiting
-        → ((m : Post) (ms : List Post) → strip (route_some n (route_one m (waits t ms))) ≡ strip (route_some n (route_one m (waits u ms))))
+    by : (ws : List AppMessage) → t.waiting ≡ ws → u.waiting ≡ t.waiting
+        → ((m : AppMessage) (ms : List AppMessage) → strip (route_some n (route_one m (waits t ms))) ≡ strip (route_some n (route_one m (waits u ms))))
         → strip (route_some (suc n) t) ≡ strip (route_some (suc n) u)
     by [] is same rest = ap strip (some-done (suc n) t is) ∙ e ∙ ap strip (sym (some-done (suc n) u (same ∙ is)))
     by (m ∷ ms) is same rest = ap strip (some-next n m ms t is) ∙ rest m ms ∙ ap strip (sym (some-next n m ms u (same ∙ is)))
 
-seats-many : (ss : List Seat) → length (map bare_seat ss) ≡ length ss
-seats-many ss = length-map ss bare_seat
+sessions-many : (ss : List Session) → length (map bare_session ss) ≡ length ss
+sessions-many ss = length-map ss bare_session
 
 most-alike : (t u : Turn) → strip t ≡ strip u → most t ≡ most u
 most-alike t u e = ap₂ (λ (x y : ℕ). x + y)
     (ap (λ (x : Turn). length x.waiting) e)
-    (sym (seats-many t.broker.seats) ∙ ap (λ (x : Turn). length x.broker.seats) e ∙ seats-many u.broker.seats)
+    (sym (sessions-many t.broker.sessions) ∙ ap (λ (x : Turn). length x.broker.sessions) e ∙ sessions-many u.broker.sessions)
 
 pub route-alike : (t u : Turn) → strip t ≡ strip u → strip (route t) ≡ strip (route u)
 unfolding route
@@ -209,161 +209,161 @@ route-alike t u e = ap (λ n. strip (route_some n t)) (most-alike t u e) ∙ som
 
 -- ---- the acts
 
-guests-again : (t : Turn) (ss : List Seat) (ws : List Post) → turn_with t.broker.given t.broker.made (map bare_guest t.broker.guests) ss t.broker.retained ws
-    ≡ turn_with t.broker.given t.broker.made (map bare_guest (map bare_guest t.broker.guests)) ss t.broker.retained ws
-guests-again t ss ws = ap (λ gs. turn_with t.broker.given t.broker.made gs ss t.broker.retained ws) (sym (guests-twice t.broker.guests))
+newcomers-again : (t : Turn) (ss : List Session) (ws : List AppMessage) → turn_with t.broker.given t.broker.made (map bare_newcomer t.broker.newcomers) ss t.broker.retained ws
+    ≡ turn_with t.broker.given t.broker.made (map bare_newcomer (map bare_newcomer t.broker.newcomers)) ss t.broker.retained ws
+newcomers-again t ss ws = ap (λ gs. turn_with t.broker.given t.broker.made gs ss t.broker.retained ws) (sym (newcomers-twice t.broker.newcomers))
 
 open-through : (t : Turn) → strip (opens t) ≡ strip (opens (strip t))
 open-through t = ap₂ (λ gs ss. turn_with (t.broker.given + 1) t.broker.made gs ss t.broker.retained t.waiting)
-    (map-append bare_guest t.broker.guests ((record { conn = t.broker.given + 1; heard = t.broker.clock; drops = 0 }) ∷ [])
-    ∙ ap (λ gs. gs ++ (record { conn = t.broker.given + 1; heard = 0; drops = 0 }) ∷ []) (sym (guests-twice t.broker.guests))
-    ∙ sym (map-append bare_guest (map bare_guest t.broker.guests) ((record { conn = t.broker.given + 1; heard = 0; drops = 0 }) ∷ [])))
-    (sym (seats-twice t.broker.seats))
+    (map-append bare_newcomer t.broker.newcomers ((record { conn = t.broker.given + 1; heard = t.broker.clock; drops = 0 }) ∷ [])
+    ∙ ap (λ gs. gs ++ (record { conn = t.broker.given + 1; heard = 0; drops = 0 }) ∷ []) (sym (newcomers-twice t.broker.newcomers))
+    ∙ sym (map-append bare_newcomer (map bare_newcomer t.broker.newcomers) ((record { conn = t.broker.given + 1; heard = 0; drops = 0 }) ∷ [])))
+    (sym (sessions-twice t.broker.sessions))
 
-guest-heard : (c k : ℕ) (g : Guest) → bare_guest (guest_heard c k g) ≡ bare_guest g
-guest-heard c k g = by (eqb g.conn c)
+newcomer-heard : (c k : ℕ) (g : Newcomer) → bare_newcomer (newcomer_heard c k g) ≡ bare_newcomer g
+newcomer-heard c k g = by (eqb g.conn c)
   where
-    by : (b : Bool) → bare_guest (cond b (record g { heard = k }) g) ≡ bare_guest g
+    by : (b : Bool) → bare_newcomer (cond b (record g { heard = k }) g) ≡ bare_newcomer g
     by true = refl
     by false = refl
 
-guest-dropped : (c : ℕ) (g : Guest) → bare_guest (guest_dropped c g) ≡ bare_guest g
-guest-dropped c g = by (one_more g.drops) (eqb g.conn c)
+newcomer-dropped : (c : ℕ) (g : Newcomer) → bare_newcomer (newcomer_dropped c g) ≡ bare_newcomer g
+newcomer-dropped c g = by (one_more g.drops) (eqb g.conn c)
   where
-    by : (n : ℕ) (b : Bool) → bare_guest (cond b (record g { drops = n }) g) ≡ bare_guest g
+    by : (n : ℕ) (b : Bool) → bare_newcomer (cond b (record g { drops = n }) g) ≡ bare_newcomer g
     by n true = refl
     by n false = refl
 
-seat-heard : (c k : ℕ) (s : Seat) → bare_seat (record s { here = option_map (line_heard c k) s.here }) ≡ bare_seat s
-seat-heard c k s = ap (λ o. record s { here = o }) (by s.here)
+session-heard : (c k : ℕ) (s : Session) → bare_session (record s { here = option_map (connection_heard c k) s.here }) ≡ bare_session s
+session-heard c k s = ap (λ o. record s { here = o }) (by s.here)
   where
-    one : (l : Line) (b : Bool) → bare_line (cond b (record l { heard = k }) l) ≡ bare_line l
+    one : (l : Connection) (b : Bool) → bare_connection (cond b (record l { heard = k }) l) ≡ bare_connection l
     one l true = refl
     one l false = refl
 
-    by : (o : Option Line) → option_map bare_line (option_map (line_heard c k) o) ≡ option_map bare_line o
+    by : (o : Option Connection) → option_map bare_connection (option_map (connection_heard c k) o) ≡ option_map bare_connection o
     by None = refl
     by (Some l) = ap Some (one l (eqb l.conn c))
 
-seat-dropped : (c : ℕ) (s : Seat) → bare_seat (record s { here = option_map (line_dropped c) s.here }) ≡ bare_seat s
-seat-dropped c s = ap (λ o. record s { here = o }) (by s.here)
+session-dropped : (c : ℕ) (s : Session) → bare_session (record s { here = option_map (connection_dropped c) s.here }) ≡ bare_session s
+session-dropped c s = ap (λ o. record s { here = o }) (by s.here)
   where
-    one : (l : Line) (n : ℕ) (b : Bool) → bare_line (cond b (record l { drops = n }) l) ≡ bare_line l
+    one : (l : Connection) (n : ℕ) (b : Bool) → bare_connection (cond b (record l { drops = n }) l) ≡ bare_connection l
     one l n true = refl
     one l n false = refl
 
-    by : (o : Option Line) → option_map bare_line (option_map (line_dropped c) o) ≡ option_map bare_line o
+    by : (o : Option Connection) → option_map bare_connection (option_map (connection_dropped c) o) ≡ option_map bare_connection o
     by None = refl
     by (Some l) = ap Some (one l (one_more l.drops) (eqb l.conn c))
 
-pub heard-same : (c k : ℕ) (t : Turn) → strip (on_lines (guest_heard c k) (line_heard c k) t) ≡ strip t
+pub heard-same : (c k : ℕ) (t : Turn) → strip (on_connections (newcomer_heard c k) (connection_heard c k) t) ≡ strip t
 heard-same c k t = ap₂ (λ gs ss. turn_with t.broker.given t.broker.made gs ss t.broker.retained t.waiting)
-    (map-map (guest_heard c k) bare_guest bare_guest (guest-heard c k) t.broker.guests)
-    (map-map (λ (s : Seat). record s { here = option_map (line_heard c k) s.here }) bare_seat bare_seat (seat-heard c k) t.broker.seats)
+    (map-map (newcomer_heard c k) bare_newcomer bare_newcomer (newcomer-heard c k) t.broker.newcomers)
+    (map-map (λ (s : Session). record s { here = option_map (connection_heard c k) s.here }) bare_session bare_session (session-heard c k) t.broker.sessions)
 
-pub dropped-same : (c : ℕ) (t : Turn) → strip (on_lines (guest_dropped c) (line_dropped c) t) ≡ strip t
+pub dropped-same : (c : ℕ) (t : Turn) → strip (on_connections (newcomer_dropped c) (connection_dropped c) t) ≡ strip t
 dropped-same c t = ap₂ (λ gs ss. turn_with t.broker.given t.broker.made gs ss t.broker.retained t.waiting)
-    (map-map (guest_dropped c) bare_guest bare_guest (guest-dropped c) t.broker.guests)
-    (map-map (λ (s : Seat). record s { here = option_map (line_dropped c) s.here }) bare_seat bare_seat (seat-dropped c) t.broker.seats)
+    (map-map (newcomer_dropped c) bare_newcomer bare_newcomer (newcomer-dropped c) t.broker.newcomers)
+    (map-map (λ (s : Session). record s { here = option_map (connection_dropped c) s.here }) bare_session bare_session (session-dropped c) t.broker.sessions)
 
--- seats that are swapped, and what waits then
-swap-act : (t : Turn) (key : ℕ) (new other : List Seat) (ws us : List Post) → map bare_seat new ≡ map bare_seat other → ws ≡ us
-    → strip (record (with_seats (swap key new t.broker.seats) t) { waiting = ws }) ≡ strip (record (with_seats (swap key other (map bare_seat t.broker.seats)) (strip t)) { waiting = us })
+-- sessions that are swapped, and what waits then
+swap-act : (t : Turn) (key : ℕ) (new other : List Session) (ws us : List AppMessage) → map bare_session new ≡ map bare_session other → ws ≡ us
+    → strip (record (with_sessions (swap key new t.broker.sessions) t) { waiting = ws }) ≡ strip (record (with_sessions (swap key other (map bare_session t.broker.sessions)) (strip t)) { waiting = us })
 swap-act t key new other ws us e f =
-    guests-again t (map bare_seat (swap key new t.broker.seats)) ws
-    ∙ ap₂ (λ ss xs. turn_with t.broker.given t.broker.made (map bare_guest (map bare_guest t.broker.guests)) ss t.broker.retained xs) (swap-through key new other t.broker.seats e) f
+    newcomers-again t (map bare_session (swap key new t.broker.sessions)) ws
+    ∙ ap₂ (λ ss xs. turn_with t.broker.given t.broker.made (map bare_newcomer (map bare_newcomer t.broker.newcomers)) ss t.broker.retained xs) (swap-through key new other t.broker.sessions e) f
 
-will_at-bare : (wills : Bool) (s : Seat) → will_at wills s ≡ will_at wills (bare_seat s)
+will_at-bare : (wills : Bool) (s : Session) → will_at wills s ≡ will_at wills (bare_session s)
 will_at-bare true s = will-bare s.here
 will_at-bare false s = refl
 
-leave-through : (o : Option Seat) (c : ℕ) (wills : Bool) (t : Turn) → strip (leave_at o c wills t) ≡ strip (leave_at (option_map bare_seat o) c wills (strip t))
-leave-through None c wills t = ap₂ (λ gs ss. turn_with t.broker.given t.broker.made gs ss t.broker.retained t.waiting) (others-through c t.broker.guests) (sym (seats-twice t.broker.seats))
-leave-through (Some s) c wills t = swap-act t s.key (left_behind s) (left_behind s) (t.waiting ++ will_at wills s) (t.waiting ++ will_at wills (bare_seat s)) refl (ap (λ ws. t.waiting ++ ws) (will_at-bare wills s))
+leave-through : (o : Option Session) (c : ℕ) (wills : Bool) (t : Turn) → strip (leave_at o c wills t) ≡ strip (leave_at (option_map bare_session o) c wills (strip t))
+leave-through None c wills t = ap₂ (λ gs ss. turn_with t.broker.given t.broker.made gs ss t.broker.retained t.waiting) (others-through c t.broker.newcomers) (sym (sessions-twice t.broker.sessions))
+leave-through (Some s) c wills t = swap-act t s.key (left_behind s) (left_behind s) (t.waiting ++ will_at wills s) (t.waiting ++ will_at wills (bare_session s)) refl (ap (λ ws. t.waiting ++ ws) (will_at-bare wills s))
 
-forget-through : (o : Option Seat) (t : Turn) → strip (forget_at o t) ≡ strip (forget_at (option_map bare_seat o) (strip t))
+forget-through : (o : Option Session) (t : Turn) → strip (forget_at o t) ≡ strip (forget_at (option_map bare_session o) (strip t))
 forget-through None t = sym (strip-twice t)
 forget-through (Some s) t = swap-act t s.key [] [] t.waiting t.waiting refl refl
 
-take_up-through : (o : Option Seat) (client : List ℕ) (kept : Bool) (g : Guest) (alive other : ℕ) (will : Option Post) (t : Turn)
-    → strip (take_up o client kept (line_of g alive will) t) ≡ strip (take_up (option_map bare_seat o) client kept (line_of (bare_guest g) other will) (strip t))
+take_up-through : (o : Option Session) (client : List ℕ) (kept : Bool) (g : Newcomer) (alive other : ℕ) (will : Option AppMessage) (t : Turn)
+    → strip (take_up o client kept (connection_of g alive will) t) ≡ strip (take_up (option_map bare_session o) client kept (connection_of (bare_newcomer g) other will) (strip t))
 take_up-through None client kept g alive other will t = ap₂ (λ gs ss. turn_with t.broker.given (t.broker.made + 1) gs ss t.broker.retained t.waiting)
-    (others-through g.conn t.broker.guests)
-    (map-append bare_seat t.broker.seats (new_seat (t.broker.made + 1) client kept (line_of g alive will) ∷ [])
-    ∙ ap (λ ss. ss ++ bare_seat (new_seat (t.broker.made + 1) client kept (line_of g alive will)) ∷ []) (sym (seats-twice t.broker.seats))
-    ∙ sym (map-append bare_seat (map bare_seat t.broker.seats) (new_seat (t.broker.made + 1) client kept (line_of (bare_guest g) other will) ∷ [])))
+    (others-through g.conn t.broker.newcomers)
+    (map-append bare_session t.broker.sessions (new_session (t.broker.made + 1) client kept (connection_of g alive will) ∷ [])
+    ∙ ap (λ ss. ss ++ bare_session (new_session (t.broker.made + 1) client kept (connection_of g alive will)) ∷ []) (sym (sessions-twice t.broker.sessions))
+    ∙ sym (map-append bare_session (map bare_session t.broker.sessions) (new_session (t.broker.made + 1) client kept (connection_of (bare_newcomer g) other will) ∷ [])))
 take_up-through (Some s) client kept g alive other will t = ap₂ (λ gs ss. turn_with t.broker.given t.broker.made gs ss t.broker.retained t.waiting)
-    (others-through g.conn t.broker.guests)
-    (swap-through s.key ((record s { here = Some (line_of g alive will); copies = map handed_out s.copies }) ∷ [])
-    ((record s { here = Some (line_of (bare_guest g) other will); copies = map handed_out s.copies }) ∷ []) t.broker.seats refl)
+    (others-through g.conn t.broker.newcomers)
+    (swap-through s.key ((record s { here = Some (connection_of g alive will); in_flight = map handed_out s.in_flight }) ∷ [])
+    ((record s { here = Some (connection_of (bare_newcomer g) other will); in_flight = map handed_out s.in_flight }) ∷ []) t.broker.sessions refl)
 
-away_for-bare : (kept : Bool) (client : List ℕ) (ss : List Seat) → away_for kept client (map bare_seat ss) ≡ option_map bare_seat (away_for kept client ss)
+away_for-bare : (kept : Bool) (client : List ℕ) (ss : List Session) → away_for kept client (map bare_session ss) ≡ option_map bare_session (away_for kept client ss)
 away_for-bare true client ss = found-away-bare client ss
 away_for-bare false client ss = refl
 
-pub accept-through : (o : Option Guest) (client : List ℕ) (kept : Bool) (alive other : ℕ) (will : Option Post) (t : Turn)
-    → strip (accept_of o client kept alive will t) ≡ strip (accept_of (option_map bare_guest o) client kept other will (strip t))
+pub accept-through : (o : Option Newcomer) (client : List ℕ) (kept : Bool) (alive other : ℕ) (will : Option AppMessage) (t : Turn)
+    → strip (accept_of o client kept alive will t) ≡ strip (accept_of (option_map bare_newcomer o) client kept other will (strip t))
 accept-through None client kept alive other will t = sym (strip-twice t)
 accept-through (Some g) client kept alive other will t =
-    take_up-through (away_for kept client t.broker.seats) client kept g alive other will t
-    ∙ ap (λ o. strip (take_up o client kept (line_of (bare_guest g) other will) (strip t))) (sym (away_for-bare kept client t.broker.seats))
+    take_up-through (away_for kept client t.broker.sessions) client kept g alive other will t
+    ∙ ap (λ o. strip (take_up o client kept (connection_of (bare_newcomer g) other will) (strip t))) (sym (away_for-bare kept client t.broker.sessions))
 
 -- ---- offers
 
-offer-through : (o : Option Seat) (key : ℕ) (post : Post) (t : Turn) → strip (offer_at o key post t) ≡ strip (offer_at (option_map bare_seat o) key post (strip t))
-offer-through None key post t = sym (strip-twice t)
-offer-through (Some s) key post t =
-    swap-act t key (hand post s).left (hand post (bare_seat s)).left (t.waiting ++ (hand post s).wills) (t.waiting ++ (hand post (bare_seat s)).wills)
-    (hand-left post.qos post s) (ap (λ ws. t.waiting ++ ws) (hand-wills post.qos post s))
+offer-through : (o : Option Session) (key : ℕ) (app_message : AppMessage) (t : Turn) → strip (offer_at o key app_message t) ≡ strip (offer_at (option_map bare_session o) key app_message (strip t))
+offer-through None key app_message t = sym (strip-twice t)
+offer-through (Some s) key app_message t =
+    swap-act t key (hand app_message s).left (hand app_message (bare_session s)).left (t.waiting ++ (hand app_message s).wills) (t.waiting ++ (hand app_message (bare_session s)).wills)
+    (hand-left app_message.qos app_message s) (ap (λ ws. t.waiting ++ ws) (hand-wills app_message.qos app_message s))
 
-offer-alike : (key : ℕ) (post : Post) (t u : Turn) → strip t ≡ strip u → strip (offer key t post) ≡ strip (offer key u post)
-offer-alike key post t u e = once t ∙ ap (λ (x : Turn). strip (offer key x post)) e ∙ sym (once u)
+offer-alike : (key : ℕ) (app_message : AppMessage) (t u : Turn) → strip t ≡ strip u → strip (offer key t app_message) ≡ strip (offer key u app_message)
+offer-alike key app_message t u e = once t ∙ ap (λ (x : Turn). strip (offer key x app_message)) e ∙ sym (once u)
   where
-    once : (x : Turn) → strip (offer key x post) ≡ strip (offer key (strip x) post)
-    once x = offer-through (with_key key x.broker.seats) key post x ∙ ap (λ o. strip (offer_at o key post (strip x))) (sym (key-bare key x.broker.seats))
+    once : (x : Turn) → strip (offer key x app_message) ≡ strip (offer key (strip x) app_message)
+    once x = offer-through (with_key key x.broker.sessions) key app_message x ∙ ap (λ o. strip (offer_at o key app_message (strip x))) (sym (key-bare key x.broker.sessions))
 
-offers-alike : (key : ℕ) (posts : List Post) (t u : Turn) → strip t ≡ strip u → strip (fold (offer key) t posts) ≡ strip (fold (offer key) u posts)
+offers-alike : (key : ℕ) (app_messages : List AppMessage) (t u : Turn) → strip t ≡ strip u → strip (fold (offer key) t app_messages) ≡ strip (fold (offer key) u app_messages)
 offers-alike key [] t u e = e
 offers-alike key (m ∷ ms) t u e = offers-alike key ms (offer key t m) (offer key u m) (offer-alike key m t u e)
 
-grants-bare : (ss : List Seat) → all_grants (map bare_seat ss) ≡ all_grants ss
-grants-bare ss = ap length (flat_map-map bare_seat (λ (s : Seat). s.grants) (λ (s : Seat). s.grants) (λ s. refl) ss)
+grants-bare : (ss : List Session) → all_grants (map bare_session ss) ≡ all_grants ss
+grants-bare ss = ap length (flat_map-map bare_session (λ (s : Session). s.grants) (λ (s : Session). s.grants) (λ s. refl) ss)
 
-pub other_grants-bare : (s : Seat) (ss : List Seat) → other_grants (bare_seat s) (map bare_seat ss) ≡ other_grants s ss
+pub other_grants-bare : (s : Session) (ss : List Session) → other_grants (bare_session s) (map bare_session ss) ≡ other_grants s ss
 other_grants-bare s ss = ap (λ n. n - length s.grants) (grants-bare ss)
 
--- a session with other grants, identifiers and copies
-changed-seat : (s : Seat) (grants : Table ℕ) (used : List ℕ) (copies : List Copy) → map bare_seat ((record s { grants = grants; used = used; copies = copies }) ∷ [])
-    ≡ map bare_seat ((record (bare_seat s) { grants = grants; used = used; copies = copies }) ∷ [])
-changed-seat s grants used copies = ap (λ o. (record s { here = o; grants = grants; used = used; copies = copies }) ∷ []) (sym (here-twice s.here))
+-- a session with other grants, identifiers and messages in flight
+changed-session : (s : Session) (grants : Table ℕ) (used : List ℕ) (in_flight : List InFlight) → map bare_session ((record s { grants = grants; used = used; in_flight = in_flight }) ∷ [])
+    ≡ map bare_session ((record (bare_session s) { grants = grants; used = used; in_flight = in_flight }) ∷ [])
+changed-session s grants used in_flight = ap (λ o. (record s { here = o; grants = grants; used = used; in_flight = in_flight }) ∷ []) (sym (here-twice s.here))
 
-with-through : (others : ℕ) (s : Seat) (c id : ℕ) (entries : List (List ℕ × ℕ)) (t : Turn)
-    → strip (give_with others s c id entries t) ≡ strip (give_with others (bare_seat s) c id entries (strip t))
+with-through : (others : ℕ) (s : Session) (c id : ℕ) (entries : List (List ℕ × ℕ)) (t : Turn)
+    → strip (give_with others s c id entries t) ≡ strip (give_with others (bare_session s) c id entries (strip t))
 with-through others s c id entries t = offers-alike s.key (flat_map (offers_to t.broker.retained) (granted_of others s.grants entries))
-    (record (with_seats (swap s.key ((record s { grants = fold (with_entry others) s.grants entries }) ∷ []) t.broker.seats) t) {
+    (record (with_sessions (swap s.key ((record s { grants = fold (with_entry others) s.grants entries }) ∷ []) t.broker.sessions) t) {
       sends = t.sends ++ (record { conn = c; packet = SubAck id (codes_of others s.grants entries) }) ∷ [];
     })
-    (record (with_seats (swap s.key ((record (bare_seat s) { grants = fold (with_entry others) s.grants entries }) ∷ []) (map bare_seat t.broker.seats)) (strip t)) {
+    (record (with_sessions (swap s.key ((record (bare_session s) { grants = fold (with_entry others) s.grants entries }) ∷ []) (map bare_session t.broker.sessions)) (strip t)) {
       sends = [] ++ (record { conn = c; packet = SubAck id (codes_of others s.grants entries) }) ∷ [];
     })
-    (swap-act t s.key ((record s { grants = fold (with_entry others) s.grants entries }) ∷ []) ((record (bare_seat s) { grants = fold (with_entry others) s.grants entries }) ∷ []) t.waiting t.waiting
-    (changed-seat s (fold (with_entry others) s.grants entries) s.used s.copies) refl)
+    (swap-act t s.key ((record s { grants = fold (with_entry others) s.grants entries }) ∷ []) ((record (bare_session s) { grants = fold (with_entry others) s.grants entries }) ∷ []) t.waiting t.waiting
+    (changed-session s (fold (with_entry others) s.grants entries) s.used s.in_flight) refl)
 
-give-through : (o : Option Seat) (c id : ℕ) (entries : List (List ℕ × ℕ)) (t : Turn) → strip (give_at o c id entries t) ≡ strip (give_at (option_map bare_seat o) c id entries (strip t))
+give-through : (o : Option Session) (c id : ℕ) (entries : List (List ℕ × ℕ)) (t : Turn) → strip (give_at o c id entries t) ≡ strip (give_at (option_map bare_session o) c id entries (strip t))
 give-through None c id entries t = sym (strip-twice t)
 give-through (Some s) c id entries t =
-    with-through (other_grants s t.broker.seats) s c id entries t
-    ∙ ap (λ n. strip (give_with n (bare_seat s) c id entries (strip t))) (sym (other_grants-bare s t.broker.seats))
+    with-through (other_grants s t.broker.sessions) s c id entries t
+    ∙ ap (λ n. strip (give_with n (bare_session s) c id entries (strip t))) (sym (other_grants-bare s t.broker.sessions))
 
-take-through : (o : Option Seat) (filters : List (List ℕ)) (t : Turn) → strip (take_at o filters t) ≡ strip (take_at (option_map bare_seat o) filters (strip t))
+take-through : (o : Option Session) (filters : List (List ℕ)) (t : Turn) → strip (take_at o filters t) ≡ strip (take_at (option_map bare_session o) filters (strip t))
 take-through None filters t = sym (strip-twice t)
-take-through (Some s) filters t = swap-act t s.key ((record s { grants = fold (λ g f. remove f g) s.grants filters }) ∷ []) ((record (bare_seat s) { grants = fold (λ g f. remove f g) s.grants filters }) ∷ []) t.waiting t.waiting
-    (changed-seat s (fold (λ g f. remove f g) s.grants filters) s.used s.copies) refl
+take-through (Some s) filters t = swap-act t s.key ((record s { grants = fold (λ g f. remove f g) s.grants filters }) ∷ []) ((record (bare_session s) { grants = fold (λ g f. remove f g) s.grants filters }) ∷ []) t.waiting t.waiting
+    (changed-session s (fold (λ g f. remove f g) s.grants filters) s.used s.in_flight) refl
 
-ack-through : (o : Option Seat) (id : ℕ) (t : Turn) → strip (ack_at o id t) ≡ strip (ack_at (option_map bare_seat o) id (strip t))
+ack-through : (o : Option Session) (id : ℕ) (t : Turn) → strip (ack_at o id t) ≡ strip (ack_at (option_map bare_session o) id (strip t))
 ack-through None id t = sym (strip-twice t)
-ack-through (Some s) id t = swap-act t s.key ((record s { used = without id s.used; copies = without_id id s.copies }) ∷ []) ((record (bare_seat s) { used = without id s.used; copies = without_id id s.copies }) ∷ []) t.waiting t.waiting
-    (changed-seat s s.grants (without id s.used) (without_id id s.copies)) refl
+ack-through (Some s) id t = swap-act t s.key ((record s { used = without id s.used; in_flight = without_id id s.in_flight }) ∷ []) ((record (bare_session s) { used = without id s.used; in_flight = without_id id s.in_flight }) ∷ []) t.waiting t.waiting
+    (changed-session s s.grants (without id s.used) (without_id id s.in_flight)) refl
 
 -- ---- any act
 
@@ -376,7 +376,7 @@ bare_act (Drop c) = Drop c
 bare_act (Say c p) = Say c p
 bare_act (Leave c wills) = Leave c wills
 bare_act (Tell c) = Tell c
-bare_act (Queue post) = Queue post
+bare_act (Queue app_message) = Queue app_message
 bare_act Route = Route
 bare_act (Forget client) = Forget client
 bare_act (Accept c client kept alive will) = Accept c client kept 1 will
@@ -387,32 +387,32 @@ bare_act (Ack c id) = Ack c id
 same-through : (f : Turn → Turn) → ((x : Turn) → strip (f x) ≡ strip x) → (t : Turn) → strip (f t) ≡ strip (f (strip t))
 same-through f h t = h t ∙ sym (strip-twice t) ∙ sym (h (strip t))
 
-accepted : (c : ℕ) (client : List ℕ) (kept : Bool) (alive other : ℕ) (will : Option Post) (t : Turn)
+accepted : (c : ℕ) (client : List ℕ) (kept : Bool) (alive other : ℕ) (will : Option AppMessage) (t : Turn)
     → strip (act (Accept c client kept alive will) t) ≡ strip (act (Accept c client kept other will) (strip t))
 accepted c client kept alive other will t =
-    accept-through (find (is_guest c) t.broker.guests) client kept alive other will t
-    ∙ ap (λ o. strip (accept_of o client kept other will (strip t))) (sym (guest_at-bare c t.broker.guests))
+    accept-through (find (is_newcomer c) t.broker.newcomers) client kept alive other will t
+    ∙ ap (λ o. strip (accept_of o client kept other will (strip t))) (sym (newcomer_at-bare c t.broker.newcomers))
 
 act-through : (a : Act) (t : Turn) → strip (act a t) ≡ strip (act (bare_act a) (strip t))
 act-through Opens t = open-through t
 act-through (At moment) t = sym (strip-twice t)
 act-through (Hear c) t = heard-same c t.broker.clock t ∙ sym (strip-twice t) ∙ sym (heard-same c 0 (strip t))
-act-through (Drop c) t = same-through (on_lines (guest_dropped c) (line_dropped c)) (dropped-same c) t
+act-through (Drop c) t = same-through (on_connections (newcomer_dropped c) (connection_dropped c)) (dropped-same c) t
 act-through (Say c p) t = sym (strip-twice t)
 act-through (Leave c wills) t =
-    leave-through (seat_at c t.broker.seats) c wills t ∙ ap (λ o. strip (leave_at o c wills (strip t))) (sym (seat_at-bare c t.broker.seats))
+    leave-through (session_by c t.broker.sessions) c wills t ∙ ap (λ o. strip (leave_at o c wills (strip t))) (sym (session_by-bare c t.broker.sessions))
 act-through (Tell c) t = sym (strip-twice t)
-act-through (Queue post) t = ap₂ (λ gs ss. turn_with t.broker.given t.broker.made gs ss t.broker.retained (t.waiting ++ post ∷ [])) (sym (guests-twice t.broker.guests)) (sym (seats-twice t.broker.seats))
+act-through (Queue app_message) t = ap₂ (λ gs ss. turn_with t.broker.given t.broker.made gs ss t.broker.retained (t.waiting ++ app_message ∷ [])) (sym (newcomers-twice t.broker.newcomers)) (sym (sessions-twice t.broker.sessions))
 act-through Route t = route-alike t (strip t) (sym (strip-twice t))
 act-through (Forget client) t =
-    forget-through (find (is_away client) t.broker.seats) t ∙ ap (λ o. strip (forget_at o (strip t))) (sym (found-away-bare client t.broker.seats))
+    forget-through (find (is_away client) t.broker.sessions) t ∙ ap (λ o. strip (forget_at o (strip t))) (sym (found-away-bare client t.broker.sessions))
 act-through (Accept c client kept alive will) t = accepted c client kept alive 1 will t
 act-through (Give c id entries) t =
-    give-through (seat_at c t.broker.seats) c id entries t ∙ ap (λ o. strip (give_at o c id entries (strip t))) (sym (seat_at-bare c t.broker.seats))
+    give-through (session_by c t.broker.sessions) c id entries t ∙ ap (λ o. strip (give_at o c id entries (strip t))) (sym (session_by-bare c t.broker.sessions))
 act-through (Take c filters) t =
-    take-through (seat_at c t.broker.seats) filters t ∙ ap (λ o. strip (take_at o filters (strip t))) (sym (seat_at-bare c t.broker.seats))
+    take-through (session_by c t.broker.sessions) filters t ∙ ap (λ o. strip (take_at o filters (strip t))) (sym (session_by-bare c t.broker.sessions))
 act-through (Ack c id) t =
-    ack-through (seat_at c t.broker.seats) id t ∙ ap (λ o. strip (ack_at o id (strip t))) (sym (seat_at-bare c t.broker.seats))
+    ack-through (session_by c t.broker.sessions) id t ∙ ap (λ o. strip (ack_at o id (strip t))) (sym (session_by-bare c t.broker.sessions))
 
 bare-twice : (a : Act) → bare_act (bare_act a) ≡ bare_act a
 bare-twice Opens = refl
@@ -422,7 +422,7 @@ bare-twice (Drop c) = refl
 bare-twice (Say c p) = refl
 bare-twice (Leave c wills) = refl
 bare-twice (Tell c) = refl
-bare-twice (Queue post) = refl
+bare-twice (Queue app_message) = refl
 bare-twice Route = refl
 bare-twice (Forget client) = refl
 bare-twice (Accept c client kept alive will) = refl

@@ -5,48 +5,48 @@ use Rattle.std.specs.Option.{option_map, option_map_or, is_some}
 use Rattle.std.proofs.lemmas.Bool.{or_left, or_right}
 use Rattle.std.proofs.lemmas.List.{length-append}
 use Rattle.spk_session.specs.declared.answer.Sort.TheVariants as sort
-use Rattle.spk_broker_rules.specs.Data.{Line, Guest, Seat, Broker, fresh_broker}
+use Rattle.spk_broker_rules.specs.Data.{Connection, Newcomer, Session, Broker, fresh_broker}
 use Rattle.spk_broker_rules.specs.Knowing.{is_opening}
 use Rattle.spk_broker_rules.specs.Lawful.{IsLow, IsLawful}
 use Rattle.spk_broker_rules.specs.Listening.{is_closed_in, lets_go}
 use Rattle.spk_broker_rules.specs.Plan.{Event, Open, Packet, Fault, Closed, Tick, Refused}
-use Rattle.spk_broker_rules.specs.Step.{conn_at, sits, is_guest, seat_at, knows, step}
+use Rattle.spk_broker_rules.specs.Step.{conn_at, sits, is_newcomer, session_by, knows, step}
 use Rattle.spk_broker_rules.specs.Words.{option_list}
 use Rattle.spk_broker_rules.proofs.Lists.{eqb-self, flat_map-map, map-map}
-use Rattle.spk_broker_replay.specs.Replay.{Follows, IsTimed, bare, bare_guest, bare_line, bare_seat, connections, ends, is_idle, journal, notes, restored, run, timed_line, timed_seat, timeless}
-use Rattle.spk_broker_replay.proofs.Bare.{conn-bare, guests-twice}
+use Rattle.spk_broker_replay.specs.Replay.{Follows, IsTimed, bare, bare_newcomer, bare_connection, bare_session, connections, ends, is_idle, journal, notes, restored, run, timed_connection, timed_session, timeless}
+use Rattle.spk_broker_replay.proofs.Bare.{conn-bare, newcomers-twice}
 use Rattle.spk_broker_replay.proofs.Follow.{next-closed, next-drop, next-fault, next-open, next-other, next-packet, no}
 use Rattle.spk_broker_replay.proofs.Late.{next-tick, run-append, tick-front}
 
 pub first : (limit other : ℕ) → Follows (fresh_broker limit) (fresh_broker other)
-first limit other = record { same = refl; guests = tt; lines = tt }
+first limit other = record { same = refl; newcomers = tt; connections = tt }
 
 -- ---- data that were kept as they stood
 
-bare-timed : (s : Seat) → bare_seat (timed_seat s) ≡ bare_seat s
+bare-timed : (s : Session) → bare_session (timed_session s) ≡ bare_session s
 bare-timed s = ap (λ o. record s { here = o }) (by s.here)
   where
-    by : (o : Option Line) → option_map bare_line (option_map timed_line o) ≡ option_map bare_line o
+    by : (o : Option Connection) → option_map bare_connection (option_map timed_connection o) ≡ option_map bare_connection o
     by None = refl
     by (Some l) = refl
 
-none-heard : (gs : List Guest) → AllByRecursion (λ (g : Guest). g.heard ≤ 0) (map bare_guest gs)
+none-heard : (gs : List Newcomer) → AllByRecursion (λ (g : Newcomer). g.heard ≤ 0) (map bare_newcomer gs)
 none-heard [] = tt
 none-heard (g ∷ gs) = ((omega arith), none-heard gs)
 
-all-timed : (ss : List Seat) → AllByRecursion (λ (s : Seat). IsTimed 0 s.here) (map timed_seat ss)
+all-timed : (ss : List Session) → AllByRecursion (λ (s : Session). IsTimed 0 s.here) (map timed_session ss)
 all-timed [] = tt
 all-timed (s ∷ ss) = (by s.here, all-timed ss)
   where
-    by : (o : Option Line) → IsTimed 0 (option_map timed_line o)
+    by : (o : Option Connection) → IsTimed 0 (option_map timed_connection o)
     by None = tt
     by (Some l) = (refl, omega arith)
 
 pub begins : (limit : ℕ) (b : Broker) → Follows b (restored limit b)
 begins limit b = record {
-  same = ap₂ (λ gs ss. record (bare b) { guests = gs; seats = ss }) (sym (guests-twice b.guests)) (sym (map-map timed_seat bare_seat bare_seat bare-timed b.seats));
-  guests = none-heard b.guests;
-  lines = all-timed b.seats;
+  same = ap₂ (λ gs ss. record (bare b) { newcomers = gs; sessions = ss }) (sym (newcomers-twice b.newcomers)) (sym (map-map timed_session bare_session bare_session bare-timed b.sessions));
+  newcomers = none-heard b.newcomers;
+  connections = all-timed b.sessions;
 }
 
 -- ---- one event
@@ -186,8 +186,8 @@ module _ (step-lawful : (b : Broker) (e : Event) → IsLawful b → IsLawful (st
   journal-closings (c ∷ cs) b n = ap (λ es. Closed c 0 ∷ es) (journal-closings cs (step b (Closed c 0)).broker (run n (Closed c 0 ∷ [])))
 
   connections-bare : (b : Broker) → connections (bare b) ≡ connections b
-  connections-bare b = ap₂ (λ xs ys. xs ++ ys) (map-map bare_guest (λ (g : Guest). g.conn) (λ (g : Guest). g.conn) (λ g. refl) b.guests)
-      (flat_map-map bare_seat (λ (s : Seat). option_list (conn_at s)) (λ (s : Seat). option_list (conn_at s)) (λ s. ap option_list (conn-bare s)) b.seats)
+  connections-bare b = ap₂ (λ xs ys. xs ++ ys) (map-map bare_newcomer (λ (g : Newcomer). g.conn) (λ (g : Newcomer). g.conn) (λ g. refl) b.newcomers)
+      (flat_map-map bare_session (λ (s : Session). option_list (conn_at s)) (λ (s : Session). option_list (conn_at s)) (λ s. ap option_list (conn-bare s)) b.sessions)
 
   connections-alike : (b n : Broker) → bare b ≡ bare n → connections b ≡ connections n
   connections-alike b n e = sym (connections-bare b) ∙ ap connections e ∙ connections-bare n
@@ -214,12 +214,12 @@ module _ (step-lawful : (b : Broker) (e : Event) → IsLawful b → IsLawful (st
         by false e f rest = rest f
 
     -- who is known is among the connections
-    known-guest : (c : ℕ) (gs : List Guest) (ds : List ℕ) → list_any (is_guest c) gs ≡ true → list_any (λ d. eqb d c) (map (λ (g : Guest). g.conn) gs ++ ds) ≡ true
-    known-guest c [] ds h = no (sym h)
-    known-guest c (g ∷ gs) ds h = by (eqb g.conn c) h (known-guest c gs ds)
+    known-newcomer : (c : ℕ) (gs : List Newcomer) (ds : List ℕ) → list_any (is_newcomer c) gs ≡ true → list_any (λ d. eqb d c) (map (λ (g : Newcomer). g.conn) gs ++ ds) ≡ true
+    known-newcomer c [] ds h = no (sym h)
+    known-newcomer c (g ∷ gs) ds h = by (eqb g.conn c) h (known-newcomer c gs ds)
       where
-        by : (v : Bool) → (v || list_any (is_guest c) gs) ≡ true → (list_any (is_guest c) gs ≡ true → list_any (λ d. eqb d c) (map (λ (x : Guest). x.conn) gs ++ ds) ≡ true)
-            → (v || list_any (λ d. eqb d c) (map (λ (x : Guest). x.conn) gs ++ ds)) ≡ true
+        by : (v : Bool) → (v || list_any (is_newcomer c) gs) ≡ true → (list_any (is_newcomer c) gs ≡ true → list_any (λ d. eqb d c) (map (λ (x : Newcomer). x.conn) gs ++ ds) ≡ true)
+            → (v || list_any (λ d. eqb d c) (map (λ (x : Newcomer). x.conn) gs ++ ds)) ≡ true
         by true f rest = refl
         by false f rest = rest f
 
@@ -227,26 +227,26 @@ module _ (step-lawful : (b : Broker) (e : Event) → IsLawful b → IsLawful (st
     behind c [] ds h = h
     behind c (x ∷ xs) ds h = or_right (eqb x c) (list_any (λ d. eqb d c) (xs ++ ds)) (behind c xs ds h)
 
-    known-seat : (c : ℕ) (ss : List Seat) → is_some (seat_at c ss) ≡ true → list_any (λ d. eqb d c) (flat_map (λ (s : Seat). option_list (conn_at s)) ss) ≡ true
-    known-seat c [] h = no (sym h)
-    known-seat c (s ∷ ss) h = by s.here (sits c s) refl refl h (known-seat c ss)
+    known-session : (c : ℕ) (ss : List Session) → is_some (session_by c ss) ≡ true → list_any (λ d. eqb d c) (flat_map (λ (s : Session). option_list (conn_at s)) ss) ≡ true
+    known-session c [] h = no (sym h)
+    known-session c (s ∷ ss) h = by s.here (sits c s) refl refl h (known-session c ss)
       where
         ds : List ℕ
-        ds = flat_map (λ (x : Seat). option_list (conn_at x)) ss
+        ds = flat_map (λ (x : Session). option_list (conn_at x)) ss
 
-        by : (o : Option Line) (v : Bool) → s.here ≡ o → sits c s ≡ v → is_some (cond v (Some s) (seat_at c ss)) ≡ true
-            → (is_some (seat_at c ss) ≡ true → list_any (λ d. eqb d c) (flat_map (λ (x : Seat). option_list (conn_at x)) ss) ≡ true)
-            → list_any (λ d. eqb d c) (option_list (option_map (λ (l : Line). l.conn) o) ++ flat_map (λ (x : Seat). option_list (conn_at x)) ss) ≡ true
-        by o false e f g rest = behind c (option_list (option_map (λ (l : Line). l.conn) o)) (flat_map (λ (x : Seat). option_list (conn_at x)) ss) (rest g)
-        by None true e f g rest = no (sym f ∙ ap (λ o. option_map_or (λ (l : Line). eqb l.conn c) o false) e)
-        by (Some l) true e f g rest = or_left (eqb l.conn c) _ (sym (ap (λ o. option_map_or (λ (z : Line). eqb z.conn c) o false) e) ∙ f)
+        by : (o : Option Connection) (v : Bool) → s.here ≡ o → sits c s ≡ v → is_some (cond v (Some s) (session_by c ss)) ≡ true
+            → (is_some (session_by c ss) ≡ true → list_any (λ d. eqb d c) (flat_map (λ (x : Session). option_list (conn_at x)) ss) ≡ true)
+            → list_any (λ d. eqb d c) (option_list (option_map (λ (l : Connection). l.conn) o) ++ flat_map (λ (x : Session). option_list (conn_at x)) ss) ≡ true
+        by o false e f g rest = behind c (option_list (option_map (λ (l : Connection). l.conn) o)) (flat_map (λ (x : Session). option_list (conn_at x)) ss) (rest g)
+        by None true e f g rest = no (sym f ∙ ap (λ o. option_map_or (λ (l : Connection). eqb l.conn c) o false) e)
+        by (Some l) true e f g rest = or_left (eqb l.conn c) _ (sym (ap (λ o. option_map_or (λ (z : Connection). eqb z.conn c) o false) e) ∙ f)
 
     known-in : (b : Broker) (c : ℕ) → knows b c ≡ true → list_any (λ d. eqb d c) (connections b) ≡ true
-    known-in b c h = by (list_any (is_guest c) b.guests) refl h
+    known-in b c h = by (list_any (is_newcomer c) b.newcomers) refl h
       where
-        by : (v : Bool) → list_any (is_guest c) b.guests ≡ v → (v || is_some (seat_at c b.seats)) ≡ true → list_any (λ d. eqb d c) (connections b) ≡ true
-        by true e f = known-guest c b.guests (flat_map (λ (s : Seat). option_list (conn_at s)) b.seats) e
-        by false e f = behind c (map (λ (g : Guest). g.conn) b.guests) (flat_map (λ (s : Seat). option_list (conn_at s)) b.seats) (known-seat c b.seats f)
+        by : (v : Bool) → list_any (is_newcomer c) b.newcomers ≡ v → (v || is_some (session_by c b.sessions)) ≡ true → list_any (λ d. eqb d c) (connections b) ≡ true
+        by true e f = known-newcomer c b.newcomers (flat_map (λ (s : Session). option_list (conn_at s)) b.sessions) e
+        by false e f = behind c (map (λ (g : Newcomer). g.conn) b.newcomers) (flat_map (λ (s : Session). option_list (conn_at s)) b.sessions) (known-session c b.sessions f)
 
     nobody : (b : Broker) (c : ℕ) → IsLawful b → c ≤ b.given → knows (run b (ends b)) c ≡ false
     nobody b c lawful low = by (knows b c) refl
@@ -256,22 +256,22 @@ module _ (step-lawful : (b : Broker) (e : Event) → IsLawful b → IsLawful (st
         by false e = stays-gone (connections b) b c lawful low e
 
     -- nobody is known, so nobody is there
-    no-guests : (gs : List Guest) (top : ℕ) → AllByRecursion (λ (g : Guest). g.conn ≤ top) gs → ((c : ℕ) → c ≤ top → list_any (is_guest c) gs ≡ false) → map (λ (g : Guest). g.conn) gs ≡ []
-    no-guests [] top low h = refl
-    no-guests (g ∷ gs) top low h = no (sym (or_left (eqb g.conn g.conn) (list_any (is_guest g.conn) gs) (eqb-self g.conn)) ∙ h g.conn low.0)
+    no-newcomers : (gs : List Newcomer) (top : ℕ) → AllByRecursion (λ (g : Newcomer). g.conn ≤ top) gs → ((c : ℕ) → c ≤ top → list_any (is_newcomer c) gs ≡ false) → map (λ (g : Newcomer). g.conn) gs ≡ []
+    no-newcomers [] top low h = refl
+    no-newcomers (g ∷ gs) top low h = no (sym (or_left (eqb g.conn g.conn) (list_any (is_newcomer g.conn) gs) (eqb-self g.conn)) ∙ h g.conn low.0)
 
-    no-seats : (ss : List Seat) (top : ℕ) → AllByRecursion (λ (s : Seat). IsLow top s.here) ss → ((c : ℕ) → c ≤ top → is_some (seat_at c ss) ≡ false) → flat_map (λ (s : Seat). option_list (conn_at s)) ss ≡ []
-    no-seats [] top low h = refl
-    no-seats (s ∷ ss) top low h = by s.here refl low.0 (no-seats ss top low.1 (λ c under. past c (sits c s) (h c under)))
+    no-sessions : (ss : List Session) (top : ℕ) → AllByRecursion (λ (s : Session). IsLow top s.here) ss → ((c : ℕ) → c ≤ top → is_some (session_by c ss) ≡ false) → flat_map (λ (s : Session). option_list (conn_at s)) ss ≡ []
+    no-sessions [] top low h = refl
+    no-sessions (s ∷ ss) top low h = by s.here refl low.0 (no-sessions ss top low.1 (λ c under. past c (sits c s) (h c under)))
       where
-        past : (c : ℕ) (v : Bool) → is_some (cond v (Some s) (seat_at c ss)) ≡ false → is_some (seat_at c ss) ≡ false
+        past : (c : ℕ) (v : Bool) → is_some (cond v (Some s) (session_by c ss)) ≡ false → is_some (session_by c ss) ≡ false
         past c true e = no e
         past c false e = e
 
-        by : (o : Option Line) → s.here ≡ o → IsLow top o → flat_map (λ (x : Seat). option_list (conn_at x)) ss ≡ []
-            → option_list (option_map (λ (l : Line). l.conn) o) ++ flat_map (λ (x : Seat). option_list (conn_at x)) ss ≡ []
+        by : (o : Option Connection) → s.here ≡ o → IsLow top o → flat_map (λ (x : Session). option_list (conn_at x)) ss ≡ []
+            → option_list (option_map (λ (l : Connection). l.conn) o) ++ flat_map (λ (x : Session). option_list (conn_at x)) ss ≡ []
         by None e under rest = rest
-        by (Some l) e under rest = no (sym (ap (λ v. is_some (cond v (Some s) (seat_at l.conn ss))) (ap (λ o. option_map_or (λ (z : Line). eqb z.conn l.conn) o false) e ∙ eqb-self l.conn)) ∙ h l.conn under)
+        by (Some l) e under rest = no (sym (ap (λ v. is_some (cond v (Some s) (session_by l.conn ss))) (ap (λ o. option_map_or (λ (z : Connection). eqb z.conn l.conn) o false) e ∙ eqb-self l.conn)) ∙ h l.conn under)
 
     given-same : (cs : List ℕ) (b : Broker) → IsLawful b → (run b (closings cs)).given ≡ b.given
     given-same [] b lawful = refl
@@ -287,8 +287,8 @@ module _ (step-lawful : (b : Broker) (e : Event) → IsLawful b → IsLawful (st
 
     none-left : (b : Broker) → IsLawful b → connections (run b (ends b)) ≡ []
     none-left b lawful = ap₂ (λ xs ys. xs ++ ys)
-        (no-guests x.guests x.given after.guests (λ c low. or-left-no (list_any (is_guest c) x.guests) _ (gone c low)))
-        (no-seats x.seats x.given after.lines (λ c low. or-right-no (list_any (is_guest c) x.guests) _ (gone c low)))
+        (no-newcomers x.newcomers x.given after.newcomers (λ c low. or-left-no (list_any (is_newcomer c) x.newcomers) _ (gone c low)))
+        (no-sessions x.sessions x.given after.connections (λ c low. or-right-no (list_any (is_newcomer c) x.newcomers) _ (gone c low)))
       where
         x : Broker
         x = run b (ends b)

@@ -11,13 +11,13 @@ use Rattle.spk_packets.specs.declared.fault.PacketFault.{PacketFault}
 use Rattle.spk_topics.specs.Text.{topic_refusal}
 use Rattle.spk_session.specs.Step.{is_spent}
 use Rattle.spk_session.specs.declared.answer.Sort.TheVariants as sort
-use Rattle.spk_broker_rules.specs.Data.{Post, Seat, Broker}
+use Rattle.spk_broker_rules.specs.Data.{AppMessage, Session, Broker}
 use Rattle.spk_broker_rules.specs.Plan.{Event, Open, Packet, Fault, Closed, Tick, Refused, Act, At, Hear, Drop, Say, Leave, Tell, Queue, Route, plan, shut, turn_away, puback, is_bad_level}
 use Rattle.spk_broker_rules.specs.Listening.{is_closed_in}
-use Rattle.spk_broker_rules.specs.Step.{Turn, act, acts, serve, route_one, route_some, route, most, seat_at, silent_at, drops_in, seen, noted, begun, step}
+use Rattle.spk_broker_rules.specs.Step.{Turn, act, acts, serve, route_one, route_some, route, most, session_by, silent_at, drops_in, seen, noted, begun, step}
 use Rattle.spk_broker_rules.proofs.Lists.{eqb-is, eqb-self}
-use Rattle.spk_broker_rules.proofs.Publishing.{post_of, turn_from, plain-routed}
-use Rattle.spk_broker_replay.specs.Replay.{Follows, bare, bare_guest, bare_seat, is_idle, notes, run, timeless}
+use Rattle.spk_broker_rules.proofs.Publishing.{app_message_of, turn_from, plain-routed}
+use Rattle.spk_broker_replay.specs.Replay.{Follows, bare, bare_newcomer, bare_session, is_idle, notes, run, timeless}
 use Rattle.spk_broker_replay.proofs.Bare.{bare_act, turn_with, strip, strip-twice, heard-same, dropped-same, route-alike, acts-alike}
 use Rattle.spk_broker_replay.proofs.Plans.{joined-alike, packet-alike}
 use Rattle.spk_broker_replay.proofs.Timed.{Timed, acts-timed}
@@ -69,10 +69,10 @@ step-timed : (n : Broker) (e : Event) (as_list : List Act) → plan (seen (noted
 step-timed n e as_list plans h = subst Timed (sym (step-is n e ∙ ap (λ l. acts l (noted n e)) plans)) (acts-timed as_list (noted n e) (noted-timed n e h))
 
 pub begun-timed : (b n : Broker) → Follows b n → Timed (begun n)
-begun-timed b n f = record { guests = f.guests; lines = f.lines }
+begun-timed b n f = record { newcomers = f.newcomers; connections = f.connections }
 
 pub follows-of : (t u : Turn) → strip t ≡ strip u → Timed u → Follows t.broker u.broker
-follows-of t u e h = record { same = bare-of t u e; guests = h.guests; lines = h.lines }
+follows-of t u e h = record { same = bare-of t u e; newcomers = h.newcomers; connections = h.connections }
 
 -- both do the same
 pub both : (b n : Broker) (e f : Event) → Follows b n → plan (seen (noted n f).broker f) f ≡ bares (plan (seen (noted b e).broker e) e) → Follows (step b e).broker (step n f).broker
@@ -84,15 +84,15 @@ neither b n e fine same = follows-of (step b e) (begun n) (same ∙ begun-alike 
 
 -- ---- who is shut is closed
 
-closed-one : (c : ℕ) (m : Post) (t : Turn) → is_closed_in c t ≡ true → is_closed_in c (route_one m t) ≡ true
-closed-one c m t h = list_any-append (λ d. eqb d c) t.closes (flat_map (λ (s : Seat). (serve m s).closes) t.broker.seats) ∙ or_left _ _ h
+closed-one : (c : ℕ) (m : AppMessage) (t : Turn) → is_closed_in c t ≡ true → is_closed_in c (route_one m t) ≡ true
+closed-one c m t h = list_any-append (λ d. eqb d c) t.closes (flat_map (λ (s : Session). (serve m s).closes) t.broker.sessions) ∙ or_left _ _ h
 
 closed-some : (n c : ℕ) (t : Turn) → is_closed_in c t ≡ true → is_closed_in c (route_some n t) ≡ true
 unfolding route_some
 closed-some zero c t h = h
 closed-some (suc n) c t h = by t.waiting (λ m ms. closed-some n c (route_one m (record t { waiting = ms })) (closed-one c m (record t { waiting = ms }) h))
   where
-    by : (ws : List Post) → ((m : Post) (ms : List Post) → is_closed_in c (route_some n (route_one m (record t { waiting = ms }))) ≡ true)
+    by : (ws : List AppMessage) → ((m : AppMessage) (ms : List AppMessage) → is_closed_in c (route_some n (route_one m (record t { waiting = ms }))) ≡ true)
         → is_closed_in c (elim ws [ [] ↦ t | m ∷ ms ↦ route_some n (route_one m (record t { waiting = ms })) ]) ≡ true
     by [] rest = h
     by (m ∷ ms) rest = rest m ms
@@ -115,20 +115,20 @@ shut-closed c t = closed-route c (act (Tell c) (act (Leave c true) t)) (any-last
 -- ---- packets that change nothing but time
 
 -- a publish of QoS 0 without RETAIN, routed where nothing waits
-routed-idle : (topic payload : List ℕ) (t : Turn) → t.waiting ≡ [] → strip (route (act (Queue (post_of topic payload)) t)) ≡ strip t
+routed-idle : (topic payload : List ℕ) (t : Turn) → t.waiting ≡ [] → strip (route (act (Queue (app_message_of topic payload)) t)) ≡ strip t
 routed-idle topic payload t is =
     route-alike (act (Queue m) t) (turn_from (bare t.broker) [] [] (m ∷ [])) once
     ∙ ap strip (plain-routed topic payload (bare t.broker))
     ∙ strip-twice (record t { waiting = [] })
-    ∙ ap (λ ws. turn_with t.broker.given t.broker.made (map bare_guest t.broker.guests) (map bare_seat t.broker.seats) t.broker.retained ws) (sym is)
+    ∙ ap (λ ws. turn_with t.broker.given t.broker.made (map bare_newcomer t.broker.newcomers) (map bare_session t.broker.sessions) t.broker.retained ws) (sym is)
   where
-    m : Post
-    m = post_of topic payload
+    m : AppMessage
+    m = app_message_of topic payload
 
     once : strip (act (Queue m) t) ≡ strip (turn_from (bare t.broker) [] [] (m ∷ []))
     once = ap (λ ws. strip (record t { waiting = ws ++ m ∷ [] })) is ∙ sym (strip-twice (record t { waiting = m ∷ [] }))
 
-publish-idle : (c : ℕ) (id : Option ℕ) (topic payload : List ℕ) (t : Turn) → t.waiting ≡ [] → strip (acts (puback c id ++ Queue (post_of topic payload) ∷ Route ∷ []) t) ≡ strip t
+publish-idle : (c : ℕ) (id : Option ℕ) (topic payload : List ℕ) (t : Turn) → t.waiting ≡ [] → strip (acts (puback c id ++ Queue (app_message_of topic payload) ∷ Route ∷ []) t) ≡ strip t
 publish-idle c None topic payload t is = routed-idle topic payload t is
 publish-idle c (Some id) topic payload t is = routed-idle topic payload (act (Say c (PubAck id)) t) is
 
@@ -143,8 +143,8 @@ quiet false true c l t fine h = fine h
 quiet false false c l t fine h = no (sym (shut-closed c t) ∙ h)
 
 quiet-publish : (bad : Bool) (c : ℕ) (id : Option ℕ) (topic payload : List ℕ) (t : Turn) → t.waiting ≡ []
-    → is_closed_in c (acts (cond bad (shut c) (puback c id ++ Queue (post_of topic payload) ∷ Route ∷ [])) t) ≡ false
-    → strip (acts (cond bad (shut c) (puback c id ++ Queue (post_of topic payload) ∷ Route ∷ [])) t) ≡ strip t
+    → is_closed_in c (acts (cond bad (shut c) (puback c id ++ Queue (app_message_of topic payload) ∷ Route ∷ [])) t) ≡ false
+    → strip (acts (cond bad (shut c) (puback c id ++ Queue (app_message_of topic payload) ∷ Route ∷ [])) t) ≡ strip t
 quiet-publish true c id topic payload t is h = no (sym (shut-closed c t) ∙ h)
 quiet-publish false c id topic payload t is h = publish-idle c id topic payload t is
 
@@ -152,8 +152,8 @@ idle-publish : (dup : Bool) (c : ℕ) (topic : List ℕ) (id : Option ℕ) (payl
     → is_closed_in c (step b (Packet c (Publish dup 0 false topic id payload) moment)) ≡ false
     → strip (step b (Packet c (Publish dup 0 false topic id payload) moment)) ≡ strip (noted b (Packet c (Publish dup 0 false topic id payload) moment))
 unfolding step
-idle-publish dup c topic id payload b moment h = quiet (is_some (first_of (unwritable (Publish dup 0 false topic id payload)))) (is_some (seat_at c t.broker.seats)) c
-    (cond (is_some (topic_refusal topic)) (shut c) (puback c id ++ Queue (post_of topic payload) ∷ Route ∷ [])) t
+idle-publish dup c topic id payload b moment h = quiet (is_some (first_of (unwritable (Publish dup 0 false topic id payload)))) (is_some (session_by c t.broker.sessions)) c
+    (cond (is_some (topic_refusal topic)) (shut c) (puback c id ++ Queue (app_message_of topic payload) ∷ Route ∷ [])) t
     (quiet-publish (is_some (topic_refusal topic)) c id topic payload t refl) h
   where
     t : Turn
@@ -162,7 +162,7 @@ idle-publish dup c topic id payload b moment h = quiet (is_some (first_of (unwri
 idle-ping : (c : ℕ) (b : Broker) (moment : ℕ) → is_closed_in c (step b (Packet c PingReq moment)) ≡ false
     → strip (step b (Packet c PingReq moment)) ≡ strip (noted b (Packet c PingReq moment))
 unfolding step
-idle-ping c b moment h = quiet (is_some (first_of (unwritable PingReq))) (is_some (seat_at c t.broker.seats)) c (Say c PingResp ∷ []) t (λ x. refl) h
+idle-ping c b moment h = quiet (is_some (first_of (unwritable PingReq))) (is_some (session_by c t.broker.sessions)) c (Say c PingResp ∷ []) t (λ x. refl) h
   where
     t : Turn
     t = noted b (Packet c PingReq moment)
@@ -221,7 +221,7 @@ next-packet b n c p moment fine = by (is_idle p && not (is_closed_in c (step b e
     by true h = neither b n e fine (idle-message p c b moment (and-left (is_idle p) _ h) (not-no _ (and-right (is_idle p) _ h)) ∙ noted-same b e)
     by false h = both b n e f fine (packet-alike c p (noted b e).broker (noted n f).broker
         (is_spent (noted b e).broker.limit (drops_in c (noted b e).broker)) (is_spent (noted n f).broker.limit (drops_in c (noted n f).broker))
-        (flat_map (silent_at (noted b e).broker.clock) (noted b e).broker.seats) (flat_map (silent_at (noted n f).broker.clock) (noted n f).broker.seats)
+        (flat_map (silent_at (noted b e).broker.clock) (noted b e).broker.sessions) (flat_map (silent_at (noted n f).broker.clock) (noted n f).broker.sessions)
         (noted-alike b n e f fine.same))
 
 bytes-bare : (v : Bool) (c : ℕ) → cond v (turn_away c 1) (shut c) ≡ bares (cond v (turn_away c 1) (shut c))
@@ -231,7 +231,7 @@ bytes-bare false c = refl
 pub next-fault : (b n : Broker) (c : ℕ) (f : PacketFault) (moment : ℕ) → Follows b n → Follows (step b (Fault c f moment)).broker (run n (notes b n.clock (Fault c f moment)))
 next-fault b n c f moment fine = both b n (Fault c f moment) (Fault c f 0) fine
     (ap (λ j. cond (is_bad_level f && not j) (turn_away c 1) (shut c)) (sym (joined-alike c (noted b (Fault c f moment)).broker (noted n (Fault c f 0)).broker (noted-alike b n (Fault c f moment) (Fault c f 0) fine.same)))
-    ∙ bytes-bare (is_bad_level f && not (is_some (seat_at c (noted b (Fault c f moment)).broker.seats))) c)
+    ∙ bytes-bare (is_bad_level f && not (is_some (session_by c (noted b (Fault c f moment)).broker.sessions))) c)
 
 pub next-closed : (b n : Broker) (c moment : ℕ) → Follows b n → Follows (step b (Closed c moment)).broker (run n (notes b n.clock (Closed c moment)))
 next-closed b n c moment fine = both b n (Closed c moment) (Closed c 0) fine refl

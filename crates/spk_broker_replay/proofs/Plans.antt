@@ -10,55 +10,55 @@ use Rattle.spk_packets.specs.Message.{Message, WillData, Connect, ConnAck, Publi
 use Rattle.spk_packets.specs.Spelling.{unwritable, spelling, body, shortest, is_empty, has_bad_text, has_bad_body, is_qos_two}
 use Rattle.spk_packets.specs.declared.fault.PacketFault.TheVariants.{BadText, BadBody, TooLarge, QosTwo}
 use Rattle.spk_topics.specs.Text.{filter_refusal, topic_refusal}
-use Rattle.spk_broker_rules.specs.Data.{Post, Seat, Broker}
+use Rattle.spk_broker_rules.specs.Data.{AppMessage, Session, Broker}
 use Rattle.spk_broker_rules.specs.Words.{granted_of, is_heavy, most_kept}
 use Rattle.spk_broker_rules.specs.Plan.{Act, Queue, Route, Give, Seen, shut, turn_away, join, connect, has_bad_topic, first_packet, next_packet, packet, puback, client_in, entries_in}
-use Rattle.spk_broker_rules.specs.Step.{conn_at, seat_at, older_in, is_kept_of, welcome_in, heavy_at, heavy_in}
+use Rattle.spk_broker_rules.specs.Step.{conn_at, session_by, older_in, is_kept_of, welcome_in, heavy_at, heavy_in}
 use Rattle.spk_broker_rules.proofs.Lists.{find-map, any-map, filter-map}
-use Rattle.spk_broker_replay.specs.Replay.{bare_seat, bare, timeless}
-use Rattle.spk_broker_replay.proofs.Bare.{bare_act, conn-bare, here-bare, seat_at-bare, other_grants-bare}
+use Rattle.spk_broker_replay.specs.Replay.{bare_session, bare, timeless}
+use Rattle.spk_broker_replay.proofs.Bare.{bare_act, conn-bare, here-bare, session_by-bare, other_grants-bare}
 
 -- ---- what is asked of the data
 
-joined-bare : (c : ℕ) (ss : List Seat) → is_some (seat_at c (map bare_seat ss)) ≡ is_some (seat_at c ss)
-joined-bare c ss = ap is_some (seat_at-bare c ss) ∙ by (seat_at c ss)
+joined-bare : (c : ℕ) (ss : List Session) → is_some (session_by c (map bare_session ss)) ≡ is_some (session_by c ss)
+joined-bare c ss = ap is_some (session_by-bare c ss) ∙ by (session_by c ss)
   where
-    by : (o : Option Seat) → is_some (option_map bare_seat o) ≡ is_some o
+    by : (o : Option Session) → is_some (option_map bare_session o) ≡ is_some o
     by None = refl
     by (Some s) = refl
 
-older-bare : (client : List ℕ) (ss : List Seat) → older_in client (map bare_seat ss) ≡ older_in client ss
+older-bare : (client : List ℕ) (ss : List Session) → older_in client (map bare_session ss) ≡ older_in client ss
 older-bare client ss =
     ap (λ o. cond (is_empty client) None (option_map_or conn_at o None))
-    (find-map bare_seat (λ (s : Seat). is_some s.here && bytes_eq s.client client) (λ (s : Seat). is_some s.here && bytes_eq s.client client)
+    (find-map bare_session (λ (s : Session). is_some s.here && bytes_eq s.client client) (λ (s : Session). is_some s.here && bytes_eq s.client client)
     (λ s. ap (λ h. h && bytes_eq s.client client) (here-bare s.here)) ss)
-    ∙ ap (cond (is_empty client) None) (by (find (λ (s : Seat). is_some s.here && bytes_eq s.client client) ss))
+    ∙ ap (cond (is_empty client) None) (by (find (λ (s : Session). is_some s.here && bytes_eq s.client client) ss))
   where
-    by : (o : Option Seat) → option_map_or conn_at (option_map bare_seat o) None ≡ option_map_or conn_at o None
+    by : (o : Option Session) → option_map_or conn_at (option_map bare_session o) None ≡ option_map_or conn_at o None
     by None = refl
     by (Some s) = conn-bare s
 
-welcome-bare : (client : List ℕ) (ss : List Seat) → welcome_in client (map bare_seat ss) ≡ welcome_in client ss
+welcome-bare : (client : List ℕ) (ss : List Session) → welcome_in client (map bare_session ss) ≡ welcome_in client ss
 welcome-bare client ss = ap₂ (λ a n. a || nat_lt n most_kept)
-    (any-map bare_seat (is_kept_of client) (is_kept_of client) (λ s. refl) ss)
-    (ap length (filter-map bare_seat (λ (s : Seat). s.kept) (λ (s : Seat). s.kept) (λ s. refl) ss) ∙ length-map (filter (λ (s : Seat). s.kept) ss) bare_seat)
+    (any-map bare_session (is_kept_of client) (is_kept_of client) (λ s. refl) ss)
+    (ap length (filter-map bare_session (λ (s : Session). s.kept) (λ (s : Session). s.kept) (λ s. refl) ss) ∙ length-map (filter (λ (s : Session). s.kept) ss) bare_session)
 
 heavy-bare : (c : ℕ) (entries : List (List ℕ × ℕ)) (b : Broker) → heavy_in c entries (bare b) ≡ heavy_in c entries b
-heavy-bare c entries b = ap (λ o. heavy_at o entries (bare b)) (seat_at-bare c b.seats) ∙ by (seat_at c b.seats)
+heavy-bare c entries b = ap (λ o. heavy_at o entries (bare b)) (session_by-bare c b.sessions) ∙ by (session_by c b.sessions)
   where
-    by : (o : Option Seat) → heavy_at (option_map bare_seat o) entries (bare b) ≡ heavy_at o entries b
+    by : (o : Option Session) → heavy_at (option_map bare_session o) entries (bare b) ≡ heavy_at o entries b
     by None = refl
-    by (Some s) = ap (λ n. is_heavy b.retained (granted_of n s.grants entries)) (other_grants-bare s b.seats)
+    by (Some s) = ap (λ n. is_heavy b.retained (granted_of n s.grants entries)) (other_grants-bare s b.sessions)
 
 -- of data that are the same but for time and drops
-pub joined-alike : (c : ℕ) (b n : Broker) → bare b ≡ bare n → is_some (seat_at c b.seats) ≡ is_some (seat_at c n.seats)
-joined-alike c b n e = sym (joined-bare c b.seats) ∙ ap (λ (x : Broker). is_some (seat_at c x.seats)) e ∙ joined-bare c n.seats
+pub joined-alike : (c : ℕ) (b n : Broker) → bare b ≡ bare n → is_some (session_by c b.sessions) ≡ is_some (session_by c n.sessions)
+joined-alike c b n e = sym (joined-bare c b.sessions) ∙ ap (λ (x : Broker). is_some (session_by c x.sessions)) e ∙ joined-bare c n.sessions
 
-older-alike : (client : List ℕ) (b n : Broker) → bare b ≡ bare n → older_in client b.seats ≡ older_in client n.seats
-older-alike client b n e = sym (older-bare client b.seats) ∙ ap (λ (x : Broker). older_in client x.seats) e ∙ older-bare client n.seats
+older-alike : (client : List ℕ) (b n : Broker) → bare b ≡ bare n → older_in client b.sessions ≡ older_in client n.sessions
+older-alike client b n e = sym (older-bare client b.sessions) ∙ ap (λ (x : Broker). older_in client x.sessions) e ∙ older-bare client n.sessions
 
-welcome-alike : (client : List ℕ) (b n : Broker) → bare b ≡ bare n → welcome_in client b.seats ≡ welcome_in client n.seats
-welcome-alike client b n e = sym (welcome-bare client b.seats) ∙ ap (λ (x : Broker). welcome_in client x.seats) e ∙ welcome-bare client n.seats
+welcome-alike : (client : List ℕ) (b n : Broker) → bare b ≡ bare n → welcome_in client b.sessions ≡ welcome_in client n.sessions
+welcome-alike client b n e = sym (welcome-bare client b.sessions) ∙ ap (λ (x : Broker). welcome_in client x.sessions) e ∙ welcome-bare client n.sessions
 
 heavy-alike : (c : ℕ) (entries : List (List ℕ × ℕ)) (b n : Broker) → bare b ≡ bare n → heavy_in c entries b ≡ heavy_in c entries n
 heavy-alike c entries b n e = sym (heavy-bare c entries b) ∙ ap (heavy_in c entries) e ∙ heavy-bare c entries n
@@ -66,9 +66,9 @@ heavy-alike c entries b n e = sym (heavy-bare c entries b) ∙ ap (heavy_in c en
 -- what the rules see of an event's connection, client and entries
 abbrev pub seeing : ℕ → List ℕ → List (List ℕ × ℕ) → Broker → Bool → List ℕ → Seen
 seeing c client entries b spent silent = record {
-  joined = is_some (seat_at c b.seats);
-  older = older_in client b.seats;
-  welcome = welcome_in client b.seats;
+  joined = is_some (session_by c b.sessions);
+  older = older_in client b.sessions;
+  welcome = welcome_in client b.sessions;
   spent = spent;
   silent = silent;
   heavy = heavy_in c entries b;
@@ -80,8 +80,8 @@ looking joined older welcome heavy spent silent = record { joined = joined; olde
 seeing-alike : (c : ℕ) (client : List ℕ) (entries : List (List ℕ × ℕ)) (b n : Broker) (spent : Bool) (silent : List ℕ) → bare b ≡ bare n
     → seeing c client entries n spent silent ≡ seeing c client entries b spent silent
 seeing-alike c client entries b n spent silent e =
-    ap₂ (λ j o. looking j o (welcome_in client n.seats) (heavy_in c entries n) spent silent) (sym (joined-alike c b n e)) (sym (older-alike client b n e))
-    ∙ ap₂ (λ w h. looking (is_some (seat_at c b.seats)) (older_in client b.seats) w h spent silent) (sym (welcome-alike client b n e)) (sym (heavy-alike c entries b n e))
+    ap₂ (λ j o. looking j o (welcome_in client n.sessions) (heavy_in c entries n) spent silent) (sym (joined-alike c b n e)) (sym (older-alike client b n e))
+    ∙ ap₂ (λ w h. looking (is_some (session_by c b.sessions)) (older_in client b.sessions) w h spent silent) (sym (welcome-alike client b n e)) (sym (heavy-alike c entries b n e))
 
 -- ---- a packet without its moment
 
@@ -159,7 +159,7 @@ pick : (u : Bool) (s n t m : List Act) → t ≡ bares s → m ≡ bares n → c
 pick true s n t m a b = a
 pick false s n t m a b = b
 
-join-bare : (older : Option ℕ) (c : ℕ) (client : List ℕ) (clean : Bool) (alive : ℕ) (will : Option Post)
+join-bare : (older : Option ℕ) (c : ℕ) (client : List ℕ) (clean : Bool) (alive : ℕ) (will : Option AppMessage)
     → join older c client clean 1 will ≡ bares (join older c client clean alive will)
 join-bare None c client true alive will = refl
 join-bare None c client false alive will = refl
@@ -190,10 +190,10 @@ first-bare seen spent silent c PingReq = refl
 first-bare seen spent silent c PingResp = refl
 first-bare seen spent silent c Disconnect = refl
 
-publish-bare : (c : ℕ) (id : Option ℕ) (post : Post) (bad : Bool) → cond bad (shut c) (puback c id ++ Queue post ∷ Route ∷ []) ≡ bares (cond bad (shut c) (puback c id ++ Queue post ∷ Route ∷ []))
-publish-bare c id post true = refl
-publish-bare c None post false = refl
-publish-bare c (Some id) post false = refl
+publish-bare : (c : ℕ) (id : Option ℕ) (app_message : AppMessage) (bad : Bool) → cond bad (shut c) (puback c id ++ Queue app_message ∷ Route ∷ []) ≡ bares (cond bad (shut c) (puback c id ++ Queue app_message ∷ Route ∷ []))
+publish-bare c id app_message true = refl
+publish-bare c None app_message false = refl
+publish-bare c (Some id) app_message false = refl
 
 next-bare : (seen : Seen) (spent : Bool) (silent : List ℕ) (c : ℕ) (p : Message) → next_packet (unlike seen spent silent) c (timeless p) ≡ bares (next_packet seen c p)
 next-bare seen spent silent c (Connect client clean alive will) = refl

@@ -4,7 +4,7 @@ use Rattle.std.specs.List.{flat_map, AllByRecursion}
 use Rattle.std.specs.Option.{option_map, option_map_or}
 use Rattle.spk_packets.specs.Message.{Message, Connect, ConnAck, Publish, PubAck, Subscribe, SubAck, Unsubscribe, UnsubAck, PingReq, PingResp, Disconnect}
 use Rattle.spk_session.specs.declared.answer.Sort.TheVariants as sort
-use Rattle.spk_broker_rules.specs.Data.{Line, Guest, Seat, Broker}
+use Rattle.spk_broker_rules.specs.Data.{Connection, Newcomer, Session, Broker}
 use Rattle.spk_broker_rules.specs.Words.{option_list, is_silent}
 use Rattle.spk_broker_rules.specs.Plan.{Event, Open, Packet, Fault, Closed, Tick, Refused}
 use Rattle.spk_broker_rules.specs.Listening.{is_closed_in}
@@ -13,18 +13,18 @@ use Rattle.spk_broker_rules.specs.Step.{conn_at, silent_at, step}
 -- ---- what survives
 
 -- a connection without its keep alive, when it was heard, and its drops
-abbrev pub bare_line : Line → Line
-bare_line l = record l { alive = 0; heard = 0; drops = 0 }
+abbrev pub bare_connection : Connection → Connection
+bare_connection l = record l { alive = 0; heard = 0; drops = 0 }
 
-abbrev pub bare_guest : Guest → Guest
-bare_guest g = record g { heard = 0; drops = 0 }
+abbrev pub bare_newcomer : Newcomer → Newcomer
+bare_newcomer g = record g { heard = 0; drops = 0 }
 
-abbrev pub bare_seat : Seat → Seat
-bare_seat s = record s { here = option_map bare_line s.here }
+abbrev pub bare_session : Session → Session
+bare_session s = record s { here = option_map bare_connection s.here }
 
--- all data but for time and drops: connections, sessions with their grants, identifiers and copies, wills, retained messages
+-- all data but for time and drops: connections, sessions with their grants, identifiers and messages in flight, wills, retained messages
 abbrev pub bare : Broker → Broker
-bare b = record b { limit = 0; clock = 0; guests = map bare_guest b.guests; seats = map bare_seat b.seats }
+bare b = record b { limit = 0; clock = 0; newcomers = map bare_newcomer b.newcomers; sessions = map bare_session b.sessions }
 
 -- ---- the events that are noted
 
@@ -57,8 +57,8 @@ timeless PingResp = PingResp
 timeless Disconnect = Disconnect
 
 -- the connection that sits here and isn't silent at this clock
-abbrev pub heard_at : ℕ → Seat → List ℕ
-heard_at clock s = option_map_or (λ (l : Line). if is_silent clock l.alive l.heard then [] else l.conn ∷ []) s.here []
+abbrev pub heard_at : ℕ → Session → List ℕ
+heard_at clock s = option_map_or (λ (l : Connection). if is_silent clock l.alive l.heard then [] else l.conn ∷ []) s.here []
 
 abbrev pub ping : ℕ → ℕ → Event
 ping moment conn = Packet conn PingReq moment
@@ -69,9 +69,9 @@ pause = 2000
 
 -- Where somebody is silent at this clock: two seconds later by the clock of the replay all others are heard, and then it ticks, so that
 -- exactly those end who were silent.
-abbrev pub late : List ℕ → ℕ → ℕ → List Seat → List Event
-late [] clock moment seats = []
-late (c ∷ cs) clock moment seats = map (ping moment) (flat_map (heard_at clock) seats) ++ Tick moment ∷ []
+abbrev pub late : List ℕ → ℕ → ℕ → List Session → List Event
+late [] clock moment sessions = []
+late (c ∷ cs) clock moment sessions = map (ping moment) (flat_map (heard_at clock) sessions) ++ Tick moment ∷ []
 
 -- What is noted of an event that comes to a broker with these data, where the clock of the replay is this: nothing of what changes
 -- nothing but time and drops; all other events with no moment of their own.
@@ -82,7 +82,7 @@ notes b clock (Packet conn p moment) =
 notes b clock (Fault conn fault moment) = Fault conn fault 0 ∷ []
 notes b clock (Closed conn moment) = Closed conn 0 ∷ []
 notes b clock (Tick moment) =
-    late (flat_map (silent_at (max b.clock moment)) b.seats) (max b.clock moment) (clock + pause) b.seats
+    late (flat_map (silent_at (max b.clock moment)) b.sessions) (max b.clock moment) (clock + pause) b.sessions
 notes b clock (Refused conn sort.QosZero moment) =
     if is_closed_in conn (step b (Refused conn sort.QosZero moment)) then Refused conn sort.Other 0 ∷ [] else []
 notes b clock (Refused conn sort.Other moment) = Refused conn sort.Other 0 ∷ []
@@ -90,15 +90,15 @@ notes b clock (Refused conn sort.Other moment) = Refused conn sort.Other 0 ∷ [
 -- ---- data that were kept as they stood
 
 -- a connection with a keep alive of one second
-abbrev pub timed_line : Line → Line
-timed_line l = record l { alive = 1; heard = 0; drops = 0 }
+abbrev pub timed_connection : Connection → Connection
+timed_connection l = record l { alive = 1; heard = 0; drops = 0 }
 
-abbrev pub timed_seat : Seat → Seat
-timed_seat s = record s { here = option_map timed_line s.here }
+abbrev pub timed_session : Session → Session
+timed_session s = record s { here = option_map timed_connection s.here }
 
 -- A replay that begins at a broker's data, instead of at its events: all but time and drops is theirs.
 abbrev pub restored : ℕ → Broker → Broker
-restored limit b = record b { limit = limit; clock = 0; guests = map bare_guest b.guests; seats = map timed_seat b.seats }
+restored limit b = record b { limit = limit; clock = 0; newcomers = map bare_newcomer b.newcomers; sessions = map timed_session b.sessions }
 
 -- ---- events in a row, oldest first
 
@@ -113,7 +113,7 @@ journal b n (e ∷ es) = notes b n.clock e ++ journal (step b e).broker (run n (
 
 -- the end of all connections
 abbrev pub connections : Broker → List ℕ
-connections b = map (λ (g : Guest). g.conn) b.guests ++ flat_map (λ (s : Seat). option_list (conn_at s)) b.seats
+connections b = map (λ (g : Newcomer). g.conn) b.newcomers ++ flat_map (λ (s : Session). option_list (conn_at s)) b.sessions
 
 abbrev pub ends : Broker → List Event
 ends b = map (λ conn. Closed conn 0) (connections b)
@@ -121,12 +121,12 @@ ends b = map (λ conn. Closed conn 0) (connections b)
 -- ---- a replay beside its broker
 
 -- a connection with a keep alive of one second that was heard at no later moment than the clock's
-abbrev pub IsTimed : ℕ → Option Line → Type 0
+abbrev pub IsTimed : ℕ → Option Connection → Type 0
 IsTimed clock None = Unit {0}
 IsTimed clock (Some l) = (l.alive ≡ 1) × (l.heard ≤ clock)
 
 -- the data of a replay are those of the broker, but for time and drops
 pub record Follows (b n : Broker) : Type 0 where
   pub same : bare b ≡ bare n
-  pub guests : AllByRecursion (λ (g : Guest). g.heard ≤ n.clock) n.guests
-  pub lines : AllByRecursion (λ (s : Seat). IsTimed n.clock s.here) n.seats
+  pub newcomers : AllByRecursion (λ (g : Newcomer). g.heard ≤ n.clock) n.newcomers
+  pub connections : AllByRecursion (λ (s : Session). IsTimed n.clock s.here) n.sessions

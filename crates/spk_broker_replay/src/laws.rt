@@ -10,7 +10,7 @@ ghost use Rattle.spk_broker_replay.specs.Replay.{Follows, bare, connections, end
 
 use spk_broker_rules::laws;
 
-/// A replay of the events that are noted follows its broker: connections, sessions with their grants, identifiers and copies, wills and retained
+/// A replay of the events that are noted follows its broker: connections, sessions with their grants, identifiers and messages in flight, wills and retained
 /// messages are the same.
 pub fn followed()
     // a broker and a replay that begin together

@@ -24,7 +24,7 @@ tells-one (Drop c) t u v p q = p ∙ sym q
 tells-one (Say c m) t u v p q = p ∙ sym q
 tells-one (Leave c wills) t u v p q = p ∙ sym q
 tells-one (Tell c) t u v p q = p ∙ sym q
-tells-one (Queue post) t u v p q = p ∙ sym q
+tells-one (Queue app_message) t u v p q = p ∙ sym q
 tells-one Route t u v p q = routing-one t u v p q
 tells-one (Forget name) t u v p q = p ∙ sym q
 tells-one (Accept c name keeps alive will) t u v p q = p ∙ sym q
@@ -51,7 +51,7 @@ told limit (Drop c) t l = record { end = _; tells = refl; is = was_dropped limit
 told limit (Say c m) t l = record { end = _; tells = refl; is = refl }
 told limit (Leave c wills) t l = record { end = _; tells = refl; is = left limit c wills t }
 told limit (Tell c) t l = record { end = _; tells = refl; is = refl }
-told limit (Queue post) t l = record { end = _; tells = refl; is = refl }
+told limit (Queue app_message) t l = record { end = _; tells = refl; is = refl }
 told limit Route t l = let r : Routing limit t (route (turn_of limit t)) = routing-found limit t l in record { end = r.end; tells = r.routes; is = r.is }
 told limit (Forget name) t l = record { end = _; tells = refl; is = forgot limit name t }
 told limit (Accept c name keeps alive will) t l = record { end = _; tells = refl; is = accepted limit c name keeps alive will t l }

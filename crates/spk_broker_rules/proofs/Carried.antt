@@ -9,14 +9,14 @@ use Rattle.spk_packets.specs.Message.{Message, WillData, Connect, ConnAck, Publi
 use Rattle.spk_session.specs.declared.answer.Sort.TheVariants as sort
 use Rattle.spk_session.specs.PacketIds.{next_id}
 use Rattle.spk_session.specs.Step.{has_room, one_more}
-use Rattle.spk_broker_rules.specs.Data.{Post, Copy, Line, Guest, Seat, Stored, Broker, Send}
+use Rattle.spk_broker_rules.specs.Data.{AppMessage, InFlight, Connection, Newcomer, Session, Stored, Broker, Send}
 use Rattle.spk_broker_rules.specs.Table.{Table, has, put, remove, replaced}
 use Rattle.spk_packets.specs.Spelling.{is_empty}
-use Rattle.spk_broker_rules.specs.Words.{handed_out, best, level, sent_as, option_list, to_line, resent, will_post, offered, offers_to, granted_of, with_entry, stored, most_topics}
+use Rattle.spk_broker_rules.specs.Words.{handed_out, best, level, sent_as, option_list, to_connection, resent, will_message, offered, offers_to, granted_of, with_entry, stored, most_topics}
 use Rattle.spk_broker_rules.specs.Plan.{Event, Open, Packet, Fault, Closed, Tick, Refused, Act, Opens, At, Hear, Drop, Say, Leave, Tell, Queue, Route, Forget, Accept, Give, Take, Ack, before, plan, shut, turn_away, join, first_packet, next_packet, tick, is_fatal, Seen}
-use Rattle.spk_broker_rules.specs.Origins.{PostSays, WillSays, WillOf, Says, SaysAll}
+use Rattle.spk_broker_rules.specs.Origins.{AppMessageSays, WillSays, WillOf, Says, SaysAll}
 use Rattle.spk_broker_rules.specs.Topics.{FiltersIn, Brings}
-use Rattle.spk_broker_rules.specs.Step.{Turn, Served, act, acts, on_lines, guest_heard, line_heard, guest_dropped, line_dropped, sits, swap, left_behind, leave_at, will_at, seat_at, is_guest, is_away, forget_at, line_of, new_seat, take_up, away_for, accept_of, other_grants, give_at, take_at, ack_at, offer, offer_at, with_key, hand, hand_at, serve, serve_at, numbered, copies_with, bursts, conn_at, retained_with, route_one, route_some, route, noted, begun, seen, step}
+use Rattle.spk_broker_rules.specs.Step.{Turn, Served, act, acts, on_connections, newcomer_heard, connection_heard, newcomer_dropped, connection_dropped, sits, swap, left_behind, leave_at, will_at, session_by, is_newcomer, is_away, forget_at, connection_of, new_session, take_up, away_for, accept_of, other_grants, give_at, take_at, ack_at, offer, offer_at, with_key, hand, hand_at, serve, serve_at, numbered, in_flight_with, bursts, conn_at, retained_with, route_one, route_some, route, noted, begun, seen, step}
 use Rattle.spk_broker_rules.proofs.Lists.{all-also, all-append, all-filter, all-mapped, all-flat}
 use Rattle.spk_broker_rules.proofs.Lawfuls.{found-in}
 
@@ -24,66 +24,66 @@ module _ (F : List ℕ → Type 0) (T : List ℕ → List ℕ → Type 0) where
   abbrev pub Grants : Table ℕ → Type 0
   Grants gs = AllByRecursion (λ (g : List ℕ × ℕ). F g.0) gs
 
-  abbrev pub Copies : List Copy → Type 0
-  Copies cs = AllByRecursion (λ (c : Copy). T c.post.topic c.post.payload) cs
+  abbrev pub AllInFlight : List InFlight → Type 0
+  AllInFlight cs = AllByRecursion (λ (c : InFlight). T c.app_message.topic c.app_message.payload) cs
 
-  abbrev pub S : Seat → Type 0
-  S s = Grants s.grants × WillSays T s.here × Copies s.copies
+  abbrev pub S : Session → Type 0
+  S s = Grants s.grants × WillSays T s.here × AllInFlight s.in_flight
 
-  abbrev pub Seats : List Seat → Type 0
-  Seats ss = AllByRecursion S ss
+  abbrev pub Sessions : List Session → Type 0
+  Sessions ss = AllByRecursion S ss
 
-  abbrev pub Posts : List Post → Type 0
-  Posts ms = AllByRecursion (λ (m : Post). T m.topic m.payload) ms
+  abbrev pub AppMessages : List AppMessage → Type 0
+  AppMessages ms = AllByRecursion (λ (m : AppMessage). T m.topic m.payload) ms
 
   abbrev pub Kept : Table Stored → Type 0
   Kept es = AllByRecursion (λ (e : List ℕ × Stored). T e.0 e.1.payload) es
 
   pub record Of (t : Turn) : Type 0 where
-    pub seats : Seats t.broker.seats
+    pub sessions : Sessions t.broker.sessions
     pub retained : Kept t.broker.retained
     pub sends : SaysAll T t.sends
-    pub waiting : Posts t.waiting
+    pub waiting : AppMessages t.waiting
 
   record OfServed (x : Served) : Type 0 where
-    left : Seats x.left
+    left : Sessions x.left
     sends : SaysAll T x.sends
-    wills : Posts x.wills
+    wills : AppMessages x.wills
 
   -- ---- one message
 
-  line-sends : (o : Option ℕ) (p : Message) → Says T p → SaysAll T (to_line o p)
-  line-sends None p h = tt
-  line-sends (Some c) p h = (h, tt)
+  connection-sends : (o : Option ℕ) (p : Message) → Says T p → SaysAll T (to_connection o p)
+  connection-sends None p h = tt
+  connection-sends (Some c) p h = (h, tt)
 
-  list-posts : (o : Option Post) → PostSays T o → Posts (option_list o)
-  list-posts None h = tt
-  list-posts (Some m) h = (h, tt)
+  list-app_messages : (o : Option AppMessage) → AppMessageSays T o → AppMessages (option_list o)
+  list-app_messages None h = tt
+  list-app_messages (Some m) h = (h, tt)
 
-  line-wills : (o : Option Line) → WillSays T o → Posts (option_map_or (λ (l : Line). option_list l.will) o [])
-  line-wills None h = tt
-  line-wills (Some l) h = list-posts l.will h
+  connection-wills : (o : Option Connection) → WillSays T o → AppMessages (option_map_or (λ (l : Connection). option_list l.will) o [])
+  connection-wills None h = tt
+  connection-wills (Some l) h = list-app_messages l.will h
 
-  more-copies : (s : Seat) (id : ℕ) (post : Post) → T post.topic post.payload → Copies s.copies → Copies (copies_with s id post)
-  more-copies s id post h all = by s.kept
+  more-in_flight : (s : Session) (id : ℕ) (app_message : AppMessage) → T app_message.topic app_message.payload → AllInFlight s.in_flight → AllInFlight (in_flight_with s id app_message)
+  more-in_flight s id app_message h all = by s.kept
     where
-      by : (b : Bool) → Copies (cond b (s.copies ++ (record { id = id; post = post; handed = is_some s.here }) ∷ []) s.copies)
-      by true = all-append (λ (c : Copy). T c.post.topic c.post.payload) s.copies ((record { id = id; post = post; handed = is_some s.here }) ∷ []) all (h, tt)
+      by : (b : Bool) → AllInFlight (cond b (s.in_flight ++ (record { id = id; app_message = app_message; handed = is_some s.here }) ∷ []) s.in_flight)
+      by true = all-append (λ (c : InFlight). T c.app_message.topic c.app_message.payload) s.in_flight ((record { id = id; app_message = app_message; handed = is_some s.here }) ∷ []) all (h, tt)
       by false = all
 
-  of-hand : (q : ℕ) (post : Post) (s : Seat) → T post.topic post.payload → S s → OfServed (hand_at q post s)
-  of-hand zero post s h all = record { left = (all, tt); sends = line-sends (conn_at s) _ h; wills = tt }
-  of-hand (suc q) post s h all = by (has_room s.used)
+  of-hand : (q : ℕ) (app_message : AppMessage) (s : Session) → T app_message.topic app_message.payload → S s → OfServed (hand_at q app_message s)
+  of-hand zero app_message s h all = record { left = (all, tt); sends = connection-sends (conn_at s) _ h; wills = tt }
+  of-hand (suc q) app_message s h all = by (has_room s.used)
     where
-      by : (b : Bool) → OfServed (cond b (numbered s post (next_id s.used s.last)) (bursts s))
+      by : (b : Bool) → OfServed (cond b (numbered s app_message (next_id s.used s.last)) (bursts s))
       by true = record {
-        left = ((all.0, all.1, more-copies s (next_id s.used s.last) post h all.2), tt);
-        sends = line-sends (conn_at s) _ h;
+        left = ((all.0, all.1, more-in_flight s (next_id s.used s.last) app_message h all.2), tt);
+        sends = connection-sends (conn_at s) _ h;
         wills = tt;
       }
-      by false = record { left = tt; sends = tt; wills = line-wills s.here all.1 }
+      by false = record { left = tt; sends = tt; wills = connection-wills s.here all.1 }
 
-  of-serve : (m : Post) (s : Seat) → T m.topic m.payload → S s → OfServed (serve m s)
+  of-serve : (m : AppMessage) (s : Session) → T m.topic m.payload → S s → OfServed (serve m s)
   of-serve m s h all = by (level m.qos (best m.topic s.grants))
     where
       by : (o : Option ℕ) → OfServed (serve_at o m s)
@@ -108,7 +108,7 @@ module _ (F : List ℕ → Type 0) (T : List ℕ → List ℕ → Type 0) where
           (all-also (λ (e : List ℕ × V). P e.0 e.1) (λ (e : List ℕ × V). P (replaced key value e).0 (replaced key value e).1) same table all)
       by false = all-append (λ (e : List ℕ × V). P e.0 e.1) table ((key, value) ∷ []) all (h, tt)
 
-  of-retained : (table : Table Stored) (m : Post) → T m.topic m.payload → Kept table → Kept (retained_with table m)
+  of-retained : (table : Table Stored) (m : AppMessage) → T m.topic m.payload → Kept table → Kept (retained_with table m)
   of-retained table m h all = by m.retain (is_empty m.payload)
     where
       room : (b : Bool) → Kept (cond b (put m.topic (stored m) table) table)
@@ -122,27 +122,27 @@ module _ (F : List ℕ → Type 0) (T : List ℕ → List ℕ → Type 0) where
 
   -- ---- routing
 
-  of-one : (m : Post) (t : Turn) → T m.topic m.payload → Of t → Of (route_one m t)
+  of-one : (m : AppMessage) (t : Turn) → T m.topic m.payload → Of t → Of (route_one m t)
   of-one m t h x = record {
-    seats = all-flat S S (λ (s : Seat). (serve m s).left) (λ s a. (of-serve m s h a).left) t.broker.seats x.seats;
+    sessions = all-flat S S (λ (s : Session). (serve m s).left) (λ s a. (of-serve m s h a).left) t.broker.sessions x.sessions;
     retained = of-retained t.broker.retained m h x.retained;
-    sends = all-append (λ (s : Send). Says T s.packet) t.sends _ x.sends (all-flat S (λ (s : Send). Says T s.packet) (λ (s : Seat). (serve m s).sends) (λ s a. (of-serve m s h a).sends) t.broker.seats x.seats);
-    waiting = all-append (λ (p : Post). T p.topic p.payload) t.waiting _ x.waiting (all-flat S (λ (p : Post). T p.topic p.payload) (λ (s : Seat). (serve m s).wills) (λ s a. (of-serve m s h a).wills) t.broker.seats x.seats);
+    sends = all-append (λ (s : Send). Says T s.packet) t.sends _ x.sends (all-flat S (λ (s : Send). Says T s.packet) (λ (s : Session). (serve m s).sends) (λ s a. (of-serve m s h a).sends) t.broker.sessions x.sessions);
+    waiting = all-append (λ (p : AppMessage). T p.topic p.payload) t.waiting _ x.waiting (all-flat S (λ (p : AppMessage). T p.topic p.payload) (λ (s : Session). (serve m s).wills) (λ s a. (of-serve m s h a).wills) t.broker.sessions x.sessions);
   }
 
   of-some : (n : ℕ) (t : Turn) → Of t → Of (route_some n t)
   unfolding route_some
   of-some zero t x = x
-  of-some (suc n) t x = by t.waiting x.waiting (λ m ms h rest. of-some n (route_one m (record t { waiting = ms })) (of-one m (record t { waiting = ms }) h (record { seats = x.seats; retained = x.retained; sends = x.sends; waiting = rest })))
+  of-some (suc n) t x = by t.waiting x.waiting (λ m ms h rest. of-some n (route_one m (record t { waiting = ms })) (of-one m (record t { waiting = ms }) h (record { sessions = x.sessions; retained = x.retained; sends = x.sends; waiting = rest })))
     where
-      by : (ws : List Post) → Posts ws → ((m : Post) (ms : List Post) → T m.topic m.payload → Posts ms → Of (route_some n (route_one m (record t { waiting = ms }))))
+      by : (ws : List AppMessage) → AppMessages ws → ((m : AppMessage) (ms : List AppMessage) → T m.topic m.payload → AppMessages ms → Of (route_some n (route_one m (record t { waiting = ms }))))
           → Of (elim ws as (λ _. Turn) [ [] ↦ t | m ∷ ms ↦ route_some n (route_one m (record t { waiting = ms })) ])
       by [] all rest = x
       by (m ∷ ms) all rest = rest m ms all.0 all.1
 
   of-route : (t : Turn) → Of t → Of (route t)
   unfolding route
-  of-route t x = of-some (length t.waiting + length t.broker.seats) t x
+  of-route t x = of-some (length t.waiting + length t.broker.sessions) t x
 
   -- ---- the acts
 
@@ -155,94 +155,94 @@ module _ (F : List ℕ → Type 0) (T : List ℕ → List ℕ → Type 0) where
   Fits (Say d p) = Says T p
   Fits (Leave d wills) = Unit {0}
   Fits (Tell d) = Unit {0}
-  Fits (Queue post) = T post.topic post.payload
+  Fits (Queue app_message) = T app_message.topic app_message.payload
   Fits Route = Unit {0}
   Fits (Forget name) = Unit {0}
-  Fits (Accept d name keeps alive will) = PostSays T will
+  Fits (Accept d name keeps alive will) = AppMessageSays T will
   Fits (Give d id entries) = Grants entries
   Fits (Take d filters) = Unit {0}
   Fits (Ack d id) = Unit {0}
 
-  seats-swap : (key : ℕ) (new ss : List Seat) → Seats new → Seats ss → Seats (swap key new ss)
-  seats-swap key new ss h all = all-flat S S _ (λ s a. by s a _) ss all
+  sessions-swap : (key : ℕ) (new ss : List Session) → Sessions new → Sessions ss → Sessions (swap key new ss)
+  sessions-swap key new ss h all = all-flat S S _ (λ s a. by s a _) ss all
     where
-      by : (s : Seat) → S s → (b : Bool) → Seats (cond b new (s ∷ []))
+      by : (s : Session) → S s → (b : Bool) → Sessions (cond b new (s ∷ []))
       by s a true = h
       by s a false = (a, tt)
 
-  with-line : (change : Line → Line) → ((l : Line) → (change l).will ≡ l.will) → (o : Option Line) → WillSays T o → WillSays T (option_map change o)
-  with-line change same None h = tt
-  with-line change same (Some l) h = subst (PostSays T) (sym (same l)) h
+  with-connection : (change : Connection → Connection) → ((l : Connection) → (change l).will ≡ l.will) → (o : Option Connection) → WillSays T o → WillSays T (option_map change o)
+  with-connection change same None h = tt
+  with-connection change same (Some l) h = subst (AppMessageSays T) (sym (same l)) h
 
-  of-lines : (on_guest : Guest → Guest) (change : Line → Line) → ((l : Line) → (change l).will ≡ l.will) → (t : Turn) → Of t → Of (on_lines on_guest change t)
-  of-lines on_guest change same t x = record {
-    seats = all-mapped S (λ (s : Seat). record s { here = option_map change s.here }) t.broker.seats
-        (all-also S (λ (s : Seat). S (record s { here = option_map change s.here })) (λ s a. (a.0, with-line change same s.here a.1, a.2)) t.broker.seats x.seats);
+  of-connections : (on_newcomer : Newcomer → Newcomer) (change : Connection → Connection) → ((l : Connection) → (change l).will ≡ l.will) → (t : Turn) → Of t → Of (on_connections on_newcomer change t)
+  of-connections on_newcomer change same t x = record {
+    sessions = all-mapped S (λ (s : Session). record s { here = option_map change s.here }) t.broker.sessions
+        (all-also S (λ (s : Session). S (record s { here = option_map change s.here })) (λ s a. (a.0, with-connection change same s.here a.1, a.2)) t.broker.sessions x.sessions);
     retained = x.retained;
     sends = x.sends;
     waiting = x.waiting;
   }
 
-  heard-will : (d k : ℕ) (l : Line) → (line_heard d k l).will ≡ l.will
+  heard-will : (d k : ℕ) (l : Connection) → (connection_heard d k l).will ≡ l.will
   heard-will d k l = by _
     where
       by : (b : Bool) → (cond b (record l { heard = k }) l).will ≡ l.will
       by true = refl
       by false = refl
 
-  dropped-will : (d : ℕ) (l : Line) → (line_dropped d l).will ≡ l.will
+  dropped-will : (d : ℕ) (l : Connection) → (connection_dropped d l).will ≡ l.will
   dropped-will d l = by _
     where
       by : (b : Bool) → (cond b (record l { drops = one_more l.drops }) l).will ≡ l.will
       by true = refl
       by false = refl
 
-  with-seats : (t : Turn) (ss : List Seat) → Of t → Seats ss → Of (record t { broker = record t.broker { seats = ss } })
-  with-seats t ss x all = record { seats = all; retained = x.retained; sends = x.sends; waiting = x.waiting }
+  with-sessions : (t : Turn) (ss : List Session) → Of t → Sessions ss → Of (record t { broker = record t.broker { sessions = ss } })
+  with-sessions t ss x all = record { sessions = all; retained = x.retained; sends = x.sends; waiting = x.waiting }
 
-  of-leave : (d : ℕ) (wills : Bool) (t : Turn) (o : Option Seat) → seat_at d t.broker.seats ≡ o → Of t → Of (leave_at o d wills t)
-  of-leave d wills t None is x = record { seats = x.seats; retained = x.retained; sends = x.sends; waiting = x.waiting }
+  of-leave : (d : ℕ) (wills : Bool) (t : Turn) (o : Option Session) → session_by d t.broker.sessions ≡ o → Of t → Of (leave_at o d wills t)
+  of-leave d wills t None is x = record { sessions = x.sessions; retained = x.retained; sends = x.sends; waiting = x.waiting }
   of-leave d wills t (Some s) is x = record {
-    seats = seats-swap s.key (left_behind s) t.broker.seats (left s.kept) x.seats;
+    sessions = sessions-swap s.key (left_behind s) t.broker.sessions (left s.kept) x.sessions;
     retained = x.retained;
     sends = x.sends;
-    waiting = all-append (λ (p : Post). T p.topic p.payload) t.waiting (will_at wills s) x.waiting (waits wills);
+    waiting = all-append (λ (p : AppMessage). T p.topic p.payload) t.waiting (will_at wills s) x.waiting (waits wills);
   }
     where
       here : S s
-      here = found-in S (sits d) t.broker.seats s x.seats is
+      here = found-in S (sits d) t.broker.sessions s x.sessions is
 
-      left : (b : Bool) → Seats (cond b ((record s { here = None }) ∷ []) [])
+      left : (b : Bool) → Sessions (cond b ((record s { here = None }) ∷ []) [])
       left true = ((here.0, tt, here.2), tt)
       left false = tt
 
-      waits : (w : Bool) → Posts (will_at w s)
-      waits true = line-wills s.here here.1
+      waits : (w : Bool) → AppMessages (will_at w s)
+      waits true = connection-wills s.here here.1
       waits false = tt
 
-  of-forget : (t : Turn) (o : Option Seat) → Of t → Of (forget_at o t)
+  of-forget : (t : Turn) (o : Option Session) → Of t → Of (forget_at o t)
   of-forget t None x = x
-  of-forget t (Some s) x = with-seats t (swap s.key [] t.broker.seats) x (seats-swap s.key [] t.broker.seats tt x.seats)
+  of-forget t (Some s) x = with-sessions t (swap s.key [] t.broker.sessions) x (sessions-swap s.key [] t.broker.sessions tt x.sessions)
 
-  of-resent : (d : ℕ) (cs : List Copy) → Copies cs → SaysAll T (resent d cs)
+  of-resent : (d : ℕ) (cs : List InFlight) → AllInFlight cs → SaysAll T (resent d cs)
   of-resent d [] h = tt
   of-resent d (c ∷ cs) h = (h.0, of-resent d cs h.1)
 
-  of-up : (name : List ℕ) (keeps : Bool) (l : Line) (t : Turn) (o : Option Seat) → PostSays T l.will → away_for keeps name t.broker.seats ≡ o → Of t → Of (take_up o name keeps l t)
+  of-up : (name : List ℕ) (keeps : Bool) (l : Connection) (t : Turn) (o : Option Session) → AppMessageSays T l.will → away_for keeps name t.broker.sessions ≡ o → Of t → Of (take_up o name keeps l t)
   of-up name keeps l t None will is x = record {
-    seats = all-append S t.broker.seats (new_seat (t.broker.made + 1) name keeps l ∷ []) x.seats ((tt, will, tt), tt);
+    sessions = all-append S t.broker.sessions (new_session (t.broker.made + 1) name keeps l ∷ []) x.sessions ((tt, will, tt), tt);
     retained = x.retained;
     sends = all-append (λ (s : Send). Says T s.packet) t.sends _ x.sends (tt, tt);
     waiting = x.waiting;
   }
   of-up name keeps l t (Some s) will is x = record {
-    seats = seats-swap s.key _ t.broker.seats ((here.0, will, all-mapped (λ (c : Copy). T c.post.topic c.post.payload) handed_out s.copies here.2), tt) x.seats;
+    sessions = sessions-swap s.key _ t.broker.sessions ((here.0, will, all-mapped (λ (c : InFlight). T c.app_message.topic c.app_message.payload) handed_out s.in_flight here.2), tt) x.sessions;
     retained = x.retained;
-    sends = all-append (λ (y : Send). Says T y.packet) t.sends _ x.sends (tt, of-resent l.conn s.copies here.2);
+    sends = all-append (λ (y : Send). Says T y.packet) t.sends _ x.sends (tt, of-resent l.conn s.in_flight here.2);
     waiting = x.waiting;
   }
     where
-      found : (k : Bool) → cond k (find (is_away name) t.broker.seats) None ≡ Some s → find (is_away name) t.broker.seats ≡ Some s
+      found : (k : Bool) → cond k (find (is_away name) t.broker.sessions) None ≡ Some s → find (is_away name) t.broker.sessions ≡ Some s
       found true e = e
       found false e = absurd (no e)
         where
@@ -250,27 +250,27 @@ module _ (F : List ℕ → Type 0) (T : List ℕ → List ℕ → Type 0) where
           no e = cc
 
       here : S s
-      here = found-in S (is_away name) t.broker.seats s x.seats (found keeps is)
+      here = found-in S (is_away name) t.broker.sessions s x.sessions (found keeps is)
 
-  of-accept : (name : List ℕ) (keeps : Bool) (alive : ℕ) (will : Option Post) (t : Turn) (o : Option Guest) → PostSays T will → Of t → Of (accept_of o name keeps alive will t)
+  of-accept : (name : List ℕ) (keeps : Bool) (alive : ℕ) (will : Option AppMessage) (t : Turn) (o : Option Newcomer) → AppMessageSays T will → Of t → Of (accept_of o name keeps alive will t)
   of-accept name keeps alive will t None h x = x
-  of-accept name keeps alive will t (Some g) h x = of-up name keeps (line_of g alive will) t (away_for keeps name t.broker.seats) h refl x
+  of-accept name keeps alive will t (Some g) h x = of-up name keeps (connection_of g alive will) t (away_for keeps name t.broker.sessions) h refl x
 
-  of-offer_at : (key : ℕ) (post : Post) (t : Turn) (o : Option Seat) → T post.topic post.payload → with_key key t.broker.seats ≡ o → Of t → Of (offer_at o key post t)
-  of-offer_at key post t None h is x = x
-  of-offer_at key post t (Some s) h is x = record {
-    seats = seats-swap key (hand post s).left t.broker.seats y.left x.seats;
+  of-offer_at : (key : ℕ) (app_message : AppMessage) (t : Turn) (o : Option Session) → T app_message.topic app_message.payload → with_key key t.broker.sessions ≡ o → Of t → Of (offer_at o key app_message t)
+  of-offer_at key app_message t None h is x = x
+  of-offer_at key app_message t (Some s) h is x = record {
+    sessions = sessions-swap key (hand app_message s).left t.broker.sessions y.left x.sessions;
     retained = x.retained;
     sends = all-append (λ (z : Send). Says T z.packet) t.sends _ x.sends y.sends;
-    waiting = all-append (λ (p : Post). T p.topic p.payload) t.waiting _ x.waiting y.wills;
+    waiting = all-append (λ (p : AppMessage). T p.topic p.payload) t.waiting _ x.waiting y.wills;
   }
     where
-      y : OfServed (hand post s)
-      y = of-hand post.qos post s h (found-in S _ t.broker.seats s x.seats is)
+      y : OfServed (hand app_message s)
+      y = of-hand app_message.qos app_message s h (found-in S _ t.broker.sessions s x.sessions is)
 
-  of-offers : (key : ℕ) (posts : List Post) (t : Turn) → Posts posts → Of t → Of (fold (offer key) t posts)
+  of-offers : (key : ℕ) (app_messages : List AppMessage) (t : Turn) → AppMessages app_messages → Of t → Of (fold (offer key) t app_messages)
   of-offers key [] t h x = x
-  of-offers key (p ∷ ps) t h x = of-offers key ps (offer key t p) h.1 (of-offer_at key p t (with_key key t.broker.seats) h.0 refl x)
+  of-offers key (p ∷ ps) t h x = of-offers key ps (offer key t p) h.1 (of-offer_at key p t (with_key key t.broker.sessions) h.0 refl x)
 
   of-entries : (others : ℕ) (es : List (List ℕ × ℕ)) (g : Table ℕ) → Grants es → Grants g → Grants (fold (with_entry others) g es)
   of-entries others [] g h all = all
@@ -280,61 +280,61 @@ module _ (F : List ℕ → Type 0) (T : List ℕ → List ℕ → Type 0) where
       by true = put-all (λ k (q : ℕ). F k) e.0 (min 1 e.1) g h.0 all
       by false = all
 
-  of-offered : (table : Table Stored) (e : List ℕ × ℕ) → Kept table → Posts (offers_to table e)
-  of-offered table e all = all-mapped (λ (p : Post). T p.topic p.payload) (offered e.1) _ (all-filter (λ (x : List ℕ × Stored). T x.0 x.1.payload) _ table all)
+  of-offered : (table : Table Stored) (e : List ℕ × ℕ) → Kept table → AppMessages (offers_to table e)
+  of-offered table e all = all-mapped (λ (p : AppMessage). T p.topic p.payload) (offered e.1) _ (all-filter (λ (x : List ℕ × Stored). T x.0 x.1.payload) _ table all)
 
-  of-all_offered : (table : Table Stored) (es : List (List ℕ × ℕ)) → Kept table → Posts (flat_map (offers_to table) es)
+  of-all_offered : (table : Table Stored) (es : List (List ℕ × ℕ)) → Kept table → AppMessages (flat_map (offers_to table) es)
   of-all_offered table [] all = tt
-  of-all_offered table (e ∷ es) all = all-append (λ (p : Post). T p.topic p.payload) (offers_to table e) _ (of-offered table e all) (of-all_offered table es all)
+  of-all_offered table (e ∷ es) all = all-append (λ (p : AppMessage). T p.topic p.payload) (offers_to table e) _ (of-offered table e all) (of-all_offered table es all)
 
-  of-give : (d id : ℕ) (entries : List (List ℕ × ℕ)) (t : Turn) (o : Option Seat) → Grants entries → seat_at d t.broker.seats ≡ o → Of t → Of (give_at o d id entries t)
+  of-give : (d id : ℕ) (entries : List (List ℕ × ℕ)) (t : Turn) (o : Option Session) → Grants entries → session_by d t.broker.sessions ≡ o → Of t → Of (give_at o d id entries t)
   of-give d id entries t None h is x = x
   of-give d id entries t (Some s) h is x =
-      of-offers s.key (flat_map (offers_to t.broker.retained) (granted_of (other_grants s t.broker.seats) s.grants entries)) _
-      (of-all_offered t.broker.retained (granted_of (other_grants s t.broker.seats) s.grants entries) x.retained)
+      of-offers s.key (flat_map (offers_to t.broker.retained) (granted_of (other_grants s t.broker.sessions) s.grants entries)) _
+      (of-all_offered t.broker.retained (granted_of (other_grants s t.broker.sessions) s.grants entries) x.retained)
       (record {
-        seats = seats-swap s.key _ t.broker.seats ((of-entries (other_grants s t.broker.seats) entries s.grants h here.0, here.1, here.2), tt) x.seats;
+        sessions = sessions-swap s.key _ t.broker.sessions ((of-entries (other_grants s t.broker.sessions) entries s.grants h here.0, here.1, here.2), tt) x.sessions;
         retained = x.retained;
         sends = all-append (λ (z : Send). Says T z.packet) t.sends _ x.sends (tt, tt);
         waiting = x.waiting;
       })
     where
       here : S s
-      here = found-in S (sits d) t.broker.seats s x.seats is
+      here = found-in S (sits d) t.broker.sessions s x.sessions is
 
   of-taken : (ks : List (List ℕ)) (g : Table ℕ) → Grants g → Grants (fold (λ a k. remove k a) g ks)
   of-taken [] g all = all
   of-taken (k ∷ ks) g all = of-taken ks (remove k g) (all-filter (λ (x : List ℕ × ℕ). F x.0) _ g all)
 
-  of-take : (d : ℕ) (filters : List (List ℕ)) (t : Turn) (o : Option Seat) → seat_at d t.broker.seats ≡ o → Of t → Of (take_at o filters t)
+  of-take : (d : ℕ) (filters : List (List ℕ)) (t : Turn) (o : Option Session) → session_by d t.broker.sessions ≡ o → Of t → Of (take_at o filters t)
   of-take d filters t None is x = x
-  of-take d filters t (Some s) is x = with-seats t _ x (seats-swap s.key _ t.broker.seats ((of-taken filters s.grants here.0, here.1, here.2), tt) x.seats)
+  of-take d filters t (Some s) is x = with-sessions t _ x (sessions-swap s.key _ t.broker.sessions ((of-taken filters s.grants here.0, here.1, here.2), tt) x.sessions)
     where
       here : S s
-      here = found-in S (sits d) t.broker.seats s x.seats is
+      here = found-in S (sits d) t.broker.sessions s x.sessions is
 
-  of-ack : (d id : ℕ) (t : Turn) (o : Option Seat) → seat_at d t.broker.seats ≡ o → Of t → Of (ack_at o id t)
+  of-ack : (d id : ℕ) (t : Turn) (o : Option Session) → session_by d t.broker.sessions ≡ o → Of t → Of (ack_at o id t)
   of-ack d id t None is x = x
-  of-ack d id t (Some s) is x = with-seats t _ x (seats-swap s.key _ t.broker.seats ((here.0, here.1, all-filter (λ (c : Copy). T c.post.topic c.post.payload) _ s.copies here.2), tt) x.seats)
+  of-ack d id t (Some s) is x = with-sessions t _ x (sessions-swap s.key _ t.broker.sessions ((here.0, here.1, all-filter (λ (c : InFlight). T c.app_message.topic c.app_message.payload) _ s.in_flight here.2), tt) x.sessions)
     where
       here : S s
-      here = found-in S (sits d) t.broker.seats s x.seats is
+      here = found-in S (sits d) t.broker.sessions s x.sessions is
 
   of-act : (a : Act) (t : Turn) → Fits a → Of t → Of (act a t)
-  of-act Opens t h x = record { seats = x.seats; retained = x.retained; sends = x.sends; waiting = x.waiting }
-  of-act (At moment) t h x = record { seats = x.seats; retained = x.retained; sends = x.sends; waiting = x.waiting }
-  of-act (Hear d) t h x = of-lines (guest_heard d t.broker.clock) (line_heard d t.broker.clock) (heard-will d t.broker.clock) t x
-  of-act (Drop d) t h x = of-lines (guest_dropped d) (line_dropped d) (dropped-will d) t x
-  of-act (Say d p) t h x = record { seats = x.seats; retained = x.retained; sends = all-append (λ (s : Send). Says T s.packet) t.sends _ x.sends (h, tt); waiting = x.waiting }
-  of-act (Leave d wills) t h x = of-leave d wills t (seat_at d t.broker.seats) refl x
-  of-act (Tell d) t h x = record { seats = x.seats; retained = x.retained; sends = x.sends; waiting = x.waiting }
-  of-act (Queue post) t h x = record { seats = x.seats; retained = x.retained; sends = x.sends; waiting = all-append (λ (p : Post). T p.topic p.payload) t.waiting (post ∷ []) x.waiting (h, tt) }
+  of-act Opens t h x = record { sessions = x.sessions; retained = x.retained; sends = x.sends; waiting = x.waiting }
+  of-act (At moment) t h x = record { sessions = x.sessions; retained = x.retained; sends = x.sends; waiting = x.waiting }
+  of-act (Hear d) t h x = of-connections (newcomer_heard d t.broker.clock) (connection_heard d t.broker.clock) (heard-will d t.broker.clock) t x
+  of-act (Drop d) t h x = of-connections (newcomer_dropped d) (connection_dropped d) (dropped-will d) t x
+  of-act (Say d p) t h x = record { sessions = x.sessions; retained = x.retained; sends = all-append (λ (s : Send). Says T s.packet) t.sends _ x.sends (h, tt); waiting = x.waiting }
+  of-act (Leave d wills) t h x = of-leave d wills t (session_by d t.broker.sessions) refl x
+  of-act (Tell d) t h x = record { sessions = x.sessions; retained = x.retained; sends = x.sends; waiting = x.waiting }
+  of-act (Queue app_message) t h x = record { sessions = x.sessions; retained = x.retained; sends = x.sends; waiting = all-append (λ (p : AppMessage). T p.topic p.payload) t.waiting (app_message ∷ []) x.waiting (h, tt) }
   of-act Route t h x = of-route t x
-  of-act (Forget name) t h x = of-forget t (find (is_away name) t.broker.seats) x
-  of-act (Accept d name keeps alive will) t h x = of-accept name keeps alive will t (find (is_guest d) t.broker.guests) h x
-  of-act (Give d id entries) t h x = of-give d id entries t (seat_at d t.broker.seats) h refl x
-  of-act (Take d filters) t h x = of-take d filters t (seat_at d t.broker.seats) refl x
-  of-act (Ack d id) t h x = of-ack d id t (seat_at d t.broker.seats) refl x
+  of-act (Forget name) t h x = of-forget t (find (is_away name) t.broker.sessions) x
+  of-act (Accept d name keeps alive will) t h x = of-accept name keeps alive will t (find (is_newcomer d) t.broker.newcomers) h x
+  of-act (Give d id entries) t h x = of-give d id entries t (session_by d t.broker.sessions) h refl x
+  of-act (Take d filters) t h x = of-take d filters t (session_by d t.broker.sessions) refl x
+  of-act (Ack d id) t h x = of-ack d id t (session_by d t.broker.sessions) refl x
 
   pub of-acts : (as_list : List Act) (t : Turn) → AllByRecursion Fits as_list → Of t → Of (acts as_list t)
   of-acts [] t h x = x
@@ -358,11 +358,11 @@ module _ (F : List ℕ → Type 0) (T : List ℕ → List ℕ → Type 0) where
   fits-away : (d code : ℕ) → Fitting (turn_away d code)
   fits-away d code = record { each = (tt, (tt, (tt, (tt, tt)))) }
 
-  fits-will : (w : Option WillData) → WillOf T w → PostSays T (option_map will_post w)
+  fits-will : (w : Option WillData) → WillOf T w → AppMessageSays T (option_map will_message w)
   fits-will None h = tt
   fits-will (Some w) h = h
 
-  fits-join : (older : Option ℕ) (d : ℕ) (name : List ℕ) (clean : Bool) (alive : ℕ) (will : Option Post) → PostSays T will → Fitting (join older d name clean alive will)
+  fits-join : (older : Option ℕ) (d : ℕ) (name : List ℕ) (clean : Bool) (alive : ℕ) (will : Option AppMessage) → AppMessageSays T will → Fitting (join older d name clean alive will)
   fits-join None d name true alive will h = record { each = (tt, (h, tt)) }
   fits-join None d name false alive will h = record { each = (h, tt) }
   fits-join (Some o) d name true alive will h = record { each = (tt, (tt, (tt, (h, (tt, tt))))) }
@@ -418,11 +418,11 @@ module _ (F : List ℕ → Type 0) (T : List ℕ → List ℕ → Type 0) where
   fits-before (Refused d sort.Other moment) = (tt, tt)
 
   pub record Has (b : Broker) : Type 0 where
-    pub seats : Seats b.seats
+    pub sessions : Sessions b.sessions
     pub retained : Kept b.retained
 
   pub of-noted : (b : Broker) (e : Event) → Has b → Of (noted b e)
-  of-noted b e h = of-acts (before e) (begun b) (fits-before e) (record { seats = h.seats; retained = h.retained; sends = tt; waiting = tt })
+  of-noted b e h = of-acts (before e) (begun b) (fits-before e) (record { sessions = h.sessions; retained = h.retained; sends = tt; waiting = tt })
 
   pub of-step : (b : Broker) (e : Event) → Has b → Brings (FiltersIn F) e → Brings (Says T) e → Of (step b e)
   unfolding step
@@ -430,10 +430,10 @@ module _ (F : List ℕ → Type 0) (T : List ℕ → List ℕ → Type 0) where
 
 -- ---- where only filters, or only messages, are looked at
 
-pub seats-of : (F : List ℕ → Type 0) (T : List ℕ → List ℕ → Type 0) (ss : List Seat) → AllByRecursion (λ (s : Seat). Grants F T s.grants) ss → AllByRecursion (λ (s : Seat). WillSays T s.here) ss
-    → AllByRecursion (λ (s : Seat). Copies F T s.copies) ss → Seats F T ss
-seats-of F T [] g w k = tt
-seats-of F T (s ∷ ss) g w k = ((g.0, w.0, k.0), seats-of F T ss g.1 w.1 k.1)
+pub sessions-of : (F : List ℕ → Type 0) (T : List ℕ → List ℕ → Type 0) (ss : List Session) → AllByRecursion (λ (s : Session). Grants F T s.grants) ss → AllByRecursion (λ (s : Session). WillSays T s.here) ss
+    → AllByRecursion (λ (s : Session). AllInFlight F T s.in_flight) ss → Sessions F T ss
+sessions-of F T [] g w k = tt
+sessions-of F T (s ∷ ss) g w k = ((g.0, w.0, k.0), sessions-of F T ss g.1 w.1 k.1)
 
 pub all-free : {X : Type 0} (xs : List X) → AllByRecursion (λ (x : X). Unit {0}) xs
 all-free [] = tt
@@ -446,23 +446,23 @@ Free filter = Unit {0}
 abbrev pub Anything : List ℕ → List ℕ → Type 0
 Anything topic payload = Unit {0}
 
-pub free-grants : (ss : List Seat) → AllByRecursion (λ (s : Seat). AllByRecursion (λ (g : List ℕ × ℕ). Unit {0}) s.grants) ss
+pub free-grants : (ss : List Session) → AllByRecursion (λ (s : Session). AllByRecursion (λ (g : List ℕ × ℕ). Unit {0}) s.grants) ss
 free-grants [] = tt
 free-grants (s ∷ ss) = (all-free s.grants, free-grants ss)
 
-pub free-copies : (ss : List Seat) → AllByRecursion (λ (s : Seat). AllByRecursion (λ (c : Copy). Unit {0}) s.copies) ss
-free-copies [] = tt
-free-copies (s ∷ ss) = (all-free s.copies, free-copies ss)
+pub free-in_flight : (ss : List Session) → AllByRecursion (λ (s : Session). AllByRecursion (λ (c : InFlight). Unit {0}) s.in_flight) ss
+free-in_flight [] = tt
+free-in_flight (s ∷ ss) = (all-free s.in_flight, free-in_flight ss)
 
-pub free-wills : (ss : List Seat) → AllByRecursion (λ (s : Seat). WillSays Anything s.here) ss
+pub free-wills : (ss : List Session) → AllByRecursion (λ (s : Session). WillSays Anything s.here) ss
 free-wills [] = tt
 free-wills (s ∷ ss) = (by s.here, free-wills ss)
   where
-    on : (o : Option Post) → PostSays Anything o
+    on : (o : Option AppMessage) → AppMessageSays Anything o
     on None = tt
     on (Some m) = tt
 
-    by : (o : Option Line) → WillSays Anything o
+    by : (o : Option Connection) → WillSays Anything o
     by None = tt
     by (Some l) = on l.will
 

@@ -7,16 +7,16 @@ use Rattle.spk_packets.specs.Message.{Message, Connect, ConnAck, Publish, PubAck
 use Rattle.spk_session.specs.declared.answer.Sort.TheVariants as sort
 use Rattle.spk_session.specs.PacketIds.{next_id}
 use Rattle.spk_session.specs.Step.{has_room, one_more, is_spent}
-use Rattle.spk_broker_rules.specs.Data.{Post, Line, Guest, Seat, Broker, fresh_broker}
+use Rattle.spk_broker_rules.specs.Data.{AppMessage, Connection, Newcomer, Session, Broker, fresh_broker}
 use Rattle.spk_broker_rules.specs.Dropping.{is_drop, drops_after, HasFew}
 use Rattle.spk_broker_rules.specs.Knowing.{is_opening}
 use Rattle.spk_broker_rules.specs.Lawful.{IsLawful, places}
 use Rattle.spk_broker_rules.specs.Words.{best, level, sent_as, granted_of, offers_to}
 use Rattle.spk_broker_rules.specs.Plan.{Event, Open, Packet, Fault, Closed, Tick, Refused, Act, Opens, At, Hear, Drop, Say, Leave, Tell, Queue, Route, Forget, Accept, Give, Take, Ack, plan, shut, turn_away, join, first_packet, next_packet, tick, is_fatal, Seen}
 use Rattle.spk_broker_rules.specs.Listening.{is_closed_in}
-use Rattle.spk_broker_rules.specs.Step.{Turn, act, acts, on_lines, guest_heard, line_heard, guest_dropped, line_dropped, sits, swap, left_behind, other_guests, leave_at, seat_at, is_guest, is_away, forget_at, line_of, take_up, away_for, accept_of, other_grants, give_at, take_at, ack_at, offer, offer_at, with_key, hand, hand_at, serve, serve_at, numbered, bursts, route_one, route_some, route, noted, begun, seen, step, drops_in, knows}
+use Rattle.spk_broker_rules.specs.Step.{Turn, act, acts, on_connections, newcomer_heard, connection_heard, newcomer_dropped, connection_dropped, sits, swap, left_behind, other_newcomers, leave_at, session_by, is_newcomer, is_away, forget_at, connection_of, take_up, away_for, accept_of, other_grants, give_at, take_at, ack_at, offer, offer_at, with_key, hand, hand_at, serve, serve_at, numbered, bursts, route_one, route_some, route, noted, begun, seen, step, drops_in, knows}
 use Rattle.spk_broker_rules.proofs.Lists.{eqb-is, eqb-self, all-also, all-append, all-filter, all-mapped, all-flat, found-passes}
-use Rattle.spk_broker_rules.proofs.Lawfuls.{found-in, dropped-conn, dropped-line}
+use Rattle.spk_broker_rules.proofs.Lawfuls.{found-in, dropped-conn, dropped-connection}
 use Rattle.spk_broker_rules.proofs.Places.{bit, bit-one, tally, tally-cons, tally-map, tally-missed, tally-found, none-above, ordered}
 use Rattle.spk_broker_rules.proofs.Endings.{known-places, unknown-places, some-known, opened-at, less-step, limit-step, closed-gone, opening-cases}
 use Rattle.spk_broker_rules.proofs.Waiting.{none-pass, closed-shut}
@@ -50,7 +50,7 @@ IsRule (Drop d) = ⊥
 IsRule (Say d p) = Unit {0}
 IsRule (Leave d wills) = Unit {0}
 IsRule (Tell d) = Unit {0}
-IsRule (Queue post) = Unit {0}
+IsRule (Queue app_message) = Unit {0}
 IsRule Route = Unit {0}
 IsRule (Forget name) = Unit {0}
 IsRule (Accept d name keeps alive will) = Unit {0}
@@ -71,7 +71,7 @@ rules-shut d = record { each = (tt, (tt, (tt, tt))) }
 rules-away : (d code : ℕ) → AreRules (turn_away d code)
 rules-away d code = record { each = (tt, (tt, (tt, (tt, tt)))) }
 
-rules-join : (older : Option ℕ) (d : ℕ) (name : List ℕ) (clean : Bool) (alive : ℕ) (will : Option Post) → AreRules (join older d name clean alive will)
+rules-join : (older : Option ℕ) (d : ℕ) (name : List ℕ) (clean : Bool) (alive : ℕ) (will : Option AppMessage) → AreRules (join older d name clean alive will)
 rules-join None d name true alive will = record { each = (tt, (tt, tt)) }
 rules-join None d name false alive will = record { each = (tt, tt) }
 rules-join (Some x) d name true alive will = record { each = (tt, (tt, (tt, (tt, (tt, tt))))) }
@@ -120,40 +120,40 @@ rules-plan v (Tick moment) o = rules-tick v.silent
 rules-plan v (Refused d s moment) o = rules-cond (is_fatal s v.spent) (shut d) [] (rules-shut d) (record { each = tt })
 
 module _ (c n : ℕ) where
-  abbrev Line_has : Option Line → Type 0
-  Line_has None = Unit {0}
-  Line_has (Some l) = eqb l.conn c ≡ true → l.drops ≡ n
+  abbrev Connection_has : Option Connection → Type 0
+  Connection_has None = Unit {0}
+  Connection_has (Some l) = eqb l.conn c ≡ true → l.drops ≡ n
 
-  abbrev S : Seat → Type 0
-  S s = Line_has s.here
+  abbrev S : Session → Type 0
+  S s = Connection_has s.here
 
-  abbrev G : Guest → Type 0
+  abbrev G : Newcomer → Type 0
   G g = eqb g.conn c ≡ true → g.drops ≡ n
 
   -- wherever the connection stands, it has had so many drops
   record Drops (b : Broker) : Type 0 where
-    guests : AllByRecursion G b.guests
-    seats : AllByRecursion S b.seats
+    newcomers : AllByRecursion G b.newcomers
+    sessions : AllByRecursion S b.sessions
 
-  with-seats : (b : Broker) (ss : List Seat) → Drops b → AllByRecursion S ss → Drops (record b { seats = ss })
-  with-seats b ss d h = record { guests = d.guests; seats = h }
+  with-sessions : (b : Broker) (ss : List Session) → Drops b → AllByRecursion S ss → Drops (record b { sessions = ss })
+  with-sessions b ss d h = record { newcomers = d.newcomers; sessions = h }
 
-  seats-swap : (key : ℕ) (new ss : List Seat) → AllByRecursion S new → AllByRecursion S ss → AllByRecursion S (swap key new ss)
-  seats-swap key new ss h all = all-flat S S (λ (s : Seat). cond (eqb s.key key) new (s ∷ [])) (λ s a. by s a (eqb s.key key)) ss all
+  sessions-swap : (key : ℕ) (new ss : List Session) → AllByRecursion S new → AllByRecursion S ss → AllByRecursion S (swap key new ss)
+  sessions-swap key new ss h all = all-flat S S (λ (s : Session). cond (eqb s.key key) new (s ∷ [])) (λ s a. by s a (eqb s.key key)) ss all
     where
-      by : (s : Seat) → S s → (b : Bool) → AllByRecursion S (cond b new (s ∷ []))
+      by : (s : Session) → S s → (b : Bool) → AllByRecursion S (cond b new (s ∷ []))
       by s a true = h
       by s a false = (a, tt)
 
-  has-hand : (q : ℕ) (post : Post) (s : Seat) → S s → AllByRecursion S (hand_at q post s).left
-  has-hand zero post s h = (h, tt)
-  has-hand (suc q) post s h = by (has_room s.used)
+  has-hand : (q : ℕ) (app_message : AppMessage) (s : Session) → S s → AllByRecursion S (hand_at q app_message s).left
+  has-hand zero app_message s h = (h, tt)
+  has-hand (suc q) app_message s h = by (has_room s.used)
     where
-      by : (b : Bool) → AllByRecursion S (cond b (numbered s post (next_id s.used s.last)) (bursts s)).left
+      by : (b : Bool) → AllByRecursion S (cond b (numbered s app_message (next_id s.used s.last)) (bursts s)).left
       by true = (h, tt)
       by false = tt
 
-  has-serve : (m : Post) (s : Seat) → S s → AllByRecursion S (serve m s).left
+  has-serve : (m : AppMessage) (s : Session) → S s → AllByRecursion S (serve m s).left
   has-serve m s h = by (level m.qos (best m.topic s.grants))
     where
       by : (o : Option ℕ) → AllByRecursion S (serve_at o m s).left
@@ -164,30 +164,30 @@ module _ (c n : ℕ) where
   unfolding route_some
   drops-some zero t d = d
   drops-some (suc k) t d = by t.waiting (λ p ps. drops-some k (route_one p (record t { waiting = ps }))
-      (record { guests = d.guests; seats = all-flat S S (λ (s : Seat). (serve p s).left) (has-serve p) t.broker.seats d.seats }))
+      (record { newcomers = d.newcomers; sessions = all-flat S S (λ (s : Session). (serve p s).left) (has-serve p) t.broker.sessions d.sessions }))
     where
-      by : (ws : List Post) → ((p : Post) (ps : List Post) → Drops (route_some k (route_one p (record t { waiting = ps }))).broker)
+      by : (ws : List AppMessage) → ((p : AppMessage) (ps : List AppMessage) → Drops (route_some k (route_one p (record t { waiting = ps }))).broker)
           → Drops (elim ws as (λ _. Turn) [ [] ↦ t | p ∷ ps ↦ route_some k (route_one p (record t { waiting = ps })) ]).broker
       by [] rest = d
       by (p ∷ ps) rest = rest p ps
 
   drops-route : (t : Turn) → Drops t.broker → Drops (route t).broker
   unfolding route
-  drops-route t d = drops-some (length t.waiting + length t.broker.seats) t d
+  drops-route t d = drops-some (length t.waiting + length t.broker.sessions) t d
 
-  drops-offers : (key : ℕ) (posts : List Post) (t : Turn) → Drops t.broker → Drops (fold (offer key) t posts).broker
+  drops-offers : (key : ℕ) (app_messages : List AppMessage) (t : Turn) → Drops t.broker → Drops (fold (offer key) t app_messages).broker
   drops-offers key [] t d = d
-  drops-offers key (p ∷ ps) t d = drops-offers key ps (offer key t p) (by (with_key key t.broker.seats) refl)
+  drops-offers key (p ∷ ps) t d = drops-offers key ps (offer key t p) (by (with_key key t.broker.sessions) refl)
     where
-      by : (o : Option Seat) → with_key key t.broker.seats ≡ o → Drops (offer_at o key p t).broker
+      by : (o : Option Session) → with_key key t.broker.sessions ≡ o → Drops (offer_at o key p t).broker
       by None i = d
       by (Some s) i = record {
-        guests = d.guests;
-        seats = seats-swap key (hand p s).left t.broker.seats (has-hand p.qos p s (found-in S (λ (x : Seat). eqb x.key key) t.broker.seats s d.seats i)) d.seats;
+        newcomers = d.newcomers;
+        sessions = sessions-swap key (hand p s).left t.broker.sessions (has-hand p.qos p s (found-in S (λ (x : Session). eqb x.key key) t.broker.sessions s d.sessions i)) d.sessions;
       }
 
-  here-of : (x : ℕ) (b : Broker) (s : Seat) → Drops b → seat_at x b.seats ≡ Some s → S s
-  here-of x b s d i = found-in S (sits x) b.seats s d.seats i
+  here-of : (x : ℕ) (b : Broker) (s : Session) → Drops b → session_by x b.sessions ≡ Some s → S s
+  here-of x b s d i = found-in S (sits x) b.sessions s d.sessions i
 
   drops-act : (a : Act) (t : Turn) → IsRule a → Drops t.broker → Drops (act a t).broker
   drops-act Opens t rule d = absurd rule
@@ -195,51 +195,51 @@ module _ (c n : ℕ) where
   drops-act (Hear x) t rule d = absurd rule
   drops-act (Drop x) t rule d = absurd rule
   drops-act (Say x p) t rule d = d
-  drops-act (Leave x wills) t rule d = by (seat_at x t.broker.seats)
+  drops-act (Leave x wills) t rule d = by (session_by x t.broker.sessions)
     where
-      left : (s : Seat) (k : Bool) → AllByRecursion S (cond k ((record s { here = None }) ∷ []) [])
+      left : (s : Session) (k : Bool) → AllByRecursion S (cond k ((record s { here = None }) ∷ []) [])
       left s true = (tt, tt)
       left s false = tt
 
-      by : (o : Option Seat) → Drops (leave_at o x wills t).broker
-      by None = record { guests = all-filter G (λ (g : Guest). not (eqb g.conn x)) t.broker.guests d.guests; seats = d.seats }
-      by (Some s) = record { guests = d.guests; seats = seats-swap s.key (left_behind s) t.broker.seats (left s s.kept) d.seats }
+      by : (o : Option Session) → Drops (leave_at o x wills t).broker
+      by None = record { newcomers = all-filter G (λ (g : Newcomer). not (eqb g.conn x)) t.broker.newcomers d.newcomers; sessions = d.sessions }
+      by (Some s) = record { newcomers = d.newcomers; sessions = sessions-swap s.key (left_behind s) t.broker.sessions (left s s.kept) d.sessions }
   drops-act (Tell x) t rule d = d
-  drops-act (Queue post) t rule d = d
+  drops-act (Queue app_message) t rule d = d
   drops-act Route t rule d = drops-route t d
-  drops-act (Forget name) t rule d = by (find (is_away name) t.broker.seats)
+  drops-act (Forget name) t rule d = by (find (is_away name) t.broker.sessions)
     where
-      by : (o : Option Seat) → Drops (forget_at o t).broker
+      by : (o : Option Session) → Drops (forget_at o t).broker
       by None = d
-      by (Some s) = record { guests = d.guests; seats = seats-swap s.key [] t.broker.seats tt d.seats }
-  drops-act (Accept x name keeps alive will) t rule d = by (find (is_guest x) t.broker.guests) refl
+      by (Some s) = record { newcomers = d.newcomers; sessions = sessions-swap s.key [] t.broker.sessions tt d.sessions }
+  drops-act (Accept x name keeps alive will) t rule d = by (find (is_newcomer x) t.broker.newcomers) refl
     where
-      others : (y : ℕ) → AllByRecursion G (other_guests y t.broker.guests)
-      others y = all-filter G (λ (g : Guest). not (eqb g.conn y)) t.broker.guests d.guests
+      others : (y : ℕ) → AllByRecursion G (other_newcomers y t.broker.newcomers)
+      others y = all-filter G (λ (g : Newcomer). not (eqb g.conn y)) t.broker.newcomers d.newcomers
 
-      up : (l : Line) → (eqb l.conn c ≡ true → l.drops ≡ n) → (o : Option Seat) → Drops (take_up o name keeps l t).broker
-      up l h None = record { guests = others l.conn; seats = all-append S t.broker.seats _ d.seats (h, tt) }
-      up l h (Some s) = record { guests = others l.conn; seats = seats-swap s.key _ t.broker.seats (h, tt) d.seats }
+      up : (l : Connection) → (eqb l.conn c ≡ true → l.drops ≡ n) → (o : Option Session) → Drops (take_up o name keeps l t).broker
+      up l h None = record { newcomers = others l.conn; sessions = all-append S t.broker.sessions _ d.sessions (h, tt) }
+      up l h (Some s) = record { newcomers = others l.conn; sessions = sessions-swap s.key _ t.broker.sessions (h, tt) d.sessions }
 
-      by : (o : Option Guest) → find (is_guest x) t.broker.guests ≡ o → Drops (accept_of o name keeps alive will t).broker
+      by : (o : Option Newcomer) → find (is_newcomer x) t.broker.newcomers ≡ o → Drops (accept_of o name keeps alive will t).broker
       by None i = d
-      by (Some g) i = up (line_of g alive will) (found-in G (is_guest x) t.broker.guests g d.guests i) (away_for keeps name t.broker.seats)
-  drops-act (Give x id entries) t rule d = by (seat_at x t.broker.seats) refl
+      by (Some g) i = up (connection_of g alive will) (found-in G (is_newcomer x) t.broker.newcomers g d.newcomers i) (away_for keeps name t.broker.sessions)
+  drops-act (Give x id entries) t rule d = by (session_by x t.broker.sessions) refl
     where
-      by : (o : Option Seat) → seat_at x t.broker.seats ≡ o → Drops (give_at o x id entries t).broker
+      by : (o : Option Session) → session_by x t.broker.sessions ≡ o → Drops (give_at o x id entries t).broker
       by None i = d
-      by (Some s) i = drops-offers s.key (flat_map (offers_to t.broker.retained) (granted_of (other_grants s t.broker.seats) s.grants entries)) _
-          (record { guests = d.guests; seats = seats-swap s.key _ t.broker.seats (here-of x t.broker s d i, tt) d.seats })
-  drops-act (Take x filters) t rule d = by (seat_at x t.broker.seats) refl
+      by (Some s) i = drops-offers s.key (flat_map (offers_to t.broker.retained) (granted_of (other_grants s t.broker.sessions) s.grants entries)) _
+          (record { newcomers = d.newcomers; sessions = sessions-swap s.key _ t.broker.sessions (here-of x t.broker s d i, tt) d.sessions })
+  drops-act (Take x filters) t rule d = by (session_by x t.broker.sessions) refl
     where
-      by : (o : Option Seat) → seat_at x t.broker.seats ≡ o → Drops (take_at o filters t).broker
+      by : (o : Option Session) → session_by x t.broker.sessions ≡ o → Drops (take_at o filters t).broker
       by None i = d
-      by (Some s) i = record { guests = d.guests; seats = seats-swap s.key _ t.broker.seats (here-of x t.broker s d i, tt) d.seats }
-  drops-act (Ack x id) t rule d = by (seat_at x t.broker.seats) refl
+      by (Some s) i = record { newcomers = d.newcomers; sessions = sessions-swap s.key _ t.broker.sessions (here-of x t.broker s d i, tt) d.sessions }
+  drops-act (Ack x id) t rule d = by (session_by x t.broker.sessions) refl
     where
-      by : (o : Option Seat) → seat_at x t.broker.seats ≡ o → Drops (ack_at o id t).broker
+      by : (o : Option Session) → session_by x t.broker.sessions ≡ o → Drops (ack_at o id t).broker
       by None i = d
-      by (Some s) i = record { guests = d.guests; seats = seats-swap s.key _ t.broker.seats (here-of x t.broker s d i, tt) d.seats }
+      by (Some s) i = record { newcomers = d.newcomers; sessions = sessions-swap s.key _ t.broker.sessions (here-of x t.broker s d i, tt) d.sessions }
 
   drops-acts : (as_list : List Act) (t : Turn) → AllByRecursion IsRule as_list → Drops t.broker → Drops (acts as_list t).broker
   drops-acts [] t rules d = d
@@ -248,106 +248,106 @@ module _ (c n : ℕ) where
   -- ---- where it stands
 
   drops-found : (b : Broker) → Drops b → knows b c ≡ true → drops_in c b ≡ n
-  drops-found b d k = by (find (is_guest c) b.guests) refl
+  drops-found b d k = by (find (is_newcomer c) b.newcomers) refl
     where
-      line : (o : Option Line) → Line_has o → option_map_or (λ (l : Line). eqb l.conn c) o false ≡ true → option_map_or (λ (l : Line). l.drops) o 0 ≡ n
-      line None h e = absurd (true≢false (sym e))
-      line (Some l) h e = h e
+      connection : (o : Option Connection) → Connection_has o → option_map_or (λ (l : Connection). eqb l.conn c) o false ≡ true → option_map_or (λ (l : Connection). l.drops) o 0 ≡ n
+      connection None h e = absurd (true≢false (sym e))
+      connection (Some l) h e = h e
 
-      seat : (o : Option Seat) → seat_at c b.seats ≡ o → 1 ≤ tally (sits c) b.seats → option_map_or (λ (s : Seat). option_map_or (λ (l : Line). l.drops) s.here 0) o 0 ≡ n
-      seat None i h = let a = tally-missed (sits c) b.seats i in absurd (omega arith)
-      seat (Some s) i h = line s.here (here-of c b s d i) (found-passes (sits c) b.seats s i)
+      session : (o : Option Session) → session_by c b.sessions ≡ o → 1 ≤ tally (sits c) b.sessions → option_map_or (λ (s : Session). option_map_or (λ (l : Connection). l.drops) s.here 0) o 0 ≡ n
+      session None i h = let a = tally-missed (sits c) b.sessions i in absurd (omega arith)
+      session (Some s) i h = connection s.here (here-of c b s d i) (found-passes (sits c) b.sessions s i)
 
-      by : (o : Option Guest) → find (is_guest c) b.guests ≡ o
-          → option_map_or (λ (g : Guest). g.drops) o (option_map_or (λ (s : Seat). option_map_or (λ (l : Line). l.drops) s.here 0) (seat_at c b.seats) 0) ≡ n
-      by (Some g) i = found-in G (is_guest c) b.guests g d.guests i (found-passes (is_guest c) b.guests g i)
-      by None i = seat (seat_at c b.seats) refl (let a = tally-missed (is_guest c) b.guests i in let e = known-places b c k in omega arith)
+      by : (o : Option Newcomer) → find (is_newcomer c) b.newcomers ≡ o
+          → option_map_or (λ (g : Newcomer). g.drops) o (option_map_or (λ (s : Session). option_map_or (λ (l : Connection). l.drops) s.here 0) (session_by c b.sessions) 0) ≡ n
+      by (Some g) i = found-in G (is_newcomer c) b.newcomers g d.newcomers i (found-passes (is_newcomer c) b.newcomers g i)
+      by None i = session (session_by c b.sessions) refl (let a = tally-missed (is_newcomer c) b.newcomers i in let e = known-places b c k in omega arith)
 
-sits-line : (c n : ℕ) (o : Option Line) → (option_map_or (λ (l : Line). eqb l.conn c) o false ≡ true → option_map_or (λ (l : Line). l.drops) o 0 ≡ n) → Line_has c n o
-sits-line c n None h = tt
-sits-line c n (Some l) h = h
+sits-connection : (c n : ℕ) (o : Option Connection) → (option_map_or (λ (l : Connection). eqb l.conn c) o false ≡ true → option_map_or (λ (l : Connection). l.drops) o 0 ≡ n) → Connection_has c n o
+sits-connection c n None h = tt
+sits-connection c n (Some l) h = h
 
 -- as many as are found
 drops-at : (b : Broker) (c : ℕ) → places c b ≤ 1 → Drops c (drops_in c b) b
-drops-at b c one = by (find (is_guest c) b.guests) refl
+drops-at b c one = by (find (is_newcomer c) b.newcomers) refl
   where
-    seats-have : (m : ℕ) → AllByRecursion (λ (s : Seat). sits c s ≡ true → option_map_or (λ (l : Line). l.drops) s.here 0 ≡ m) b.seats → AllByRecursion (S c m) b.seats
-    seats-have m h = all-also (λ (s : Seat). sits c s ≡ true → option_map_or (λ (l : Line). l.drops) s.here 0 ≡ m) (S c m) (λ s k. sits-line c m s.here k) b.seats h
+    sessions-have : (m : ℕ) → AllByRecursion (λ (s : Session). sits c s ≡ true → option_map_or (λ (l : Connection). l.drops) s.here 0 ≡ m) b.sessions → AllByRecursion (S c m) b.sessions
+    sessions-have m h = all-also (λ (s : Session). sits c s ≡ true → option_map_or (λ (l : Connection). l.drops) s.here 0 ≡ m) (S c m) (λ s k. sits-connection c m s.here k) b.sessions h
 
-    seat : (o : Option Seat) → seat_at c b.seats ≡ o → AllByRecursion (S c (option_map_or (λ (s : Seat). option_map_or (λ (l : Line). l.drops) s.here 0) o 0)) b.seats
-    seat None i = seats-have 0 (none-of (sits c) (λ (s : Seat). option_map_or (λ (l : Line). l.drops) s.here 0 ≡ 0) b.seats (tally-missed (sits c) b.seats i))
-    seat (Some s) i = seats-have (option_map_or (λ (l : Line). l.drops) s.here 0)
-        (all-also (λ (x : Seat). sits c x ≡ true → x ≡ s) (λ (x : Seat). sits c x ≡ true → option_map_or (λ (l : Line). l.drops) x.here 0 ≡ option_map_or (λ (l : Line). l.drops) s.here 0)
-        (λ x same k. ap (λ (y : Seat). option_map_or (λ (l : Line). l.drops) y.here 0) (same k)) b.seats
-        (one-of (sits c) b.seats s (omega arith) i))
+    session : (o : Option Session) → session_by c b.sessions ≡ o → AllByRecursion (S c (option_map_or (λ (s : Session). option_map_or (λ (l : Connection). l.drops) s.here 0) o 0)) b.sessions
+    session None i = sessions-have 0 (none-of (sits c) (λ (s : Session). option_map_or (λ (l : Connection). l.drops) s.here 0 ≡ 0) b.sessions (tally-missed (sits c) b.sessions i))
+    session (Some s) i = sessions-have (option_map_or (λ (l : Connection). l.drops) s.here 0)
+        (all-also (λ (x : Session). sits c x ≡ true → x ≡ s) (λ (x : Session). sits c x ≡ true → option_map_or (λ (l : Connection). l.drops) x.here 0 ≡ option_map_or (λ (l : Connection). l.drops) s.here 0)
+        (λ x same k. ap (λ (y : Session). option_map_or (λ (l : Connection). l.drops) y.here 0) (same k)) b.sessions
+        (one-of (sits c) b.sessions s (omega arith) i))
 
-    by : (o : Option Guest) → find (is_guest c) b.guests ≡ o
-        → Drops c (option_map_or (λ (g : Guest). g.drops) o (option_map_or (λ (s : Seat). option_map_or (λ (l : Line). l.drops) s.here 0) (seat_at c b.seats) 0)) b
+    by : (o : Option Newcomer) → find (is_newcomer c) b.newcomers ≡ o
+        → Drops c (option_map_or (λ (g : Newcomer). g.drops) o (option_map_or (λ (s : Session). option_map_or (λ (l : Connection). l.drops) s.here 0) (session_by c b.sessions) 0)) b
     by (Some g) i = record {
-      guests = all-also (λ (x : Guest). is_guest c x ≡ true → x ≡ g) (G c g.drops) (λ x same k. ap (λ (y : Guest). y.drops) (same k)) b.guests (one-of (is_guest c) b.guests g (omega arith) i);
-      seats = seats-have g.drops (none-of (sits c) (λ (s : Seat). option_map_or (λ (l : Line). l.drops) s.here 0 ≡ g.drops) b.seats (let a = tally-found (is_guest c) b.guests g i in omega arith));
+      newcomers = all-also (λ (x : Newcomer). is_newcomer c x ≡ true → x ≡ g) (G c g.drops) (λ x same k. ap (λ (y : Newcomer). y.drops) (same k)) b.newcomers (one-of (is_newcomer c) b.newcomers g (omega arith) i);
+      sessions = sessions-have g.drops (none-of (sits c) (λ (s : Session). option_map_or (λ (l : Connection). l.drops) s.here 0 ≡ g.drops) b.sessions (let a = tally-found (is_newcomer c) b.newcomers g i in omega arith));
     }
     by None i = record {
-      guests = none-of (is_guest c) (λ (g : Guest). g.drops ≡ _) b.guests (tally-missed (is_guest c) b.guests i);
-      seats = seat (seat_at c b.seats) refl;
+      newcomers = none-of (is_newcomer c) (λ (g : Newcomer). g.drops ≡ _) b.newcomers (tally-missed (is_newcomer c) b.newcomers i);
+      sessions = session (session_by c b.sessions) refl;
     }
 
 -- ---- what is noted
 
 module _ (c n m : ℕ) where
-  -- the same changes for guests and lines
-  drops-lines : (on_guest : Guest → Guest) (change : Line → Line) → ((g : Guest) → G c n g → G c m (on_guest g)) → ((l : Line) → (eqb l.conn c ≡ true → l.drops ≡ n) → eqb (change l).conn c ≡ true → (change l).drops ≡ m)
-      → (t : Turn) → Drops c n t.broker → Drops c m (on_lines on_guest change t).broker
-  drops-lines on_guest change guest line t d = record {
-    guests = all-mapped (G c m) on_guest t.broker.guests (all-also (G c n) (λ (g : Guest). G c m (on_guest g)) guest t.broker.guests d.guests);
-    seats = all-mapped (S c m) (λ (s : Seat). record s { here = option_map change s.here }) t.broker.seats
-        (all-also (S c n) (λ (s : Seat). Line_has c m (option_map change s.here)) (λ s h. by s.here h) t.broker.seats d.seats);
+  -- the same changes for newcomers and connections
+  drops-connections : (on_newcomer : Newcomer → Newcomer) (change : Connection → Connection) → ((g : Newcomer) → G c n g → G c m (on_newcomer g)) → ((l : Connection) → (eqb l.conn c ≡ true → l.drops ≡ n) → eqb (change l).conn c ≡ true → (change l).drops ≡ m)
+      → (t : Turn) → Drops c n t.broker → Drops c m (on_connections on_newcomer change t).broker
+  drops-connections on_newcomer change newcomer connection t d = record {
+    newcomers = all-mapped (G c m) on_newcomer t.broker.newcomers (all-also (G c n) (λ (g : Newcomer). G c m (on_newcomer g)) newcomer t.broker.newcomers d.newcomers);
+    sessions = all-mapped (S c m) (λ (s : Session). record s { here = option_map change s.here }) t.broker.sessions
+        (all-also (S c n) (λ (s : Session). Connection_has c m (option_map change s.here)) (λ s h. by s.here h) t.broker.sessions d.sessions);
   }
     where
-      by : (o : Option Line) → Line_has c n o → Line_has c m (option_map change o)
+      by : (o : Option Connection) → Connection_has c n o → Connection_has c m (option_map change o)
       by None h = tt
-      by (Some l) h = line l h
+      by (Some l) h = connection l h
 
 drops-heard : (c n x : ℕ) (t : Turn) → Drops c n t.broker → Drops c n (act (Hear x) t).broker
-drops-heard c n x t d = drops-lines c n n (guest_heard x t.broker.clock) (line_heard x t.broker.clock) (λ g h. guest g h (eqb g.conn x)) (λ l h. line l h (eqb l.conn x)) t d
+drops-heard c n x t d = drops-connections c n n (newcomer_heard x t.broker.clock) (connection_heard x t.broker.clock) (λ g h. newcomer g h (eqb g.conn x)) (λ l h. connection l h (eqb l.conn x)) t d
   where
-    guest : (g : Guest) → G c n g → (b : Bool) → G c n (cond b (record g { heard = t.broker.clock }) g)
-    guest g h true = h
-    guest g h false = h
+    newcomer : (g : Newcomer) → G c n g → (b : Bool) → G c n (cond b (record g { heard = t.broker.clock }) g)
+    newcomer g h true = h
+    newcomer g h false = h
 
-    line : (l : Line) → (eqb l.conn c ≡ true → l.drops ≡ n) → (b : Bool) → eqb (cond b (record l { heard = t.broker.clock }) l).conn c ≡ true → (cond b (record l { heard = t.broker.clock }) l).drops ≡ n
-    line l h true = h
-    line l h false = h
+    connection : (l : Connection) → (eqb l.conn c ≡ true → l.drops ≡ n) → (b : Bool) → eqb (cond b (record l { heard = t.broker.clock }) l).conn c ≡ true → (cond b (record l { heard = t.broker.clock }) l).drops ≡ n
+    connection l h true = h
+    connection l h false = h
 
 drops-others : (c n x : ℕ) (t : Turn) → eqb x c ≡ false → Drops c n t.broker → Drops c n (act (Drop x) t).broker
-drops-others c n x t other d = drops-lines c n n (guest_dropped x) (line_dropped x) (λ g h. guest g h (eqb g.conn x) refl) (λ l h. line l h (eqb l.conn x) refl) t d
+drops-others c n x t other d = drops-connections c n n (newcomer_dropped x) (connection_dropped x) (λ g h. newcomer g h (eqb g.conn x) refl) (λ l h. connection l h (eqb l.conn x) refl) t d
   where
     no : (k : ℕ) → eqb k x ≡ true → eqb k c ≡ true → ⊥
     no k i j = true≢false (sym j ∙ ap (λ y. eqb y c) (eqb-is k x i) ∙ other)
 
-    guest : (g : Guest) → G c n g → (b : Bool) → eqb g.conn x ≡ b → G c n (cond b (record g { drops = one_more g.drops }) g)
-    guest g h true i = λ j. absurd (no g.conn i j)
-    guest g h false i = h
+    newcomer : (g : Newcomer) → G c n g → (b : Bool) → eqb g.conn x ≡ b → G c n (cond b (record g { drops = one_more g.drops }) g)
+    newcomer g h true i = λ j. absurd (no g.conn i j)
+    newcomer g h false i = h
 
-    line : (l : Line) → (eqb l.conn c ≡ true → l.drops ≡ n) → (b : Bool) → eqb l.conn x ≡ b → eqb (cond b (record l { drops = one_more l.drops }) l).conn c ≡ true
+    connection : (l : Connection) → (eqb l.conn c ≡ true → l.drops ≡ n) → (b : Bool) → eqb l.conn x ≡ b → eqb (cond b (record l { drops = one_more l.drops }) l).conn c ≡ true
         → (cond b (record l { drops = one_more l.drops }) l).drops ≡ n
-    line l h true i = λ j. absurd (no l.conn i j)
-    line l h false i = h
+    connection l h true i = λ j. absurd (no l.conn i j)
+    connection l h false i = h
 
 drops-own : (c n : ℕ) (t : Turn) → Drops c n t.broker → Drops c (one_more n) (act (Drop c) t).broker
-drops-own c n t d = drops-lines c n (one_more n) (guest_dropped c) (line_dropped c) (λ g h. guest g h (eqb g.conn c) refl) (λ l h. line l h (eqb l.conn c) refl) t d
+drops-own c n t d = drops-connections c n (one_more n) (newcomer_dropped c) (connection_dropped c) (λ g h. newcomer g h (eqb g.conn c) refl) (λ l h. connection l h (eqb l.conn c) refl) t d
   where
-    guest : (g : Guest) → G c n g → (b : Bool) → eqb g.conn c ≡ b → G c (one_more n) (cond b (record g { drops = one_more g.drops }) g)
-    guest g h true i = λ j. ap one_more (h j)
-    guest g h false i = λ j. absurd (true≢false (sym j ∙ i))
+    newcomer : (g : Newcomer) → G c n g → (b : Bool) → eqb g.conn c ≡ b → G c (one_more n) (cond b (record g { drops = one_more g.drops }) g)
+    newcomer g h true i = λ j. ap one_more (h j)
+    newcomer g h false i = λ j. absurd (true≢false (sym j ∙ i))
 
-    line : (l : Line) → (eqb l.conn c ≡ true → l.drops ≡ n) → (b : Bool) → eqb l.conn c ≡ b → eqb (cond b (record l { drops = one_more l.drops }) l).conn c ≡ true
+    connection : (l : Connection) → (eqb l.conn c ≡ true → l.drops ≡ n) → (b : Bool) → eqb l.conn c ≡ b → eqb (cond b (record l { drops = one_more l.drops }) l).conn c ≡ true
         → (cond b (record l { drops = one_more l.drops }) l).drops ≡ one_more n
-    line l h true i = λ j. ap one_more (h j)
-    line l h false i = λ j. absurd (true≢false (sym j ∙ i))
+    connection l h true i = λ j. ap one_more (h j)
+    connection l h false i = λ j. absurd (true≢false (sym j ∙ i))
 
 at-moment : (c n : ℕ) (b : Broker) (moment : ℕ) → Drops c n b → Drops c n (act (At moment) (begun b)).broker
-at-moment c n b moment d = record { guests = d.guests; seats = d.seats }
+at-moment c n b moment d = record { newcomers = d.newcomers; sessions = d.sessions }
 
 drops-noted : (c n : ℕ) (b : Broker) (e : Event) → Drops c n b → Drops c (drops_after c e n) (noted b e).broker
 drops-noted c n b (Open moment) d = at-moment c n b moment d
@@ -370,7 +370,7 @@ drops-step c n b e o d = drops-acts c (drops_after c e n) (plan (seen (noted b e
 
 drops-opened : (c n : ℕ) (b : Broker) (moment : ℕ) → (eqb (b.given + 1) c ≡ true → 0 ≡ n) → Drops c n b → Drops c n (step b (Open moment)).broker
 drops-opened c n b moment new d = subst (Drops c n) (sym (opened-at b moment))
-    (record { guests = all-append (G c n) b.guests ((record { conn = b.given + 1; heard = max b.clock moment; drops = 0 }) ∷ []) d.guests (new, tt); seats = d.seats })
+    (record { newcomers = all-append (G c n) b.newcomers ((record { conn = b.given + 1; heard = max b.clock moment; drops = 0 }) ∷ []) d.newcomers (new, tt); sessions = d.sessions })
 
 below : (b : Broker) (c : ℕ) → IsLawful b → knows b c ≡ true → c ≤ b.given
 below b c l k = elim (cases_lt b.given c) [
@@ -390,19 +390,19 @@ drops-kept b c e l k after_it = elim (opening-cases e) [
 
 -- ---- a refusal
 
-pub same-lines : (c : ℕ) (on_guest : Guest → Guest) (change : Line → Line) → ((g : Guest) → (on_guest g).conn ≡ g.conn) → ((l : Line) → (change l).conn ≡ l.conn) → (t : Turn)
-    → places c (on_lines on_guest change t).broker ≡ places c t.broker
-same-lines c on_guest change guest line t =
-    let a = tally-map on_guest (is_guest c) (λ g. ap (λ n. eqb n c) (guest g)) t.broker.guests in
-    let b = tally-map (λ (s : Seat). record s { here = option_map change s.here }) (sits c) (λ s. by s.here) t.broker.seats in omega arith
+pub same-connections : (c : ℕ) (on_newcomer : Newcomer → Newcomer) (change : Connection → Connection) → ((g : Newcomer) → (on_newcomer g).conn ≡ g.conn) → ((l : Connection) → (change l).conn ≡ l.conn) → (t : Turn)
+    → places c (on_connections on_newcomer change t).broker ≡ places c t.broker
+same-connections c on_newcomer change newcomer connection t =
+    let a = tally-map on_newcomer (is_newcomer c) (λ g. ap (λ n. eqb n c) (newcomer g)) t.broker.newcomers in
+    let b = tally-map (λ (s : Session). record s { here = option_map change s.here }) (sits c) (λ s. by s.here) t.broker.sessions in omega arith
   where
-    by : (o : Option Line) → option_map_or (λ (l : Line). eqb l.conn c) (option_map change o) false ≡ option_map_or (λ (l : Line). eqb l.conn c) o false
+    by : (o : Option Connection) → option_map_or (λ (l : Connection). eqb l.conn c) (option_map change o) false ≡ option_map_or (λ (l : Connection). eqb l.conn c) o false
     by None = refl
-    by (Some l) = ap (λ n. eqb n c) (line l)
+    by (Some l) = ap (λ n. eqb n c) (connection l)
 
 noted-known : (b : Broker) (c moment : ℕ) → knows b c ≡ true → knows (noted b (Refused c sort.QosZero moment)).broker c ≡ true
 noted-known b c moment k = some-known (noted b (Refused c sort.QosZero moment)).broker c
-    (let a = same-lines c (guest_dropped c) (line_dropped c) (dropped-conn c) (dropped-line c) (act (At moment) (begun b)) in let d = known-places b c k in omega arith)
+    (let a = same-connections c (newcomer_dropped c) (connection_dropped c) (dropped-conn c) (dropped-connection c) (act (At moment) (begun b)) in let d = known-places b c k in omega arith)
 
 noted-drops : (b : Broker) (c moment : ℕ) → IsLawful b → knows b c ≡ true → drops_in c (noted b (Refused c sort.QosZero moment)).broker ≡ one_more (drops_in c b)
 noted-drops b c moment l k =
@@ -419,7 +419,7 @@ pub drop-noted : (b : Broker) (c moment : ℕ) → IsLawful b → knows b c ≡ 
     → step b (Refused c sort.QosZero moment) ≡ noted b (Refused c sort.QosZero moment)
 drop-noted b c moment l k e = spent-plan b c moment false (ap (is_spent b.limit) (noted-drops b c moment l k) ∙ e)
 
-free : Guest
+free : Newcomer
 free = record { conn = 0; heard = 0; drops = 0 }
 
 pub drop-closes : (b : Broker) (c moment : ℕ) → IsLawful b → knows b c ≡ true → is_spent b.limit (one_more (drops_in c b)) ≡ true
@@ -452,9 +452,9 @@ new-few b c e l none there = elim (opening-cases e) [
   where
     nothing : Drops c 0 b
     nothing = record {
-      guests = none-of (is_guest c) (λ (g : Guest). g.drops ≡ 0) b.guests (let d = unknown-places b c none in omega arith);
-      seats = all-also (λ (s : Seat). sits c s ≡ true → option_map_or (λ (y : Line). y.drops) s.here 0 ≡ 0) (S c 0) (λ s k. sits-line c 0 s.here k) b.seats
-          (none-of (sits c) (λ (s : Seat). option_map_or (λ (y : Line). y.drops) s.here 0 ≡ 0) b.seats (let d = unknown-places b c none in omega arith));
+      newcomers = none-of (is_newcomer c) (λ (g : Newcomer). g.drops ≡ 0) b.newcomers (let d = unknown-places b c none in omega arith);
+      sessions = all-also (λ (s : Session). sits c s ≡ true → option_map_or (λ (y : Connection). y.drops) s.here 0 ≡ 0) (S c 0) (λ s k. sits-connection c 0 s.here k) b.sessions
+          (none-of (sits c) (λ (s : Session). option_map_or (λ (y : Connection). y.drops) s.here 0 ≡ 0) b.sessions (let d = unknown-places b c none in omega arith));
     }
 
 drop-cases : (c : ℕ) (e : Event) → (is_drop c e ≡ false) ⊎ ((moment : ℕ) × (e ≡ Refused c sort.QosZero moment))

@@ -4,13 +4,13 @@ use Rattle.std.specs.List.{find, filter, fold, list_any, flat_map, AllByRecursio
 use Rattle.std.specs.Option.{option_map_or, is_some}
 use Rattle.spk_packets.specs.Message.{Message, Connect, ConnAck, Publish, PubAck, Subscribe, SubAck, Unsubscribe, UnsubAck, PingReq, PingResp, Disconnect}
 use Rattle.spk_session.specs.declared.answer.Sort.TheVariants as sort
-use Rattle.spk_broker_rules.specs.Data.{Post, Line, Guest, Seat, Broker}
+use Rattle.spk_broker_rules.specs.Data.{AppMessage, Connection, Newcomer, Session, Broker}
 use Rattle.spk_broker_rules.specs.Knowing.{is_opening}
 use Rattle.spk_broker_rules.specs.Lawful.{IsLawful, places}
 use Rattle.spk_broker_rules.specs.Words.{is_silent, granted_of, offers_to}
 use Rattle.spk_broker_rules.specs.Plan.{Event, Open, Packet, Fault, Closed, Tick, Refused, Act, Opens, At, Hear, Drop, Say, Leave, Tell, Queue, Route, Forget, Accept, Give, Take, Ack, before, plan, shut, turn_away, join, first_packet, next_packet, tick, is_fatal, Seen}
 use Rattle.spk_broker_rules.specs.Listening.{is_closed_in}
-use Rattle.spk_broker_rules.specs.Step.{Turn, act, acts, opens, sits, leave_at, seat_at, is_guest, is_away, forget_at, line_of, take_up, away_for, accept_of, other_grants, give_at, take_at, ack_at, offer, offer_at, with_key, silent_at, route_one, route_some, route, noted, begun, seen, step, knows}
+use Rattle.spk_broker_rules.specs.Step.{Turn, act, acts, opens, sits, leave_at, session_by, is_newcomer, is_away, forget_at, connection_of, take_up, away_for, accept_of, other_grants, give_at, take_at, ack_at, offer, offer_at, with_key, silent_at, route_one, route_some, route, noted, begun, seen, step, knows}
 use Rattle.spk_broker_rules.proofs.Lists.{eqb-is, eqb-self, all-also, all-append}
 use Rattle.spk_broker_rules.proofs.Lawfuls.{IsOrdered, ordered-act, ordered-acts}
 use Rattle.spk_broker_rules.proofs.Places.{bit, bit-none, bit-one, tally, tally-cons, tally-append, tally-found, tally-missed, flat-few, told, down-less, down-act, down-acts, IsMute, gone-leave, none-above, places-opens, ordered, lawful-acts}
@@ -34,19 +34,19 @@ any-some {X} p (x ∷ xs) e = by (p x) e (any-some p xs)
     by false f rest = rest f
 
 pub known-places : (b : Broker) (c : ℕ) → knows b c ≡ true → 1 ≤ places c b
-known-places b c e = by (list_any (is_guest c) b.guests) refl (seat_at c b.seats) refl e
+known-places b c e = by (list_any (is_newcomer c) b.newcomers) refl (session_by c b.sessions) refl e
   where
-    by : (a : Bool) → list_any (is_guest c) b.guests ≡ a → (o : Option Seat) → seat_at c b.seats ≡ o → (a || is_some o) ≡ true → 1 ≤ places c b
-    by true i o j f = let n = any-some (is_guest c) b.guests i in omega arith
+    by : (a : Bool) → list_any (is_newcomer c) b.newcomers ≡ a → (o : Option Session) → session_by c b.sessions ≡ o → (a || is_some o) ≡ true → 1 ≤ places c b
+    by true i o j f = let n = any-some (is_newcomer c) b.newcomers i in omega arith
     by false i None j f = absurd (true≢false (sym f))
-    by false i (Some s) j f = let n = tally-found (sits c) b.seats s j in omega arith
+    by false i (Some s) j f = let n = tally-found (sits c) b.sessions s j in omega arith
 
 pub unknown-places : (b : Broker) (c : ℕ) → knows b c ≡ false → places c b ≡ 0
-unknown-places b c e = by (list_any (is_guest c) b.guests) refl (seat_at c b.seats) refl e
+unknown-places b c e = by (list_any (is_newcomer c) b.newcomers) refl (session_by c b.sessions) refl e
   where
-    by : (a : Bool) → list_any (is_guest c) b.guests ≡ a → (o : Option Seat) → seat_at c b.seats ≡ o → (a || is_some o) ≡ false → places c b ≡ 0
+    by : (a : Bool) → list_any (is_newcomer c) b.newcomers ≡ a → (o : Option Session) → session_by c b.sessions ≡ o → (a || is_some o) ≡ false → places c b ≡ 0
     by true i o j f = absurd (true≢false f)
-    by false i None j f = let n = any-none (is_guest c) b.guests i in let m = tally-missed (sits c) b.seats j in omega arith
+    by false i None j f = let n = any-none (is_newcomer c) b.newcomers i in let m = tally-missed (sits c) b.sessions j in omega arith
     by false i (Some s) j f = absurd (true≢false f)
 
 pub none-unknown : (b : Broker) (c : ℕ) → places c b ≡ 0 → knows b c ≡ false
@@ -77,7 +77,7 @@ OpensNone (Drop d) = Unit {0}
 OpensNone (Say d p) = Unit {0}
 OpensNone (Leave d wills) = Unit {0}
 OpensNone (Tell d) = Unit {0}
-OpensNone (Queue post) = Unit {0}
+OpensNone (Queue app_message) = Unit {0}
 OpensNone Route = Unit {0}
 OpensNone (Forget name) = Unit {0}
 OpensNone (Accept d name keeps alive will) = Unit {0}
@@ -95,20 +95,20 @@ module _ (g m : ℕ) where
   at-some zero t h = h
   at-some (suc n) t h = by t.waiting (λ p ps. at-some n (route_one p (record t { waiting = ps })) h)
     where
-      by : (ws : List Post) → ((p : Post) (ps : List Post) → IsAt (route_some n (route_one p (record t { waiting = ps }))).broker)
+      by : (ws : List AppMessage) → ((p : AppMessage) (ps : List AppMessage) → IsAt (route_some n (route_one p (record t { waiting = ps }))).broker)
           → IsAt (elim ws as (λ _. Turn) [ [] ↦ t | p ∷ ps ↦ route_some n (route_one p (record t { waiting = ps })) ]).broker
       by [] rest = h
       by (p ∷ ps) rest = rest p ps
 
   at-route : (t : Turn) → IsAt t.broker → IsAt (route t).broker
   unfolding route
-  at-route t h = at-some (length t.waiting + length t.broker.seats) t h
+  at-route t h = at-some (length t.waiting + length t.broker.sessions) t h
 
-  at-offers : (key : ℕ) (posts : List Post) (t : Turn) → IsAt t.broker → IsAt (fold (offer key) t posts).broker
+  at-offers : (key : ℕ) (app_messages : List AppMessage) (t : Turn) → IsAt t.broker → IsAt (fold (offer key) t app_messages).broker
   at-offers key [] t h = h
-  at-offers key (p ∷ ps) t h = at-offers key ps (offer key t p) (by (with_key key t.broker.seats))
+  at-offers key (p ∷ ps) t h = at-offers key ps (offer key t p) (by (with_key key t.broker.sessions))
     where
-      by : (o : Option Seat) → IsAt (offer_at o key p t).broker
+      by : (o : Option Session) → IsAt (offer_at o key p t).broker
       by None = h
       by (Some s) = h
 
@@ -118,41 +118,41 @@ module _ (g m : ℕ) where
   at-act (Hear d) t none h = h
   at-act (Drop d) t none h = h
   at-act (Say d p) t none h = h
-  at-act (Leave d wills) t none h = by (seat_at d t.broker.seats)
+  at-act (Leave d wills) t none h = by (session_by d t.broker.sessions)
     where
-      by : (o : Option Seat) → IsAt (leave_at o d wills t).broker
+      by : (o : Option Session) → IsAt (leave_at o d wills t).broker
       by None = h
       by (Some s) = h
   at-act (Tell d) t none h = h
-  at-act (Queue post) t none h = h
+  at-act (Queue app_message) t none h = h
   at-act Route t none h = at-route t h
-  at-act (Forget name) t none h = by (find (is_away name) t.broker.seats)
+  at-act (Forget name) t none h = by (find (is_away name) t.broker.sessions)
     where
-      by : (o : Option Seat) → IsAt (forget_at o t).broker
+      by : (o : Option Session) → IsAt (forget_at o t).broker
       by None = h
       by (Some s) = h
-  at-act (Accept d name keeps alive will) t none h = by (find (is_guest d) t.broker.guests)
+  at-act (Accept d name keeps alive will) t none h = by (find (is_newcomer d) t.broker.newcomers)
     where
-      up : (o : Option Seat) (x : Line) → IsAt (take_up o name keeps x t).broker
+      up : (o : Option Session) (x : Connection) → IsAt (take_up o name keeps x t).broker
       up None x = h
       up (Some s) x = h
 
-      by : (o : Option Guest) → IsAt (accept_of o name keeps alive will t).broker
+      by : (o : Option Newcomer) → IsAt (accept_of o name keeps alive will t).broker
       by None = h
-      by (Some y) = up (away_for keeps name t.broker.seats) (line_of y alive will)
-  at-act (Give d id entries) t none h = by (seat_at d t.broker.seats)
+      by (Some y) = up (away_for keeps name t.broker.sessions) (connection_of y alive will)
+  at-act (Give d id entries) t none h = by (session_by d t.broker.sessions)
     where
-      by : (o : Option Seat) → IsAt (give_at o d id entries t).broker
+      by : (o : Option Session) → IsAt (give_at o d id entries t).broker
       by None = h
-      by (Some s) = at-offers s.key (flat_map (offers_to t.broker.retained) (granted_of (other_grants s t.broker.seats) s.grants entries)) _ h
-  at-act (Take d filters) t none h = by (seat_at d t.broker.seats)
+      by (Some s) = at-offers s.key (flat_map (offers_to t.broker.retained) (granted_of (other_grants s t.broker.sessions) s.grants entries)) _ h
+  at-act (Take d filters) t none h = by (session_by d t.broker.sessions)
     where
-      by : (o : Option Seat) → IsAt (take_at o filters t).broker
+      by : (o : Option Session) → IsAt (take_at o filters t).broker
       by None = h
       by (Some s) = h
-  at-act (Ack d id) t none h = by (seat_at d t.broker.seats)
+  at-act (Ack d id) t none h = by (session_by d t.broker.sessions)
     where
-      by : (o : Option Seat) → IsAt (ack_at o id t).broker
+      by : (o : Option Session) → IsAt (ack_at o id t).broker
       by None = h
       by (Some s) = h
 
@@ -175,7 +175,7 @@ module _ (c : ℕ) where
   IsStill (Say d p) = Unit {0}
   IsStill (Leave d wills) = Unit {0}
   IsStill (Tell d) = eqb d c ≡ false
-  IsStill (Queue post) = ⊥
+  IsStill (Queue app_message) = ⊥
   IsStill Route = ⊥
   IsStill (Forget name) = ⊥
   IsStill (Accept d name keeps alive will) = ⊥
@@ -205,7 +205,7 @@ module _ (c : ℕ) where
   still-mute (Say d p) h = tt
   still-mute (Leave d wills) h = tt
   still-mute (Tell d) h = h
-  still-mute (Queue post) h = tt
+  still-mute (Queue app_message) h = tt
   still-mute Route h = tt
   still-mute (Forget name) h = tt
   still-mute (Accept d name keeps alive will) h = tt
@@ -221,7 +221,7 @@ module _ (c : ℕ) where
   mute-none (Say d p) h = tt
   mute-none (Leave d wills) h = tt
   mute-none (Tell d) h = tt
-  mute-none (Queue post) h = tt
+  mute-none (Queue app_message) h = tt
   mute-none Route h = tt
   mute-none (Forget name) h = tt
   mute-none (Accept d name keeps alive will) h = tt
@@ -241,15 +241,15 @@ module _ (c : ℕ) where
   still-told (Hear d) t h = absurd h
   still-told (Drop d) t h = absurd h
   still-told (Say d p) t h = refl
-  still-told (Leave d wills) t h = by (seat_at d t.broker.seats)
+  still-told (Leave d wills) t h = by (session_by d t.broker.sessions)
     where
-      by : (o : Option Seat) → told c (leave_at o d wills t) ≡ told c t
+      by : (o : Option Session) → told c (leave_at o d wills t) ≡ told c t
       by None = refl
       by (Some s) = refl
   still-told (Tell d) t h =
       let a = tally-append (λ x. eqb x c) t.closes (d ∷ []) in let b = tally-cons (λ x. eqb x c) d [] in
       let e = bit-none (eqb d c) h in omega arith
-  still-told (Queue post) t h = absurd h
+  still-told (Queue app_message) t h = absurd h
   still-told Route t h = absurd h
   still-told (Forget name) t h = absurd h
   still-told (Accept d name keeps alive will) t h = absurd h
@@ -271,7 +271,7 @@ module _ (c : ℕ) where
 
   leave-sum : (wills : Bool) (t : Turn) → IsOrdered t.broker → places c t.broker ≤ 1 → told c t ≡ 0 → Sum (act (Leave c wills) t) ≤ 0
   leave-sum wills t l one none =
-      let a = gone-leave c wills t (seat_at c t.broker.seats) l one refl in let b = still-told (Leave c wills) t tt in omega arith
+      let a = gone-leave c wills t (session_by c t.broker.sessions) l one refl in let b = still-told (Leave c wills) t tt in omega arith
 
   after-leave : (wills : Bool) (middle back : List Act) (t : Turn) → IsOrdered t.broker → places c t.broker ≤ 1 → told c t ≡ 0
       → AllByRecursion (IsMute c) middle → AllByRecursion (IsMute c) back → Sum (acts (Leave c wills ∷ (middle ++ Tell c ∷ back)) t) ≤ 1
@@ -321,7 +321,7 @@ module _ (c : ℕ) where
       by true e = orderly-leave d true (Say d (ConnAck false code) ∷ []) [] (Route ∷ []) e (tt, tt) tt (tt, tt)
       by false e = inr (tt, (tt, (e, (tt, tt))))
 
-  orderly-join : (older : Option ℕ) (d : ℕ) (name : List ℕ) (clean : Bool) (alive : ℕ) (will : Option Post) → Orderly (join older d name clean alive will)
+  orderly-join : (older : Option ℕ) (d : ℕ) (name : List ℕ) (clean : Bool) (alive : ℕ) (will : Option AppMessage) → Orderly (join older d name clean alive will)
   orderly-join None d name true alive will = inr (tt, (tt, tt))
   orderly-join None d name false alive will = inr (tt, tt)
   orderly-join (Some o) d name clean alive will = by (eqb o c) refl clean
@@ -403,10 +403,10 @@ module _ (c : ℕ) where
             | inr mute ↦ inr (tt, (i, mute))
           ]
 
-  silent-few : (clock : ℕ) (ss : List Seat) → tally (λ d. eqb d c) (flat_map (silent_at clock) ss) ≤ tally (sits c) ss
-  silent-few clock ss = let a = flat-few (sits c) (sits c) (λ d. eqb d c) (λ (s : Seat). []) (silent_at clock) (λ s. one s.here) ss in omega arith
+  silent-few : (clock : ℕ) (ss : List Session) → tally (λ d. eqb d c) (flat_map (silent_at clock) ss) ≤ tally (sits c) ss
+  silent-few clock ss = let a = flat-few (sits c) (sits c) (λ d. eqb d c) (λ (s : Session). []) (silent_at clock) (λ s. one s.here) ss in omega arith
     where
-      one : (o : Option Line) → 0 + tally (λ d. eqb d c) (option_map_or (λ (l : Line). cond (is_silent clock l.alive l.heard) (l.conn ∷ []) []) o []) ≤ cond (option_map_or (λ (l : Line). eqb l.conn c) o false) 1 0
+      one : (o : Option Connection) → 0 + tally (λ d. eqb d c) (option_map_or (λ (l : Connection). cond (is_silent clock l.alive l.heard) (l.conn ∷ []) []) o []) ≤ cond (option_map_or (λ (l : Connection). eqb l.conn c) o false) 1 0
       one None = omega arith
       one (Some l) = by (is_silent clock l.alive l.heard)
         where
@@ -445,7 +445,7 @@ module _ (c : ℕ) where
 
   orderly-at : (b : Broker) (e : Event) → IsLawful b → is_opening e ≡ false → Orderly (plan (seen (noted b e).broker e) e)
   orderly-at b e l o = orderly-plan (seen (noted b e).broker e) e o
-      (let x = silent-few (noted b e).broker.clock (noted b e).broker.seats in let y = noted-less b e l in let z = l.apart c in omega arith)
+      (let x = silent-few (noted b e).broker.clock (noted b e).broker.sessions in let y = noted-less b e l in let z = l.apart c in omega arith)
 
   -- where it stands and how often it was told: once at most, both together
   pub sum-step : (b : Broker) (e : Event) → IsLawful b → is_opening e ≡ false → places c (step b e).broker + told c (step b e) ≤ 1
@@ -462,7 +462,7 @@ module _ (c : ℕ) where
   less-act (Say d p) t none l = omega arith
   less-act (Leave d wills) t none l = down-less c t _ (down-act c (Leave d wills) t tt l)
   less-act (Tell d) t none l = omega arith
-  less-act (Queue post) t none l = omega arith
+  less-act (Queue app_message) t none l = omega arith
   less-act Route t none l = down-less c t _ (down-act c Route t tt l)
   less-act (Forget name) t none l = down-less c t _ (down-act c (Forget name) t tt l)
   less-act (Accept d name keeps alive will) t none l = down-less c t _ (down-act c (Accept d name keeps alive will) t tt l)

@@ -5,17 +5,17 @@ use Rattle.std.specs.Option.{option_map, option_map_or, is_some}
 use Rattle.std.proofs.lemmas.List.{length-append, length-map}
 use Rattle.spk_session.specs.PacketIds.{next_id}
 use Rattle.spk_session.specs.Step.{without, has_room}
-use Rattle.spk_broker_rules.specs.Data.{Post, Guest, Seat}
+use Rattle.spk_broker_rules.specs.Data.{AppMessage, Newcomer, Session}
 use Rattle.spk_broker_rules.specs.Lawful.{IsLow, IsLawful}
 use Rattle.spk_broker_rules.specs.Words.{best, level, sent_as, option_list, granted_of, offers_to, most_open, last_number}
 use Rattle.spk_broker_rules.specs.Plan.{Event, Act, Opens, At, Hear, Drop, Say, Leave, Tell, Queue, Route, Forget, Accept, Give, Take, Ack, before, plan}
-use Rattle.spk_broker_rules.specs.Step.{act, is_guest, knows, is_full, after}
-use Rattle.spk_broker_rules.specs.Past.{Past, OfConn, OfSession, Opened, Deed, Made, Joined, Left, Over, Granted, TakenBack, Numbered, Acked, Joining, deeds, clock, is_of, given, made, kept, here, grants, used, last_id, guests, sessions, open_conns, retained, conn_here, sits_at, session_at, is_open, may_open, seen_in, guest_of, line_of, seat_of, broker_of, other_pairs}
+use Rattle.spk_broker_rules.specs.Step.{act, is_newcomer, knows, is_full, after}
+use Rattle.spk_broker_rules.specs.Past.{Past, OfConn, OfSession, Opened, Deed, Made, Joined, Left, Over, Granted, TakenBack, Numbered, Acked, Joining, deeds, clock, is_of, given, made, kept, here, grants, used, last_id, newcomers, sessions, open_conns, retained, conn_here, sits_at, session_at, is_open, may_open, seen_in, newcomer_of, connection_of, session_of, broker_of, other_pairs}
 use Rattle.spk_broker_rules.specs.Story as story
 use Rattle.spk_broker_rules.specs.Story.{Story, Share, note, session_facts, leaving, ends_at, numbers, given_at, gift, share_at, share, Routes, nothing_waits, goes_on, told_one, told_leave, told_forget, told_take_up, told_accept, told_offer_at, told_offer, told_give_with, told_give, told_take, told_ack, granting, taking_back, Tells, TellsAll}
 use Rattle.spk_broker_rules.specs.Telling.{Leads, story_at}
 use Rattle.spk_broker_rules.proofs.Lists.{eqb-flip, eqb-is, eqb-self, any-map, flat_map-same, flat_map-append, found-passes, all-also, all-map}
-use Rattle.spk_broker_rules.proofs.Seats.{deeds-self, deeds-other, seat_at-same}
+use Rattle.spk_broker_rules.proofs.Sessions.{deeds-self, deeds-other, session_by-same}
 use Rattle.spk_broker_rules.proofs.Gifts.{AreCalm, calm-share}
 use Rattle.spk_broker_rules.proofs.Rounds.{AreApart, apart-sessions, one-told, round, round-cons, round-out, round-sessions, over, over-out}
 use Rattle.spk_broker_rules.proofs.Places.{lawful-act, lawful-one}
@@ -28,7 +28,7 @@ abbrev pub conns : Past → ℕ → List ℕ
 conns h s = option_list (conn_here h s)
 
 abbrev pub IsOpen : Past → Type 0
-IsOpen h = Balanced (open_conns h) (guests h) (flat_map (conns h) (sessions h))
+IsOpen h = Balanced (open_conns h) (newcomers h) (flat_map (conns h) (sessions h))
 
 pub record Fit (h : Past) : Type 0 where
   pub open_is : IsOpen h
@@ -49,7 +49,7 @@ IsStill (Left conn) = ⊥
 IsStill Over = ⊥
 IsStill (Granted filter qos) = Unit {0}
 IsStill (TakenBack filter) = Unit {0}
-IsStill (Numbered id post handed) = Unit {0}
+IsStill (Numbered id app_message handed) = Unit {0}
 IsStill (Acked id) = Unit {0}
 
 still-here : (d : Deed) → IsStill d → (ds : List Deed) → here (d ∷ ds) ≡ here ds
@@ -59,7 +59,7 @@ still-here (Left conn) e ds = absurd e
 still-here Over e ds = absurd e
 still-here (Granted filter qos) e ds = refl
 still-here (TakenBack filter) e ds = refl
-still-here (Numbered id post handed) e ds = refl
+still-here (Numbered id app_message handed) e ds = refl
 still-here (Acked id) e ds = refl
 
 still-conns : (h : Past) (s : ℕ) (d : Deed) → IsStill d → (t : ℕ) → conns (OfSession s d ∷ h) t ≡ conns h t
@@ -77,16 +77,16 @@ still h s (Made client kept) e fit = absurd e
 still h s (Joined conn alive will) e fit = absurd e
 still h s (Left conn) e fit = absurd e
 still h s Over e fit = absurd e
-still h s (Granted filter qos) e fit = record { open_is = same-conns h (OfSession s (Granted filter qos) ∷ h) (still-conns h s (Granted filter qos) tt) (sessions h) (open_conns h) (guests h) fit.open_is; apart = fit.apart }
-still h s (TakenBack filter) e fit = record { open_is = same-conns h (OfSession s (TakenBack filter) ∷ h) (still-conns h s (TakenBack filter) tt) (sessions h) (open_conns h) (guests h) fit.open_is; apart = fit.apart }
-still h s (Numbered id post handed) e fit = record { open_is = same-conns h (OfSession s (Numbered id post handed) ∷ h) (still-conns h s (Numbered id post handed) tt) (sessions h) (open_conns h) (guests h) fit.open_is; apart = fit.apart }
-still h s (Acked id) e fit = record { open_is = same-conns h (OfSession s (Acked id) ∷ h) (still-conns h s (Acked id) tt) (sessions h) (open_conns h) (guests h) fit.open_is; apart = fit.apart }
+still h s (Granted filter qos) e fit = record { open_is = same-conns h (OfSession s (Granted filter qos) ∷ h) (still-conns h s (Granted filter qos) tt) (sessions h) (open_conns h) (newcomers h) fit.open_is; apart = fit.apart }
+still h s (TakenBack filter) e fit = record { open_is = same-conns h (OfSession s (TakenBack filter) ∷ h) (still-conns h s (TakenBack filter) tt) (sessions h) (open_conns h) (newcomers h) fit.open_is; apart = fit.apart }
+still h s (Numbered id app_message handed) e fit = record { open_is = same-conns h (OfSession s (Numbered id app_message handed) ∷ h) (still-conns h s (Numbered id app_message handed) tt) (sessions h) (open_conns h) (newcomers h) fit.open_is; apart = fit.apart }
+still h s (Acked id) e fit = record { open_is = same-conns h (OfSession s (Acked id) ∷ h) (still-conns h s (Acked id) tt) (sessions h) (open_conns h) (newcomers h) fit.open_is; apart = fit.apart }
 
 -- ---- a connection that goes
 
 went : (h : Past) (s c : ℕ) → IsIn s (sessions h) → conn_here h s ≡ Some c → Fit h → Fit (OfSession s (Left c) ∷ h)
 went h s c there is fit = record {
-  open_is = balanced-lost c (open_conns h) (guests h) (flat_map (conns h) (sessions h)) (flat_map (conns g) (sessions h)) fit.open_is
+  open_is = balanced-lost c (open_conns h) (newcomers h) (flat_map (conns h) (sessions h)) (flat_map (conns g) (sessions h)) fit.open_is
       (λ d. let a = sum-swap (count d) (count-append d) (conns h) (conns g) s (λ t e. conn-other h s t (Left c) e) (sessions h) fit.apart there in
       let x : count d (conns h s) ≡ count d (c ∷ []) = ap (λ o. count d (option_list o)) is in
       let y : count d (conns g s) ≡ 0 = ap (λ o. count d (option_list o)) (conn-self h s (Left c)) in omega arith)
@@ -104,7 +104,7 @@ ended-other h s c t e = conn-other (OfSession s (Left c) ∷ h) s t Over e ∙ c
 
 ended : (h : Past) (s c : ℕ) → IsIn s (sessions h) → conn_here h s ≡ Some c → Fit h → Fit (OfSession s Over ∷ OfSession s (Left c) ∷ h)
 ended h s c there is fit = record {
-  open_is = balanced-lost c (open_conns h) (guests h) (flat_map (conns h) (sessions h)) (flat_map (conns g) (without s (sessions h))) fit.open_is
+  open_is = balanced-lost c (open_conns h) (newcomers h) (flat_map (conns h) (sessions h)) (flat_map (conns g) (without s (sessions h))) fit.open_is
       (λ d. let a = sum-drop (count d) (count-append d) (conns h) (conns g) s (ended-other h s c) (sessions h) fit.apart there in
       let x : count d (conns h s) ≡ count d (c ∷ []) = ap (λ o. count d (option_list o)) is in omega arith)
       (let a = sum-drop length length-append (conns h) (conns g) s (ended-other h s c) (sessions h) fit.apart there in
@@ -117,7 +117,7 @@ ended h s c there is fit = record {
 
 ended_away : (h : Past) (s : ℕ) → IsIn s (sessions h) → conn_here h s ≡ None → Fit h → Fit (OfSession s Over ∷ h)
 ended_away h s there is fit = record {
-  open_is = balanced-same (open_conns h) (guests h) (flat_map (conns h) (sessions h)) (flat_map (conns g) (without s (sessions h))) fit.open_is
+  open_is = balanced-same (open_conns h) (newcomers h) (flat_map (conns h) (sessions h)) (flat_map (conns g) (without s (sessions h))) fit.open_is
       (λ d. let a = sum-drop (count d) (count-append d) (conns h) (conns g) s (λ t e. conn-other h s t Over e) (sessions h) fit.apart there in
       let x : count d (conns h s) ≡ 0 = ap (λ o. count d (option_list o)) is in omega arith)
       (let a = sum-drop length length-append (conns h) (conns g) s (λ t e. conn-other h s t Over e) (sessions h) fit.apart there in
@@ -132,27 +132,27 @@ ended_away h s there is fit = record {
 
 data Fair (j : Option Joining) (ds : List Deed) : Type 0 where
   nothing : ds ≡ [] → Fair j ds
-  numbering : (id : ℕ) (post : Post) (handed : Bool) → ds ≡ Numbered id post handed ∷ [] → Fair j ds
+  numbering : (id : ℕ) (app_message : AppMessage) (handed : Bool) → ds ≡ Numbered id app_message handed ∷ [] → Fair j ds
   ending : ds ≡ (ends_at j).deeds → Fair j ds
 
 fair-step : (g : Past) (s : ℕ) (ds : List Deed) → Fair (here (deeds g s)) ds → IsIn s (sessions g) → Fit g → Fit (session_facts s ds ++ g)
 fair-step g s ds (nothing e) there fit = subst (λ x. Fit (session_facts s x ++ g)) (sym e) fit
-fair-step g s ds (numbering id post handed e) there fit = subst (λ x. Fit (session_facts s x ++ g)) (sym e) (still g s (Numbered id post handed) tt fit)
+fair-step g s ds (numbering id app_message handed e) there fit = subst (λ x. Fit (session_facts s x ++ g)) (sym e) (still g s (Numbered id app_message handed) tt fit)
 fair-step g s ds (ending e) there fit = subst (λ x. Fit (session_facts s x ++ g)) (sym e) (by (here (deeds g s)) refl)
   where
     by : (j : Option Joining) → here (deeds g s) ≡ j → Fit (session_facts s (ends_at j).deeds ++ g)
     by None is = ended_away g s there (ap (option_map (λ (i : Joining). i.conn)) is) fit
     by (Some j) is = ended g s j.conn there (ap (option_map (λ (i : Joining). i.conn)) is) fit
 
-fair-given : (q : ℕ) (h : Past) (s : ℕ) (post : Post) → Fair (here (deeds h s)) (given_at q h s post).deeds
-fair-given zero h s post = nothing refl
-fair-given (suc q) h s post = by (has_room (used (deeds h s)))
+fair-given : (q : ℕ) (h : Past) (s : ℕ) (app_message : AppMessage) → Fair (here (deeds h s)) (given_at q h s app_message).deeds
+fair-given zero h s app_message = nothing refl
+fair-given (suc q) h s app_message = by (has_room (used (deeds h s)))
   where
-    by : (b : Bool) → Fair (here (deeds h s)) (cond b (numbers h s post (next_id (used (deeds h s)) (last_id (deeds h s)))) (ends_at (here (deeds h s)))).deeds
-    by true = numbering (next_id (used (deeds h s)) (last_id (deeds h s))) post (is_some (here (deeds h s))) refl
+    by : (b : Bool) → Fair (here (deeds h s)) (cond b (numbers h s app_message (next_id (used (deeds h s)) (last_id (deeds h s)))) (ends_at (here (deeds h s)))).deeds
+    by true = numbering (next_id (used (deeds h s)) (last_id (deeds h s))) app_message (is_some (here (deeds h s))) refl
     by false = ending refl
 
-fair-share : (h : Past) (m : Post) (s : ℕ) → Fair (here (deeds h s)) (share h m s).deeds
+fair-share : (h : Past) (m : AppMessage) (s : ℕ) → Fair (here (deeds h s)) (share h m s).deeds
 fair-share h m s = by (level m.qos (best m.topic (grants (deeds h s))))
   where
     by : (o : Option ℕ) → Fair (here (deeds h s)) (share_at o h m s).deeds
@@ -202,7 +202,7 @@ module _ (D : ℕ → List Deed) (calm : (s : ℕ) → AreCalm (D s)) (h : Past)
 fit-of : (limit : ℕ) (h : Past) → IsLawful (broker_of limit h) → IsOpen h → Fit h
 fit-of limit h lawful o = record { open_is = o; apart = apart-sessions 0 (made h) h (sessions h) lawful.keys }
 
-one-open : (limit : ℕ) (m : Post) (t : Story) → IsLawful (broker_of limit t.past) → IsOpen t.past → IsOpen (told_one m t).past
+one-open : (limit : ℕ) (m : AppMessage) (t : Story) → IsLawful (broker_of limit t.past) → IsOpen t.past → IsOpen (told_one m t).past
 one-open limit m t lawful o =
     (round-fit (λ s. (share t.past m s).deeds) (λ s. calm-share t.past m s) t.past (fair-share t.past m) fit (sessions t.past) fit.apart (all-in (sessions t.past) [])).open_is
   where
@@ -228,14 +228,14 @@ taken-fit : (fs : List (List ℕ)) (s : ℕ) (h : Past) → Fit h → Fit (fold 
 taken-fit [] s h fit = fit
 taken-fit (f ∷ fs) s h fit = taken-fit fs s (taking_back s h f) (still h s (TakenBack f) tt fit)
 
-offered-fit_at : (s : ℕ) (post : Post) (t : Story) (o : Option ℕ) → find (λ x. eqb x s) (sessions t.past) ≡ o → Fit t.past → Fit (told_offer_at (is_some o) s post t).past
-offered-fit_at s post t None is fit = fit
-offered-fit_at s post t (Some x) is fit =
+offered-fit_at : (s : ℕ) (app_message : AppMessage) (t : Story) (o : Option ℕ) → find (λ x. eqb x s) (sessions t.past) ≡ o → Fit t.past → Fit (told_offer_at (is_some o) s app_message t).past
+offered-fit_at s app_message t None is fit = fit
+offered-fit_at s app_message t (Some x) is fit =
     let same : x ≡ s = eqb-is x s (found-passes (λ y. eqb y s) (sessions t.past) x is) in
-    fair-step t.past s (gift t.past s post).deeds (fair-given post.qos t.past s post)
+    fair-step t.past s (gift t.past s app_message).deeds (fair-given app_message.qos t.past s app_message)
     (subst (λ y. IsIn y (sessions t.past)) same (found-there (λ y. eqb y s) (sessions t.past) x is)) fit
 
-offers-fit : (s : ℕ) (posts : List Post) (t : Story) → Fit t.past → Fit (fold (told_offer s) t posts).past
+offers-fit : (s : ℕ) (app_messages : List AppMessage) (t : Story) → Fit t.past → Fit (fold (told_offer s) t app_messages).past
 offers-fit s [] t fit = fit
 offers-fit s (p ∷ ps) t fit = offers-fit s ps (told_offer s t p) (offered-fit_at s p t (find (λ x. eqb x s) (sessions t.past)) refl fit)
 
@@ -248,8 +248,8 @@ gave-fit (Some s) c id entries t fit =
 -- ---- coming and going
 
 -- the connection of a session that is found for it
-line-found : (h : Past) (c s : ℕ) → session_at h c ≡ Some s → conn_here h s ≡ Some c
-line-found h c s is = by (here (deeds h s)) (found-passes (sits_at h c) (sessions h) s is)
+connection-found : (h : Past) (c s : ℕ) → session_at h c ≡ Some s → conn_here h s ≡ Some c
+connection-found h c s is = by (here (deeds h s)) (found-passes (sits_at h c) (sessions h) s is)
   where
     by : (j : Option Joining) → option_map_or (λ (i : Joining). eqb i.conn c) j false ≡ true → option_map (λ (i : Joining). i.conn) j ≡ Some c
     by None e = absurd (no e)
@@ -281,12 +281,12 @@ none-count h c (s ∷ ss) e = by (here (deeds h s)) e (none-count h c ss)
         let d = rest both.1 in omega arith
 
 left-open : (o : Option ℕ) (c : ℕ) (wills : Bool) (t : Story) → session_at t.past c ≡ o → Fit t.past → IsOpen (told_leave o c wills t).past
-left-open None c wills t is fit = balanced-left c (open_conns t.past) (guests t.past) (flat_map (conns t.past) (sessions t.past)) fit.open_is (none-count t.past c (sessions t.past) is)
+left-open None c wills t is fit = balanced-left c (open_conns t.past) (newcomers t.past) (flat_map (conns t.past) (sessions t.past)) fit.open_is (none-count t.past c (sessions t.past) is)
 left-open (Some s) c wills t is fit = by (kept (deeds t.past s))
   where
     by : (k : Bool) → IsOpen (session_facts s (leaving k c) ++ t.past)
-    by true = (went t.past s c (found-there (sits_at t.past c) (sessions t.past) s is) (line-found t.past c s is) fit).open_is
-    by false = (ended t.past s c (found-there (sits_at t.past c) (sessions t.past) s is) (line-found t.past c s is) fit).open_is
+    by true = (went t.past s c (found-there (sits_at t.past c) (sessions t.past) s is) (connection-found t.past c s is) fit).open_is
+    by false = (ended t.past s c (found-there (sits_at t.past c) (sessions t.past) s is) (connection-found t.past c s is) fit).open_is
 
 away-none : (h : Past) (name : List ℕ) (s : ℕ) → story.is_away h name s ≡ true → conn_here h s ≡ None
 away-none h name s e = by (kept (deeds h s)) (here (deeds h s)) (is_of h name s) e
@@ -318,7 +318,7 @@ there-count c cs there = by (count c cs) (sym (any-count c cs) ∙ there)
     by (suc n) e = omega arith
 
 -- a session that is made
-fresh-conns : (h : Past) (c n alive : ℕ) (name : List ℕ) (keeps : Bool) (will : Option Post) (t : ℕ) → t ≤ n
+fresh-conns : (h : Past) (c n alive : ℕ) (name : List ℕ) (keeps : Bool) (will : Option AppMessage) (t : ℕ) → t ≤ n
     → conns (OfSession (n + 1) (Joined c alive will) ∷ OfSession (n + 1) (Made name keeps) ∷ h) t ≡ conns h t
 fresh-conns h c n alive name keeps will t low =
     conn-other (OfSession (n + 1) (Made name keeps) ∷ h) (n + 1) t (Joined c alive will) (ne_eqb (n + 1) t (λ e. omega arith))
@@ -328,10 +328,10 @@ flat-same_in : (f g : ℕ → List ℕ) (ss : List ℕ) → AllByRecursion (λ s
 flat-same_in f g [] h = refl
 flat-same_in f g (s ∷ ss) h = ap₂ (λ xs ys. xs ++ ys) h.0 (flat-same_in f g ss h.1)
 
-made-open : (limit c : ℕ) (name : List ℕ) (keeps : Bool) (alive : ℕ) (will : Option Post) (t : Story) → IsLawful (broker_of limit t.past) → IsIn c (guests t.past) → Fit t.past
+made-open : (limit c : ℕ) (name : List ℕ) (keeps : Bool) (alive : ℕ) (will : Option AppMessage) (t : Story) → IsLawful (broker_of limit t.past) → IsIn c (newcomers t.past) → Fit t.past
     → IsOpen (told_take_up None c name keeps alive will t).past
-made-open limit c name keeps alive will t lawful guest fit =
-    balanced-moved c (open_conns h) (guests h) (flat_map (conns h) (sessions h)) (flat_map (conns g) (sessions h ++ n ∷ [])) fit.open_is (there-count c (guests h) guest)
+made-open limit c name keeps alive will t lawful newcomer fit =
+    balanced-moved c (open_conns h) (newcomers h) (flat_map (conns h) (sessions h)) (flat_map (conns g) (sessions h ++ n ∷ [])) fit.open_is (there-count c (newcomers h) newcomer)
     (λ d. ap (count d) all ∙ count-append d (flat_map (conns h) (sessions h)) (c ∷ []))
     (ap length all ∙ length-append (flat_map (conns h) (sessions h)) (c ∷ []))
   where
@@ -347,17 +347,17 @@ made-open limit c name keeps alive will t lawful guest fit =
     older : flat_map (conns g) (sessions t.past) ≡ flat_map (conns t.past) (sessions t.past)
     older = flat-same_in (conns t.past) (conns g) (sessions t.past)
         (all-also (λ s. s ≤ made t.past) (λ s. conns g s ≡ conns t.past s) (λ s low. fresh-conns t.past c (made t.past) alive name keeps will s low) (sessions t.past)
-        (all-map (λ (x : Seat). x.key ≤ made t.past) (seat_of t.past) (sessions t.past) (all-below 0 (made t.past) (broker_of limit t.past).seats lawful.keys)))
+        (all-map (λ (x : Session). x.key ≤ made t.past) (session_of t.past) (sessions t.past) (all-below 0 (made t.past) (broker_of limit t.past).sessions lawful.keys)))
 
     all : flat_map (conns g) (sessions t.past ++ (made t.past + 1) ∷ []) ≡ flat_map (conns t.past) (sessions t.past) ++ c ∷ []
     all = flat_map-append (conns g) (sessions t.past) ((made t.past + 1) ∷ [])
         ∙ ap₂ (λ xs o. xs ++ (option_list o ++ [])) older (conn-self (OfSession (made t.past + 1) (Made name keeps) ∷ t.past) (made t.past + 1) (Joined c alive will))
 
-taken_up-open : (limit c : ℕ) (name : List ℕ) (keeps : Bool) (alive : ℕ) (will : Option Post) (t : Story) (o : Option ℕ) → IsLawful (broker_of limit t.past) → IsIn c (guests t.past) → Fit t.past
+taken_up-open : (limit c : ℕ) (name : List ℕ) (keeps : Bool) (alive : ℕ) (will : Option AppMessage) (t : Story) (o : Option ℕ) → IsLawful (broker_of limit t.past) → IsIn c (newcomers t.past) → Fit t.past
     → story.away_for t.past keeps name ≡ o → IsOpen (told_take_up o c name keeps alive will t).past
-taken_up-open limit c name keeps alive will t None lawful guest fit is = made-open limit c name keeps alive will t lawful guest fit
-taken_up-open limit c name keeps alive will t (Some s) lawful guest fit is =
-    balanced-moved c (open_conns h) (guests h) (flat_map (conns h) (sessions h)) (flat_map (conns g) (sessions h)) fit.open_is (there-count c (guests h) guest)
+taken_up-open limit c name keeps alive will t None lawful newcomer fit is = made-open limit c name keeps alive will t lawful newcomer fit
+taken_up-open limit c name keeps alive will t (Some s) lawful newcomer fit is =
+    balanced-moved c (open_conns h) (newcomers h) (flat_map (conns h) (sessions h)) (flat_map (conns g) (sessions h)) fit.open_is (there-count c (newcomers h) newcomer)
     (λ d. let a = sum-swap (count d) (count-append d) (conns h) (conns g) s (λ x e. conn-other h s x (Joined c alive will) e) (sessions h) fit.apart there in
     let x : count d (conns h s) ≡ 0 = ap (λ q. count d (option_list q)) none in
     let y : count d (conns g s) ≡ count d (c ∷ []) = ap (λ q. count d (option_list q)) (conn-self h s (Joined c alive will)) in omega arith)
@@ -384,23 +384,23 @@ taken_up-open limit c name keeps alive will t (Some s) lawful guest fit is =
     none : conn_here t.past s ≡ None
     none = away-none t.past name s (found-passes (story.is_away t.past name) (sessions t.past) s (found keeps is))
 
-accepted-open : (limit c : ℕ) (o : Option ℕ) (name : List ℕ) (keeps : Bool) (alive : ℕ) (will : Option Post) (t : Story) → IsLawful (broker_of limit t.past) → Fit t.past
-    → find (λ g. eqb g c) (guests t.past) ≡ o → IsOpen (told_accept o name keeps alive will t).past
+accepted-open : (limit c : ℕ) (o : Option ℕ) (name : List ℕ) (keeps : Bool) (alive : ℕ) (will : Option AppMessage) (t : Story) → IsLawful (broker_of limit t.past) → Fit t.past
+    → find (λ g. eqb g c) (newcomers t.past) ≡ o → IsOpen (told_accept o name keeps alive will t).past
 accepted-open limit c None name keeps alive will t lawful fit is = fit.open_is
 accepted-open limit c (Some d) name keeps alive will t lawful fit is =
-    taken_up-open limit d name keeps alive will t (story.away_for t.past keeps name) lawful (found-there (λ g. eqb g c) (guests t.past) d is) fit refl
+    taken_up-open limit d name keeps alive will t (story.away_for t.past keeps name) lawful (found-there (λ g. eqb g c) (newcomers t.past) d is) fit refl
 
 opened-open : (limit : ℕ) (h : Past) → IsLawful (broker_of limit h) → IsOpen h → IsOpen (OfConn (given h + 1) (Opened (clock h)) ∷ h)
-opened-open limit h lawful o = balanced-more (given h + 1) (open_conns h) (guests h) (flat_map (conns h) (sessions h)) o
-    (let a : count (given h + 1) (guests h) ≡ 0 = count-above (given h) (guests h) (all-map (λ (x : Guest). x.conn ≤ given h) (guest_of h) (guests h) lawful.guests) in
-    let b : count (given h + 1) (flat_map (conns h) (sessions h)) ≡ 0 = count-above (given h) (flat_map (conns h) (sessions h)) (low (sessions h) (all-map (λ (x : Seat). IsLow (given h) x.here) (seat_of h) (sessions h) lawful.lines)) in
+opened-open limit h lawful o = balanced-more (given h + 1) (open_conns h) (newcomers h) (flat_map (conns h) (sessions h)) o
+    (let a : count (given h + 1) (newcomers h) ≡ 0 = count-above (given h) (newcomers h) (all-map (λ (x : Newcomer). x.conn ≤ given h) (newcomer_of h) (newcomers h) lawful.newcomers) in
+    let b : count (given h + 1) (flat_map (conns h) (sessions h)) ≡ 0 = count-above (given h) (flat_map (conns h) (sessions h)) (low (sessions h) (all-map (λ (x : Session). IsLow (given h) x.here) (session_of h) (sessions h) lawful.connections)) in
     let e = o.each (given h + 1) in omega arith)
   where
-    low : (ss : List ℕ) → AllByRecursion (λ s. IsLow (given h) (seat_of h s).here) ss → AllByRecursion (λ c. c ≤ given h) (flat_map (conns h) ss)
+    low : (ss : List ℕ) → AllByRecursion (λ s. IsLow (given h) (session_of h s).here) ss → AllByRecursion (λ c. c ≤ given h) (flat_map (conns h) ss)
     low [] e = tt
     low (s ∷ ss) e = by (here (deeds h s)) e.0 (low ss e.1)
       where
-        by : (j : Option Joining) → IsLow (given h) (option_map (line_of h) j) → AllByRecursion (λ c. c ≤ given h) (flat_map (conns h) ss)
+        by : (j : Option Joining) → IsLow (given h) (option_map (connection_of h) j) → AllByRecursion (λ c. c ≤ given h) (flat_map (conns h) ss)
             → AllByRecursion (λ c. c ≤ given h) (option_list (option_map (λ (i : Joining). i.conn) j) ++ flat_map (conns h) ss)
         by None x rest = rest
         by (Some j) x rest = (x, rest)
@@ -415,11 +415,11 @@ open-act limit (Drop c) t u e l o = subst (λ (x : Story). IsOpen x.past) (sym e
 open-act limit (Say c m) t u e l o = subst (λ (x : Story). IsOpen x.past) (sym e) o
 open-act limit (Leave c wills) t u e l o = subst (λ (x : Story). IsOpen x.past) (sym e) (left-open (session_at t.past c) c wills t refl (fit-of limit t.past l o))
 open-act limit (Tell c) t u e l o = subst (λ (x : Story). IsOpen x.past) (sym e) o
-open-act limit (Queue post) t u e l o = subst (λ (x : Story). IsOpen x.past) (sym e) o
+open-act limit (Queue app_message) t u e l o = subst (λ (x : Story). IsOpen x.past) (sym e) o
 open-act limit Route t u e l o = routes-open limit t u e l o
 open-act limit (Forget name) t u e l o = subst (λ (x : Story). IsOpen x.past) (sym e) (forgot-open (find (story.is_away t.past name) (sessions t.past)) name t refl (fit-of limit t.past l o))
 open-act limit (Accept c name keeps alive will) t u e l o =
-    subst (λ (x : Story). IsOpen x.past) (sym e) (accepted-open limit c (find (λ g. eqb g c) (guests t.past)) name keeps alive will t l (fit-of limit t.past l o) refl)
+    subst (λ (x : Story). IsOpen x.past) (sym e) (accepted-open limit c (find (λ g. eqb g c) (newcomers t.past)) name keeps alive will t l (fit-of limit t.past l o) refl)
 open-act limit (Give c id entries) t u e l o = subst (λ (x : Story). IsOpen x.past) (sym e) (gave-fit (session_at t.past c) c id entries t (fit-of limit t.past l o)).open_is
 open-act limit (Take c filters) t u e l o = subst (λ (x : Story). IsOpen x.past) (sym e) (took-open (session_at t.past c))
   where
@@ -474,27 +474,27 @@ either zero b = ap (ltb 0) (omega arith)
 either (suc a) b = ap (λ x. x || ltb 0 b) (lt-ltb 0 (suc a) (omega arith)) ∙ sym (lt-ltb 0 (suc a + b) (omega arith))
 
 pub known-same : (limit : ℕ) (h : Past) (c : ℕ) → IsOpen h → is_open h c ≡ knows (broker_of limit h) c
-known-same limit h c o = any-count c (open_conns h) ∙ ap (ltb 0) (o.each c) ∙ sym (either (count c (guests h)) (count c (flat_map (conns h) (sessions h))))
-    ∙ ap₂ (λ a b. a || b) (sym (any-map (guest_of h) (is_guest c) (λ g. eqb g c) (λ g. refl) (guests h) ∙ any-count c (guests h)))
-    (sym (ap is_some (seat_at-same h c) ∙ some (session_at h c) ∙ found-count h c (sessions h)))
+known-same limit h c o = any-count c (open_conns h) ∙ ap (ltb 0) (o.each c) ∙ sym (either (count c (newcomers h)) (count c (flat_map (conns h) (sessions h))))
+    ∙ ap₂ (λ a b. a || b) (sym (any-map (newcomer_of h) (is_newcomer c) (λ g. eqb g c) (λ g. refl) (newcomers h) ∙ any-count c (newcomers h)))
+    (sym (ap is_some (session_by-same h c) ∙ some (session_at h c) ∙ found-count h c (sessions h)))
   where
-    some : (x : Option ℕ) → is_some (option_map (seat_of h) x) ≡ is_some x
+    some : (x : Option ℕ) → is_some (option_map (session_of h) x) ≡ is_some x
     some None = refl
     some (Some s) = refl
 
-lines-count : (h : Past) (ss : List ℕ) → length (filter (λ (s : Seat). is_some s.here) (map (seat_of h) ss)) ≡ length (flat_map (conns h) ss)
-lines-count h [] = refl
-lines-count h (s ∷ ss) = by (here (deeds h s)) (lines-count h ss)
+connections-count : (h : Past) (ss : List ℕ) → length (filter (λ (s : Session). is_some s.here) (map (session_of h) ss)) ≡ length (flat_map (conns h) ss)
+connections-count h [] = refl
+connections-count h (s ∷ ss) = by (here (deeds h s)) (connections-count h ss)
   where
-    by : (j : Option Joining) → length (filter (λ (x : Seat). is_some x.here) (map (seat_of h) ss)) ≡ length (flat_map (conns h) ss)
-        → length (cond (is_some (option_map (line_of h) j)) (seat_of h s ∷ filter (λ (x : Seat). is_some x.here) (map (seat_of h) ss)) (filter (λ (x : Seat). is_some x.here) (map (seat_of h) ss)))
+    by : (j : Option Joining) → length (filter (λ (x : Session). is_some x.here) (map (session_of h) ss)) ≡ length (flat_map (conns h) ss)
+        → length (cond (is_some (option_map (connection_of h) j)) (session_of h s ∷ filter (λ (x : Session). is_some x.here) (map (session_of h) ss)) (filter (λ (x : Session). is_some x.here) (map (session_of h) ss)))
         ≡ length (option_list (option_map (λ (i : Joining). i.conn) j) ++ flat_map (conns h) ss)
     by None rest = rest
     by (Some j) rest = ap suc rest
 
 pub full-same : (limit : ℕ) (h : Past) → IsOpen h → may_open h ≡ not (is_full (broker_of limit h))
 full-same limit h o = ap (λ n. not (leb most_open n || leb last_number (given h)))
-    (o.size ∙ ap₂ (λ a b. a + b) (sym (length-map (guests h) (guest_of h))) (sym (lines-count h (sessions h))))
+    (o.size ∙ ap₂ (λ a b. a + b) (sym (length-map (newcomers h) (newcomer_of h))) (sym (connections-count h (sessions h))))
 
 pub known-after : (limit : ℕ) (es : List Event) (h : Past) (c : ℕ) → Leads limit es h → knows (after limit es) c ≡ is_open h c
 known-after limit es h c leads = ap (λ b. knows b c) (tied limit es h leads).data_is ∙ sym (known-same limit h c (open-after limit es h leads))

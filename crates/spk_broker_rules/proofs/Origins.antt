@@ -1,31 +1,31 @@
 -- Messages: what stands in the data or is sent came with an event.
 use Rattle.std.proofs.Common.{inl, inr, ℕ, List, [], ◌∷◌, refl, Option, Some, None}
 use Rattle.spk_packets.specs.Message.{Message, Connect, ConnAck, Publish, PubAck, Subscribe, SubAck, Unsubscribe, UnsubAck, PingReq, PingResp, Disconnect}
-use Rattle.spk_broker_rules.specs.Data.{Post, Copy, Line, Stored, Broker}
-use Rattle.spk_broker_rules.specs.Origins.{SaidBy, WasSaid, PostSays, WillSays, Says, SaysAll}
+use Rattle.spk_broker_rules.specs.Data.{AppMessage, InFlight, Connection, Stored, Broker}
+use Rattle.spk_broker_rules.specs.Origins.{SaidBy, WasSaid, AppMessageSays, WillSays, Says, SaysAll}
 use Rattle.spk_broker_rules.specs.Plan.{Event, Open, Packet, Fault, Closed, Tick, Refused}
 use Rattle.spk_broker_rules.specs.Topics.{Brings}
-use Rattle.spk_broker_rules.proofs.Carried.{S, Of, Has, Copies, Free, of-step, free-filters}
+use Rattle.spk_broker_rules.proofs.Carried.{S, Of, Has, AllInFlight, Free, of-step, free-filters}
 use Rattle.spk_broker_rules.specs.Step.{step, after}
 use Rattle.spk_broker_rules.proofs.Lists.{all-also}
 
 -- ---- of a list of events
 
 -- what is such is such by more
-more-will : (T U : List ℕ → List ℕ → Type 0) → ((t p : List ℕ) → T t p → U t p) → (o : Option Line) → WillSays T o → WillSays U o
+more-will : (T U : List ℕ → List ℕ → Type 0) → ((t p : List ℕ) → T t p → U t p) → (o : Option Connection) → WillSays T o → WillSays U o
 more-will T U more None h = tt
 more-will T U more (Some l) h = by l.will h
   where
-    by : (o : Option Post) → PostSays T o → PostSays U o
+    by : (o : Option AppMessage) → AppMessageSays T o → AppMessageSays U o
     by None h = tt
     by (Some m) h = more m.topic m.payload h
 
-more-copies-said : (T U : List ℕ → List ℕ → Type 0) → ((t p : List ℕ) → T t p → U t p) → (cs : List Copy) → Copies Free T cs → Copies Free U cs
-more-copies-said T U more cs = all-also (λ (c : Copy). T c.post.topic c.post.payload) (λ (c : Copy). U c.post.topic c.post.payload) (λ c. more c.post.topic c.post.payload) cs
+more-in_flight-said : (T U : List ℕ → List ℕ → Type 0) → ((t p : List ℕ) → T t p → U t p) → (cs : List InFlight) → AllInFlight Free T cs → AllInFlight Free U cs
+more-in_flight-said T U more cs = all-also (λ (c : InFlight). T c.app_message.topic c.app_message.payload) (λ (c : InFlight). U c.app_message.topic c.app_message.payload) (λ c. more c.app_message.topic c.app_message.payload) cs
 
 more-said : (T U : List ℕ → List ℕ → Type 0) → ((t p : List ℕ) → T t p → U t p) → (b : Broker) → Has Free T b → Has Free U b
 more-said T U more b h = record {
-  seats = all-also (S Free T) (S Free U) (λ s a. (a.0, more-will T U more s.here a.1, more-copies-said T U more s.copies a.2)) b.seats h.seats;
+  sessions = all-also (S Free T) (S Free U) (λ s a. (a.0, more-will T U more s.here a.1, more-in_flight-said T U more s.in_flight a.2)) b.sessions h.sessions;
   retained = all-also (λ (e : List ℕ × Stored). T e.0 e.1.payload) (λ (e : List ℕ × Stored). U e.0 e.1.payload) (λ e. more e.0 e.1.payload) b.retained h.retained;
 }
 
@@ -67,11 +67,11 @@ brings-itself (Tick moment) es = tt
 brings-itself (Refused conn s moment) es = tt
 
 was-said : (limit : ℕ) (es : List Event) → Has Free (WasSaid es) (after limit es)
-was-said limit [] = record { seats = tt; retained = tt }
+was-said limit [] = record { sessions = tt; retained = tt }
 was-said limit (e ∷ es) = has (of-step Free (WasSaid (e ∷ es)) (after limit es) e (more-said (WasSaid es) (WasSaid (e ∷ es)) (λ t p h. inr h) (after limit es) (was-said limit es)) (free-filters e) (brings-itself e es))
   where
     has : Of Free (WasSaid (e ∷ es)) (step (after limit es) e) → Has Free (WasSaid (e ∷ es)) (step (after limit es) e).broker
-    has x = record { seats = x.seats; retained = x.retained }
+    has x = record { sessions = x.sessions; retained = x.retained }
 
 pub origins : (limit : ℕ) (es : List Event) (e : Event) → SaysAll (WasSaid (e ∷ es)) (step (after limit es) e).sends
 origins limit es e =

@@ -4,21 +4,21 @@ use Rattle.std.specs.List.{filter, list_any, flat_map, AllByRecursion}
 use Rattle.std.specs.Str.{bytes_eq}
 use Rattle.std.proofs.Math.Bool.{or-false}
 use Rattle.spk_session.specs.Step.{without}
-use Rattle.spk_broker_rules.specs.Data.{Post, Guest, Seat, Broker, Send}
+use Rattle.spk_broker_rules.specs.Data.{AppMessage, Newcomer, Session, Broker, Send}
 use Rattle.spk_broker_rules.specs.Lawful.{Rises, IsLawful}
 use Rattle.spk_broker_rules.specs.Table.{has, put, remove}
 use Rattle.spk_packets.specs.Spelling.{is_empty}
 use Rattle.spk_broker_rules.specs.Words.{stored, most_topics}
 use Rattle.spk_broker_rules.specs.Step.{Turn, Served, serve, retain_in, retained_with, route_one}
-use Rattle.spk_broker_rules.specs.Past.{Past, ConnDeed, heard, drops, Deed, conn_deeds, deeds, clock, given, made, guests, sessions, routed, retained_notes, note_if, counts, staying, table, guest_of, line_of, seat_with, seat_of, broker_of}
+use Rattle.spk_broker_rules.specs.Past.{Past, ConnDeed, heard, drops, Deed, conn_deeds, deeds, clock, given, made, newcomers, sessions, routed, retained_notes, note_if, counts, staying, table, newcomer_of, connection_of, session_with, session_of, broker_of}
 use Rattle.spk_broker_rules.specs.Story.{Story, share, session_facts, told_one}
 use Rattle.spk_broker_rules.proofs.Lists.{eqb-flip, eqb-self, map-same, flat_map-map, all-also, all-map}
 use Rattle.spk_broker_rules.proofs.Tables.{has-table, length-table, table-put, table-remove}
-use Rattle.spk_broker_rules.proofs.Seats.{deeds-selves, deeds-others, conns-same, seat-from}
-use Rattle.spk_broker_rules.proofs.Gifts.{is_over, AreCalm, given-same, clock-same, routed-same, made-calm, guests-calm, sessions-calm, same_broker, left_with, serve-same, calm-share}
+use Rattle.spk_broker_rules.proofs.Sessions.{deeds-selves, deeds-others, conns-same, session-from}
+use Rattle.spk_broker_rules.proofs.Gifts.{is_over, AreCalm, given-same, clock-same, routed-same, made-calm, newcomers-calm, sessions-calm, same_broker, left_with, serve-same, calm-share}
 use Rattle.spk_broker_rules.proofs.Turns.{turn_of}
 
-abbrev turn_from : Broker → List Send → List ℕ → List Post → Turn
+abbrev turn_from : Broker → List Send → List ℕ → List AppMessage → Turn
 turn_from b xs cs ps = record { broker = b; sends = xs; closes = cs; waiting = ps }
 
 -- no two are equal
@@ -61,9 +61,9 @@ module _ (D : ℕ → List Deed) (calm : (s : ℕ) → AreCalm (D s)) (h : Past)
   round-made [] = refl
   round-made (x ∷ xs) = ap made (round-cons x xs) ∙ made-calm (D x) x (round xs) (calm x) ∙ round-made xs
 
-  pub round-guests : (xs : List ℕ) → guests (round xs) ≡ guests h
-  round-guests [] = refl
-  round-guests (x ∷ xs) = ap guests (round-cons x xs) ∙ guests-calm (D x) x (round xs) (calm x) ∙ round-guests xs
+  pub round-newcomers : (xs : List ℕ) → newcomers (round xs) ≡ newcomers h
+  round-newcomers [] = refl
+  round-newcomers (x ∷ xs) = ap newcomers (round-cons x xs) ∙ newcomers-calm (D x) x (round xs) (calm x) ∙ round-newcomers xs
 
   round-routed : (xs : List ℕ) → routed (round xs) ≡ routed h
   round-routed [] = refl
@@ -134,35 +134,35 @@ module _ (D : ℕ → List Deed) (calm : (s : ℕ) → AreCalm (D s)) (h : Past)
       by false = filter-same_in (λ t. not (over xs t)) (λ t. not ((eqb t x && false) || over xs t)) (sessions h)
           (all-any (λ t. not (over xs t) ≡ not ((eqb t x && false) || over xs t)) (nothing-too x (over xs)) (sessions h))
 
-  left-each : (g : Past) (ss : List ℕ) → AllByRecursion (λ t. seat_of g t ≡ seat_with (line_of h) t (D t ++ deeds h t)) ss
-      → map (seat_of g) (filter (λ t. not (is_over (D t))) ss) ≡ flat_map (λ t. left_with h t (D t)) ss
+  left-each : (g : Past) (ss : List ℕ) → AllByRecursion (λ t. session_of g t ≡ session_with (connection_of h) t (D t ++ deeds h t)) ss
+      → map (session_of g) (filter (λ t. not (is_over (D t))) ss) ≡ flat_map (λ t. left_with h t (D t)) ss
   left-each g [] e = refl
   left-each g (s ∷ ss) e = by (is_over (D s)) (left-each g ss e.1)
     where
-      by : (b : Bool) → map (seat_of g) (filter (λ t. not (is_over (D t))) ss) ≡ flat_map (λ t. left_with h t (D t)) ss
-          → map (seat_of g) (cond (not b) (s ∷ filter (λ t. not (is_over (D t))) ss) (filter (λ t. not (is_over (D t))) ss))
-          ≡ cond b [] (seat_with (line_of h) s (D s ++ deeds h s) ∷ []) ++ flat_map (λ t. left_with h t (D t)) ss
+      by : (b : Bool) → map (session_of g) (filter (λ t. not (is_over (D t))) ss) ≡ flat_map (λ t. left_with h t (D t)) ss
+          → map (session_of g) (cond (not b) (s ∷ filter (λ t. not (is_over (D t))) ss) (filter (λ t. not (is_over (D t))) ss))
+          ≡ cond b [] (session_with (connection_of h) s (D s ++ deeds h s) ∷ []) ++ flat_map (λ t. left_with h t (D t)) ss
       by true rest = rest
       by false rest = ap₂ (λ x xs. x ∷ xs) e.0 rest
 
-  pub round-seats : AreApart (sessions h) → map (seat_of (round (sessions h))) (sessions (round (sessions h))) ≡ flat_map (λ t. left_with h t (D t)) (sessions h)
-  round-seats apart =
-      ap (map (seat_of (round (sessions h)))) (round-sessions (sessions h)
+  pub round-whole : AreApart (sessions h) → map (session_of (round (sessions h))) (sessions (round (sessions h))) ≡ flat_map (λ t. left_with h t (D t)) (sessions h)
+  round-whole apart =
+      ap (map (session_of (round (sessions h)))) (round-sessions (sessions h)
       ∙ filter-same_in (λ t. not (over (sessions h) t)) (λ t. not (is_over (D t))) (sessions h)
       (all-also (λ t. over (sessions h) t ≡ is_over (D t)) (λ t. not (over (sessions h) t) ≡ not (is_over (D t))) (λ t e. ap not e) (sessions h) (over-in (sessions h) apart)))
       ∙ left-each (round (sessions h)) (sessions h)
-      (all-also (λ t. deeds (round (sessions h)) t ≡ D t ++ deeds h t) (λ t. seat_of (round (sessions h)) t ≡ seat_with (line_of h) t (D t ++ deeds h t))
-      (λ t e. seat-from h (round (sessions h)) t (D t ++ deeds h t) (round-conns (sessions h)) e) (sessions h) (round-in (sessions h) apart))
+      (all-also (λ t. deeds (round (sessions h)) t ≡ D t ++ deeds h t) (λ t. session_of (round (sessions h)) t ≡ session_with (connection_of h) t (D t ++ deeds h t))
+      (λ t e. session-from h (round (sessions h)) t (D t ++ deeds h t) (round-conns (sessions h)) e) (sessions h) (round-in (sessions h) apart))
 
-  abbrev guest_by : List ConnDeed → ℕ → Guest
-  guest_by ds c = record { conn = c; heard = heard ds; drops = drops ds }
+  abbrev newcomer_by : List ConnDeed → ℕ → Newcomer
+  newcomer_by ds c = record { conn = c; heard = heard ds; drops = drops ds }
 
-  round-guest : (xs : List ℕ) (c : ℕ) → guest_of (round xs) c ≡ guest_of h c
-  round-guest xs c = ap (λ ds. guest_by ds c) (round-conns xs c)
+  round-newcomer : (xs : List ℕ) (c : ℕ) → newcomer_of (round xs) c ≡ newcomer_of h c
+  round-newcomer xs c = ap (λ ds. newcomer_by ds c) (round-conns xs c)
 
 -- ---- retained messages
 
-pub retained-more : (m : Post) (ms : List Post) → table (retained_notes (m ∷ ms)) ≡ retained_with (table (retained_notes ms)) m
+pub retained-more : (m : AppMessage) (ms : List AppMessage) → table (retained_notes (m ∷ ms)) ≡ retained_with (table (retained_notes ms)) m
 retained-more m ms = by m.retain
   where
     room : (b : Bool) → table (cond b ((m.topic, Some (stored m)) ∷ retained_notes ms) (retained_notes ms)) ≡ cond b (put m.topic (stored m) (table (retained_notes ms))) (table (retained_notes ms))
@@ -181,27 +181,27 @@ retained-more m ms = by m.retain
 
 -- ---- the whole message
 
-rises-above : (low top : ℕ) (ss : List Seat) → Rises low top ss → AllByRecursion (λ (s : Seat). low < s.key) ss
+rises-above : (low top : ℕ) (ss : List Session) → Rises low top ss → AllByRecursion (λ (s : Session). low < s.key) ss
 rises-above low top [] h = tt
-rises-above low top (s ∷ ss) h = (h.0, all-also (λ (x : Seat). s.key < x.key) (λ (x : Seat). low < x.key) (λ x e. let a = h.0 in omega arith) ss (rises-above s.key top ss h.1))
+rises-above low top (s ∷ ss) h = (h.0, all-also (λ (x : Session). s.key < x.key) (λ (x : Session). low < x.key) (λ x e. let a = h.0 in omega arith) ss (rises-above s.key top ss h.1))
 
-pub apart-sessions : (low top : ℕ) (h : Past) (ss : List ℕ) → Rises low top (map (seat_of h) ss) → AreApart ss
+pub apart-sessions : (low top : ℕ) (h : Past) (ss : List ℕ) → Rises low top (map (session_of h) ss) → AreApart ss
 apart-sessions low top h [] r = tt
 apart-sessions low top h (s ∷ ss) r = (
   all-also (λ t. s < t) (λ t. eqb s t ≡ false) (λ t e. ne_eqb s t (λ same. omega arith)) ss
-      (all-map (λ (x : Seat). s < x.key) (seat_of h) ss (rises-above s top (map (seat_of h) ss) r.1)),
+      (all-map (λ (x : Session). s < x.key) (session_of h) ss (rises-above s top (map (session_of h) ss) r.1)),
   apart-sessions s top h ss r.1,
 )
 
-pub one-told : (limit : ℕ) (m : Post) (t : Story) → IsLawful (broker_of limit t.past) → turn_of limit (told_one m t) ≡ route_one m (turn_of limit t)
+pub one-told : (limit : ℕ) (m : AppMessage) (t : Story) → IsLawful (broker_of limit t.past) → turn_of limit (told_one m t) ≡ route_one m (turn_of limit t)
 one-told limit m t lawful = same_turn _ _
     (same_broker _ _ refl (round-given D calm h ss) (round-made D calm h ss) (round-clock D calm h ss)
-    (ap (map (guest_of g)) (round-guests D calm h ss) ∙ map-same (guest_of g) (guest_of h) (round-guest D calm h ss) (guests h))
-    (round-seats D calm h (apart-sessions 0 (made h) h ss lawful.keys) ∙ sym (flat_map-map (seat_of h) (λ (s : Seat). (serve m s).left) (λ s. left_with h s (D s)) (λ s. ap (λ (x : Served). x.left) (serve-same h m s)) ss))
+    (ap (map (newcomer_of g)) (round-newcomers D calm h ss) ∙ map-same (newcomer_of g) (newcomer_of h) (round-newcomer D calm h ss) (newcomers h))
+    (round-whole D calm h (apart-sessions 0 (made h) h ss lawful.keys) ∙ sym (flat_map-map (session_of h) (λ (s : Session). (serve m s).left) (λ s. left_with h s (D s)) (λ s. ap (λ (x : Served). x.left) (serve-same h m s)) ss))
     (ap (λ ms. table (retained_notes (m ∷ ms))) (round-routed D calm h ss) ∙ retained-more m (routed h)))
-    (ap (λ xs. t.sends ++ xs) (sym (flat_map-map (seat_of h) (λ (s : Seat). (serve m s).sends) (λ s. (share h m s).sends) (λ s. ap (λ (x : Served). x.sends) (serve-same h m s)) ss)))
-    (ap (λ xs. t.closes ++ xs) (sym (flat_map-map (seat_of h) (λ (s : Seat). (serve m s).closes) (λ s. (share h m s).closes) (λ s. ap (λ (x : Served). x.closes) (serve-same h m s)) ss)))
-    (ap (λ xs. t.waiting ++ xs) (sym (flat_map-map (seat_of h) (λ (s : Seat). (serve m s).wills) (λ s. (share h m s).wills) (λ s. ap (λ (x : Served). x.wills) (serve-same h m s)) ss)))
+    (ap (λ xs. t.sends ++ xs) (sym (flat_map-map (session_of h) (λ (s : Session). (serve m s).sends) (λ s. (share h m s).sends) (λ s. ap (λ (x : Served). x.sends) (serve-same h m s)) ss)))
+    (ap (λ xs. t.closes ++ xs) (sym (flat_map-map (session_of h) (λ (s : Session). (serve m s).closes) (λ s. (share h m s).closes) (λ s. ap (λ (x : Served). x.closes) (serve-same h m s)) ss)))
+    (ap (λ xs. t.waiting ++ xs) (sym (flat_map-map (session_of h) (λ (s : Session). (serve m s).wills) (λ s. (share h m s).wills) (λ s. ap (λ (x : Served). x.wills) (serve-same h m s)) ss)))
   where
     h : Past
     h = t.past

@@ -7,7 +7,7 @@ use Rattle.spk_packets.specs.Message.{Message, Connect, ConnAck, Publish, PubAck
 use Rattle.spk_packets.specs.Spelling.{has_bad_text, has_bad_body, is_qos_two, spelling, body, shortest}
 use Rattle.spk_session.specs.PacketIds.{next_id, ids_after}
 use Rattle.spk_session.specs.declared.answer.Sort.TheVariants as sort
-use Rattle.spk_broker_rules.specs.Data.{Post, Seat, Stored, Broker, Send, fresh_broker}
+use Rattle.spk_broker_rules.specs.Data.{AppMessage, Session, Stored, Broker, Send, fresh_broker}
 use Rattle.spk_broker_rules.specs.Plan.{Event, Open, Packet, Fault, Closed, Tick, Refused, Seen, Forget, Accept, Give, Route, connect, turn_away, shut, next_packet}
 use Rattle.spk_broker_rules.specs.Past.{counts}
 use Rattle.spk_broker_rules.specs.Table.{Table}
@@ -316,8 +316,8 @@ a_clean_take_over_leaves_no_kept_session = refl
 
 -- a session with 1,024 unacknowledged
 
-abbrev full_seat : Bool → Seat
-full_seat kept = record {
+abbrev full_session : Bool → Session
+full_session kept = record {
   key = 3;
   client = codes "x";
   kept = kept;
@@ -325,14 +325,14 @@ full_seat kept = record {
   grants = [];
   used = range_with_len 1 1024;
   last = 1024;
-  copies = [];
+  in_flight = [];
 }
 
-abbrev post_of : ℕ → Post
-post_of qos = record { topic = codes "a"; payload = []; qos = qos; retain = false }
+abbrev app_message_of : ℕ → AppMessage
+app_message_of qos = record { topic = codes "a"; payload = []; qos = qos; retain = false }
 
 -- a further message of QoS 1 ends it, its connection too, and its will waits
-a_message_too_many_ends_the_session : hand (post_of 1) (full_seat true) ≡ record {
+a_message_too_many_ends_the_session : hand (app_message_of 1) (full_session true) ≡ record {
   left = [];
   sends = [];
   closes = 9 ∷ [];
@@ -341,8 +341,8 @@ a_message_too_many_ends_the_session : hand (post_of 1) (full_seat true) ≡ reco
 a_message_too_many_ends_the_session = refl
 
 -- but one of QoS 0 is sent
-a_full_session_gets_qos_0 : hand (post_of 0) (full_seat false) ≡ record {
-  left = full_seat false ∷ [];
+a_full_session_gets_qos_0 : hand (app_message_of 0) (full_session false) ≡ record {
+  left = full_session false ∷ [];
   sends = to 9 (plain (codes "a") []) ∷ [];
   closes = [];
   wills = [];
@@ -356,8 +356,8 @@ full_broker = record {
   given = 9;
   made = 4;
   clock = 0;
-  guests = [];
-  seats = full_seat false ∷ (record {
+  newcomers = [];
+  sessions = full_session false ∷ (record {
     key = 4;
     client = codes "y";
     kept = false;
@@ -365,7 +365,7 @@ full_broker = record {
     grants = (codes "w", 0) ∷ [];
     used = [];
     last = 0;
-    copies = [];
+    in_flight = [];
   }) ∷ [];
   retained = (codes "a", record { payload = codes "x"; qos = 1 }) ∷ (codes "b", record { payload = codes "y"; qos = 0 }) ∷ [];
 }
@@ -383,8 +383,8 @@ unfolding step route route_some has_bad_text has_bad_body is_qos_two spelling bo
 a_full_session_gets_retained_qos_0 = refl
 
 -- two silent ones with wills, a full session that the first will is for, and one that listens to all
-abbrev silent_seat : ℕ → List ℕ → Seat
-silent_seat key topic = record {
+abbrev silent_session : ℕ → List ℕ → Session
+silent_session key topic = record {
   key = key;
   client = [];
   kept = false;
@@ -392,7 +392,7 @@ silent_seat key topic = record {
   grants = [];
   used = [];
   last = 0;
-  copies = [];
+  in_flight = [];
 }
 
 abbrev silent_broker : Broker
@@ -401,8 +401,8 @@ silent_broker = record {
   given = 9;
   made = 4;
   clock = 0;
-  guests = [];
-  seats = silent_seat 1 (codes "a") ∷ silent_seat 2 (codes "b") ∷ record (full_seat false) { grants = (codes "a", 1) ∷ [] } ∷ (record {
+  newcomers = [];
+  sessions = silent_session 1 (codes "a") ∷ silent_session 2 (codes "b") ∷ record (full_session false) { grants = (codes "a", 1) ∷ [] } ∷ (record {
     key = 4;
     client = codes "y";
     kept = false;
@@ -410,7 +410,7 @@ silent_broker = record {
     grants = (codes "#", 0) ∷ [];
     used = [];
     last = 0;
-    copies = [];
+    in_flight = [];
   }) ∷ [];
   retained = [];
 }
@@ -424,8 +424,8 @@ a_will_that_a_routing_frees_goes_behind_those_that_wait = refl
 -- one with a will, a full session that it is for, and a newer connection
 abbrev older_broker : Broker
 older_broker = record silent_broker {
-  guests = record { conn = 2; heard = 0; drops = 0 } ∷ [];
-  seats = record (silent_seat 1 (codes "a")) { client = codes "p" } ∷ record (full_seat false) { grants = (codes "a", 1) ∷ [] } ∷ [];
+  newcomers = record { conn = 2; heard = 0; drops = 0 } ∷ [];
+  sessions = record (silent_session 1 (codes "a")) { client = codes "p" } ∷ record (full_session false) { grants = (codes "a", 1) ∷ [] } ∷ [];
 }
 
 -- behind the one that its will closes
@@ -437,7 +437,7 @@ the_older_connection_is_closed_last = refl
 
 -- a thousand connections, or the greatest number, leave no room for one more
 abbrev crowd : ℕ → ℕ → Broker
-crowd count given = record (fresh_broker 128) { given = given; guests = replicate count (record { conn = 1; heard = 0; drops = 0 }) }
+crowd count given = record (fresh_broker 128) { given = given; newcomers = replicate count (record { conn = 1; heard = 0; drops = 0 }) }
 
 connection_1001_has_no_room : is_full (crowd 1000 1000) ≡ true
 connection_1001_has_no_room = refl
@@ -452,8 +452,8 @@ the_greatest_number_is_given : is_full (crowd 0 18446744073709551614) ≡ false
 the_greatest_number_is_given = refl
 
 -- so many kept sessions, all of them away
-abbrev away : ℕ → List Seat
-away count = replicate count (record { key = 1; client = codes "x"; kept = true; here = None; grants = []; used = []; last = 0; copies = [] })
+abbrev away : ℕ → List Session
+away count = replicate count (record { key = 1; client = codes "x"; kept = true; here = None; grants = []; used = []; last = 0; in_flight = [] })
 
 kept_session_1001_has_no_room : welcome_in (codes "y") (away 1000) ≡ false
 kept_session_1001_has_no_room = refl
@@ -474,16 +474,16 @@ a_refused_entry_drops_no_grant : fold (with_entry 9999) ((codes "a", 1) ∷ []) 
 a_refused_entry_drops_no_grant = refl
 
 -- the 10,001st topic isn't retained, but a present one and an empty message count
-the_10001st_topic_is_not_kept : counts (replicate 10000 (codes "b")) (post_of 0) ≡ true
+the_10001st_topic_is_not_kept : counts (replicate 10000 (codes "b")) (app_message_of 0) ≡ true
 the_10001st_topic_is_not_kept = refl
 
-abbrev full_post : Post
-full_post = record { topic = codes "a"; payload = codes "x"; qos = 0; retain = true }
+abbrev full_app_message : AppMessage
+full_app_message = record { topic = codes "a"; payload = codes "x"; qos = 0; retain = true }
 
-a_further_topic_does_not_count : counts (replicate 10000 (codes "b")) full_post ≡ false
+a_further_topic_does_not_count : counts (replicate 10000 (codes "b")) full_app_message ≡ false
 a_further_topic_does_not_count = refl
 
-the_10000th_topic_counts : counts (replicate 9999 (codes "b")) full_post ≡ true
+the_10000th_topic_counts : counts (replicate 9999 (codes "b")) full_app_message ≡ true
 the_10000th_topic_counts = refl
 
 -- topic, payload, and 9: as many as fixed header, topic length and identifier take at most

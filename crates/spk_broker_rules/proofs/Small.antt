@@ -6,17 +6,17 @@ use Rattle.spk_packets.specs.Fault.{first_of}
 use Rattle.spk_packets.specs.Message.{WillData, Connect, ConnAck, Disconnect}
 use Rattle.spk_packets.specs.Spelling.{unwritable, has_bad_text, has_bad_body, is_qos_two, spelling, body, shortest, is_empty}
 use Rattle.spk_session.specs.Step.{without}
-use Rattle.spk_broker_rules.specs.Data.{Post, Copy, Send}
-use Rattle.spk_broker_rules.specs.Words.{will_post, resent}
+use Rattle.spk_broker_rules.specs.Data.{AppMessage, InFlight, Send}
+use Rattle.spk_broker_rules.specs.Words.{will_message, resent}
 use Rattle.spk_broker_rules.specs.Plan.{Packet, Act, At, Hear, Leave, Tell, Forget, Accept, plan, join, has_bad_topic, shut, turn_away}
-use Rattle.spk_broker_rules.specs.Past.{Past, OfConn, Moment, Heard, Joining, deeds, clock, here, kept, copies, guests, sessions, open_conns, routed, conn_here, sits_at, session_at, is_of, older_of, is_welcome, seen_in}
+use Rattle.spk_broker_rules.specs.Past.{Past, OfConn, Moment, Heard, Joining, deeds, clock, here, kept, in_flight, newcomers, sessions, open_conns, routed, conn_here, sits_at, session_at, is_of, older_of, is_welcome, seen_in}
 use Rattle.spk_broker_rules.specs.Story as story
 use Rattle.spk_broker_rules.specs.Story.{Story, Tells, TellsAll, Routes, nothing_waits, goes_on, note, session_facts, leaving, share, told_one, told_leave, told_forget, told_take_up, told_accept}
 use Rattle.spk_broker_rules.specs.Telling.{Telling, story_at}
 use Rattle.spk_broker_rules.specs.TakeOver.{TakesOver, GoesQuietly, IsAccepted}
 use Rattle.spk_broker_rules.proofs.Lists.{eqb-self, eqb-is, found-passes}
 use Rattle.spk_broker_rules.proofs.Gifts.{calm-share}
-use Rattle.spk_broker_rules.proofs.Rounds.{round-guests}
+use Rattle.spk_broker_rules.proofs.Rounds.{round-newcomers}
 use Rattle.spk_broker_rules.proofs.Counts.{count, count-without, any-count}
 
 -- what is noted of a packet
@@ -63,19 +63,19 @@ all-append-tells : (as_list bs : List Act) (t u : Story) → TellsAll (as_list +
 all-append-tells [] bs t u d = (t, refl, d)
 all-append-tells (a ∷ as_list) bs t u (x, p, d) = let (v, q, r) = all-append-tells as_list bs x u d in (v, (x, p, q), r)
 
-guests-routed : (t u : Story) → Routes t u → guests u.past ≡ guests t.past
-guests-routed t u (nothing_waits _ _ a e) = ap (λ (x : Story). guests x.past) (sym e)
-guests-routed t u (goes_on _ _ m ms a r) = guests-routed (told_one m (record t { waiting = ms })) u r
-    ∙ round-guests (λ s. (share t.past m s).deeds) (λ s. calm-share t.past m s) t.past (sessions t.past)
+newcomers-routed : (t u : Story) → Routes t u → newcomers u.past ≡ newcomers t.past
+newcomers-routed t u (nothing_waits _ _ a e) = ap (λ (x : Story). newcomers x.past) (sym e)
+newcomers-routed t u (goes_on _ _ m ms a r) = newcomers-routed (told_one m (record t { waiting = ms })) u r
+    ∙ round-newcomers (λ s. (share t.past m s).deeds) (λ s. calm-share t.past m s) t.past (sessions t.past)
 
-guests-left : (o : Option ℕ) (c : ℕ) (wills : Bool) (t : Story) → is_some o ≡ true → guests (told_leave o c wills t).past ≡ guests t.past
-guests-left None c wills t e = absurd (no e)
+newcomers-left : (o : Option ℕ) (c : ℕ) (wills : Bool) (t : Story) → is_some o ≡ true → newcomers (told_leave o c wills t).past ≡ newcomers t.past
+newcomers-left None c wills t e = absurd (no e)
   where
     no : false ≡ true → ⊥
     no e = cc
-guests-left (Some s) c wills t e = by (kept (deeds t.past s))
+newcomers-left (Some s) c wills t e = by (kept (deeds t.past s))
   where
-    by : (k : Bool) → guests (session_facts s (leaving k c) ++ t.past) ≡ guests t.past
+    by : (k : Bool) → newcomers (session_facts s (leaving k c) ++ t.past) ≡ newcomers t.past
     by true = refl
     by false = refl
 
@@ -119,7 +119,7 @@ older-sits h name o e = by (is_empty name) e
         no f = cc
     by false f = at (find (λ s. is_some (here (deeds h s)) && is_of h name s) (sessions h)) refl f
 
-all-resent : (c : ℕ) (cs : List Copy) → AllByRecursion (λ (s : Send). s.conn ≡ c) (resent c cs)
+all-resent : (c : ℕ) (cs : List InFlight) → AllByRecursion (λ (s : Send). s.conn ≡ c) (resent c cs)
 all-resent c [] = tt
 all-resent c (x ∷ xs) = (refl, all-resent c xs)
 
@@ -131,40 +131,40 @@ pub record Greets (c : ℕ) (t u : Story) : Type 0 where
   pub to_newer : AllByRecursion (λ (s : Send). s.conn ≡ c) again
   pub closes : u.closes ≡ t.closes
 
-greets-up : (o : Option ℕ) (c : ℕ) (name : List ℕ) (keeps : Bool) (alive : ℕ) (will : Option Post) (t : Story) → Greets c t (told_take_up o c name keeps alive will t)
+greets-up : (o : Option ℕ) (c : ℕ) (name : List ℕ) (keeps : Bool) (alive : ℕ) (will : Option AppMessage) (t : Story) → Greets c t (told_take_up o c name keeps alive will t)
 greets-up None c name keeps alive will t = record { present = false; again = []; sends = refl; to_newer = tt; closes = refl }
-greets-up (Some s) c name keeps alive will t = record { present = true; again = resent c (copies (deeds t.past s)); sends = refl; to_newer = all-resent c (copies (deeds t.past s)); closes = refl }
+greets-up (Some s) c name keeps alive will t = record { present = true; again = resent c (in_flight (deeds t.past s)); sends = refl; to_newer = all-resent c (in_flight (deeds t.past s)); closes = refl }
 
-greets : (c : ℕ) (o : Option ℕ) (name : List ℕ) (keeps : Bool) (alive : ℕ) (will : Option Post) (t : Story) → find (λ g. eqb g c) (guests t.past) ≡ o → is_some o ≡ true → Greets c t (told_accept o name keeps alive will t)
+greets : (c : ℕ) (o : Option ℕ) (name : List ℕ) (keeps : Bool) (alive : ℕ) (will : Option AppMessage) (t : Story) → find (λ g. eqb g c) (newcomers t.past) ≡ o → is_some o ≡ true → Greets c t (told_accept o name keeps alive will t)
 greets c None name keeps alive will t is e = absurd (no e)
   where
     no : false ≡ true → ⊥
     no e = cc
 greets c (Some d) name keeps alive will t is e =
-    subst (λ x. Greets x t (told_take_up (story.away_for t.past keeps name) d name keeps alive will t)) (eqb-is d c (found-passes (λ g. eqb g c) (guests t.past) d is))
+    subst (λ x. Greets x t (told_take_up (story.away_for t.past keeps name) d name keeps alive will t)) (eqb-is d c (found-passes (λ g. eqb g c) (newcomers t.past) d is))
     (greets-up (story.away_for t.past keeps name) d name keeps alive will t)
 
 pub record Forgot (t u : Story) : Type 0 where
   pub sends : u.sends ≡ t.sends
   pub closes : u.closes ≡ t.closes
-  pub guests_same : guests u.past ≡ guests t.past
+  pub newcomers_same : newcomers u.past ≡ newcomers t.past
 
 forgot-is : (clean : Bool) (name : List ℕ) (t u : Story) → TellsAll (cond clean (Forget name ∷ []) []) t u → Forgot t u
 forgot-is true name t u (v, p, e) = subst (Forgot t) (sym p ∙ e) (by (find (story.is_away t.past name) (sessions t.past)))
   where
     by : (o : Option ℕ) → Forgot t (told_forget o t)
-    by None = record { sends = refl; closes = refl; guests_same = refl }
-    by (Some s) = record { sends = refl; closes = refl; guests_same = refl }
-forgot-is false name t u e = subst (Forgot t) e (record { sends = refl; closes = refl; guests_same = refl })
+    by None = record { sends = refl; closes = refl; newcomers_same = refl }
+    by (Some s) = record { sends = refl; closes = refl; newcomers_same = refl }
+forgot-is false name t u e = subst (Forgot t) e (record { sends = refl; closes = refl; newcomers_same = refl })
 
-joins-over : (c o : ℕ) (name : List ℕ) (clean : Bool) (alive : ℕ) (will : Option Post) (t u : Story) → is_some (session_at t.past o) ≡ true → is_some (find (λ g. eqb g c) (guests t.past)) ≡ true
+joins-over : (c o : ℕ) (name : List ℕ) (clean : Bool) (alive : ℕ) (will : Option AppMessage) (t u : Story) → is_some (session_at t.past o) ≡ true → is_some (find (λ g. eqb g c) (newcomers t.past)) ≡ true
     → TellsAll (join (Some o) c name clean alive will) t u → TakesOver c o t u
-joins-over c o name clean alive will t u sits guest (v, p, (w, r, d)) =
+joins-over c o name clean alive will t u sits newcomer (v, p, (w, r, d)) =
     let (x, q, (y, a, (z, b, e))) = all-append-tells (cond clean (Forget name ∷ []) []) (Accept c name (not clean) alive will ∷ Tell o ∷ []) w u d in
     let f : Forgot w x = forgot-is clean name w x q in
-    let same : guests x.past ≡ guests t.past = f.guests_same ∙ guests-routed v w r ∙ ap (λ (k : Story). guests k.past) p ∙ guests-left (session_at t.past o) o true t sits in
+    let same : newcomers x.past ≡ newcomers t.past = f.newcomers_same ∙ newcomers-routed v w r ∙ ap (λ (k : Story). newcomers k.past) p ∙ newcomers-left (session_at t.past o) o true t sits in
     let g : Greets c x y = subst (Greets c x) (sym a)
-    (greets c (find (λ k. eqb k c) (guests x.past)) name (not clean) alive will x refl (ap (λ ks. is_some (find (λ k. eqb k c) ks)) same ∙ guest)) in
+    (greets c (find (λ k. eqb k c) (newcomers x.past)) name (not clean) alive will x refl (ap (λ ks. is_some (find (λ k. eqb k c) ks)) same ∙ newcomer)) in
     record {
       wills = w;
       left = (v, p, (w, r, refl));
@@ -175,20 +175,20 @@ joins-over c o name clean alive will t u sits guest (v, p, (w, r, d)) =
       closes = ap (λ (k : Story). k.closes) (sym e ∙ b) ∙ ap (λ cs. cs ++ o ∷ []) (g.closes ∙ f.closes);
     }
 
-accepted-plan : (unwritten joined empty bad full : Bool) (seen_older : Option ℕ) (c : ℕ) (name : List ℕ) (clean : Bool) (alive : ℕ) (will : Option Post) (o : ℕ)
+accepted-plan : (unwritten joined empty bad full : Bool) (seen_older : Option ℕ) (c : ℕ) (name : List ℕ) (clean : Bool) (alive : ℕ) (will : Option AppMessage) (o : ℕ)
     → unwritten ≡ false → joined ≡ false → empty ≡ false → bad ≡ false → full ≡ false → seen_older ≡ Some o
     → cond unwritten (shut c) (cond joined (shut c) (cond empty (turn_away c 2) (cond bad (shut c) (cond full (turn_away c 3) (join seen_older c name clean alive will)))))
     ≡ join (Some o) c name clean alive will
 accepted-plan unwritten joined empty bad full seen_older c name clean alive will o a b d e f g = rw (a, b, d, e, f, g) refl
 
 pub takes-over : (limit : ℕ) (h : Past) (c o moment : ℕ) (name : List ℕ) (clean : Bool) (alive : ℕ) (will : Option WillData) (t : Telling limit h (Packet c (Connect name clean alive will) moment))
-    → is_some (find (λ g. eqb g c) (guests h)) ≡ true → is_some (session_at h c) ≡ false → older_of h name ≡ Some o → IsAccepted h name clean alive will → TakesOver c o t.first t.end
+    → is_some (find (λ g. eqb g c) (newcomers h)) ≡ true → is_some (session_at h c) ≡ false → older_of h name ≡ Some o → IsAccepted h name clean alive will → TakesOver c o t.first t.end
 unfolding heard_first
-takes-over limit h c o moment name clean alive will t guest fresh older accepted =
+takes-over limit h c o moment name clean alive will t newcomer fresh older accepted =
     let first : t.first ≡ heard_first h c moment = first-is h c moment t.first t.noted in
     subst (λ (x : Story). TakesOver c o x t.end) (sym first)
-    (joins-over c o name clean alive (option_map will_post will) (heard_first h c moment) t.end (older-sits h name o older) guest
+    (joins-over c o name clean alive (option_map will_message will) (heard_first h c moment) t.end (older-sits h name o older) newcomer
     (subst (λ l. TellsAll l (heard_first h c moment) t.end)
     (accepted-plan (is_some (first_of (unwritable (Connect name clean alive will)))) (is_some (session_at h c)) (is_empty name && not clean) (has_bad_topic will) (not clean && not (is_welcome h name)) (older_of h name)
-    c name clean alive (option_map will_post will) o accepted.writable fresh accepted.named accepted.topic accepted.welcome older)
+    c name clean alive (option_map will_message will) o accepted.writable fresh accepted.named accepted.topic accepted.welcome older)
     (subst (λ (x : Story). TellsAll (plan (seen_in limit x.past (Packet c (Connect name clean alive will) moment)) (Packet c (Connect name clean alive will) moment)) x t.end) first t.done)))

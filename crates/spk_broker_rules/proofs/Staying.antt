@@ -10,15 +10,15 @@ use Rattle.spk_topics.specs.Fitting.{is_match}
 use Rattle.spk_session.specs.declared.answer.Sort.TheVariants as sort
 use Rattle.spk_session.specs.PacketIds.{next_id}
 use Rattle.spk_session.specs.Step.{has_room}
-use Rattle.spk_broker_rules.specs.Data.{Post, Line, Guest, Seat, Broker}
+use Rattle.spk_broker_rules.specs.Data.{AppMessage, Connection, Newcomer, Session, Broker}
 use Rattle.spk_broker_rules.specs.Lawful.{Rises, IsLawful}
 use Rattle.spk_broker_rules.specs.Table.{Table, has, put, remove, replaced}
 use Rattle.spk_broker_rules.specs.Words.{handed_out, best, level, sent_as, option_list, granted_of, with_entry, is_granted, offers_to}
 use Rattle.spk_broker_rules.specs.Plan.{Event, Open, Packet, Fault, Closed, Tick, Refused, Act, Opens, At, Hear, Drop, Say, Leave, Tell, Queue, Route, Forget, Accept, Give, Take, Ack, before, plan, shut, turn_away, join, first_packet, next_packet, tick, is_fatal, Seen}
 use Rattle.spk_broker_rules.specs.Listening.{is_joined, listens, is_disconnect, is_unsubscribe, lets_go, takes_back, is_closed_in}
-use Rattle.spk_broker_rules.specs.Step.{Turn, Served, act, acts, on_lines, guest_heard, line_heard, guest_dropped, line_dropped, sits, swap, left_behind, leave_at, seat_at, is_guest, is_away, forget_at, line_of, new_seat, take_up, away_for, accept_of, other_grants, give_at, take_at, ack_at, offer, offer_at, with_key, hand, hand_at, serve, serve_at, numbered, bursts, route_one, route_some, route, noted, begun, seen, step}
+use Rattle.spk_broker_rules.specs.Step.{Turn, Served, act, acts, on_connections, newcomer_heard, connection_heard, newcomer_dropped, connection_dropped, sits, swap, left_behind, leave_at, session_by, is_newcomer, is_away, forget_at, connection_of, new_session, take_up, away_for, accept_of, other_grants, give_at, take_at, ack_at, offer, offer_at, with_key, hand, hand_at, serve, serve_at, numbered, bursts, route_one, route_some, route, noted, begun, seen, step}
 use Rattle.spk_broker_rules.proofs.Lists.{eqb-is, eqb-self, found-passes, any-map, all-also}
-use Rattle.spk_broker_rules.proofs.Lawfuls.{heard-line, dropped-line}
+use Rattle.spk_broker_rules.proofs.Lawfuls.{heard-connection, dropped-connection}
 use Rattle.spk_broker_rules.proofs.Places.{lawful-act, lawful-acts, lawful-offer_at, lawful-found}
 
 yes_no : true ≡ false → ⊥
@@ -27,11 +27,11 @@ yes_no e = true≢false e
 no_yes : false ≡ true → ⊥
 no_yes e = true≢false (sym e)
 
-rises-high : (low top : ℕ) (ss : List Seat) → Rises low top ss → AllByRecursion (λ (s : Seat). low < s.key) ss
+rises-high : (low top : ℕ) (ss : List Session) → Rises low top ss → AllByRecursion (λ (s : Session). low < s.key) ss
 rises-high low top [] h = tt
-rises-high low top (s ∷ ss) h = (h.0, all-also (λ (x : Seat). s.key < x.key) (λ (x : Seat). low < x.key) (λ x e. let a = h.0 in omega arith) ss (rises-high s.key top ss h.1))
+rises-high low top (s ∷ ss) h = (h.0, all-also (λ (x : Session). s.key < x.key) (λ (x : Session). low < x.key) (λ x e. let a = h.0 in omega arith) ss (rises-high s.key top ss h.1))
 
-found-high : (p : Seat → Bool) (low : ℕ) (ss : List Seat) (x : Seat) → AllByRecursion (λ (s : Seat). low < s.key) ss → find p ss ≡ Some x → low < x.key
+found-high : (p : Session → Bool) (low : ℕ) (ss : List Session) (x : Session) → AllByRecursion (λ (s : Session). low < s.key) ss → find p ss ≡ Some x → low < x.key
 found-high p low [] x all e = absurd (no e)
   where
     no : None ≡ Some x → ⊥
@@ -39,40 +39,40 @@ found-high p low [] x all e = absurd (no e)
 found-high p low (y ∷ ys) x all e = by (p y) e (found-high p low ys x all.1)
   where
     by : (b : Bool) → cond b (Some y) (find p ys) ≡ Some x → (find p ys ≡ Some x → low < x.key) → low < x.key
-    by true f rest = let same : y ≡ x = cc in subst (λ (s : Seat). low < s.key) same all.0
+    by true f rest = let same : y ≡ x = cc in subst (λ (s : Session). low < s.key) same all.0
     by false f rest = rest f
 
 -- what is found is the only one of its key
-key-one : (p : Seat → Bool) (low top : ℕ) (ss : List Seat) (x : Seat) → Rises low top ss → find p ss ≡ Some x → AllByRecursion (λ (s : Seat). eqb s.key x.key ≡ true → s ≡ x) ss
+key-one : (p : Session → Bool) (low top : ℕ) (ss : List Session) (x : Session) → Rises low top ss → find p ss ≡ Some x → AllByRecursion (λ (s : Session). eqb s.key x.key ≡ true → s ≡ x) ss
 key-one p low top [] x r e = tt
 key-one p low top (y ∷ ys) x r e = by (p y) e (key-one p y.key top ys x r.1)
   where
-    high : AllByRecursion (λ (s : Seat). y.key < s.key) ys
+    high : AllByRecursion (λ (s : Session). y.key < s.key) ys
     high = rises-high y.key top ys r.1
 
-    by : (b : Bool) → cond b (Some y) (find p ys) ≡ Some x → (find p ys ≡ Some x → AllByRecursion (λ (s : Seat). eqb s.key x.key ≡ true → s ≡ x) ys)
-        → AllByRecursion (λ (s : Seat). eqb s.key x.key ≡ true → s ≡ x) (y ∷ ys)
+    by : (b : Bool) → cond b (Some y) (find p ys) ≡ Some x → (find p ys ≡ Some x → AllByRecursion (λ (s : Session). eqb s.key x.key ≡ true → s ≡ x) ys)
+        → AllByRecursion (λ (s : Session). eqb s.key x.key ≡ true → s ≡ x) (y ∷ ys)
     by true f rest =
         let same : y ≡ x = cc in (
           (λ k. same),
-          all-also (λ (s : Seat). y.key < s.key) (λ (s : Seat). eqb s.key x.key ≡ true → s ≡ x)
-              (λ s above k. let a : s.key ≡ x.key = eqb-is s.key x.key k in let b : y.key ≡ x.key = ap (λ (z : Seat). z.key) same in absurd (omega arith)) ys high,
+          all-also (λ (s : Session). y.key < s.key) (λ (s : Session). eqb s.key x.key ≡ true → s ≡ x)
+              (λ s above k. let a : s.key ≡ x.key = eqb-is s.key x.key k in let b : y.key ≡ x.key = ap (λ (z : Session). z.key) same in absurd (omega arith)) ys high,
         )
     by false f rest =
         let above : y.key < x.key = found-high p y.key ys x high f in
         ((λ k. let a : y.key ≡ x.key = eqb-is y.key x.key k in absurd (omega arith)), rest f)
 
-both-sit : (c d : ℕ) (s : Seat) → sits c s ≡ true → sits d s ≡ true → d ≡ c
+both-sit : (c d : ℕ) (s : Session) → sits c s ≡ true → sits d s ≡ true → d ≡ c
 both-sit c d s = by s.here
   where
-    by : (o : Option Line) → option_map_or (λ (l : Line). eqb l.conn c) o false ≡ true → option_map_or (λ (l : Line). eqb l.conn d) o false ≡ true → d ≡ c
+    by : (o : Option Connection) → option_map_or (λ (l : Connection). eqb l.conn c) o false ≡ true → option_map_or (λ (l : Connection). eqb l.conn d) o false ≡ true → d ≡ c
     by None e f = absurd (no_yes e)
     by (Some l) e f = sym (eqb-is l.conn d f) ∙ eqb-is l.conn c e
 
-away-sits : (name : List ℕ) (c : ℕ) (s : Seat) → is_away name s ≡ true → sits c s ≡ false
+away-sits : (name : List ℕ) (c : ℕ) (s : Session) → is_away name s ≡ true → sits c s ≡ false
 away-sits name c s = by s.kept s.here (bytes_eq s.client name)
   where
-    by : (k : Bool) (o : Option Line) (b : Bool) → (k && (not (is_some o) && b)) ≡ true → option_map_or (λ (l : Line). eqb l.conn c) o false ≡ false
+    by : (k : Bool) (o : Option Connection) (b : Bool) → (k && (not (is_some o) && b)) ≡ true → option_map_or (λ (l : Connection). eqb l.conn c) o false ≡ false
     by true None b e = refl
     by false None b e = refl
     by true (Some l) b e = absurd (no_yes e)
@@ -80,11 +80,11 @@ away-sits name c s = by s.kept s.here (bytes_eq s.client name)
 
 module _ (c : ℕ) (L : Table ℕ → Bool) (mono : (f : List ℕ) (q : ℕ) (g : Table ℕ) → L g ≡ true → L (put f q g) ≡ true) where
   -- a session of the connection, with such grants
-  abbrev Q : Seat → Bool
+  abbrev Q : Session → Bool
   Q s = sits c s && L s.grants
 
   abbrev Stays : Turn → Type 0
-  Stays t = list_any Q t.broker.seats ≡ true
+  Stays t = list_any Q t.broker.sessions ≡ true
 
   abbrev Told : Turn → Type 0
   Told t = list_any (λ d. eqb d c) t.closes ≡ true
@@ -92,14 +92,14 @@ module _ (c : ℕ) (L : Table ℕ → Bool) (mono : (f : List ℕ) (q : ℕ) (g 
   abbrev Fine : Turn → Type 0
   Fine t = Stays t ⊎ Told t
 
-  sits-of : (s : Seat) → Q s ≡ true → sits c s ≡ true
+  sits-of : (s : Session) → Q s ≡ true → sits c s ≡ true
   sits-of s e = by (sits c s) e
     where
       by : (b : Bool) → (b && L s.grants) ≡ true → b ≡ true
       by true e = refl
       by false e = absurd (no_yes e)
 
-  grants-of : (s : Seat) → Q s ≡ true → L s.grants ≡ true
+  grants-of : (s : Session) → Q s ≡ true → L s.grants ≡ true
   grants-of s e = by (sits c s) e
     where
       by : (b : Bool) → (b && L s.grants) ≡ true → L s.grants ≡ true
@@ -112,8 +112,8 @@ module _ (c : ℕ) (L : Table ℕ → Bool) (mono : (f : List ℕ) (q : ℕ) (g 
   any-back : {X : Type 0} (p : X → Bool) (xs ys : List X) → list_any p ys ≡ true → list_any p (xs ++ ys) ≡ true
   any-back p xs ys e = list_any-append p xs ys ∙ or_right _ _ e
 
-  -- one seat among the others
-  any-swap : (key : ℕ) (new ss : List Seat) → AllByRecursion (λ (s : Seat). eqb s.key key ≡ true → Q s ≡ true → list_any Q new ≡ true) ss → list_any Q ss ≡ true → list_any Q (swap key new ss) ≡ true
+  -- one session among the others
+  any-swap : (key : ℕ) (new ss : List Session) → AllByRecursion (λ (s : Session). eqb s.key key ≡ true → Q s ≡ true → list_any Q new ≡ true) ss → list_any Q ss ≡ true → list_any Q (swap key new ss) ≡ true
   any-swap key new [] all e = e
   any-swap key new (s ∷ ss) all e = by (eqb s.key key) refl (Q s) refl e (any-swap key new ss all.1)
     where
@@ -125,76 +125,76 @@ module _ (c : ℕ) (L : Table ℕ → Bool) (mono : (f : List ℕ) (q : ℕ) (g 
       by false i false j f rest = or_right (Q s) (list_any Q (swap key new ss)) (rest f)
 
   -- where what is found becomes new
-  stays-swap : (p : Seat → Bool) (x : Seat) (new : List Seat) (b : Broker) → IsLawful b → find p b.seats ≡ Some x → (Q x ≡ true → list_any Q new ≡ true)
-      → list_any Q b.seats ≡ true → list_any Q (swap x.key new b.seats) ≡ true
-  stays-swap p x new b l is after_it e = any-swap x.key new b.seats
-      (all-also (λ (s : Seat). eqb s.key x.key ≡ true → s ≡ x) (λ (s : Seat). eqb s.key x.key ≡ true → Q s ≡ true → list_any Q new ≡ true)
-      (λ s one k q. after_it (ap Q (sym (one k)) ∙ q)) b.seats (key-one p 0 b.made b.seats x l.keys is)) e
+  stays-swap : (p : Session → Bool) (x : Session) (new : List Session) (b : Broker) → IsLawful b → find p b.sessions ≡ Some x → (Q x ≡ true → list_any Q new ≡ true)
+      → list_any Q b.sessions ≡ true → list_any Q (swap x.key new b.sessions) ≡ true
+  stays-swap p x new b l is after_it e = any-swap x.key new b.sessions
+      (all-also (λ (s : Session). eqb s.key x.key ≡ true → s ≡ x) (λ (s : Session). eqb s.key x.key ≡ true → Q s ≡ true → list_any Q new ≡ true)
+      (λ s one k q. after_it (ap Q (sym (one k)) ∙ q)) b.sessions (key-one p 0 b.made b.sessions x l.keys is)) e
 
   -- ---- one message
 
   abbrev Kept : Served → Type 0
   Kept x = (list_any Q x.left ≡ true) ⊎ (list_any (λ d. eqb d c) x.closes ≡ true)
 
-  kept-bursts : (s : Seat) → sits c s ≡ true → list_any (λ d. eqb d c) (bursts s).closes ≡ true
+  kept-bursts : (s : Session) → sits c s ≡ true → list_any (λ d. eqb d c) (bursts s).closes ≡ true
   kept-bursts s = by s.here
     where
-      by : (o : Option Line) → option_map_or (λ (l : Line). eqb l.conn c) o false ≡ true → list_any (λ d. eqb d c) (option_list (option_map (λ (l : Line). l.conn) o)) ≡ true
+      by : (o : Option Connection) → option_map_or (λ (l : Connection). eqb l.conn c) o false ≡ true → list_any (λ d. eqb d c) (option_list (option_map (λ (l : Connection). l.conn) o)) ≡ true
       by None e = absurd (no_yes e)
       by (Some l) e = or_left (eqb l.conn c) false e
 
-  kept-hand : (q : ℕ) (post : Post) (s : Seat) → Q s ≡ true → Kept (hand_at q post s)
-  kept-hand zero post s e = inl (or_left (Q s) false e)
-  kept-hand (suc q) post s e = by (has_room s.used)
+  kept-hand : (q : ℕ) (app_message : AppMessage) (s : Session) → Q s ≡ true → Kept (hand_at q app_message s)
+  kept-hand zero app_message s e = inl (or_left (Q s) false e)
+  kept-hand (suc q) app_message s e = by (has_room s.used)
     where
-      by : (b : Bool) → (list_any Q (cond b (numbered s post (next_id s.used s.last)) (bursts s)).left ≡ true) ⊎ (list_any (λ d. eqb d c) (cond b (numbered s post (next_id s.used s.last)) (bursts s)).closes ≡ true)
+      by : (b : Bool) → (list_any Q (cond b (numbered s app_message (next_id s.used s.last)) (bursts s)).left ≡ true) ⊎ (list_any (λ d. eqb d c) (cond b (numbered s app_message (next_id s.used s.last)) (bursts s)).closes ≡ true)
       by true = inl (or_left (Q s) false e)
       by false = inr (kept-bursts s (sits-of s e))
 
-  kept-serve : (m : Post) (s : Seat) → Q s ≡ true → Kept (serve m s)
+  kept-serve : (m : AppMessage) (s : Session) → Q s ≡ true → Kept (serve m s)
   kept-serve m s e = by (level m.qos (best m.topic s.grants))
     where
       by : (o : Option ℕ) → (list_any Q (serve_at o m s).left ≡ true) ⊎ (list_any (λ d. eqb d c) (serve_at o m s).closes ≡ true)
       by None = inl (or_left (Q s) false e)
       by (Some q) = kept-hand q (sent_as m q false) s e
 
-  kept-all : (m : Post) (ss : List Seat) → list_any Q ss ≡ true
-      → (list_any Q (flat_map (λ (s : Seat). (serve m s).left) ss) ≡ true) ⊎ (list_any (λ d. eqb d c) (flat_map (λ (s : Seat). (serve m s).closes) ss) ≡ true)
+  kept-all : (m : AppMessage) (ss : List Session) → list_any Q ss ≡ true
+      → (list_any Q (flat_map (λ (s : Session). (serve m s).left) ss) ≡ true) ⊎ (list_any (λ d. eqb d c) (flat_map (λ (s : Session). (serve m s).closes) ss) ≡ true)
   kept-all m [] e = absurd (no_yes e)
   kept-all m (s ∷ ss) e = by (Q s) refl e (kept-all m ss)
     where
       by : (b : Bool) → Q s ≡ b → (b || list_any Q ss) ≡ true
-          → (list_any Q ss ≡ true → (list_any Q (flat_map (λ (x : Seat). (serve m x).left) ss) ≡ true) ⊎ (list_any (λ d. eqb d c) (flat_map (λ (x : Seat). (serve m x).closes) ss) ≡ true))
-          → (list_any Q ((serve m s).left ++ flat_map (λ (x : Seat). (serve m x).left) ss) ≡ true) ⊎ (list_any (λ d. eqb d c) ((serve m s).closes ++ flat_map (λ (x : Seat). (serve m x).closes) ss) ≡ true)
+          → (list_any Q ss ≡ true → (list_any Q (flat_map (λ (x : Session). (serve m x).left) ss) ≡ true) ⊎ (list_any (λ d. eqb d c) (flat_map (λ (x : Session). (serve m x).closes) ss) ≡ true))
+          → (list_any Q ((serve m s).left ++ flat_map (λ (x : Session). (serve m x).left) ss) ≡ true) ⊎ (list_any (λ d. eqb d c) ((serve m s).closes ++ flat_map (λ (x : Session). (serve m x).closes) ss) ≡ true)
       by true i f rest = elim (kept-serve m s i) [
-        | inl x ↦ inl (any-front Q (serve m s).left (flat_map (λ (x : Seat). (serve m x).left) ss) x)
-        | inr x ↦ inr (any-front (λ d. eqb d c) (serve m s).closes (flat_map (λ (x : Seat). (serve m x).closes) ss) x)
+        | inl x ↦ inl (any-front Q (serve m s).left (flat_map (λ (x : Session). (serve m x).left) ss) x)
+        | inr x ↦ inr (any-front (λ d. eqb d c) (serve m s).closes (flat_map (λ (x : Session). (serve m x).closes) ss) x)
       ]
       by false i f rest = elim (rest f) [
-        | inl x ↦ inl (any-back Q (serve m s).left (flat_map (λ (x : Seat). (serve m x).left) ss) x)
-        | inr x ↦ inr (any-back (λ d. eqb d c) (serve m s).closes (flat_map (λ (x : Seat). (serve m x).closes) ss) x)
+        | inl x ↦ inl (any-back Q (serve m s).left (flat_map (λ (x : Session). (serve m x).left) ss) x)
+        | inr x ↦ inr (any-back (λ d. eqb d c) (serve m s).closes (flat_map (λ (x : Session). (serve m x).closes) ss) x)
       ]
 
-  fine-one : (m : Post) (t : Turn) → Fine t → Fine (route_one m t)
-  fine-one m t (inl e) = elim (kept-all m t.broker.seats e) [
+  fine-one : (m : AppMessage) (t : Turn) → Fine t → Fine (route_one m t)
+  fine-one m t (inl e) = elim (kept-all m t.broker.sessions e) [
     | inl x ↦ inl x
-    | inr x ↦ inr (any-back (λ d. eqb d c) t.closes (flat_map (λ (s : Seat). (serve m s).closes) t.broker.seats) x)
+    | inr x ↦ inr (any-back (λ d. eqb d c) t.closes (flat_map (λ (s : Session). (serve m s).closes) t.broker.sessions) x)
   ]
-  fine-one m t (inr e) = inr (any-front (λ d. eqb d c) t.closes (flat_map (λ (s : Seat). (serve m s).closes) t.broker.seats) e)
+  fine-one m t (inr e) = inr (any-front (λ d. eqb d c) t.closes (flat_map (λ (s : Session). (serve m s).closes) t.broker.sessions) e)
 
   fine-some : (n : ℕ) (t : Turn) → Fine t → Fine (route_some n t)
   unfolding route_some
   fine-some zero t e = e
   fine-some (suc n) t e = by t.waiting (λ m ms. fine-some n (route_one m (record t { waiting = ms })) (fine-one m (record t { waiting = ms }) e))
     where
-      by : (ws : List Post) → ((m : Post) (ms : List Post) → Fine (route_some n (route_one m (record t { waiting = ms }))))
+      by : (ws : List AppMessage) → ((m : AppMessage) (ms : List AppMessage) → Fine (route_some n (route_one m (record t { waiting = ms }))))
           → Fine (elim ws as (λ _. Turn) [ [] ↦ t | m ∷ ms ↦ route_some n (route_one m (record t { waiting = ms })) ])
       by [] rest = e
       by (m ∷ ms) rest = rest m ms
 
   fine-route : (t : Turn) → Fine t → Fine (route t)
   unfolding route
-  fine-route t e = fine-some (length t.waiting + length t.broker.seats) t e
+  fine-route t e = fine-some (length t.waiting + length t.broker.sessions) t e
 
   -- ---- the acts
 
@@ -207,7 +207,7 @@ module _ (c : ℕ) (L : Table ℕ → Bool) (mono : (f : List ℕ) (q : ℕ) (g 
   Safe (Say d p) = Unit {0}
   Safe (Leave d wills) = eqb d c ≡ false
   Safe (Tell d) = Unit {0}
-  Safe (Queue post) = Unit {0}
+  Safe (Queue app_message) = Unit {0}
   Safe Route = Unit {0}
   Safe (Forget name) = Unit {0}
   Safe (Accept d name keeps alive will) = Unit {0}
@@ -215,28 +215,28 @@ module _ (c : ℕ) (L : Table ℕ → Bool) (mono : (f : List ℕ) (q : ℕ) (g 
   Safe (Take d filters) = (eqb d c ≡ false) ⊎ ((g : Table ℕ) (f : List ℕ) → L g ≡ true → L (remove f g) ≡ true)
   Safe (Ack d id) = Unit {0}
 
-  other-sits : (d : ℕ) (s : Seat) → eqb d c ≡ false → sits d s ≡ true → Q s ≡ true → ⊥
+  other-sits : (d : ℕ) (s : Session) → eqb d c ≡ false → sits d s ≡ true → Q s ≡ true → ⊥
   other-sits d s e f q = yes_no (sym (ap (λ x. eqb x c) (both-sit c d s (sits-of s q) f) ∙ eqb-self c) ∙ e)
 
-  fine-leave : (d : ℕ) (wills : Bool) (t : Turn) (o : Option Seat) → IsLawful t.broker → eqb d c ≡ false → seat_at d t.broker.seats ≡ o → Fine t → Fine (leave_at o d wills t)
+  fine-leave : (d : ℕ) (wills : Bool) (t : Turn) (o : Option Session) → IsLawful t.broker → eqb d c ≡ false → session_by d t.broker.sessions ≡ o → Fine t → Fine (leave_at o d wills t)
   fine-leave d wills t None l e is f = f
   fine-leave d wills t (Some s) l e is (inl f) = inl (stays-swap (sits d) s (left_behind s) t.broker l is
-      (λ q. absurd (other-sits d s e (found-passes (sits d) t.broker.seats s is) q)) f)
+      (λ q. absurd (other-sits d s e (found-passes (sits d) t.broker.sessions s is) q)) f)
   fine-leave d wills t (Some s) l e is (inr f) = inr f
 
-  fine-forget : (name : List ℕ) (t : Turn) (o : Option Seat) → IsLawful t.broker → find (is_away name) t.broker.seats ≡ o → Fine t → Fine (forget_at o t)
+  fine-forget : (name : List ℕ) (t : Turn) (o : Option Session) → IsLawful t.broker → find (is_away name) t.broker.sessions ≡ o → Fine t → Fine (forget_at o t)
   fine-forget name t None l is f = f
   fine-forget name t (Some s) l is (inl f) = inl (stays-swap (is_away name) s [] t.broker l is
-      (λ q. absurd (yes_no (sym (sits-of s q) ∙ away-sits name c s (found-passes (is_away name) t.broker.seats s is)))) f)
+      (λ q. absurd (yes_no (sym (sits-of s q) ∙ away-sits name c s (found-passes (is_away name) t.broker.sessions s is)))) f)
   fine-forget name t (Some s) l is (inr f) = inr f
 
-  fine-up : (name : List ℕ) (keeps : Bool) (x : Line) (t : Turn) (o : Option Seat) → IsLawful t.broker → away_for keeps name t.broker.seats ≡ o → Fine t → Fine (take_up o name keeps x t)
-  fine-up name keeps x t None l is (inl f) = inl (any-front Q t.broker.seats (new_seat (t.broker.made + 1) name keeps x ∷ []) f)
+  fine-up : (name : List ℕ) (keeps : Bool) (x : Connection) (t : Turn) (o : Option Session) → IsLawful t.broker → away_for keeps name t.broker.sessions ≡ o → Fine t → Fine (take_up o name keeps x t)
+  fine-up name keeps x t None l is (inl f) = inl (any-front Q t.broker.sessions (new_session (t.broker.made + 1) name keeps x ∷ []) f)
   fine-up name keeps x t None l is (inr f) = inr f
-  fine-up name keeps x t (Some s) l is (inl f) = inl (stays-swap (is_away name) s ((record s { here = Some x; copies = map handed_out s.copies }) ∷ []) t.broker l (found keeps is)
-      (λ q. absurd (yes_no (sym (sits-of s q) ∙ away-sits name c s (found-passes (is_away name) t.broker.seats s (found keeps is))))) f)
+  fine-up name keeps x t (Some s) l is (inl f) = inl (stays-swap (is_away name) s ((record s { here = Some x; in_flight = map handed_out s.in_flight }) ∷ []) t.broker l (found keeps is)
+      (λ q. absurd (yes_no (sym (sits-of s q) ∙ away-sits name c s (found-passes (is_away name) t.broker.sessions s (found keeps is))))) f)
     where
-      found : (k : Bool) → cond k (find (is_away name) t.broker.seats) None ≡ Some s → find (is_away name) t.broker.seats ≡ Some s
+      found : (k : Bool) → cond k (find (is_away name) t.broker.sessions) None ≡ Some s → find (is_away name) t.broker.sessions ≡ Some s
       found true e = e
       found false e = absurd (no e)
         where
@@ -244,32 +244,32 @@ module _ (c : ℕ) (L : Table ℕ → Bool) (mono : (f : List ℕ) (q : ℕ) (g 
           no e = cc
   fine-up name keeps x t (Some s) l is (inr f) = inr f
 
-  fine-accept : (name : List ℕ) (keeps : Bool) (alive : ℕ) (will : Option Post) (t : Turn) (o : Option Guest) → IsLawful t.broker → Fine t → Fine (accept_of o name keeps alive will t)
+  fine-accept : (name : List ℕ) (keeps : Bool) (alive : ℕ) (will : Option AppMessage) (t : Turn) (o : Option Newcomer) → IsLawful t.broker → Fine t → Fine (accept_of o name keeps alive will t)
   fine-accept name keeps alive will t None l f = f
-  fine-accept name keeps alive will t (Some g) l f = fine-up name keeps (line_of g alive will) t (away_for keeps name t.broker.seats) l refl f
+  fine-accept name keeps alive will t (Some g) l f = fine-up name keeps (connection_of g alive will) t (away_for keeps name t.broker.sessions) l refl f
 
-  fine-offer_at : (key : ℕ) (post : Post) (t : Turn) (o : Option Seat) → IsLawful t.broker → with_key key t.broker.seats ≡ o → Fine t → Fine (offer_at o key post t)
-  fine-offer_at key post t None l is f = f
-  fine-offer_at key post t (Some s) l is (inr f) = inr (any-front (λ d. eqb d c) t.closes (hand post s).closes f)
-  fine-offer_at key post t (Some s) l is (inl f) = by (Q s) refl
+  fine-offer_at : (key : ℕ) (app_message : AppMessage) (t : Turn) (o : Option Session) → IsLawful t.broker → with_key key t.broker.sessions ≡ o → Fine t → Fine (offer_at o key app_message t)
+  fine-offer_at key app_message t None l is f = f
+  fine-offer_at key app_message t (Some s) l is (inr f) = inr (any-front (λ d. eqb d c) t.closes (hand app_message s).closes f)
+  fine-offer_at key app_message t (Some s) l is (inl f) = by (Q s) refl
     where
       same : s.key ≡ key
-      same = eqb-is s.key key (found-passes (λ (x : Seat). eqb x.key key) t.broker.seats s is)
+      same = eqb-is s.key key (found-passes (λ (x : Session). eqb x.key key) t.broker.sessions s is)
 
-      swapped : (Q s ≡ true → list_any Q (hand post s).left ≡ true) → list_any Q (swap key (hand post s).left t.broker.seats) ≡ true
-      swapped h = subst (λ k. list_any Q (swap k (hand post s).left t.broker.seats) ≡ true) same (stays-swap (λ (x : Seat). eqb x.key key) s (hand post s).left t.broker l is h f)
+      swapped : (Q s ≡ true → list_any Q (hand app_message s).left ≡ true) → list_any Q (swap key (hand app_message s).left t.broker.sessions) ≡ true
+      swapped h = subst (λ k. list_any Q (swap k (hand app_message s).left t.broker.sessions) ≡ true) same (stays-swap (λ (x : Session). eqb x.key key) s (hand app_message s).left t.broker l is h f)
 
-      by : (b : Bool) → Q s ≡ b → Fine (offer_at (Some s) key post t)
-      by true i = elim (kept-hand post.qos post s i) [
+      by : (b : Bool) → Q s ≡ b → Fine (offer_at (Some s) key app_message t)
+      by true i = elim (kept-hand app_message.qos app_message s i) [
         | inl x ↦ inl (swapped (λ q. x))
-        | inr x ↦ inr (any-back (λ d. eqb d c) t.closes (hand post s).closes x)
+        | inr x ↦ inr (any-back (λ d. eqb d c) t.closes (hand app_message s).closes x)
       ]
       by false i = inl (swapped (λ q. absurd (yes_no (sym q ∙ i))))
 
-  fine-offers : (key : ℕ) (posts : List Post) (t : Turn) → IsLawful t.broker → Fine t → Fine (fold (offer key) t posts)
+  fine-offers : (key : ℕ) (app_messages : List AppMessage) (t : Turn) → IsLawful t.broker → Fine t → Fine (fold (offer key) t app_messages)
   fine-offers key [] t l f = f
-  fine-offers key (p ∷ ps) t l f = fine-offers key ps (offer key t p) (lawful-offer_at key p t (with_key key t.broker.seats) l refl)
-      (fine-offer_at key p t (with_key key t.broker.seats) l refl f)
+  fine-offers key (p ∷ ps) t l f = fine-offers key ps (offer key t p) (lawful-offer_at key p t (with_key key t.broker.sessions) l refl)
+      (fine-offer_at key p t (with_key key t.broker.sessions) l refl f)
 
   mono-entries : (others : ℕ) (es : List (List ℕ × ℕ)) (g : Table ℕ) → L g ≡ true → L (fold (with_entry others) g es) ≡ true
   mono-entries others [] g e = e
@@ -279,23 +279,23 @@ module _ (c : ℕ) (L : Table ℕ → Bool) (mono : (f : List ℕ) (q : ℕ) (g 
       by true = mono x.0 (min 1 x.1) g e
       by false = e
 
-  q-from : (s : Seat) (b : Bool) → sits c s ≡ true → b ≡ true → (sits c s && b) ≡ true
+  q-from : (s : Session) (b : Bool) → sits c s ≡ true → b ≡ true → (sits c s && b) ≡ true
   q-from s b e f = ap (λ x. x && b) e ∙ f
 
-  fine-give : (d id : ℕ) (entries : List (List ℕ × ℕ)) (t : Turn) (o : Option Seat) → IsLawful t.broker → seat_at d t.broker.seats ≡ o → Fine t → Fine (give_at o d id entries t)
+  fine-give : (d id : ℕ) (entries : List (List ℕ × ℕ)) (t : Turn) (o : Option Session) → IsLawful t.broker → session_by d t.broker.sessions ≡ o → Fine t → Fine (give_at o d id entries t)
   fine-give d id entries t None l is f = f
   fine-give d id entries t (Some s) l is f =
-      fine-offers s.key (flat_map (offers_to t.broker.retained) (granted_of (other_grants s t.broker.seats) s.grants entries)) _
+      fine-offers s.key (flat_map (offers_to t.broker.retained) (granted_of (other_grants s t.broker.sessions) s.grants entries)) _
       (lawful-found d t s _ refl refl l is) (given f)
     where
       given : Fine t → Fine (record t {
-        broker = record t.broker { seats = swap s.key ((record s { grants = fold (with_entry (other_grants s t.broker.seats)) s.grants entries }) ∷ []) t.broker.seats };
+        broker = record t.broker { sessions = swap s.key ((record s { grants = fold (with_entry (other_grants s t.broker.sessions)) s.grants entries }) ∷ []) t.broker.sessions };
       })
-      given (inl e) = inl (stays-swap (sits d) s ((record s { grants = fold (with_entry (other_grants s t.broker.seats)) s.grants entries }) ∷ []) t.broker l is
-          (λ q. or_left _ false (q-from s (L (fold (with_entry (other_grants s t.broker.seats)) s.grants entries)) (sits-of s q) (mono-entries (other_grants s t.broker.seats) entries s.grants (grants-of s q)))) e)
+      given (inl e) = inl (stays-swap (sits d) s ((record s { grants = fold (with_entry (other_grants s t.broker.sessions)) s.grants entries }) ∷ []) t.broker l is
+          (λ q. or_left _ false (q-from s (L (fold (with_entry (other_grants s t.broker.sessions)) s.grants entries)) (sits-of s q) (mono-entries (other_grants s t.broker.sessions) entries s.grants (grants-of s q)))) e)
       given (inr e) = inr e
 
-  fine-take : (d : ℕ) (filters : List (List ℕ)) (t : Turn) (o : Option Seat) → IsLawful t.broker → Safe (Take d filters) → seat_at d t.broker.seats ≡ o → Fine t → Fine (take_at o filters t)
+  fine-take : (d : ℕ) (filters : List (List ℕ)) (t : Turn) (o : Option Session) → IsLawful t.broker → Safe (Take d filters) → session_by d t.broker.sessions ≡ o → Fine t → Fine (take_at o filters t)
   fine-take d filters t None l safe is f = f
   fine-take d filters t (Some s) l safe is (inr f) = inr f
   fine-take d filters t (Some s) l safe is (inl f) = inl (stays-swap (sits d) s ((record s { grants = fold (λ g k. remove k g) s.grants filters }) ∷ []) t.broker l is (λ q. by q safe) f)
@@ -306,41 +306,41 @@ module _ (c : ℕ) (L : Table ℕ → Bool) (mono : (f : List ℕ) (q : ℕ) (g 
 
       by : Q s ≡ true → (eqb d c ≡ false) ⊎ ((g : Table ℕ) (k : List ℕ) → L g ≡ true → L (remove k g) ≡ true)
           → list_any Q ((record s { grants = fold (λ g k. remove k g) s.grants filters }) ∷ []) ≡ true
-      by q (inl e) = absurd (other-sits d s e (found-passes (sits d) t.broker.seats s is) q)
+      by q (inl e) = absurd (other-sits d s e (found-passes (sits d) t.broker.sessions s is) q)
       by q (inr h) = or_left _ false (q-from s (L (fold (λ g k. remove k g) s.grants filters)) (sits-of s q) (all h filters s.grants (grants-of s q)))
 
-  fine-ack : (d id : ℕ) (t : Turn) (o : Option Seat) → IsLawful t.broker → seat_at d t.broker.seats ≡ o → Fine t → Fine (ack_at o id t)
+  fine-ack : (d id : ℕ) (t : Turn) (o : Option Session) → IsLawful t.broker → session_by d t.broker.sessions ≡ o → Fine t → Fine (ack_at o id t)
   fine-ack d id t None l is f = f
   fine-ack d id t (Some s) l is (inl f) = inl (stays-swap (sits d) s _ t.broker l is (λ q. or_left (Q s) false q) f)
   fine-ack d id t (Some s) l is (inr f) = inr f
 
-  line-sits : (change : Line → Line) → ((l : Line) → (change l).conn ≡ l.conn) → (s : Seat) → Q (record s { here = option_map change s.here }) ≡ Q s
-  line-sits change same s = ap (λ b. b && L s.grants) (by s.here)
+  connection-sits : (change : Connection → Connection) → ((l : Connection) → (change l).conn ≡ l.conn) → (s : Session) → Q (record s { here = option_map change s.here }) ≡ Q s
+  connection-sits change same s = ap (λ b. b && L s.grants) (by s.here)
     where
-      by : (o : Option Line) → option_map_or (λ (l : Line). eqb l.conn c) (option_map change o) false ≡ option_map_or (λ (l : Line). eqb l.conn c) o false
+      by : (o : Option Connection) → option_map_or (λ (l : Connection). eqb l.conn c) (option_map change o) false ≡ option_map_or (λ (l : Connection). eqb l.conn c) o false
       by None = refl
       by (Some l) = ap (λ n. eqb n c) (same l)
 
-  fine-lines : (on_guest : Guest → Guest) (change : Line → Line) → ((l : Line) → (change l).conn ≡ l.conn) → (t : Turn) → Fine t → Fine (on_lines on_guest change t)
-  fine-lines on_guest change same t (inl e) = inl (any-map (λ (s : Seat). record s { here = option_map change s.here }) Q Q (line-sits change same) t.broker.seats ∙ e)
-  fine-lines on_guest change same t (inr e) = inr e
+  fine-connections : (on_newcomer : Newcomer → Newcomer) (change : Connection → Connection) → ((l : Connection) → (change l).conn ≡ l.conn) → (t : Turn) → Fine t → Fine (on_connections on_newcomer change t)
+  fine-connections on_newcomer change same t (inl e) = inl (any-map (λ (s : Session). record s { here = option_map change s.here }) Q Q (connection-sits change same) t.broker.sessions ∙ e)
+  fine-connections on_newcomer change same t (inr e) = inr e
 
   fine-act : (a : Act) (t : Turn) → Safe a → IsLawful t.broker → Fine t → Fine (act a t)
   fine-act Opens t safe l f = f
   fine-act (At moment) t safe l f = f
-  fine-act (Hear d) t safe l f = fine-lines (guest_heard d t.broker.clock) (line_heard d t.broker.clock) (heard-line d t.broker.clock) t f
-  fine-act (Drop d) t safe l f = fine-lines (guest_dropped d) (line_dropped d) (dropped-line d) t f
+  fine-act (Hear d) t safe l f = fine-connections (newcomer_heard d t.broker.clock) (connection_heard d t.broker.clock) (heard-connection d t.broker.clock) t f
+  fine-act (Drop d) t safe l f = fine-connections (newcomer_dropped d) (connection_dropped d) (dropped-connection d) t f
   fine-act (Say d p) t safe l f = f
-  fine-act (Leave d wills) t safe l f = fine-leave d wills t (seat_at d t.broker.seats) l safe refl f
+  fine-act (Leave d wills) t safe l f = fine-leave d wills t (session_by d t.broker.sessions) l safe refl f
   fine-act (Tell d) t safe l (inl f) = inl f
   fine-act (Tell d) t safe l (inr f) = inr (any-front (λ x. eqb x c) t.closes (d ∷ []) f)
-  fine-act (Queue post) t safe l f = f
+  fine-act (Queue app_message) t safe l f = f
   fine-act Route t safe l f = fine-route t f
-  fine-act (Forget name) t safe l f = fine-forget name t (find (is_away name) t.broker.seats) l refl f
-  fine-act (Accept d name keeps alive will) t safe l f = fine-accept name keeps alive will t (find (is_guest d) t.broker.guests) l f
-  fine-act (Give d id entries) t safe l f = fine-give d id entries t (seat_at d t.broker.seats) l refl f
-  fine-act (Take d filters) t safe l f = fine-take d filters t (seat_at d t.broker.seats) l safe refl f
-  fine-act (Ack d id) t safe l f = fine-ack d id t (seat_at d t.broker.seats) l refl f
+  fine-act (Forget name) t safe l f = fine-forget name t (find (is_away name) t.broker.sessions) l refl f
+  fine-act (Accept d name keeps alive will) t safe l f = fine-accept name keeps alive will t (find (is_newcomer d) t.broker.newcomers) l f
+  fine-act (Give d id entries) t safe l f = fine-give d id entries t (session_by d t.broker.sessions) l refl f
+  fine-act (Take d filters) t safe l f = fine-take d filters t (session_by d t.broker.sessions) l safe refl f
+  fine-act (Ack d id) t safe l f = fine-ack d id t (session_by d t.broker.sessions) l refl f
 
   fine-acts : (as_list : List Act) (t : Turn) → AllByRecursion Safe as_list → IsLawful t.broker → Fine t → Fine (acts as_list t)
   fine-acts [] t safe l f = f
@@ -348,28 +348,28 @@ module _ (c : ℕ) (L : Table ℕ → Bool) (mono : (f : List ℕ) (q : ℕ) (g 
 
   -- ---- who is told to be closed stays so
 
-  told-one : (m : Post) (t : Turn) → Told t → Told (route_one m t)
-  told-one m t e = any-front (λ d. eqb d c) t.closes (flat_map (λ (s : Seat). (serve m s).closes) t.broker.seats) e
+  told-one : (m : AppMessage) (t : Turn) → Told t → Told (route_one m t)
+  told-one m t e = any-front (λ d. eqb d c) t.closes (flat_map (λ (s : Session). (serve m s).closes) t.broker.sessions) e
 
   told-some : (n : ℕ) (t : Turn) → Told t → Told (route_some n t)
   unfolding route_some
   told-some zero t e = e
   told-some (suc n) t e = by t.waiting (λ m ms. told-some n (route_one m (record t { waiting = ms })) (told-one m (record t { waiting = ms }) e))
     where
-      by : (ws : List Post) → ((m : Post) (ms : List Post) → Told (route_some n (route_one m (record t { waiting = ms }))))
+      by : (ws : List AppMessage) → ((m : AppMessage) (ms : List AppMessage) → Told (route_some n (route_one m (record t { waiting = ms }))))
           → Told (elim ws as (λ _. Turn) [ [] ↦ t | m ∷ ms ↦ route_some n (route_one m (record t { waiting = ms })) ])
       by [] rest = e
       by (m ∷ ms) rest = rest m ms
 
   told-route : (t : Turn) → Told t → Told (route t)
   unfolding route
-  told-route t e = told-some (length t.waiting + length t.broker.seats) t e
+  told-route t e = told-some (length t.waiting + length t.broker.sessions) t e
 
-  told-offers : (key : ℕ) (posts : List Post) (t : Turn) → Told t → Told (fold (offer key) t posts)
+  told-offers : (key : ℕ) (app_messages : List AppMessage) (t : Turn) → Told t → Told (fold (offer key) t app_messages)
   told-offers key [] t e = e
-  told-offers key (p ∷ ps) t e = told-offers key ps (offer key t p) (by (with_key key t.broker.seats))
+  told-offers key (p ∷ ps) t e = told-offers key ps (offer key t p) (by (with_key key t.broker.sessions))
     where
-      by : (o : Option Seat) → Told (offer_at o key p t)
+      by : (o : Option Session) → Told (offer_at o key p t)
       by None = e
       by (Some s) = any-front (λ d. eqb d c) t.closes (hand p s).closes e
 
@@ -379,41 +379,41 @@ module _ (c : ℕ) (L : Table ℕ → Bool) (mono : (f : List ℕ) (q : ℕ) (g 
   told-act (Hear d) t e = e
   told-act (Drop d) t e = e
   told-act (Say d p) t e = e
-  told-act (Leave d wills) t e = by (seat_at d t.broker.seats)
+  told-act (Leave d wills) t e = by (session_by d t.broker.sessions)
     where
-      by : (o : Option Seat) → Told (leave_at o d wills t)
+      by : (o : Option Session) → Told (leave_at o d wills t)
       by None = e
       by (Some s) = e
   told-act (Tell d) t e = any-front (λ x. eqb x c) t.closes (d ∷ []) e
-  told-act (Queue post) t e = e
+  told-act (Queue app_message) t e = e
   told-act Route t e = told-route t e
-  told-act (Forget name) t e = by (find (is_away name) t.broker.seats)
+  told-act (Forget name) t e = by (find (is_away name) t.broker.sessions)
     where
-      by : (o : Option Seat) → Told (forget_at o t)
+      by : (o : Option Session) → Told (forget_at o t)
       by None = e
       by (Some s) = e
-  told-act (Accept d name keeps alive will) t e = by (find (is_guest d) t.broker.guests)
+  told-act (Accept d name keeps alive will) t e = by (find (is_newcomer d) t.broker.newcomers)
     where
-      up : (o : Option Seat) (x : Line) → Told (take_up o name keeps x t)
+      up : (o : Option Session) (x : Connection) → Told (take_up o name keeps x t)
       up None x = e
       up (Some s) x = e
 
-      by : (o : Option Guest) → Told (accept_of o name keeps alive will t)
+      by : (o : Option Newcomer) → Told (accept_of o name keeps alive will t)
       by None = e
-      by (Some g) = up (away_for keeps name t.broker.seats) (line_of g alive will)
-  told-act (Give d id entries) t e = by (seat_at d t.broker.seats)
+      by (Some g) = up (away_for keeps name t.broker.sessions) (connection_of g alive will)
+  told-act (Give d id entries) t e = by (session_by d t.broker.sessions)
     where
-      by : (o : Option Seat) → Told (give_at o d id entries t)
+      by : (o : Option Session) → Told (give_at o d id entries t)
       by None = e
-      by (Some s) = told-offers s.key (flat_map (offers_to t.broker.retained) (granted_of (other_grants s t.broker.seats) s.grants entries)) _ e
-  told-act (Take d filters) t e = by (seat_at d t.broker.seats)
+      by (Some s) = told-offers s.key (flat_map (offers_to t.broker.retained) (granted_of (other_grants s t.broker.sessions) s.grants entries)) _ e
+  told-act (Take d filters) t e = by (session_by d t.broker.sessions)
     where
-      by : (o : Option Seat) → Told (take_at o filters t)
+      by : (o : Option Session) → Told (take_at o filters t)
       by None = e
       by (Some s) = e
-  told-act (Ack d id) t e = by (seat_at d t.broker.seats)
+  told-act (Ack d id) t e = by (session_by d t.broker.sessions)
     where
-      by : (o : Option Seat) → Told (ack_at o id t)
+      by : (o : Option Session) → Told (ack_at o id t)
       by None = e
       by (Some s) = e
 
@@ -464,7 +464,7 @@ module _ (c : ℕ) (L : Table ℕ → Bool) (mono : (f : List ℕ) (q : ℕ) (g 
   good-away : (d code : ℕ) → Good (turn_away d code)
   good-away d code = good-behind (Say d (ConnAck false code) ∷ []) (shut d) (tt, tt) (good-shut d)
 
-  good-join : (older : Option ℕ) (d : ℕ) (name : List ℕ) (clean : Bool) (alive : ℕ) (will : Option Post) → Good (join older d name clean alive will)
+  good-join : (older : Option ℕ) (d : ℕ) (name : List ℕ) (clean : Bool) (alive : ℕ) (will : Option AppMessage) → Good (join older d name clean alive will)
   good-join None d name true alive will = inr (tt, (tt, tt))
   good-join None d name false alive will = inr (tt, tt)
   good-join (Some o) d name clean alive will = by (eqb o c) refl clean
@@ -541,27 +541,27 @@ module _ (c : ℕ) (L : Table ℕ → Bool) (mono : (f : List ℕ) (q : ℕ) (g 
   safe-before (Refused d sort.QosZero moment) = (tt, (tt, tt))
   safe-before (Refused d sort.Other moment) = (tt, tt)
 
-  pub stays-step : (b : Broker) (e : Event) → IsLawful b → list_any Q b.seats ≡ true → lets_go c e ≡ false
+  pub stays-step : (b : Broker) (e : Event) → IsLawful b → list_any Q b.sessions ≡ true → lets_go c e ≡ false
       → (takes_back c e ≡ false) ⊎ ((g : Table ℕ) (f : List ℕ) → L g ≡ true → L (remove f g) ≡ true)
-      → (list_any Q (step b e).broker.seats ≡ true) ⊎ (list_any (λ d. eqb d c) (step b e).closes ≡ true)
+      → (list_any Q (step b e).broker.sessions ≡ true) ⊎ (list_any (λ d. eqb d c) (step b e).closes ≡ true)
   unfolding step Keeps
   stays-step b e l there a k = good-acts (plan (seen (noted b e).broker e) e) (noted b e) (good-plan (seen (noted b e).broker e) e a k) (lawful-acts (before e) (begun b) l)
       (fine-acts (before e) (begun b) (safe-before e) l (inl there))
 
 -- ---- joined, and listening
 
-joined-any : (c : ℕ) (ss : List Seat) → list_any (λ (s : Seat). sits c s && true) ss ≡ is_some (seat_at c ss)
+joined-any : (c : ℕ) (ss : List Session) → list_any (λ (s : Session). sits c s && true) ss ≡ is_some (session_by c ss)
 joined-any c [] = refl
 joined-any c (s ∷ ss) = by (sits c s) (joined-any c ss)
   where
-    by : (b : Bool) → list_any (λ (x : Seat). sits c x && true) ss ≡ is_some (seat_at c ss) → ((b && true) || list_any (λ (x : Seat). sits c x && true) ss) ≡ is_some (cond b (Some s) (seat_at c ss))
+    by : (b : Bool) → list_any (λ (x : Session). sits c x && true) ss ≡ is_some (session_by c ss) → ((b && true) || list_any (λ (x : Session). sits c x && true) ss) ≡ is_some (cond b (Some s) (session_by c ss))
     by true rest = refl
     by false rest = rest
 
 pub stays-joined : (b : Broker) (c : ℕ) (e : Event) → IsLawful b → is_joined b c ≡ true → lets_go c e ≡ false → (is_joined (step b e).broker c ≡ true) ⊎ (is_closed_in c (step b e) ≡ true)
 stays-joined b c e l there a =
-    elim (stays-step c (λ g. true) (λ f q g h. refl) b e l (joined-any c b.seats ∙ there) a (inr (λ g f h. refl))) [
-      | inl x ↦ inl (sym (joined-any c (step b e).broker.seats) ∙ x)
+    elim (stays-step c (λ g. true) (λ f q g h. refl) b e l (joined-any c b.sessions ∙ there) a (inr (λ g f h. refl))) [
+      | inl x ↦ inl (sym (joined-any c (step b e).broker.sessions) ∙ x)
       | inr x ↦ inr x
     ]
 

@@ -6,25 +6,25 @@ use Rattle.spk_packets.specs.Fault.{first_of}
 use Rattle.spk_packets.specs.Spelling.{unwritable}
 use Rattle.spk_topics.specs.Text.{topic_refusal}
 use Rattle.spk_topics.specs.Fitting.{is_match}
-use Rattle.spk_broker_rules.specs.Data.{Copy, Seat, Broker, fresh_broker}
+use Rattle.spk_broker_rules.specs.Data.{InFlight, Session, Broker, fresh_broker}
 use Rattle.spk_broker_rules.specs.Table.{Table}
 use Rattle.spk_broker_rules.specs.Words.{best}
 use Rattle.spk_broker_rules.specs.Plan.{Event, Packet, Queue, Route, shut}
 use Rattle.spk_broker_rules.specs.Listening.{plain_publish, is_joined, listens, is_listening}
 use Rattle.spk_broker_rules.specs.Origins.{WillSays}
 use Rattle.spk_broker_rules.specs.Topics.{IsOff, FitsAlike, HasTopics, HasFilters, TopicIn, FiltersIn, Brings, SendsOn}
-use Rattle.spk_broker_rules.proofs.Carried.{S, Of, Has, Free, Anything, of-acts, of-noted, of-step, seats-of, all-free, free-grants, free-copies, free-wills, free-filters, free-topics}
-use Rattle.spk_broker_rules.specs.Step.{Turn, acts, sits, seat_at, noted, step}
+use Rattle.spk_broker_rules.proofs.Carried.{S, Of, Has, Free, Anything, of-acts, of-noted, of-step, sessions-of, all-free, free-grants, free-in_flight, free-wills, free-filters, free-topics}
+use Rattle.spk_broker_rules.specs.Step.{Turn, acts, sits, session_by, noted, step}
 use Rattle.spk_broker_rules.proofs.Lists.{all-also}
-use Rattle.spk_broker_rules.proofs.Publishing.{joined-heard, post_of, plain-routed}
+use Rattle.spk_broker_rules.proofs.Publishing.{joined-heard, app_message_of, plain-routed}
 
 from-topics : (P : List ℕ → Type 0) (b : Broker) → HasTopics P b → Has Free (λ topic payload. P topic) b
-from-topics P b h = record { seats = seats-of Free (λ topic payload. P topic) b.seats (free-grants b.seats) h.wills h.copies; retained = h.retained }
+from-topics P b h = record { sessions = sessions-of Free (λ topic payload. P topic) b.sessions (free-grants b.sessions) h.wills h.in_flight; retained = h.retained }
 
 to-topics : (P : List ℕ → Type 0) (t : Turn) → Of Free (λ topic payload. P topic) t → HasTopics P t.broker
 to-topics P t x = record {
-  wills = all-also (S Free (λ topic payload. P topic)) (λ (s : Seat). WillSays (λ topic payload. P topic) s.here) (λ s a. a.1) t.broker.seats x.seats;
-  copies = all-also (S Free (λ topic payload. P topic)) (λ (s : Seat). AllByRecursion (λ (c : Copy). P c.post.topic) s.copies) (λ s a. a.2) t.broker.seats x.seats;
+  wills = all-also (S Free (λ topic payload. P topic)) (λ (s : Session). WillSays (λ topic payload. P topic) s.here) (λ s a. a.1) t.broker.sessions x.sessions;
+  in_flight = all-also (S Free (λ topic payload. P topic)) (λ (s : Session). AllByRecursion (λ (c : InFlight). P c.app_message.topic) s.in_flight) (λ s a. a.2) t.broker.sessions x.sessions;
   retained = x.retained;
 }
 
@@ -36,13 +36,13 @@ topics-sent P b e h k = (of-step Free (λ topic payload. P topic) b e (from-topi
 
 pub filters-kept : (P : List ℕ → Type 0) (b : Broker) (e : Event) → HasFilters P b → Brings (FiltersIn P) e → HasFilters P (step b e).broker
 filters-kept P b e h k =
-    all-also (S P Anything) (λ (s : Seat). AllByRecursion (λ (g : List ℕ × ℕ). P g.0) s.grants) (λ s a. a.0) (step b e).broker.seats
-    (of-step P Anything b e (record { seats = seats-of P Anything b.seats h (free-wills b.seats) (free-copies b.seats); retained = all-free b.retained }) k (free-topics e)).seats
+    all-also (S P Anything) (λ (s : Session). AllByRecursion (λ (g : List ℕ × ℕ). P g.0) s.grants) (λ s a. a.0) (step b e).broker.sessions
+    (of-step P Anything b e (record { sessions = sessions-of P Anything b.sessions h (free-wills b.sessions) (free-in_flight b.sessions); retained = all-free b.retained }) k (free-topics e)).sessions
 
 -- a plain publish leaves nothing behind, on whatever topic
 pub topics-plain : (P : List ℕ → Type 0) (b : Broker) (conn moment : ℕ) (topic payload : List ℕ) → HasTopics P b → HasTopics P (step b (Packet conn (plain_publish topic payload) moment)).broker
 unfolding step
-topics-plain P b conn moment topic payload h = by (is_some (first_of (unwritable (plain_publish topic payload)))) (is_some (seat_at conn at.broker.seats)) (is_some (topic_refusal topic))
+topics-plain P b conn moment topic payload h = by (is_some (first_of (unwritable (plain_publish topic payload)))) (is_some (session_by conn at.broker.sessions)) (is_some (topic_refusal topic))
   where
     at : Turn
     at = noted b (Packet conn (plain_publish topic payload) moment)
@@ -53,7 +53,7 @@ topics-plain P b conn moment topic payload h = by (is_some (first_of (unwritable
     closing : HasTopics P (acts (shut conn) (noted b (Packet conn (plain_publish topic payload) moment))).broker
     closing = to-topics P _ (of-acts Free (λ topic payload. P topic) (shut conn) (noted b (Packet conn (plain_publish topic payload) moment)) (tt, (tt, (tt, tt))) of_at)
 
-    by : (a j c : Bool) → HasTopics P (acts (cond a (shut conn) (cond j (cond c (shut conn) (Queue (post_of topic payload) ∷ Route ∷ [])) (shut conn))) (noted b (Packet conn (plain_publish topic payload) moment))).broker
+    by : (a j c : Bool) → HasTopics P (acts (cond a (shut conn) (cond j (cond c (shut conn) (Queue (app_message_of topic payload) ∷ Route ∷ [])) (shut conn))) (noted b (Packet conn (plain_publish topic payload) moment))).broker
     by true j c = closing
     by false true true = closing
     by false true false = subst (λ (t : Turn). HasTopics P t.broker) (sym (plain-routed topic payload (noted b (Packet conn (plain_publish topic payload) moment)).broker)) (to-topics P _ of_at)
@@ -61,33 +61,33 @@ topics-plain P b conn moment topic payload h = by (is_some (first_of (unwritable
 
 -- filters that fit two topics alike are listened to alike
 pub listens-alike : (t u : List ℕ) (b : Broker) (conn : ℕ) → HasFilters (FitsAlike t u) b → listens b conn t ≡ listens b conn u
-listens-alike t u b conn = all b.seats
+listens-alike t u b conn = all b.sessions
   where
     one : (g : Table ℕ) → AllByRecursion (λ (x : List ℕ × ℕ). is_match x.0 t ≡ is_match x.0 u) g → best t g ≡ best u g
     one [] h = refl
     one (x ∷ g) h = ap₂ (λ a o. cond a (Some (max x.1 (unwrap_or o 0))) o) h.0 (one g h.1)
 
-    all : (ss : List Seat) → AllByRecursion (λ (s : Seat). AllByRecursion (λ (x : List ℕ × ℕ). is_match x.0 t ≡ is_match x.0 u) s.grants) ss
-        → list_any (λ (s : Seat). sits conn s && is_listening t s) ss ≡ list_any (λ (s : Seat). sits conn s && is_listening u s) ss
+    all : (ss : List Session) → AllByRecursion (λ (s : Session). AllByRecursion (λ (x : List ℕ × ℕ). is_match x.0 t ≡ is_match x.0 u) s.grants) ss
+        → list_any (λ (s : Session). sits conn s && is_listening t s) ss ≡ list_any (λ (s : Session). sits conn s && is_listening u s) ss
     all [] h = refl
     all (s ∷ ss) h = ap₂ (λ o k. (sits conn s && is_some o) || k) (one s.grants h.0) (all ss h.1)
 
 pub heard-joined : (b : Broker) (conn : ℕ) (topic : List ℕ) → listens b conn topic ≡ true → is_joined b conn ≡ true
-heard-joined b conn topic = all b.seats
+heard-joined b conn topic = all b.sessions
   where
-    all : (ss : List Seat) → list_any (λ (s : Seat). sits conn s && is_listening topic s) ss ≡ true → is_some (seat_at conn ss) ≡ true
+    all : (ss : List Session) → list_any (λ (s : Session). sits conn s && is_listening topic s) ss ≡ true → is_some (session_by conn ss) ≡ true
     all [] e = e
     all (s ∷ ss) e = by (sits conn s) e (all ss)
       where
-        by : (a : Bool) → ((a && is_listening topic s) || list_any (λ (x : Seat). sits conn x && is_listening topic x) ss) ≡ true
-            → (list_any (λ (x : Seat). sits conn x && is_listening topic x) ss ≡ true → is_some (seat_at conn ss) ≡ true) → is_some (cond a (Some s) (seat_at conn ss)) ≡ true
+        by : (a : Bool) → ((a && is_listening topic s) || list_any (λ (x : Session). sits conn x && is_listening topic x) ss) ≡ true
+            → (list_any (λ (x : Session). sits conn x && is_listening topic x) ss ≡ true → is_some (session_by conn ss) ≡ true) → is_some (cond a (Some s) (session_by conn ss)) ≡ true
         by true f rest = refl
         by false f rest = rest f
 
 -- ---- as the laws say it
 
 pub off-first : (limit : ℕ) (on : List ℕ → Bool) → HasTopics (IsOff on) (fresh_broker limit)
-off-first limit on = record { wills = tt; copies = tt; retained = tt }
+off-first limit on = record { wills = tt; in_flight = tt; retained = tt }
 
 pub off-kept : (b : Broker) (e : Event) (on : List ℕ → Bool) → HasTopics (IsOff on) b → Brings (TopicIn (IsOff on)) e → HasTopics (IsOff on) (step b e).broker
 off-kept b e on = topics-kept (IsOff on) b e
@@ -112,8 +112,8 @@ pub off-unjoined : (b : Broker) (conn moment : ℕ) (topic payload : List ℕ) (
     → SendsOn (IsOff on) (step b (Packet conn (plain_publish topic payload) moment)).sends
 unfolding step
 off-unjoined b conn moment topic payload on h j =
-    by (is_some (first_of (unwritable (plain_publish topic payload)))) (is_some (seat_at conn (noted b (Packet conn (plain_publish topic payload) moment)).broker.seats))
-    (joined-heard conn (max b.clock moment) b.seats ∙ j)
+    by (is_some (first_of (unwritable (plain_publish topic payload)))) (is_some (session_by conn (noted b (Packet conn (plain_publish topic payload) moment)).broker.sessions))
+    (joined-heard conn (max b.clock moment) b.sessions ∙ j)
   where
     closing : SendsOn (IsOff on) (acts (shut conn) (noted b (Packet conn (plain_publish topic payload) moment))).sends
     closing =
@@ -121,7 +121,7 @@ off-unjoined b conn moment topic payload on h j =
         (of-noted Free (λ t p. IsOff on t) b (Packet conn (plain_publish topic payload) moment) (from-topics (IsOff on) b h))).sends
 
     by : (a k : Bool) → k ≡ false
-        → SendsOn (IsOff on) (acts (cond a (shut conn) (cond k (cond (is_some (topic_refusal topic)) (shut conn) (Queue (post_of topic payload) ∷ Route ∷ [])) (shut conn))) (noted b (Packet conn (plain_publish topic payload) moment))).sends
+        → SendsOn (IsOff on) (acts (cond a (shut conn) (cond k (cond (is_some (topic_refusal topic)) (shut conn) (Queue (app_message_of topic payload) ∷ Route ∷ [])) (shut conn))) (noted b (Packet conn (plain_publish topic payload) moment))).sends
     by true k e = closing
     by false true e = absurd (true≢false e)
     by false false e = closing

@@ -5,49 +5,49 @@ use Rattle.spk_packets.specs.Message.{Message}
 use Rattle.spk_broker_rules.specs.Table.{Table}
 
 -- an application message: a publish, or a will when it is routed (MQTT 3.1.1, 3.3 and 3.1.2.5)
-pub record Post : Type 0 where
+pub record AppMessage : Type 0 where
   pub topic : List ℕ
   pub payload : List ℕ
   pub qos : ℕ
   pub retain : Bool
 
 -- a QoS 1 message that a kept session hasn't acknowledged, and whether it was ever handed out
-pub record Copy : Type 0 where
+pub record InFlight : Type 0 where
   pub id : ℕ
-  pub post : Post
+  pub app_message : AppMessage
   pub handed : Bool
 
 -- A connection with an accepted CONNECT: its number, its keep alive in seconds, the clock at its last packet, its will, and
 -- how many sends were dropped on it.
-pub record Line : Type 0 where
+pub record Connection : Type 0 where
   pub conn : ℕ
   pub alive : ℕ
   pub heard : ℕ
-  pub will : Option Post
+  pub will : Option AppMessage
   pub drops : ℕ
 
 -- an open connection without an accepted CONNECT
-pub record Guest : Type 0 where
+pub record Newcomer : Type 0 where
   pub conn : ℕ
   pub heard : ℕ
   pub drops : ℕ
 
 -- A session (3.1.2.4) and all that hangs on it.
-pub record Seat : Type 0 where
+pub record Session : Type 0 where
   -- its number: sessions are numbered from 1 in the order in which they were made
   pub key : ℕ
   pub client : List ℕ
   -- made with clean session 0
   pub kept : Bool
   -- its connection, where it has one
-  pub here : Option Line
+  pub here : Option Connection
   -- the QoS of each topic filter, in the order in which the filters were first given
   pub grants : Table ℕ
   -- the packet identifiers in use, in the order in which they were given, and the one given last, 0 where none was
   pub used : List ℕ
   pub last : ℕ
   -- of a kept session: what stands behind the identifiers in use
-  pub copies : List Copy
+  pub in_flight : List InFlight
 
 -- what is kept of a retained message beside its topic
 pub record Stored : Type 0 where
@@ -64,9 +64,9 @@ pub record Broker : Type 0 where
   -- the greatest moment of any event done
   pub clock : ℕ
   -- in the order of opening
-  pub guests : List Guest
+  pub newcomers : List Newcomer
   -- in the order of making
-  pub seats : List Seat
+  pub sessions : List Session
   -- in the order in which the present stay of each topic began
   pub retained : Table Stored
 
@@ -76,4 +76,4 @@ pub record Send : Type 0 where
   pub packet : Message
 
 abbrev pub fresh_broker : ℕ → Broker
-fresh_broker limit = record { limit = limit; given = 0; made = 0; clock = 0; guests = []; seats = []; retained = [] }
+fresh_broker limit = record { limit = limit; given = 0; made = 0; clock = 0; newcomers = []; sessions = []; retained = [] }

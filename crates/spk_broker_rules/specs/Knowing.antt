@@ -29,4 +29,4 @@ pub record IsWelcomed (b : Broker) (client : List ℕ) (clean : Bool) (alive : �
   pub writable : is_some (first_of (unwritable (Connect client clean alive will))) ≡ false
   pub named : (is_empty client && not clean) ≡ false
   pub topic : has_bad_topic will ≡ false
-  pub welcome : (not clean && not (welcome_in client b.seats)) ≡ false
+  pub welcome : (not clean && not (welcome_in client b.sessions)) ≡ false

@@ -5,18 +5,18 @@ use Rattle.spk_packets.specs.Fault.{first_of}
 use Rattle.spk_packets.specs.Message.{Message, Connect, ConnAck, Publish, PubAck, Subscribe, SubAck, Unsubscribe, UnsubAck, PingReq, PingResp, Disconnect}
 use Rattle.spk_packets.specs.Spelling.{unwritable}
 use Rattle.spk_topics.specs.Text.{topic_refusal}
-use Rattle.spk_broker_rules.specs.Data.{Seat, Broker, Send}
-use Rattle.spk_broker_rules.specs.Words.{best, to_line}
+use Rattle.spk_broker_rules.specs.Data.{Session, Broker, Send}
+use Rattle.spk_broker_rules.specs.Words.{best, to_connection}
 use Rattle.spk_broker_rules.specs.Plan.{Event, Open, Packet, Fault, Closed, Tick, Refused}
-use Rattle.spk_broker_rules.specs.Step.{Turn, conn_at, seat_at, sits}
+use Rattle.spk_broker_rules.specs.Step.{Turn, conn_at, session_by, sits}
 
 -- a CONNECT of this connection was accepted
 abbrev pub is_joined : Broker → ℕ → Bool
-is_joined b conn = is_some (seat_at conn b.seats)
+is_joined b conn = is_some (session_by conn b.sessions)
 
 -- the session has a grant that matches the topic
-abbrev pub is_listening : List ℕ → Seat → Bool
-is_listening topic seat = is_some (best topic seat.grants)
+abbrev pub is_listening : List ℕ → Session → Bool
+is_listening topic session = is_some (best topic session.grants)
 
 abbrev pub plain_publish : List ℕ → List ℕ → Message
 plain_publish topic payload = Publish false 0 false topic None payload
@@ -27,12 +27,12 @@ pub record IsPlain (topic payload : List ℕ) : Type 0 where
   pub named : is_some (topic_refusal topic) ≡ false
 
 -- one send to the connection of each session that listens, in the order of sessions
-abbrev pub given_to : List ℕ → List ℕ → Seat → List Send
-given_to topic payload seat = if is_listening topic seat then to_line (conn_at seat) (plain_publish topic payload) else []
+abbrev pub given_to : List ℕ → List ℕ → Session → List Send
+given_to topic payload session = if is_listening topic session then to_connection (conn_at session) (plain_publish topic payload) else []
 
 -- the connection's session has a grant that matches the topic
 abbrev pub listens : Broker → ℕ → List ℕ → Bool
-listens b conn topic = list_any (λ (s : Seat). sits conn s && is_listening topic s) b.seats
+listens b conn topic = list_any (λ (s : Session). sits conn s && is_listening topic s) b.sessions
 
 -- its client ends it: a DISCONNECT, or the connection is gone
 abbrev pub is_disconnect : Message → Bool

@@ -2,7 +2,7 @@
 use Rattle.std.specs.Prelude.{◌≡◌, ◌⊎◌, ℕ, List, [], ◌∷◌, Option, Some, None}
 use Rattle.std.specs.List.{AllByRecursion}
 use Rattle.spk_packets.specs.Message.{Message, WillData, Connect, ConnAck, Publish, PubAck, Subscribe, SubAck, Unsubscribe, UnsubAck, PingReq, PingResp, Disconnect}
-use Rattle.spk_broker_rules.specs.Data.{Post, Line, Send}
+use Rattle.spk_broker_rules.specs.Data.{AppMessage, Connection, Send}
 use Rattle.spk_broker_rules.specs.Plan.{Event, Open, Packet, Fault, Closed, Tick, Refused}
 
 -- the will has this topic and this message
@@ -38,13 +38,13 @@ WasSaid [] topic payload = ⊥
 WasSaid (e ∷ es) topic payload = SaidIn e topic payload ⊎ WasSaid es topic payload
 
 -- what holds of the message of a will, where there is one
-abbrev pub PostSays : (List ℕ → List ℕ → Type 0) → Option Post → Type 0
-PostSays T None = Unit {0}
-PostSays T (Some m) = T m.topic m.payload
+abbrev pub AppMessageSays : (List ℕ → List ℕ → Type 0) → Option AppMessage → Type 0
+AppMessageSays T None = Unit {0}
+AppMessageSays T (Some m) = T m.topic m.payload
 
-abbrev pub WillSays : (List ℕ → List ℕ → Type 0) → Option Line → Type 0
+abbrev pub WillSays : (List ℕ → List ℕ → Type 0) → Option Connection → Type 0
 WillSays T None = Unit {0}
-WillSays T (Some l) = PostSays T l.will
+WillSays T (Some l) = AppMessageSays T l.will
 
 abbrev pub WillOf : (List ℕ → List ℕ → Type 0) → Option WillData → Type 0
 WillOf T None = Unit {0}

@@ -5,7 +5,7 @@ use Rattle.std.specs.List.{filter, find, list_any, flat_map}
 use Rattle.std.specs.Option.{option_map, option_map_or}
 use Rattle.std.specs.Str.{bytes_eq}
 use Rattle.spk_session.specs.Step.{without, one_more, is_spent}
-use Rattle.spk_broker_rules.specs.Data.{Post, Copy, Line, Guest, Seat, Stored, Broker}
+use Rattle.spk_broker_rules.specs.Data.{AppMessage, InFlight, Connection, Newcomer, Session, Stored, Broker}
 use Rattle.spk_broker_rules.specs.Table.{Table}
 use Rattle.spk_packets.specs.Spelling.{is_empty}
 use Rattle.spk_broker_rules.specs.Words.{handed_out, without_id, stored, granted_of, is_heavy, is_silent, most_topics, most_kept, most_open, last_number}
@@ -25,21 +25,21 @@ pub data ConnDeed : Type 0 where
 pub data Deed : Type 0 where
   Made : (client : List ℕ) (kept : Bool) → Deed
   -- a CONNECT was accepted
-  Joined : (conn : ℕ) (alive : ℕ) (will : Option Post) → Deed
+  Joined : (conn : ℕ) (alive : ℕ) (will : Option AppMessage) → Deed
   -- its connection ended
   Left : (conn : ℕ) → Deed
   Over : Deed
   Granted : (filter : List ℕ) (qos : ℕ) → Deed
   TakenBack : (filter : List ℕ) → Deed
   -- a message got a packet identifier, and was handed out or not
-  Numbered : (id : ℕ) (post : Post) (handed : Bool) → Deed
+  Numbered : (id : ℕ) (app_message : AppMessage) (handed : Bool) → Deed
   Acked : (id : ℕ) → Deed
 
 pub data Fact : Type 0 where
   Moment : (moment : ℕ) → Fact
   OfConn : (conn : ℕ) (deed : ConnDeed) → Fact
   OfSession : (session : ℕ) (deed : Deed) → Fact
-  Routed : (post : Post) → Fact
+  Routed : (app_message : AppMessage) → Fact
 
 abbrev pub Past : Type 0
 Past = List Fact
@@ -82,7 +82,7 @@ is_making (Left conn) = false
 is_making Over = false
 is_making (Granted filter qos) = false
 is_making (TakenBack filter) = false
-is_making (Numbered id post handed) = false
+is_making (Numbered id app_message handed) = false
 is_making (Acked id) = false
 
 -- how many connections were opened, and how many sessions were made
@@ -114,16 +114,16 @@ joined_by (Left conn) cs = cs
 joined_by Over cs = cs
 joined_by (Granted filter qos) cs = cs
 joined_by (TakenBack filter) cs = cs
-joined_by (Numbered id post handed) cs = cs
+joined_by (Numbered id app_message handed) cs = cs
 joined_by (Acked id) cs = cs
 
 -- the connections that were opened and neither joined nor ended since, in the order of opening
-abbrev pub guests : Past → List ℕ
-guests [] = []
-guests (Moment m ∷ h) = guests h
-guests (OfConn c deed ∷ h) = opened_by c deed (guests h)
-guests (OfSession s deed ∷ h) = joined_by deed (guests h)
-guests (Routed m ∷ h) = guests h
+abbrev pub newcomers : Past → List ℕ
+newcomers [] = []
+newcomers (Moment m ∷ h) = newcomers h
+newcomers (OfConn c deed ∷ h) = opened_by c deed (newcomers h)
+newcomers (OfSession s deed ∷ h) = joined_by deed (newcomers h)
+newcomers (Routed m ∷ h) = newcomers h
 
 abbrev pub left_by : Deed → List ℕ → List ℕ
 left_by (Made client kept) cs = cs
@@ -132,7 +132,7 @@ left_by (Left conn) cs = without conn cs
 left_by Over cs = cs
 left_by (Granted filter qos) cs = cs
 left_by (TakenBack filter) cs = cs
-left_by (Numbered id post handed) cs = cs
+left_by (Numbered id app_message handed) cs = cs
 left_by (Acked id) cs = cs
 
 -- the connections that were opened and haven't ended since
@@ -150,7 +150,7 @@ made_by s (Left conn) ss = ss
 made_by s Over ss = without s ss
 made_by s (Granted filter qos) ss = ss
 made_by s (TakenBack filter) ss = ss
-made_by s (Numbered id post handed) ss = ss
+made_by s (Numbered id app_message handed) ss = ss
 made_by s (Acked id) ss = ss
 
 -- the sessions that were made and aren't over, in the order of making
@@ -189,7 +189,7 @@ client (Left conn ∷ ds) = client ds
 client (Over ∷ ds) = client ds
 client (Granted filter qos ∷ ds) = client ds
 client (TakenBack filter ∷ ds) = client ds
-client (Numbered id post handed ∷ ds) = client ds
+client (Numbered id app_message handed ∷ ds) = client ds
 client (Acked id ∷ ds) = client ds
 
 -- made with clean session 0
@@ -201,14 +201,14 @@ kept (Left conn ∷ ds) = kept ds
 kept (Over ∷ ds) = kept ds
 kept (Granted filter qos ∷ ds) = kept ds
 kept (TakenBack filter ∷ ds) = kept ds
-kept (Numbered id post handed ∷ ds) = kept ds
+kept (Numbered id app_message handed ∷ ds) = kept ds
 kept (Acked id ∷ ds) = kept ds
 
 -- an accepted CONNECT: its connection, keep alive and will
 pub record Joining : Type 0 where
   pub conn : ℕ
   pub alive : ℕ
-  pub will : Option Post
+  pub will : Option AppMessage
 
 -- its last accepted CONNECT, unless that connection ended since
 abbrev pub here : List Deed → Option Joining
@@ -219,7 +219,7 @@ here (Left conn ∷ ds) = None
 here (Over ∷ ds) = here ds
 here (Granted filter qos ∷ ds) = here ds
 here (TakenBack filter ∷ ds) = here ds
-here (Numbered id post handed ∷ ds) = here ds
+here (Numbered id app_message handed ∷ ds) = here ds
 here (Acked id ∷ ds) = here ds
 
 -- What is said of a text: a value, or that it has none any more; newest first.
@@ -257,7 +257,7 @@ grant_notes (Left conn ∷ ds) = grant_notes ds
 grant_notes (Over ∷ ds) = grant_notes ds
 grant_notes (Granted filter qos ∷ ds) = (filter, Some qos) ∷ grant_notes ds
 grant_notes (TakenBack filter ∷ ds) = (filter, None) ∷ grant_notes ds
-grant_notes (Numbered id post handed ∷ ds) = grant_notes ds
+grant_notes (Numbered id app_message handed ∷ ds) = grant_notes ds
 grant_notes (Acked id ∷ ds) = grant_notes ds
 
 -- a filter's grant is the last one given for it and not taken back
@@ -266,7 +266,7 @@ grants ds = table (grant_notes ds)
 
 -- the messages that got an identifier and weren't acknowledged since, in that order, which is the order of their routing; each
 -- was handed out if it was so at first, or if a CONNECT was accepted since
-abbrev pub unacked : List Deed → List Copy
+abbrev pub unacked : List Deed → List InFlight
 unacked [] = []
 unacked (Made c k ∷ ds) = []
 unacked (Joined conn alive will ∷ ds) = map handed_out (unacked ds)
@@ -274,15 +274,15 @@ unacked (Left conn ∷ ds) = unacked ds
 unacked (Over ∷ ds) = unacked ds
 unacked (Granted filter qos ∷ ds) = unacked ds
 unacked (TakenBack filter ∷ ds) = unacked ds
-unacked (Numbered id post handed ∷ ds) = unacked ds ++ (record { id = id; post = post; handed = handed }) ∷ []
+unacked (Numbered id app_message handed ∷ ds) = unacked ds ++ (record { id = id; app_message = app_message; handed = handed }) ∷ []
 unacked (Acked id ∷ ds) = without_id id (unacked ds)
 
 abbrev pub used : List Deed → List ℕ
-used ds = map (λ (c : Copy). c.id) (unacked ds)
+used ds = map (λ (c : InFlight). c.id) (unacked ds)
 
 -- a kept session keeps them
-abbrev pub copies : List Deed → List Copy
-copies ds = if kept ds then unacked ds else []
+abbrev pub in_flight : List Deed → List InFlight
+in_flight ds = if kept ds then unacked ds else []
 
 -- the identifier given last, 0 where none was
 abbrev pub last_id : List Deed → ℕ
@@ -293,12 +293,12 @@ last_id (Left conn ∷ ds) = last_id ds
 last_id (Over ∷ ds) = last_id ds
 last_id (Granted filter qos ∷ ds) = last_id ds
 last_id (TakenBack filter ∷ ds) = last_id ds
-last_id (Numbered id post handed ∷ ds) = id
+last_id (Numbered id app_message handed ∷ ds) = id
 last_id (Acked id ∷ ds) = last_id ds
 
 -- ---- retained messages
 
-abbrev pub routed : Past → List Post
+abbrev pub routed : Past → List AppMessage
 routed [] = []
 routed (Moment m ∷ h) = routed h
 routed (OfConn c deed ∷ h) = routed h
@@ -306,17 +306,17 @@ routed (OfSession s deed ∷ h) = routed h
 routed (Routed m ∷ h) = m ∷ routed h
 
 -- an empty payload removes what is retained (3.3.1.3)
-abbrev pub retained_value : Post → Option Stored
+abbrev pub retained_value : AppMessage → Option Stored
 retained_value m = if is_empty m.payload then None else Some (stored m)
 
 -- A retained message counts, unless its topic would be one more than may be kept.
-abbrev pub counts : List (List ℕ) → Post → Bool
+abbrev pub counts : List (List ℕ) → AppMessage → Bool
 counts topics m = is_empty m.payload || (list_any (λ k. bytes_eq k m.topic) topics || nat_lt (length topics) most_topics)
 
-abbrev pub note_if : Bool → Post → Notes Stored → Notes Stored
+abbrev pub note_if : Bool → AppMessage → Notes Stored → Notes Stored
 note_if b m ns = if b then (m.topic, retained_value m) ∷ ns else ns
 
-abbrev pub retained_notes : List Post → Notes Stored
+abbrev pub retained_notes : List AppMessage → Notes Stored
 retained_notes [] = []
 retained_notes (m ∷ ms) = note_if (m.retain && counts (staying (retained_notes ms)) m) m (retained_notes ms)
 
@@ -354,7 +354,7 @@ joined_drops h s = option_map_or (λ (j : Joining). drops (conn_deeds h j.conn))
 
 -- the drops of an open connection
 abbrev pub drops_of : Past → ℕ → ℕ
-drops_of h c = option_map_or (λ g. drops (conn_deeds h g)) (find (λ g. g == c) (guests h))
+drops_of h c = option_map_or (λ g. drops (conn_deeds h g)) (find (λ g. g == c) (newcomers h))
     (option_map_or (joined_drops h) (session_at h c) 0)
 
 abbrev pub silent_of : Past → ℕ → List ℕ
@@ -395,11 +395,11 @@ may_open h = not (nat_le most_open (length (open_conns h)) || nat_le last_number
 
 -- ---- the data that the past asks for
 
-abbrev pub guest_of : Past → ℕ → Guest
-guest_of h c = record { conn = c; heard = heard (conn_deeds h c); drops = drops (conn_deeds h c) }
+abbrev pub newcomer_of : Past → ℕ → Newcomer
+newcomer_of h c = record { conn = c; heard = heard (conn_deeds h c); drops = drops (conn_deeds h c) }
 
-abbrev pub line_of : Past → Joining → Line
-line_of h j = record {
+abbrev pub connection_of : Past → Joining → Connection
+connection_of h j = record {
   conn = j.conn;
   alive = j.alive;
   heard = heard (conn_deeds h j.conn);
@@ -407,20 +407,20 @@ line_of h j = record {
   drops = drops (conn_deeds h j.conn);
 }
 
-abbrev pub seat_with : (Joining → Line) → ℕ → List Deed → Seat
-seat_with line s ds = record {
+abbrev pub session_with : (Joining → Connection) → ℕ → List Deed → Session
+session_with connection s ds = record {
   key = s;
   client = client ds;
   kept = kept ds;
-  here = option_map line (here ds);
+  here = option_map connection (here ds);
   grants = grants ds;
   used = used ds;
   last = last_id ds;
-  copies = copies ds;
+  in_flight = in_flight ds;
 }
 
-abbrev pub seat_of : Past → ℕ → Seat
-seat_of h s = seat_with (line_of h) s (deeds h s)
+abbrev pub session_of : Past → ℕ → Session
+session_of h s = session_with (connection_of h) s (deeds h s)
 
 abbrev pub broker_of : ℕ → Past → Broker
 broker_of limit h = record {
@@ -428,7 +428,7 @@ broker_of limit h = record {
   given = given h;
   made = made h;
   clock = clock h;
-  guests = map (guest_of h) (guests h);
-  seats = map (seat_of h) (sessions h);
+  newcomers = map (newcomer_of h) (newcomers h);
+  sessions = map (session_of h) (sessions h);
   retained = retained h;
 }

@@ -11,8 +11,8 @@ use Rattle.spk_packets.specs.Spelling.{unwritable, is_empty}
 use Rattle.spk_topics.specs.Text.{filter_refusal, topic_refusal}
 use Rattle.spk_session.specs.declared.answer.Sort.{Sort}
 use Rattle.spk_session.specs.declared.answer.Sort.TheVariants as sort
-use Rattle.spk_broker_rules.specs.Data.{Post}
-use Rattle.spk_broker_rules.specs.Words.{will_post}
+use Rattle.spk_broker_rules.specs.Data.{AppMessage}
+use Rattle.spk_broker_rules.specs.Words.{will_message}
 
 -- what comes to a broker, each with its moment
 pub data Event : Type 0 where
@@ -42,13 +42,13 @@ pub data Act : Type 0 where
   -- the caller is told to close it
   Tell : (conn : ℕ) → Act
   -- this message waits to be routed, behind those that wait
-  Queue : (post : Post) → Act
+  Queue : (app_message : AppMessage) → Act
   -- those that wait are routed, each whole before the next
   Route : Act
   -- a kept session of this client ends
   Forget : (client : List ℕ) → Act
   -- the connection takes up the kept session of its client, or makes a session; CONNACK, and what is sent again
-  Accept : (conn : ℕ) (client : List ℕ) (kept : Bool) (alive : ℕ) (will : Option Post) → Act
+  Accept : (conn : ℕ) (client : List ℕ) (kept : Bool) (alive : ℕ) (will : Option AppMessage) → Act
   -- its session gets these grants; SUBACK, then the retained messages for each
   Give : (conn : ℕ) (id : ℕ) (entries : List (List ℕ × ℕ)) → Act
   -- the grants of these filters are taken back
@@ -92,7 +92,7 @@ abbrev pub tell_older : Option ℕ → List Act
 tell_older None = []
 tell_older (Some older) = Tell older ∷ []
 
-abbrev pub join : Option ℕ → ℕ → List ℕ → Bool → ℕ → Option Post → List Act
+abbrev pub join : Option ℕ → ℕ → List ℕ → Bool → ℕ → Option AppMessage → List Act
 join older conn client clean alive will =
     take_over older ++ ((if clean then Forget client ∷ [] else []) ++ Accept conn client (not clean) alive will ∷ tell_older older)
 
@@ -106,7 +106,7 @@ connect seen conn client clean alive will =
     if is_empty client && not clean then turn_away conn 2
     else if has_bad_topic will then shut conn
     else if not clean && not seen.welcome then turn_away conn 3
-    else join seen.older conn client clean alive (option_map will_post will)
+    else join seen.older conn client clean alive (option_map will_message will)
 
 -- any other first packet closes the connection (3.1.0-1)
 abbrev pub first_packet : Seen → ℕ → Message → List Act
@@ -129,8 +129,8 @@ abbrev pub puback : ℕ → Option ℕ → List Act
 puback conn None = []
 puback conn (Some id) = Say conn (PubAck id) ∷ []
 
-abbrev pub publish : ℕ → Option ℕ → Post → List Act
-publish conn id post = if is_some (topic_refusal post.topic) then shut conn else puback conn id ++ Queue post ∷ Route ∷ []
+abbrev pub publish : ℕ → Option ℕ → AppMessage → List Act
+publish conn id app_message = if is_some (topic_refusal app_message.topic) then shut conn else puback conn id ++ Queue app_message ∷ Route ∷ []
 
 abbrev pub has_bad_filter : List (List ℕ) → Bool
 has_bad_filter filters = list_any (λ f. is_some (filter_refusal f)) filters

@@ -5,17 +5,17 @@ use Rattle.std.specs.Option.{option_map_or}
 use Rattle.spk_packets.specs.Message.{ConnAck, SubAck}
 use Rattle.spk_session.specs.PacketIds.{next_id}
 use Rattle.spk_session.specs.Step.{has_room}
-use Rattle.spk_broker_rules.specs.Data.{Post, Send}
-use Rattle.spk_broker_rules.specs.Words.{best, level, sent_as, plain_packet, numbered_packet, to_line, option_list, resent, offers_to, granted_of, codes_of}
+use Rattle.spk_broker_rules.specs.Data.{AppMessage, Send}
+use Rattle.spk_broker_rules.specs.Words.{best, level, sent_as, plain_packet, numbered_packet, to_connection, option_list, resent, offers_to, granted_of, codes_of}
 use Rattle.spk_broker_rules.specs.Plan.{Act, Opens, At, Hear, Drop, Say, Leave, Tell, Queue, Route, Forget, Accept, Give, Take, Ack}
-use Rattle.spk_broker_rules.specs.Past.{Past, Moment, OfConn, OfSession, Routed, Opened, Heard, Dropped, Ended, Deed, Made, Joined, Left, Over, Granted, TakenBack, Numbered, Acked, Joining, deeds, clock, given, made, guests, sessions, kept, here, grants, used, copies, last_id, retained, conn_here, session_at, is_of, other_pairs}
+use Rattle.spk_broker_rules.specs.Past.{Past, Moment, OfConn, OfSession, Routed, Opened, Heard, Dropped, Ended, Deed, Made, Joined, Left, Over, Granted, TakenBack, Numbered, Acked, Joining, deeds, clock, given, made, newcomers, sessions, kept, here, grants, used, in_flight, last_id, retained, conn_here, session_at, is_of, other_pairs}
 
 -- The past in the midst of an event, what is sent and closed so far, and the messages that wait.
 pub record Story : Type 0 where
   pub past : Past
   pub sends : List Send
   pub closes : List ℕ
-  pub waiting : List Post
+  pub waiting : List AppMessage
 
 -- facts that come on top, newest first
 abbrev pub note : Past → Story → Story
@@ -28,7 +28,7 @@ pub record Share : Type 0 where
   pub deeds : List Deed
   pub sends : List Send
   pub closes : List ℕ
-  pub wills : List Post
+  pub wills : List AppMessage
 
 abbrev pub gives : List Deed → List Send → Share
 gives ds sends = record { deeds = ds; sends = sends; closes = []; wills = [] }
@@ -38,26 +38,26 @@ abbrev pub ends_at : Option Joining → Share
 ends_at None = record { deeds = Over ∷ []; sends = []; closes = []; wills = [] }
 ends_at (Some j) = record { deeds = Over ∷ Left j.conn ∷ []; sends = []; closes = j.conn ∷ []; wills = option_list j.will }
 
-abbrev pub numbers : Past → ℕ → Post → ℕ → Share
-numbers h s post id =
-    gives (Numbered id post (is_some (here (deeds h s))) ∷ []) (to_line (conn_here h s) (numbered_packet false id post))
+abbrev pub numbers : Past → ℕ → AppMessage → ℕ → Share
+numbers h s app_message id =
+    gives (Numbered id app_message (is_some (here (deeds h s))) ∷ []) (to_connection (conn_here h s) (numbered_packet false id app_message))
 
 -- A message with its QoS and RETAIN: at QoS 0 it goes to the connection, if there is one; at QoS 1 it gets the next
 -- identifier, and a session with 1,024 unacknowledged ends.
-abbrev pub given_at : ℕ → Past → ℕ → Post → Share
-given_at zero h s post = gives [] (to_line (conn_here h s) (plain_packet post))
-given_at (suc q) h s post = if has_room (used (deeds h s))
-    then numbers h s post (next_id (used (deeds h s)) (last_id (deeds h s))) else ends_at (here (deeds h s))
+abbrev pub given_at : ℕ → Past → ℕ → AppMessage → Share
+given_at zero h s app_message = gives [] (to_connection (conn_here h s) (plain_packet app_message))
+given_at (suc q) h s app_message = if has_room (used (deeds h s))
+    then numbers h s app_message (next_id (used (deeds h s)) (last_id (deeds h s))) else ends_at (here (deeds h s))
 
-abbrev pub gift : Past → ℕ → Post → Share
-gift h s post = given_at post.qos h s post
+abbrev pub gift : Past → ℕ → AppMessage → Share
+gift h s app_message = given_at app_message.qos h s app_message
 
-abbrev pub share_at : Option ℕ → Past → Post → ℕ → Share
+abbrev pub share_at : Option ℕ → Past → AppMessage → ℕ → Share
 share_at None h m s = gives [] []
 share_at (Some q) h m s = gift h s (sent_as m q false)
 
 -- a routed message: with the lesser of its QoS and the session's greatest matching grant, once, RETAIN 0, DUP 0
-abbrev pub share : Past → Post → ℕ → Share
+abbrev pub share : Past → AppMessage → ℕ → Share
 share h m s = share_at (level m.qos (best m.topic (grants (deeds h s)))) h m s
 
 abbrev pub session_facts : ℕ → List Deed → Past
@@ -66,7 +66,7 @@ session_facts s ds = map (OfSession s) ds
 -- ---- routing
 
 -- Each session's share is asked before the message.
-abbrev pub told_one : Post → Story → Story
+abbrev pub told_one : AppMessage → Story → Story
 told_one m t = record {
   past = Routed m ∷ flat_map (λ s. session_facts s (share t.past m s).deeds) (sessions t.past) ++ t.past;
   sends = t.sends ++ flat_map (λ s. (share t.past m s).sends) (sessions t.past);
@@ -77,14 +77,14 @@ told_one m t = record {
 -- What waits is routed: nothing waits, or the first is routed whole, and then the rest, and what waits behind it.
 pub data Routes : Story → Story → Type 0 where
   nothing_waits : (t u : Story) → t.waiting ≡ [] → t ≡ u → Routes t u
-  goes_on : (t u : Story) (m : Post) (ms : List Post) → t.waiting ≡ m ∷ ms → Routes (told_one m (record t { waiting = ms })) u → Routes t u
+  goes_on : (t u : Story) (m : AppMessage) (ms : List AppMessage) → t.waiting ≡ m ∷ ms → Routes (told_one m (record t { waiting = ms })) u → Routes t u
 
 -- ---- coming and going
 
 abbrev pub told_opens : Story → Story
 told_opens t = note (OfConn (given t.past + 1) (Opened (clock t.past)) ∷ []) t
 
-abbrev pub will_of : Bool → Option Joining → List Post
+abbrev pub will_of : Bool → Option Joining → List AppMessage
 will_of true j = option_map_or (λ (i : Joining). option_list i.will) j []
 will_of false j = []
 
@@ -111,37 +111,37 @@ abbrev pub away_for : Past → Bool → List ℕ → Option ℕ
 away_for h keeps c = if keeps then find (is_away h c) (sessions h) else None
 
 -- A kept session is taken up: session present, and what isn't acknowledged is sent again. Or a session is made.
-abbrev pub told_take_up : Option ℕ → ℕ → List ℕ → Bool → ℕ → Option Post → Story → Story
+abbrev pub told_take_up : Option ℕ → ℕ → List ℕ → Bool → ℕ → Option AppMessage → Story → Story
 told_take_up None conn c keeps alive will t =
     record (note (session_facts (made t.past + 1) (Joined conn alive will ∷ Made c keeps ∷ [])) t) {
       sends = t.sends ++ (record { conn = conn; packet = ConnAck false 0 }) ∷ [];
     }
 told_take_up (Some s) conn c keeps alive will t =
     record (note (session_facts s (Joined conn alive will ∷ [])) t) {
-      sends = t.sends ++ (record { conn = conn; packet = ConnAck true 0 }) ∷ resent conn (copies (deeds t.past s));
+      sends = t.sends ++ (record { conn = conn; packet = ConnAck true 0 }) ∷ resent conn (in_flight (deeds t.past s));
     }
 
-abbrev pub told_accept : Option ℕ → List ℕ → Bool → ℕ → Option Post → Story → Story
+abbrev pub told_accept : Option ℕ → List ℕ → Bool → ℕ → Option AppMessage → Story → Story
 told_accept None c keeps alive will t = t
 told_accept (Some conn) c keeps alive will t = told_take_up (away_for t.past keeps c) conn c keeps alive will t
 
 -- ---- SUBSCRIBE, UNSUBSCRIBE, PUBACK
 
 -- one message for a session, where it still stands
-abbrev pub told_offer_at : Bool → ℕ → Post → Story → Story
-told_offer_at false s post t = t
-told_offer_at true s post t = record {
-  past = session_facts s (gift t.past s post).deeds ++ t.past;
-  sends = t.sends ++ (gift t.past s post).sends;
-  closes = t.closes ++ (gift t.past s post).closes;
-  waiting = t.waiting ++ (gift t.past s post).wills;
+abbrev pub told_offer_at : Bool → ℕ → AppMessage → Story → Story
+told_offer_at false s app_message t = t
+told_offer_at true s app_message t = record {
+  past = session_facts s (gift t.past s app_message).deeds ++ t.past;
+  sends = t.sends ++ (gift t.past s app_message).sends;
+  closes = t.closes ++ (gift t.past s app_message).closes;
+  waiting = t.waiting ++ (gift t.past s app_message).wills;
 }
 
 abbrev pub stands : Past → ℕ → Bool
 stands h s = is_some (find (λ t. t == s) (sessions h))
 
-abbrev pub told_offer : ℕ → Story → Post → Story
-told_offer s t post = told_offer_at (stands t.past s) s post t
+abbrev pub told_offer : ℕ → Story → AppMessage → Story
+told_offer s t app_message = told_offer_at (stands t.past s) s app_message t
 
 abbrev pub granting : ℕ → Past → List ℕ × ℕ → Past
 granting s h entry = OfSession s (Granted entry.0 entry.1) ∷ h
@@ -181,11 +181,11 @@ Tells (Drop conn) t u = u ≡ note (OfConn conn Dropped ∷ []) t
 Tells (Say conn p) t u = u ≡ record t { sends = t.sends ++ (record { conn = conn; packet = p }) ∷ [] }
 Tells (Leave conn wills) t u = u ≡ told_leave (session_at t.past conn) conn wills t
 Tells (Tell conn) t u = u ≡ record t { closes = t.closes ++ conn ∷ [] }
-Tells (Queue post) t u = u ≡ record t { waiting = t.waiting ++ post ∷ [] }
+Tells (Queue app_message) t u = u ≡ record t { waiting = t.waiting ++ app_message ∷ [] }
 Tells Route t u = Routes t u
 Tells (Forget c) t u = u ≡ told_forget (find (is_away t.past c) (sessions t.past)) t
 Tells (Accept conn c keeps alive will) t u =
-    u ≡ told_accept (find (λ g. g == conn) (guests t.past)) c keeps alive will t
+    u ≡ told_accept (find (λ g. g == conn) (newcomers t.past)) c keeps alive will t
 Tells (Give conn id entries) t u = u ≡ told_give (session_at t.past conn) conn id entries t
 Tells (Take conn filters) t u = u ≡ told_take (session_at t.past conn) filters t
 Tells (Ack conn id) t u = u ≡ told_ack (session_at t.past conn) id t

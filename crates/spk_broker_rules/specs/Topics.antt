@@ -3,7 +3,7 @@ use Rattle.std.specs.Prelude.{◌≡◌, ℕ, Bool, false, List}
 use Rattle.std.specs.List.{AllByRecursion}
 use Rattle.spk_packets.specs.Message.{Message, Connect, ConnAck, Publish, PubAck, Subscribe, SubAck, Unsubscribe, UnsubAck, PingReq, PingResp, Disconnect}
 use Rattle.spk_topics.specs.Fitting.{is_match}
-use Rattle.spk_broker_rules.specs.Data.{Copy, Seat, Stored, Broker, Send}
+use Rattle.spk_broker_rules.specs.Data.{InFlight, Session, Stored, Broker, Send}
 use Rattle.spk_broker_rules.specs.Origins.{WillSays, Says, SaysAll}
 use Rattle.spk_broker_rules.specs.Plan.{Event, Open, Packet, Fault, Closed, Tick, Refused}
 
@@ -17,13 +17,13 @@ FitsAlike one other filter = is_match filter one ≡ is_match filter other
 
 -- every topic of a will, of an unacknowledged and of a retained message is such
 pub record HasTopics (P : List ℕ → Type 0) (b : Broker) : Type 0 where
-  pub wills : AllByRecursion (λ (s : Seat). WillSays (λ topic payload. P topic) s.here) b.seats
-  pub copies : AllByRecursion (λ (s : Seat). AllByRecursion (λ (c : Copy). P c.post.topic) s.copies) b.seats
+  pub wills : AllByRecursion (λ (s : Session). WillSays (λ topic payload. P topic) s.here) b.sessions
+  pub in_flight : AllByRecursion (λ (s : Session). AllByRecursion (λ (c : InFlight). P c.app_message.topic) s.in_flight) b.sessions
   pub retained : AllByRecursion (λ (e : List ℕ × Stored). P e.0) b.retained
 
 -- every filter granted is such
 abbrev pub HasFilters : (List ℕ → Type 0) → Broker → Type 0
-HasFilters P b = AllByRecursion (λ (s : Seat). AllByRecursion (λ (g : List ℕ × ℕ). P g.0) s.grants) b.seats
+HasFilters P b = AllByRecursion (λ (s : Session). AllByRecursion (λ (g : List ℕ × ℕ). P g.0) s.grants) b.sessions
 
 -- the topic of a PUBLISH, and that of a CONNECT's will
 abbrev pub TopicIn : (List ℕ → Type 0) → Message → Type 0

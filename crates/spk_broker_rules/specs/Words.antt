@@ -3,7 +3,7 @@ use Rattle.std.specs.Prelude.{ℕ, ◌+◌, ◌-◌, ◌*◌, min, max, ◌==◌
 use Rattle.std.specs.List.{filter, flat_map, sum_by}
 use Rattle.spk_packets.specs.Message.{Message, Publish, WillData}
 use Rattle.spk_topics.specs.Fitting.{is_match}
-use Rattle.spk_broker_rules.specs.Data.{Post, Copy, Stored, Send}
+use Rattle.spk_broker_rules.specs.Data.{AppMessage, InFlight, Stored, Send}
 use Rattle.spk_broker_rules.specs.Table.{Table, has, put}
 
 -- ---- routing
@@ -19,22 +19,22 @@ level qos None = None
 level qos (Some grant) = Some (min qos grant)
 
 -- a message as it is sent, with a QoS and RETAIN
-abbrev pub sent_as : Post → ℕ → Bool → Post
+abbrev pub sent_as : AppMessage → ℕ → Bool → AppMessage
 sent_as m qos retain = record { topic = m.topic; payload = m.payload; qos = qos; retain = retain }
 
-abbrev pub plain_packet : Post → Message
+abbrev pub plain_packet : AppMessage → Message
 plain_packet m = Publish false 0 m.retain m.topic None m.payload
 
-abbrev pub numbered_packet : Bool → ℕ → Post → Message
+abbrev pub numbered_packet : Bool → ℕ → AppMessage → Message
 numbered_packet dup id m = Publish dup 1 m.retain m.topic (Some id) m.payload
 
 -- to the connection, where there is one
-abbrev pub to_line : Option ℕ → Message → List Send
-to_line None packet = []
-to_line (Some conn) packet = record { conn = conn; packet = packet } ∷ []
+abbrev pub to_connection : Option ℕ → Message → List Send
+to_connection None packet = []
+to_connection (Some conn) packet = record { conn = conn; packet = packet } ∷ []
 
-abbrev pub will_post : WillData → Post
-will_post will = record { topic = will.topic; payload = will.message; qos = will.qos; retain = will.retain }
+abbrev pub will_message : WillData → AppMessage
+will_message will = record { topic = will.topic; payload = will.message; qos = will.qos; retain = will.retain }
 
 abbrev pub option_list : {X : Type 0} → Option X → List X
 option_list None = []
@@ -43,14 +43,14 @@ option_list (Some x) = x ∷ []
 -- ---- what a session keeps
 
 -- sent again with its identifier, DUP where it was handed out before (3.3.1.1, 4.4)
-abbrev pub resent : ℕ → List Copy → List Send
-resent conn copies = map (λ c. record { conn = conn; packet = numbered_packet c.handed c.id c.post }) copies
+abbrev pub resent : ℕ → List InFlight → List Send
+resent conn in_flight = map (λ c. record { conn = conn; packet = numbered_packet c.handed c.id c.app_message }) in_flight
 
-abbrev pub handed_out : Copy → Copy
+abbrev pub handed_out : InFlight → InFlight
 handed_out c = record c { handed = true }
 
-abbrev pub without_id : ℕ → List Copy → List Copy
-without_id id copies = filter (λ c. not (c.id == id)) copies
+abbrev pub without_id : ℕ → List InFlight → List InFlight
+without_id id in_flight = filter (λ c. not (c.id == id)) in_flight
 
 -- ---- retained messages
 
@@ -71,15 +71,15 @@ most_open = 1000
 abbrev pub last_number : ℕ
 last_number = 18446744073709551615
 
-abbrev pub stored : Post → Stored
+abbrev pub stored : AppMessage → Stored
 stored m = record { payload = m.payload; qos = m.qos }
 
 -- a stored message for a new grant: RETAIN, and the lesser of both QoS (3.3.1.3)
-abbrev pub offered : ℕ → List ℕ × Stored → Post
+abbrev pub offered : ℕ → List ℕ × Stored → AppMessage
 offered grant e = record { topic = e.0; payload = e.1.payload; qos = min e.1.qos grant; retain = true }
 
 -- what the granted entry of a SUBSCRIBE is offered: each matching message, in the table's order
-abbrev pub offers_to : Table Stored → List ℕ × ℕ → List Post
+abbrev pub offers_to : Table Stored → List ℕ × ℕ → List AppMessage
 offers_to retained entry = map (offered entry.1) (filter (λ e. is_match entry.0 e.0) retained)
 
 -- ---- SUBSCRIBE
@@ -110,10 +110,10 @@ codes_of others grants (e ∷ es) =
 
 -- What a retained message weighs: topic, payload, and the 9 bytes that a PUBLISH takes beside them at most (3.3): its type, four of
 -- length, two of the topic's length, two of the identifier.
-abbrev pub weight : Post → ℕ
+abbrev pub weight : AppMessage → ℕ
 weight m = length m.topic + length m.payload + 9
 
-abbrev pub weight_of : List Post → ℕ
+abbrev pub weight_of : List AppMessage → ℕ
 weight_of ms = sum_by weight ms
 
 -- the most that the entries of one SUBSCRIBE are given of retained messages, together: 64 MB (own rule)

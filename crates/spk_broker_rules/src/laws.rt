@@ -4,15 +4,15 @@ ghost use Rattle.std.specs.List.{filter, find, flat_map};
 ghost use Rattle.spk_packets.specs.Message.{Connect, Disconnect, Message, WillData};
 ghost use Rattle.spk_session.specs.declared.answer.Sort.TheVariants as sort;
 ghost use Rattle.spk_session.specs.Step.{is_spent, one_more};
-ghost use Rattle.spk_broker_rules.specs.Data.{Broker, Post, fresh_broker};
+ghost use Rattle.spk_broker_rules.specs.Data.{Broker, AppMessage, fresh_broker};
 ghost use Rattle.spk_broker_rules.specs.Dropping.{HasFew, drops_after};
 ghost use Rattle.spk_broker_rules.specs.Knowing.{IsWelcomed, is_opening, speaks_of};
 ghost use Rattle.spk_broker_rules.specs.Lawful.{IsLawful};
 ghost use Rattle.spk_broker_rules.specs.Listening.{IsPlain, given_to, is_closed_in, is_joined, lets_go, listens, plain_publish, takes_back};
 ghost use Rattle.spk_broker_rules.specs.Origins.{SaysAll, WasSaid};
-ghost use Rattle.spk_broker_rules.specs.Past.{Past, broker_of, guests, is_open, may_open, older_of, session_at};
+ghost use Rattle.spk_broker_rules.specs.Past.{Past, broker_of, newcomers, is_open, may_open, older_of, session_at};
 ghost use Rattle.spk_broker_rules.specs.Plan.{Event, Open, Packet, Refused};
-ghost use Rattle.spk_broker_rules.specs.Step.{Turn, after, drops_in, is_full, is_guest, knows, noted, route, route_one, step};
+ghost use Rattle.spk_broker_rules.specs.Step.{Turn, after, drops_in, is_full, is_newcomer, knows, noted, route, route_one, step};
 ghost use Rattle.spk_broker_rules.specs.TakeOver.{GoesQuietly, IsAccepted, TakesOver};
 ghost use Rattle.spk_broker_rules.specs.Topics.{Brings, FiltersIn, FitsAlike, HasFilters, HasTopics, IsOff, SendsOn, TopicIn};
 ghost use Rattle.spk_broker_rules.specs.Telling.{Answers, Leads, Telling, may_be};
@@ -64,7 +64,7 @@ pub fn take_over()
     ensures { (limit : ℕ) (h : Past) (conn older moment : ℕ) (client : List ℕ) (clean : Bool)
         (alive : ℕ) (will : Option WillData)
         (t : Telling limit h (Packet conn (Connect client clean alive will) moment))
-        → is_some (find (λ g. g == conn) (guests h)) ≡ true → is_some (session_at h conn) ≡ false
+        → is_some (find (λ g. g == conn) (newcomers h)) ≡ true → is_some (session_at h conn) ≡ false
         → older_of h client ≡ Some older → IsAccepted h client clean alive will
         → TakesOver conn older t.first t.end }
 {}
@@ -73,7 +73,7 @@ pub fn take_over()
 /// what waits behind it.
 pub fn routing()
     ensures done { (t : Turn) → t.waiting ≡ [] → route t ≡ t }
-    ensures next { (t : Turn) (m : Post) (ms : List Post) → t.waiting ≡ m ∷ ms
+    ensures next { (t : Turn) (m : AppMessage) (ms : List AppMessage) → t.waiting ≡ m ∷ ms
         → route t ≡ route (route_one m (record t { waiting = ms })) }
 {}
 
@@ -89,7 +89,7 @@ pub fn plain_publish()
     ensures sends { (b : Broker) (conn moment : ℕ) (topic payload : List ℕ) → IsPlain topic payload
         → is_joined b conn ≡ true
         → (step b (Packet conn (plain_publish topic payload) moment)).sends
-        ≡ flat_map (given_to topic payload) b.seats }
+        ≡ flat_map (given_to topic payload) b.sessions }
     ensures closes { (b : Broker) (conn moment : ℕ) (topic payload : List ℕ) → IsPlain topic payload
         → is_joined b conn ≡ true
         → (step b (Packet conn (plain_publish topic payload) moment)).closes ≡ [] }
@@ -191,7 +191,7 @@ pub fn joining()
     // at an event that isn't its own, when it was opened, heard and how often a send to it was dropped stay the same
     ensures waits { (b : Broker) (conn : ℕ) (e : Event) → IsLawful b → knows b conn ≡ true
         → is_joined b conn ≡ false → speaks_of conn e ≡ false
-        → find (is_guest conn) (step b e).broker.guests ≡ find (is_guest conn) b.guests }
+        → find (is_newcomer conn) (step b e).broker.newcomers ≡ find (is_newcomer conn) b.newcomers }
     ensures unjoined { (b : Broker) (conn : ℕ) (e : Event) → IsLawful b → knows b conn ≡ true
         → is_joined b conn ≡ false → speaks_of conn e ≡ false
         → is_joined (step b e).broker conn ≡ false }

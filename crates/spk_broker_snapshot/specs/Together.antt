@@ -2,7 +2,7 @@
 use Rattle.std.specs.Prelude.{ℕ, Bool, not, List, [], ◌∷◌, ◌++◌, Option, Some, None}
 use Rattle.std.specs.Option.{option_map, option_map_or}
 use Rattle.spk_packets.specs.Message.{Message, Connect, ConnAck, Publish, PubAck, Subscribe, SubAck, Unsubscribe, UnsubAck, PingReq, PingResp, Disconnect}
-use Rattle.spk_broker_rules.specs.Data.{Post, Copy, Line, Seat, Broker}
+use Rattle.spk_broker_rules.specs.Data.{AppMessage, InFlight, Connection, Session, Broker}
 use Rattle.spk_broker_rules.specs.Table.{Table}
 use Rattle.spk_broker_replay.specs.Parts as part
 use Rattle.spk_broker_replay.specs.Parts.{begun, with_part}
@@ -12,11 +12,11 @@ use Rattle.spk_broker_events.specs.declared.line.Kind.TheVariants as kind
 
 pub record Stand : Type 0 where
   pub broker : Broker
-  pub session : Option Seat
+  pub session : Option Session
 
 -- the data, with the session that is under way
 abbrev pub ended : Stand → Broker
-ended st = option_map_or (λ (s : Seat). with_part st.broker (part.Session s)) st.session st.broker
+ended st = option_map_or (λ (s : Session). with_part st.broker (part.SessionPart s)) st.session st.broker
 
 -- ---- what a packet says of a line
 
@@ -52,12 +52,12 @@ entries_in Disconnect = []
 pub record Sent : Type 0 where
   pub dup : Bool
   pub id : Option ℕ
-  pub post : Post
+  pub app_message : AppMessage
 
 abbrev pub sent_in : Message → Option Sent
 sent_in (Connect client clean alive will) = None
 sent_in (ConnAck present code) = None
-sent_in (Publish dup qos retain topic id payload) = Some (record { dup = dup; id = id; post = record { topic = topic; payload = payload; qos = qos; retain = retain } })
+sent_in (Publish dup qos retain topic id payload) = Some (record { dup = dup; id = id; app_message = record { topic = topic; payload = payload; qos = qos; retain = retain } })
 sent_in (PubAck id) = None
 sent_in (Subscribe id entries) = None
 sent_in (SubAck id codes) = None
@@ -72,37 +72,37 @@ abbrev pub of_packet : {X : Type 0} → (Message → Option X) → Option Messag
 of_packet f None = None
 of_packet f (Some p) = f p
 
-abbrev pub copy_of : Sent → List Copy
-copy_of x = option_map_or (λ id. (record { id = id; post = x.post; handed = x.dup }) ∷ []) x.id []
+abbrev pub in_flight_of : Sent → List InFlight
+in_flight_of x = option_map_or (λ id. (record { id = id; app_message = x.app_message; handed = x.dup }) ∷ []) x.id []
 
-abbrev pub copies_in : Option Message → List Copy
-copies_in p = option_map_or copy_of (of_packet sent_in p) []
+abbrev pub in_flight_in : Option Message → List InFlight
+in_flight_in p = option_map_or in_flight_of (of_packet sent_in p) []
 
 -- ---- the session under way
 
-abbrev pub bare_session : ℕ → List ℕ × Bool → Seat
-bare_session key who = record { key = key; client = who.0; kept = who.1; here = None; grants = []; used = []; last = 0; copies = [] }
+abbrev pub bare_session : ℕ → List ℕ × Bool → Session
+bare_session key who = record { key = key; client = who.0; kept = who.1; here = None; grants = []; used = []; last = 0; in_flight = [] }
 
 -- a connection with a keep alive of one second that was heard at the moment 0
-abbrev pub kept_line : ℕ → Option Post → Line
-kept_line conn will = record { conn = conn; alive = 1; heard = 0; will = will; drops = 0 }
+abbrev pub kept_connection : ℕ → Option AppMessage → Connection
+kept_connection conn will = record { conn = conn; alive = 1; heard = 0; will = will; drops = 0 }
 
-abbrev pub sits : Kept → Seat → Seat
-sits l s = record s { here = Some (kept_line l.first (option_map (λ (x : Sent). x.post) (of_packet sent_in l.packet))) }
+abbrev pub sits : Kept → Session → Session
+sits l s = record s { here = Some (kept_connection l.first (option_map (λ (x : Sent). x.app_message) (of_packet sent_in l.packet))) }
 
-abbrev pub granted : Kept → Seat → Seat
+abbrev pub granted : Kept → Session → Session
 granted l s = record s { grants = s.grants ++ option_map_or entries_in l.packet [] }
 
-abbrev pub in_use : Kept → Seat → Seat
+abbrev pub in_use : Kept → Session → Session
 in_use l s = record s { used = s.used ++ l.first ∷ []; last = l.first }
 
-abbrev pub gave : Kept → Seat → Seat
+abbrev pub gave : Kept → Session → Session
 gave l s = record s { last = l.first }
 
-abbrev pub copied : Kept → Seat → Seat
-copied l s = record s { copies = s.copies ++ copies_in l.packet }
+abbrev pub copied : Kept → Session → Session
+copied l s = record s { in_flight = s.in_flight ++ in_flight_in l.packet }
 
-abbrev pub in_session : (Seat → Seat) → Stand → Stand
+abbrev pub in_session : (Session → Session) → Stand → Stand
 in_session f st = record st { session = option_map f st.session }
 
 -- ---- one line
@@ -120,7 +120,7 @@ after_kind limit st l kind.InUse = in_session (in_use l) st
 after_kind limit st l kind.Last = in_session (gave l) st
 after_kind limit st l kind.Unacknowledged = in_session (copied l) st
 after_kind limit st l kind.Retained =
-    apart (option_map_or (λ (x : Sent). with_part (ended st) (part.Retained x.post.topic (record { payload = x.post.payload; qos = x.post.qos }))) (of_packet sent_in l.packet) (ended st))
+    apart (option_map_or (λ (x : Sent). with_part (ended st) (part.Retained x.app_message.topic (record { payload = x.app_message.payload; qos = x.app_message.qos }))) (of_packet sent_in l.packet) (ended st))
 
 abbrev pub after : ℕ → Stand → Kept → Stand
 after limit st l = after_kind limit st l l.kind

@@ -1,6 +1,8 @@
 //! A broker that is put together of what another one lends goes on as that one does; and each part that doesn't fit is refused.
 use crate::broker::Talks;
-use spk_broker::{Broker, BrokerFault, Message, MessageRef, Out, PartFault, Session, SessionRef};
+use spk_broker::{
+    Broker, BrokerFault, Message, MessageRef, Out, PartFault, RestoredSession, SessionRef,
+};
 use spk_packets::{Packet, Request, Will};
 use std::alloc::{AllocError, Global};
 use std::test::Fail;
@@ -29,8 +31,8 @@ fn message(alloc: Global, of: &MessageRef<'_>) -> Result<Message, AllocError> {
 }
 
 /// A session put together of one that is lent.
-fn session(alloc: Global, of: &SessionRef<'_>) -> Result<Session, PartFault> {
-    let mut session = Session::new(alloc, of.key(), of.client(), of.is_kept())?;
+fn session(alloc: Global, of: &SessionRef<'_>) -> Result<RestoredSession, PartFault> {
+    let mut session = RestoredSession::new(alloc, of.key(), of.client(), of.is_kept())?;
     if let Some(conn) = of.connection() {
         match of.will() {
             Some(will) => session.connect_with(conn, message(alloc, &will)?)?,
@@ -260,11 +262,11 @@ fn refusals(alloc: Global) -> Result<[u32; 8], PartFault> {
     let Some(mut broker) = Broker::restored(alloc, 128, 3, 2) else {
         return Err(PartFault::Unfit);
     };
-    let mut second = Session::new(alloc, 2, "b", true)?;
+    let mut second = RestoredSession::new(alloc, 2, "b", true)?;
     second.connect(3);
-    let unmade = number(broker.restore_session(Session::new(alloc, 3, "c", true)?));
+    let unmade = number(broker.restore_session(RestoredSession::new(alloc, 3, "c", true)?));
     let fits = number(broker.restore_session(second));
-    let earlier = number(broker.restore_session(Session::new(alloc, 1, "a", true)?));
+    let earlier = number(broker.restore_session(RestoredSession::new(alloc, 1, "a", true)?));
     let not_given = number(broker.restore_connection(4));
     let sits = number(broker.restore_connection(3));
     let waits = number(broker.restore_connection(1));
@@ -280,7 +282,7 @@ fn refusals(alloc: Global) -> Result<[u32; 8], PartFault> {
 
 /// What each part of a session that none can have is refused with, and one that fits.
 fn session_refusals(alloc: Global) -> Result<[u32; 8], PartFault> {
-    let mut session = Session::new(alloc, 1, "a", true)?;
+    let mut session = RestoredSession::new(alloc, 1, "a", true)?;
     let filter = number(session.grant(text(alloc, "a/#/b")?, 1));
     let qos = number(session.grant(text(alloc, "a")?, 2));
     let zero = number(session.give(0));

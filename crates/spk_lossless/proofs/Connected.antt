@@ -9,7 +9,7 @@ use Rattle.spk_ingress.specs.declared.rule.Message.{Message}
 use Rattle.spk_broker_rules.specs.Data.{Broker}
 use Rattle.spk_broker_rules.specs.Listening.{is_closed_in, is_joined}
 use Rattle.spk_broker_rules.specs.Plan as event
-use Rattle.spk_broker_rules.specs.Step.{after, is_full, is_guest, seat_at, step}
+use Rattle.spk_broker_rules.specs.Step.{after, is_full, is_newcomer, session_by, step}
 use Rattle.spk_broker_listening.specs.Granted.{is_connect}
 use Rattle.spk_broker_body.specs.Data.{Entry, Input, Room, Says, Breaks, Cuts, Ends, Took, Accepted, Refused, Passed, Told}
 use Rattle.spk_broker_body.specs.Log.{IsLog, room_of, taken_of}
@@ -43,7 +43,7 @@ module _ (f : Facts)
   new-unjoined : (r : Room) (now : ℕ) → is_joined (after limit (event.Open now ∷ r.events)) (next_conn limit r) ≡ false
   unfolding step
   new-unjoined r now =
-      (or_parts (list_any (is_guest (next_conn limit r)) (after limit r.events).guests) (is_some (seat_at (next_conn limit r) (after limit r.events).seats))
+      (or_parts (list_any (is_newcomer (next_conn limit r)) (after limit r.events).newcomers) (is_some (session_by (next_conn limit r) (after limit r.events).sessions))
       (f.fresh (after limit r.events) (f.lawful limit r.events))).1
 
   opened-closed : (r : Room) (j now : ℕ) (p : Packet) → Base limit on r → conn_at limit r j ≡ None → is_connect p ≡ false

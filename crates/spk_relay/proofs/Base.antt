@@ -7,14 +7,14 @@ use Rattle.std.proofs.lemmas.Option.{slice_get_within}
 use Rattle.spk_packets.specs.Message.{Message as Packet}
 use Rattle.spk_session.specs.declared.answer.Sort.TheVariants as sort
 use Rattle.spk_session.specs.Step.{is_spent, one_more}
-use Rattle.spk_broker_rules.specs.Data.{Broker, Guest, Line, Seat}
+use Rattle.spk_broker_rules.specs.Data.{Broker, Newcomer, Connection, Session}
 use Rattle.spk_broker_rules.specs.Dropping.{HasFew, is_drop}
 use Rattle.spk_broker_rules.specs.Knowing.{is_opening}
 use Rattle.spk_broker_rules.specs.Lawful.{IsLawful, IsLow}
 use Rattle.spk_broker_rules.specs.Listening.{is_closed_in, is_joined, lets_go, listens, takes_back}
 use Rattle.spk_broker_rules.specs.Plan.{Event, Open}
 use Rattle.spk_broker_rules.specs.Plan as event
-use Rattle.spk_broker_rules.specs.Step.{after, drops_in, is_guest, knows, seat_at, sits, step}
+use Rattle.spk_broker_rules.specs.Step.{after, drops_in, is_newcomer, knows, session_by, sits, step}
 use Rattle.spk_broker_rules.specs.Topics.{Brings, FiltersIn, FitsAlike, HasFilters}
 use Rattle.spk_broker_body.specs.Data.{Room}
 use Rattle.spk_broker_body.specs.Step.{called, client_of, conn_at, holds_client, is_client, known, next_conn, opened}
@@ -82,33 +82,33 @@ client-new os x = by (eqb (length os + 1) 0) refl
 
 -- ---- who is known
 
-guests-low : (n c : ℕ) (gs : List Guest) → AllByRecursion (λ (g : Guest). g.conn ≤ n) gs → list_any (is_guest c) gs ≡ true → c ≤ n
-guests-low n c [] all e = absurd (no-yes e)
-guests-low n c (g ∷ gs) all e = elim (or_cases (eqb g.conn c) (list_any (is_guest c) gs) e) [
+newcomers-low : (n c : ℕ) (gs : List Newcomer) → AllByRecursion (λ (g : Newcomer). g.conn ≤ n) gs → list_any (is_newcomer c) gs ≡ true → c ≤ n
+newcomers-low n c [] all e = absurd (no-yes e)
+newcomers-low n c (g ∷ gs) all e = elim (or_cases (eqb g.conn c) (list_any (is_newcomer c) gs) e) [
   | inl here ↦ subst (λ (x : ℕ). x ≤ n) (eqb-true g.conn c here) all.0
-  | inr later ↦ guests-low n c gs all.1 later
+  | inr later ↦ newcomers-low n c gs all.1 later
 ]
 
-line-low : (n c : ℕ) (o : Option Line) → IsLow n o → option_map_or (λ (l : Line). eqb l.conn c) o false ≡ true → c ≤ n
-line-low n c None low e = absurd (no-yes e)
-line-low n c (Some l) low e = subst (λ (x : ℕ). x ≤ n) (eqb-true l.conn c e) low
+connection-low : (n c : ℕ) (o : Option Connection) → IsLow n o → option_map_or (λ (l : Connection). eqb l.conn c) o false ≡ true → c ≤ n
+connection-low n c None low e = absurd (no-yes e)
+connection-low n c (Some l) low e = subst (λ (x : ℕ). x ≤ n) (eqb-true l.conn c e) low
 
-seats-low : (n c : ℕ) (ss : List Seat) → AllByRecursion (λ (s : Seat). IsLow n s.here) ss → is_some (find (sits c) ss) ≡ true → c ≤ n
-seats-low n c [] all e = absurd (no-yes e)
-seats-low n c (s ∷ ss) all e = by (sits c s) refl e (seats-low n c ss all.1)
+sessions-low : (n c : ℕ) (ss : List Session) → AllByRecursion (λ (s : Session). IsLow n s.here) ss → is_some (find (sits c) ss) ≡ true → c ≤ n
+sessions-low n c [] all e = absurd (no-yes e)
+sessions-low n c (s ∷ ss) all e = by (sits c s) refl e (sessions-low n c ss all.1)
   where
     by : (b : Bool) → sits c s ≡ b → is_some (cond b (Some s) (find (sits c) ss)) ≡ true → (is_some (find (sits c) ss) ≡ true → c ≤ n) → c ≤ n
-    by true at f rest = line-low n c s.here all.0 at
+    by true at f rest = connection-low n c s.here all.0 at
     by false at f rest = rest f
 
 pub known-low : (b : Broker) (c : ℕ) → IsLawful b → knows b c ≡ true → c ≤ b.given
-known-low b c l e = elim (or_cases (list_any (is_guest c) b.guests) (is_some (seat_at c b.seats)) e) [
-  | inl waits ↦ guests-low b.given c b.guests l.guests waits
-  | inr sat ↦ seats-low b.given c b.seats l.lines sat
+known-low b c l e = elim (or_cases (list_any (is_newcomer c) b.newcomers) (is_some (session_by c b.sessions)) e) [
+  | inl waits ↦ newcomers-low b.given c b.newcomers l.newcomers waits
+  | inr sat ↦ sessions-low b.given c b.sessions l.connections sat
 ]
 
 pub joined-known : (b : Broker) (c : ℕ) → is_joined b c ≡ true → knows b c ≡ true
-joined-known b c e = or_right (list_any (is_guest c) b.guests) (is_some (seat_at c b.seats)) e
+joined-known b c e = or_right (list_any (is_newcomer c) b.newcomers) (is_some (session_by c b.sessions)) e
 
 -- ---- an event
 

@@ -4,7 +4,7 @@ use Rattle.std.specs.List.{flat_map, AllByRecursion}
 use Rattle.std.proofs.lemmas.Bool.{and_parts}
 use Rattle.spk_packets.specs.Spelling.{spelling}
 use Rattle.spk_broker.specs.Sent.{outgoing}
-use Rattle.spk_broker_rules.specs.Data.{Line, Seat, Send}
+use Rattle.spk_broker_rules.specs.Data.{Connection, Session, Send}
 use Rattle.spk_broker_rules.specs.Listening.{given_to, is_listening, plain_publish}
 use Rattle.spk_broker_rules.specs.Plan as event
 use Rattle.spk_broker_rules.specs.Step.{after}
@@ -29,11 +29,11 @@ use Rattle.spk_relay.proofs.Tells.{IsQuiet, PacketFacts}
 abbrev pub HaveBytes : List ℕ → List Offer → Type 0
 HaveBytes bytes os = AllByRecursion (λ (o : Offer). o.bytes ≡ bytes) os
 
-offers-bytes : (dropped : ℕ → Bool) (os : List ℕ) (topic payload : List ℕ) (xs : List Seat) → HaveBytes (spelling (plain_publish topic payload)) (offers_of dropped os topic payload xs)
+offers-bytes : (dropped : ℕ → Bool) (os : List ℕ) (topic payload : List ℕ) (xs : List Session) → HaveBytes (spelling (plain_publish topic payload)) (offers_of dropped os topic payload xs)
 offers-bytes dropped os topic payload [] = tt
 offers-bytes dropped os topic payload (s ∷ xs) = by (is_listening topic s) s.here (flat_map (given_to topic payload) xs) (offers-bytes dropped os topic payload xs)
   where
-    by : (b : Bool) (here : Option Line) (rest : List Send) → HaveBytes (spelling (plain_publish topic payload)) (map (offer_of os dropped) (map outgoing rest))
+    by : (b : Bool) (here : Option Connection) (rest : List Send) → HaveBytes (spelling (plain_publish topic payload)) (map (offer_of os dropped) (map outgoing rest))
         → HaveBytes (spelling (plain_publish topic payload)) (front dropped os topic payload b here rest)
     by true (Some l) rest all = (refl, all)
     by true None rest all = all
@@ -66,7 +66,7 @@ carry-taken facts limit r k now s all p f x joined none = record { message = x.m
         subst (HaveBytes (spelling (plain_publish topic payload)))
         (sym (ap (λ ss. map (offer_of r.openers (is_dropped r.over r.closed)) (map outgoing ss))
         (facts.sends (after limit r.events) conn now topic payload x.plain (joined conn (known-some (after limit r.events) (r.last k) conn at).1))))
-        (offers-bytes (is_dropped r.over r.closed) r.openers topic payload (after limit r.events).seats)
+        (offers-bytes (is_dropped r.over r.closed) r.openers topic payload (after limit r.events).sessions)
 
     first : (b : Bool) → HaveBytes (spelling (plain_publish topic payload)) (cond b (called limit (opened limit now r k) (event.Packet (next_conn limit r) (plain_publish topic payload) now)) r).pending
     first true =

@@ -40,7 +40,7 @@ module _ (f : Facts) (limit : ℕ) (on : List ℕ → Bool) (h k : ℕ) (r : Roo
   abbrev made : List Offer
   made = (called limit r (event.Packet conn (plain_publish topic payload) now)).pending
 
-  offered : made ≡ offers_of dropped r.openers topic payload (after limit r.events).seats
+  offered : made ≡ offers_of dropped r.openers topic payload (after limit r.events).sessions
   offered = ap (λ ss. map (offer_of r.openers (is_dropped r.over r.closed)) (map outgoing ss))
       (f.sends (after limit r.events) conn now topic payload plain (all conn (known-some (after limit r.events) (r.last k) conn there).1))
 
@@ -55,17 +55,17 @@ module _ (f : Facts) (limit : ℕ) (on : List ℕ → Bool) (h k : ℕ) (r : Roo
       stands false e = refl
 
       by : (o : Option ℕ) → conn_at limit r h ≡ o → (not (is_dropped r.over r.closed h) && hears_on (after limit r.events) o (plain_publish topic payload)) ≡ true
-          → 0 < aimed h (offers_of dropped r.openers topic payload (after limit r.events).seats)
+          → 0 < aimed h (offers_of dropped r.openers topic payload (after limit r.events).sessions)
       by None at e = absurd (no-yes (and_parts _ _ e).1)
       by (Some c) at e =
           let own = known-some (after limit r.events) (r.last h) c at in
           let two = and_parts (not (is_dropped r.over r.closed h)) (listens (after limit r.events) c topic) e in
-          at-least dropped r.openers topic payload h c (after limit r.events).seats two.1 (b.owned h c own.0) (stands (is_dropped r.over r.closed h) two.0)
+          at-least dropped r.openers topic payload h c (after limit r.events).sessions two.1 (b.owned h c own.0) (stands (is_dropped r.over r.closed h) two.0)
 
   offered-heard : 0 < aimed h made → is_heard limit k h r (Says (plain_publish topic payload)) ≡ true
   offered-heard low =
-      let d = who-listens dropped r.openers topic payload h (after limit r.events).seats (subst (λ os. 0 < aimed h os) offered low) in
-      let there_d = sat-known (after limit r.events) d.0 (listens-sat topic d.0 (after limit r.events).seats d.3) in
+      let d = who-listens dropped r.openers topic payload h (after limit r.events).sessions (subst (λ os. 0 < aimed h os) offered low) in
+      let there_d = sat-known (after limit r.events) d.0 (listens-sat topic d.0 (after limit r.events).sessions d.3) in
       let at : conn_at limit r h ≡ Some d.0 = known-is (after limit r.events) (r.last h) d.0 (b.newest h d.0 there_d d.1) there_d in
       let hears : hears_on (after limit r.events) (conn_at limit r h) (plain_publish topic payload) ≡ true = ap (λ o. hears_on (after limit r.events) o (plain_publish topic payload)) at ∙ d.3 in
       and_from _ _ (ap is_some there) (and_from _ _ (not_from_false (is_dropped r.over r.closed h) d.2) hears)

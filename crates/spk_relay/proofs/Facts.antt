@@ -17,7 +17,7 @@ pub record Facts : Type 0 where
   pub done : (t : Turn) → t.waiting ≡ [] → route t ≡ t
   -- a plain publish
   pub sends : (b : Broker) (conn moment : ℕ) (topic payload : List ℕ) → IsPlain topic payload → is_joined b conn ≡ true →
-      (step b (Packet conn (plain_publish topic payload) moment)).sends ≡ flat_map (given_to topic payload) b.seats
+      (step b (Packet conn (plain_publish topic payload) moment)).sends ≡ flat_map (given_to topic payload) b.sessions
   pub closes : (b : Broker) (conn moment : ℕ) (topic payload : List ℕ) → IsPlain topic payload → is_joined b conn ≡ true →
       (step b (Packet conn (plain_publish topic payload) moment)).closes ≡ []
   -- staying

@@ -8,12 +8,12 @@ use Rattle.spk_packets.specs.Message.{Message as Packet}
 use Rattle.spk_packets.specs.Spelling.{unwritable}
 use Rattle.spk_session.specs.declared.answer.Sort.TheVariants as sort
 use Rattle.spk_broker.specs.Sent.{outgoing}
-use Rattle.spk_broker_rules.specs.Data.{Broker, Line, Seat}
+use Rattle.spk_broker_rules.specs.Data.{Broker, Connection, Session}
 use Rattle.spk_broker_rules.specs.Knowing.{is_opening}
 use Rattle.spk_broker_rules.specs.Listening.{IsPlain, is_closed_in, is_joined, is_listening, lets_go, plain_publish, takes_back}
 use Rattle.spk_broker_rules.specs.Plan.{Event, Open, shut}
 use Rattle.spk_broker_rules.specs.Plan as event
-use Rattle.spk_broker_rules.specs.Step.{Turn, act, acts, after, drops_in, is_guest, knows, line_heard, noted, route, seat_at, seen, sits, step}
+use Rattle.spk_broker_rules.specs.Step.{Turn, act, acts, after, drops_in, is_newcomer, knows, connection_heard, noted, route, session_by, seen, sits, step}
 use Rattle.spk_broker_body.specs.Data.{Offer, Room}
 use Rattle.spk_broker_body.specs.Step.{called, client_of, conn_at, holds_client, is_client, is_dropped, known, next_conn, offer_of, opened}
 use Rattle.spk_relay.proofs.Base.{AllJoined, AllJoinedBut, Base, BringsAlike, Hears, base-called, base-opened, client-more, client-new, client-within, closes-client, drops-kept, hears-called, hears-opened, joined-called, joined-first, joined-known, joined-opened}
@@ -194,7 +194,7 @@ quiet-after limit on h k r later ps n busy none pass st = record {
 
 -- ---- a numbered message of a node that has joined
 
-pub sat-found : (d : ℕ) (xs : List Seat) → list_any (sits d) xs ≡ true → is_some (find (sits d) xs) ≡ true
+pub sat-found : (d : ℕ) (xs : List Session) → list_any (sits d) xs ≡ true → is_some (find (sits d) xs) ≡ true
 sat-found d [] e = e
 sat-found d (s ∷ xs) e = by (sits d s) e (sat-found d xs)
   where
@@ -203,15 +203,15 @@ sat-found d (s ∷ xs) e = by (sits d s) e (sat-found d xs)
     by false e rest = rest e
 
 -- the connection of a session is known
-pub sat-known : (b : Broker) (d : ℕ) → list_any (sits d) b.seats ≡ true → knows b d ≡ true
-sat-known b d e = joined-known b d (sat-found d b.seats e)
+pub sat-known : (b : Broker) (d : ℕ) → list_any (sits d) b.sessions ≡ true → knows b d ≡ true
+sat-known b d e = joined-known b d (sat-found d b.sessions e)
 
-pub listens-sat : (topic : List ℕ) (d : ℕ) (xs : List Seat) → list_any (λ (s : Seat). sits d s && is_listening topic s) xs ≡ true → list_any (sits d) xs ≡ true
+pub listens-sat : (topic : List ℕ) (d : ℕ) (xs : List Session) → list_any (λ (s : Session). sits d s && is_listening topic s) xs ≡ true → list_any (sits d) xs ≡ true
 listens-sat topic d [] e = e
 listens-sat topic d (s ∷ xs) e = by (sits d s) (is_listening topic s) e (listens-sat topic d xs)
   where
-    by : (a b : Bool) → (a && b || list_any (λ (x : Seat). sits d x && is_listening topic x) xs) ≡ true
-        → (list_any (λ (x : Seat). sits d x && is_listening topic x) xs ≡ true → list_any (sits d) xs ≡ true) → (a || list_any (sits d) xs) ≡ true
+    by : (a b : Bool) → (a && b || list_any (λ (x : Session). sits d x && is_listening topic x) xs) ≡ true
+        → (list_any (λ (x : Session). sits d x && is_listening topic x) xs ≡ true → list_any (sits d) xs ≡ true) → (a || list_any (sits d) xs) ≡ true
     by true b e rest = refl
     by false b e rest = rest e
 
@@ -226,7 +226,7 @@ relayed f limit on h k r ps n busy conn now topic payload small plain is_on none
   few = st.few;
   one = λ b. let m = most in let u = ap (aimed h) told in omega (arith, m, u);
   aims = λ b c at. subst (Aim h c) (sym offered)
-      (all-aim dropped r.openers topic payload h c b0.seats (λ d sat of. same-some d c (sym (owner d sat of) ∙ at)));
+      (all-aim dropped r.openers topic payload h c b0.sessions (λ d sat of. same-some d c (sym (owner d sat of) ∙ at)));
   ready = λ b low. (ready low, let w = st.within in omega (arith, w));
   kept = kept;
 }
@@ -246,29 +246,29 @@ relayed f limit on h k r ps n busy conn now topic payload small plain is_on none
     pass : Passes limit on h k r (called limit r e)
     pass = passes-called f limit on h k r e small refl (λ one other x y. tt) (λ c at. (and_right _ _ refl, and_right _ _ refl)) st.base st.joined
 
-    offered : (called limit r e).pending ≡ offers_of dropped r.openers topic payload b0.seats
+    offered : (called limit r e).pending ≡ offers_of dropped r.openers topic payload b0.sessions
     offered = ap (λ ss. map (offer_of r.openers dropped) (map outgoing ss)) (f.sends b0 conn now topic payload plain joined)
 
     closes : (step b0 e).closes ≡ []
     closes = f.closes b0 conn now topic payload plain joined
 
-    owner : (d : ℕ) → list_any (sits d) b0.seats ≡ true → client_of r.openers d ≡ Some h → r.last h ≡ Some d
+    owner : (d : ℕ) → list_any (sits d) b0.sessions ≡ true → client_of r.openers d ≡ Some h → r.last h ≡ Some d
     owner d sat of = st.base.newest h d (sat-known b0 d sat) of
 
-    few-seats : (c : ℕ) → length (filter (sits c) b0.seats) ≤ 1
-    few-seats c = let a = (f.lawful limit r.events).apart c in omega (arith, a)
+    few-sessions : (c : ℕ) → length (filter (sits c) b0.sessions) ≤ 1
+    few-sessions c = let a = (f.lawful limit r.events).apart c in omega (arith, a)
 
     most : aimed h (called limit r e).pending ≤ 1
     most = subst (λ os. aimed h os ≤ 1) (sym offered) (by (r.last h) refl)
       where
-        by : (o : Option ℕ) → r.last h ≡ o → aimed h (offers_of dropped r.openers topic payload b0.seats) ≤ 1
+        by : (o : Option ℕ) → r.last h ≡ o → aimed h (offers_of dropped r.openers topic payload b0.sessions) ≤ 1
         by None at =
-            let a = at-most dropped r.openers topic payload h 0 b0.seats (λ d sat of. absurd (some-none d (sym at ∙ owner d sat of))) in
-            let z = few-seats 0 in
+            let a = at-most dropped r.openers topic payload h 0 b0.sessions (λ d sat of. absurd (some-none d (sym at ∙ owner d sat of))) in
+            let z = few-sessions 0 in
             omega (arith, a, z)
         by (Some c) at =
-            let a = at-most dropped r.openers topic payload h c b0.seats (λ d sat of. same-some d c (sym (owner d sat of) ∙ at)) in
-            let z = few-seats c in
+            let a = at-most dropped r.openers topic payload h c b0.sessions (λ d sat of. same-some d c (sym (owner d sat of) ∙ at)) in
+            let z = few-sessions c in
             omega (arith, a, z)
 
     standing : (j : ℕ) → r.closed j ≡ false → (called limit r e).closed j ≡ false
@@ -280,8 +280,8 @@ relayed f limit on h k r ps n busy conn now topic payload small plain is_on none
       | inr closed ↦ absurd (no-yes (sym (ap (list_any (λ d. eqb d conn)) closes) ∙ closed))
     ]
 
-    who : 0 < aimed h (called limit r e).pending → (d : ℕ) × (client_of r.openers d ≡ Some h) × (dropped h ≡ false) × (list_any (λ (s : Seat). sits d s && is_listening topic s) b0.seats ≡ true)
-    who low = who-listens dropped r.openers topic payload h b0.seats (subst (λ os. 0 < aimed h os) offered low)
+    who : 0 < aimed h (called limit r e).pending → (d : ℕ) × (client_of r.openers d ≡ Some h) × (dropped h ≡ false) × (list_any (λ (s : Session). sits d s && is_listening topic s) b0.sessions ≡ true)
+    who low = who-listens dropped r.openers topic payload h b0.sessions (subst (λ os. 0 < aimed h os) offered low)
 
     ready : 0 < aimed h (called limit r e).pending → IsLive limit h k (called limit r e)
     ready low = let parts = or_parts r.over (r.closed h) (who low).2 in record {
@@ -295,7 +295,7 @@ relayed f limit on h k r ps n busy conn now topic payload small plain is_on none
     goes-on live begun =
         let x = st.kept (pass.live live) (inl begun) in
         let l = pass.live live in
-        let heard = at-least dropped r.openers topic payload h x.conn b0.seats (x.hears.listens_to topic is_on) (st.base.owned h x.conn x.hears.last) (or_from _ _ l.ringing l.standing) in
+        let heard = at-least dropped r.openers topic payload h x.conn b0.sessions (x.hears.listens_to topic is_on) (st.base.owned h x.conn x.hears.last) (or_from _ _ l.ringing l.standing) in
         let some : 0 < aimed h (called limit r e).pending = subst (λ os. 0 < aimed h os) (sym offered) heard in
         record {
           conn = x.conn;
@@ -315,12 +315,12 @@ relayed f limit on h k r ps n busy conn now topic payload small plain is_on none
     kept live (inl begun) = goes-on live begun
     kept live (inr low) = by ps refl
       where
-        found : (d : ℕ) × (client_of r.openers d ≡ Some h) × (dropped h ≡ false) × (list_any (λ (s : Seat). sits d s && is_listening topic s) b0.seats ≡ true)
+        found : (d : ℕ) × (client_of r.openers d ≡ Some h) × (dropped h ≡ false) × (list_any (λ (s : Session). sits d s && is_listening topic s) b0.sessions ≡ true)
         found = who low
 
         hears : Hears limit on r h found.0
         hears = record {
-          last = owner found.0 (listens-sat topic found.0 b0.seats found.3) found.1;
+          last = owner found.0 (listens-sat topic found.0 b0.sessions found.3) found.1;
           joined = f.heard b0 found.0 topic found.3;
           listens_to = λ other there. sym (f.alike b0 found.0 topic other (st.base.filters topic other is_on there)) ∙ found.3;
         }
@@ -338,32 +338,32 @@ relayed f limit on h k r ps n busy conn now topic payload small plain is_on none
 
 -- ---- a numbered message of a node without a connection
 
-heard-conn : (d c clock : ℕ) (o : Option Line) → option_map_or (λ (l : Line). eqb l.conn d) (option_map (line_heard c clock) o) false ≡ option_map_or (λ (l : Line). eqb l.conn d) o false
+heard-conn : (d c clock : ℕ) (o : Option Connection) → option_map_or (λ (l : Connection). eqb l.conn d) (option_map (connection_heard c clock) o) false ≡ option_map_or (λ (l : Connection). eqb l.conn d) o false
 heard-conn d c clock None = refl
 heard-conn d c clock (Some l) = by (eqb l.conn c)
   where
-    by : (x : Bool) → option_map_or (λ (l : Line). eqb l.conn d) (Some (cond x (record l { heard = clock }) l)) false ≡ eqb l.conn d
+    by : (x : Bool) → option_map_or (λ (l : Connection). eqb l.conn d) (Some (cond x (record l { heard = clock }) l)) false ≡ eqb l.conn d
     by true = refl
     by false = refl
 
 -- none sits there after what was noted
-unsat-heard : (d c clock : ℕ) (xs : List Seat) → is_some (find (sits d) xs) ≡ false → find (sits d) (map (λ (s : Seat). record s { here = option_map (line_heard c clock) s.here }) xs) ≡ None
+unsat-heard : (d c clock : ℕ) (xs : List Session) → is_some (find (sits d) xs) ≡ false → find (sits d) (map (λ (s : Session). record s { here = option_map (connection_heard c clock) s.here }) xs) ≡ None
 unsat-heard d c clock [] e = refl
 unsat-heard d c clock (s ∷ xs) e = by (sits d s) refl e (unsat-heard d c clock xs)
   where
     by : (x : Bool) → sits d s ≡ x → is_some (cond x (Some s) (find (sits d) xs)) ≡ false
-        → (is_some (find (sits d) xs) ≡ false → find (sits d) (map (λ (s : Seat). record s { here = option_map (line_heard c clock) s.here }) xs) ≡ None)
-        → find (sits d) (map (λ (s : Seat). record s { here = option_map (line_heard c clock) s.here }) (s ∷ xs)) ≡ None
+        → (is_some (find (sits d) xs) ≡ false → find (sits d) (map (λ (s : Session). record s { here = option_map (connection_heard c clock) s.here }) xs) ≡ None)
+        → find (sits d) (map (λ (s : Session). record s { here = option_map (connection_heard c clock) s.here }) (s ∷ xs)) ≡ None
     by true at f rest = absurd (true≢false f)
     by false at f rest =
-        ap (λ x. cond x (Some (record s { here = option_map (line_heard c clock) s.here })) (find (sits d) (map (λ (s : Seat). record s { here = option_map (line_heard c clock) s.here }) xs))) (heard-conn d c clock s.here ∙ at)
+        ap (λ x. cond x (Some (record s { here = option_map (connection_heard c clock) s.here })) (find (sits d) (map (λ (s : Session). record s { here = option_map (connection_heard c clock) s.here }) xs))) (heard-conn d c clock s.here ∙ at)
         ∙ rest f
 
 abbrev Shut : ℕ → Turn → Type 0
 Shut d t = (t.sends ≡ []) × (t.closes ≡ d ∷ [])
 
 -- it is closed, and nothing is sent
-shut-turn : Facts → (d : ℕ) (t : Turn) → seat_at d t.broker.seats ≡ None → t.sends ≡ [] → t.closes ≡ [] → t.waiting ≡ [] → Shut d (acts (shut d) t)
+shut-turn : Facts → (d : ℕ) (t : Turn) → session_by d t.broker.sessions ≡ None → t.sends ≡ [] → t.closes ≡ [] → t.waiting ≡ [] → Shut d (acts (shut d) t)
 shut-turn f d t none sends closes idle =
     subst (Shut d) (sym (f.done last (ap (λ (x : Turn). x.waiting) left ∙ idle))) (ap (λ (x : Turn). x.sends) left ∙ sends, ap (λ (x : Turn). x.closes ++ d ∷ []) left ∙ ap (λ xs. xs ++ d ∷ []) closes)
   where
@@ -383,19 +383,19 @@ first-shut f b d now topic payload un = by (is_some (first_of (unwritable (plain
     t : Turn
     t = noted b (event.Packet d (plain_publish topic payload) now)
 
-    none : seat_at d t.broker.seats ≡ None
-    none = unsat-heard d d (max b.clock now) b.seats un
+    none : session_by d t.broker.sessions ≡ None
+    none = unsat-heard d d (max b.clock now) b.sessions un
 
     end : Shut d (acts (shut d) t)
     end = shut-turn f d t none refl refl refl
 
-    by : (x : Bool) → Shut d (acts (cond x (shut d) (cond (is_some (seat_at d t.broker.seats)) (event.next_packet (seen t.broker (event.Packet d (plain_publish topic payload) now)) d (plain_publish topic payload)) (shut d))) t)
+    by : (x : Bool) → Shut d (acts (cond x (shut d) (cond (is_some (session_by d t.broker.sessions)) (event.next_packet (seen t.broker (event.Packet d (plain_publish topic payload) now)) d (plain_publish topic payload)) (shut d))) t)
     by true = end
-    by false = subst (λ (o : Option Seat). Shut d (acts (cond (is_some o) (event.next_packet (seen t.broker (event.Packet d (plain_publish topic payload) now)) d (plain_publish topic payload)) (shut d)) t)) (sym none) end
+    by false = subst (λ (o : Option Session). Shut d (acts (cond (is_some o) (event.next_packet (seen t.broker (event.Packet d (plain_publish topic payload) now)) d (plain_publish topic payload)) (shut d)) t)) (sym none) end
 
 opens-none : (b : Broker) (now : ℕ) → knows b (b.given + 1) ≡ false → is_joined (step b (Open now)).broker (b.given + 1) ≡ false
 unfolding step
-opens-none b now none = (or_parts (list_any (is_guest (b.given + 1)) b.guests) (is_joined b (b.given + 1)) none).1
+opens-none b now none = (or_parts (list_any (is_newcomer (b.given + 1)) b.newcomers) (is_joined b (b.given + 1)) none).1
 
 pub open-joins-none : Facts → (limit : ℕ) (es : List Event) (now : ℕ) → is_joined (after limit (Open now ∷ es)) ((after limit es).given + 1) ≡ false
 open-joins-none f limit es now = opens-none (after limit es) now (f.fresh (after limit es) (f.lawful limit es))

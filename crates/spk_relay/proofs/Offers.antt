@@ -4,10 +4,10 @@ use Rattle.std.specs.List.{filter, flat_map, list_any}
 use Rattle.std.specs.Option.{option_map, option_map_or}
 use Rattle.std.proofs.lemmas.Bool.{or_left, or_right}
 use Rattle.spk_broker.specs.Sent.{Sent, outgoing}
-use Rattle.spk_broker_rules.specs.Data.{Line, Seat, Send}
+use Rattle.spk_broker_rules.specs.Data.{Connection, Session, Send}
 use Rattle.spk_broker_rules.specs.Listening.{given_to, is_listening, plain_publish}
 use Rattle.spk_broker_rules.specs.Step.{sits}
-use Rattle.spk_broker_rules.specs.Words.{to_line}
+use Rattle.spk_broker_rules.specs.Words.{to_connection}
 use Rattle.spk_broker_body.specs.Data.{Offer}
 use Rattle.spk_broker_body.specs.Step.{client_of, is_client, offer_of, ring_of}
 
@@ -92,15 +92,15 @@ none-dropped dropped os h gone (s ∷ ss) = by (is_client h (ring_of dropped (cl
 -- ---- the offers of a plain publish
 
 -- those of these sessions
-abbrev pub offers_of : (dropped : ℕ → Bool) (os : List ℕ) (topic payload : List ℕ) → List Seat → List Offer
+abbrev pub offers_of : (dropped : ℕ → Bool) (os : List ℕ) (topic payload : List ℕ) → List Session → List Offer
 offers_of dropped os topic payload xs = map (offer_of os dropped) (map outgoing (flat_map (given_to topic payload) xs))
 
 -- a session's offer, in front of those of the others
-abbrev pub front : (dropped : ℕ → Bool) (os : List ℕ) (topic payload : List ℕ) → Bool → Option Line → List Send → List Offer
+abbrev pub front : (dropped : ℕ → Bool) (os : List ℕ) (topic payload : List ℕ) → Bool → Option Connection → List Send → List Offer
 front dropped os topic payload b here rest =
-    map (offer_of os dropped) (map outgoing (cond b (to_line (option_map (λ (l : Line). l.conn) here) (plain_publish topic payload)) [] ++ rest))
+    map (offer_of os dropped) (map outgoing (cond b (to_connection (option_map (λ (l : Connection). l.conn) here) (plain_publish topic payload)) [] ++ rest))
 
-pub at-most : (dropped : ℕ → Bool) (os : List ℕ) (topic payload : List ℕ) (h c : ℕ) (xs : List Seat) →
+pub at-most : (dropped : ℕ → Bool) (os : List ℕ) (topic payload : List ℕ) (h c : ℕ) (xs : List Session) →
     ((d : ℕ) → list_any (sits d) xs ≡ true → client_of os d ≡ Some h → d ≡ c) →
     aimed h (offers_of dropped os topic payload xs) ≤ length (filter (sits c) xs)
 at-most dropped os topic payload h c [] one = omega arith
@@ -108,15 +108,15 @@ at-most dropped os topic payload h c (s ∷ xs) one =
     by (is_listening topic s) s.here (λ d e. one d (or_left _ _ e)) (flat_map (given_to topic payload) xs)
     (at-most dropped os topic payload h c xs (λ d e. one d (or_right _ _ e)))
   where
-    sat : (l : Line) (xs : List Seat) (b : Bool) → b ≡ true → (n m : ℕ) → n ≤ m → m ≡ length xs → n + 1 ≤ length (cond b (s ∷ xs) xs)
+    sat : (l : Connection) (xs : List Session) (b : Bool) → b ≡ true → (n m : ℕ) → n ≤ m → m ≡ length xs → n + 1 ≤ length (cond b (s ∷ xs) xs)
     sat l xs true e n m low size = omega (arith, low, size)
     sat l xs false e n m low size = absurd (no-yes e)
 
-    unsat : (xs : List Seat) (b : Bool) → (n : ℕ) → n ≤ length xs → n ≤ length (cond b (s ∷ xs) xs)
+    unsat : (xs : List Session) (b : Bool) → (n : ℕ) → n ≤ length xs → n ≤ length (cond b (s ∷ xs) xs)
     unsat xs true n low = omega (arith, low)
     unsat xs false n low = low
 
-    to : (l : Line) (g : Bool) → is_client h (ring_of dropped (client_of os l.conn)) ≡ g
+    to : (l : Connection) (g : Bool) → is_client h (ring_of dropped (client_of os l.conn)) ≡ g
         → ((d : ℕ) → eqb l.conn d ≡ true → client_of os d ≡ Some h → d ≡ c)
         → (n : ℕ) → n ≤ length (filter (sits c) xs)
         → cond g (n + 1) n ≤ length (cond (eqb l.conn c) (s ∷ filter (sits c) xs) (filter (sits c) xs))
@@ -125,16 +125,16 @@ at-most dropped os topic payload h c (s ∷ xs) one =
         sat l (filter (sits c) xs) (eqb l.conn c) (eq-eqb l.conn c same) n (length (filter (sits c) xs)) low refl
     to l false at own n low = unsat (filter (sits c) xs) (eqb l.conn c) n low
 
-    by : (b : Bool) (here : Option Line) → ((d : ℕ) → option_map_or (λ (l : Line). eqb l.conn d) here false ≡ true → client_of os d ≡ Some h → d ≡ c)
+    by : (b : Bool) (here : Option Connection) → ((d : ℕ) → option_map_or (λ (l : Connection). eqb l.conn d) here false ≡ true → client_of os d ≡ Some h → d ≡ c)
         → (rest : List Send) → aimed h (map (offer_of os dropped) (map outgoing rest)) ≤ length (filter (sits c) xs)
         → aimed h (front dropped os topic payload b here rest)
-        ≤ length (cond (option_map_or (λ (l : Line). eqb l.conn c) here false) (s ∷ filter (sits c) xs) (filter (sits c) xs))
+        ≤ length (cond (option_map_or (λ (l : Connection). eqb l.conn c) here false) (s ∷ filter (sits c) xs) (filter (sits c) xs))
     by true (Some l) own rest low = to l (is_client h (ring_of dropped (client_of os l.conn))) refl own (aimed h (map (offer_of os dropped) (map outgoing rest))) low
     by true None own rest low = low
     by false (Some l) own rest low = unsat (filter (sits c) xs) (eqb l.conn c) _ low
     by false None own rest low = low
 
-pub all-aim : (dropped : ℕ → Bool) (os : List ℕ) (topic payload : List ℕ) (h c : ℕ) (xs : List Seat) →
+pub all-aim : (dropped : ℕ → Bool) (os : List ℕ) (topic payload : List ℕ) (h c : ℕ) (xs : List Session) →
     ((d : ℕ) → list_any (sits d) xs ≡ true → client_of os d ≡ Some h → d ≡ c) →
     Aim h c (offers_of dropped os topic payload xs)
 all-aim dropped os topic payload h c [] one = tt
@@ -142,15 +142,15 @@ all-aim dropped os topic payload h c (s ∷ xs) one =
     by (is_listening topic s) s.here (λ d e. one d (or_left _ _ e)) (flat_map (given_to topic payload) xs)
     (all-aim dropped os topic payload h c xs (λ d e. one d (or_right _ _ e)))
   where
-    by : (b : Bool) (here : Option Line) → ((d : ℕ) → option_map_or (λ (l : Line). eqb l.conn d) here false ≡ true → client_of os d ≡ Some h → d ≡ c)
+    by : (b : Bool) (here : Option Connection) → ((d : ℕ) → option_map_or (λ (l : Connection). eqb l.conn d) here false ≡ true → client_of os d ≡ Some h → d ≡ c)
         → (rest : List Send) → Aim h c (map (offer_of os dropped) (map outgoing rest)) → Aim h c (front dropped os topic payload b here rest)
     by true (Some l) own rest all = ((λ at. own l.conn (eq-eqb l.conn l.conn refl) (goes-to dropped os h l.conn at).0), all)
     by true None own rest all = all
     by false (Some l) own rest all = all
     by false None own rest all = all
 
-pub at-least : (dropped : ℕ → Bool) (os : List ℕ) (topic payload : List ℕ) (h c : ℕ) (xs : List Seat) →
-    list_any (λ (s : Seat). sits c s && is_listening topic s) xs ≡ true → client_of os c ≡ Some h → dropped h ≡ false →
+pub at-least : (dropped : ℕ → Bool) (os : List ℕ) (topic payload : List ℕ) (h c : ℕ) (xs : List Session) →
+    list_any (λ (s : Session). sits c s && is_listening topic s) xs ≡ true → client_of os c ≡ Some h → dropped h ≡ false →
     0 < aimed h (offers_of dropped os topic payload xs)
 at-least dropped os topic payload h c [] e is open_ring = absurd (no-yes e)
 at-least dropped os topic payload h c (s ∷ xs) e is open_ring =
@@ -164,20 +164,20 @@ at-least dropped os topic payload h c (s ∷ xs) e is open_ring =
     here-one d true at same n = omega arith
     here-one d false at same n = absurd (true≢false (sym (subst (λ x. is_client h (ring_of dropped (client_of os x)) ≡ true) (sym same) (goes-there dropped os h c is open_ring)) ∙ at))
 
-    to : (l : Line) (a : Bool) → eqb l.conn c ≡ a → (a && true || list_any (λ (s : Seat). sits c s && is_listening topic s) xs) ≡ true
-        → (n : ℕ) → (list_any (λ (s : Seat). sits c s && is_listening topic s) xs ≡ true → 0 < n)
+    to : (l : Connection) (a : Bool) → eqb l.conn c ≡ a → (a && true || list_any (λ (s : Session). sits c s && is_listening topic s) xs) ≡ true
+        → (n : ℕ) → (list_any (λ (s : Session). sits c s && is_listening topic s) xs ≡ true → 0 < n)
         → 0 < cond (is_client h (ring_of dropped (client_of os l.conn))) (n + 1) n
     to l true at f n rest = here-one l.conn (is_client h (ring_of dropped (client_of os l.conn))) refl (eqb-true l.conn c at) n
     to l false at f n rest = more (is_client h (ring_of dropped (client_of os l.conn))) n (rest f)
 
-    none : (a : Bool) → (a && false || list_any (λ (s : Seat). sits c s && is_listening topic s) xs) ≡ true → list_any (λ (s : Seat). sits c s && is_listening topic s) xs ≡ true
+    none : (a : Bool) → (a && false || list_any (λ (s : Session). sits c s && is_listening topic s) xs) ≡ true → list_any (λ (s : Session). sits c s && is_listening topic s) xs ≡ true
     none true f = f
     none false f = f
 
-    by : (b : Bool) (here : Option Line)
-        → (option_map_or (λ (l : Line). eqb l.conn c) here false && b || list_any (λ (s : Seat). sits c s && is_listening topic s) xs) ≡ true
+    by : (b : Bool) (here : Option Connection)
+        → (option_map_or (λ (l : Connection). eqb l.conn c) here false && b || list_any (λ (s : Session). sits c s && is_listening topic s) xs) ≡ true
         → (rest : List Send)
-        → (list_any (λ (s : Seat). sits c s && is_listening topic s) xs ≡ true → 0 < aimed h (map (offer_of os dropped) (map outgoing rest)))
+        → (list_any (λ (s : Session). sits c s && is_listening topic s) xs ≡ true → 0 < aimed h (map (offer_of os dropped) (map outgoing rest)))
         → 0 < aimed h (front dropped os topic payload b here rest)
     by true (Some l) f rest more = to l (eqb l.conn c) refl f _ more
     by true None f rest more = more f
@@ -185,28 +185,28 @@ at-least dropped os topic payload h c (s ∷ xs) e is open_ring =
     by false None f rest more = more f
 
 -- a session that it goes to listens on a connection of the client
-pub who-listens : (dropped : ℕ → Bool) (os : List ℕ) (topic payload : List ℕ) (h : ℕ) (xs : List Seat) →
+pub who-listens : (dropped : ℕ → Bool) (os : List ℕ) (topic payload : List ℕ) (h : ℕ) (xs : List Session) →
     0 < aimed h (offers_of dropped os topic payload xs) →
-    (d : ℕ) × (client_of os d ≡ Some h) × (dropped h ≡ false) × (list_any (λ (s : Seat). sits d s && is_listening topic s) xs ≡ true)
+    (d : ℕ) × (client_of os d ≡ Some h) × (dropped h ≡ false) × (list_any (λ (s : Session). sits d s && is_listening topic s) xs ≡ true)
 who-listens dropped os topic payload h [] low = absurd (omega (arith, low))
 who-listens dropped os topic payload h (s ∷ xs) low =
     by (is_listening topic s) s.here refl refl (flat_map (given_to topic payload) xs) low (λ f. later (who-listens dropped os topic payload h xs f))
   where
-    Found : List Seat → Type 0
-    Found ys = (d : ℕ) × (client_of os d ≡ Some h) × (dropped h ≡ false) × (list_any (λ (s : Seat). sits d s && is_listening topic s) ys ≡ true)
+    Found : List Session → Type 0
+    Found ys = (d : ℕ) × (client_of os d ≡ Some h) × (dropped h ≡ false) × (list_any (λ (s : Session). sits d s && is_listening topic s) ys ≡ true)
 
     later : Found xs → Found (s ∷ xs)
     later f = (f.0, f.1, f.2, or_right _ _ f.3)
 
-    to : (l : Line) → s.here ≡ Some l → is_listening topic s ≡ true → (g : Bool) → is_client h (ring_of dropped (client_of os l.conn)) ≡ g
+    to : (l : Connection) → s.here ≡ Some l → is_listening topic s ≡ true → (g : Bool) → is_client h (ring_of dropped (client_of os l.conn)) ≡ g
         → (n : ℕ) → 0 < cond g (n + 1) n → (0 < n → Found (s ∷ xs)) → Found (s ∷ xs)
     to l here hears true at n low rest =
         let there = goes-to dropped os h l.conn at in
-        let sat : sits l.conn s ≡ true = ap (λ o. option_map_or (λ (x : Line). eqb x.conn l.conn) o false) here ∙ eq-eqb l.conn l.conn refl in
+        let sat : sits l.conn s ≡ true = ap (λ o. option_map_or (λ (x : Connection). eqb x.conn l.conn) o false) here ∙ eq-eqb l.conn l.conn refl in
         (l.conn, there.0, there.1, or_left _ _ (ap (λ x. x && is_listening topic s) sat ∙ hears))
     to l here hears false at n low rest = rest low
 
-    by : (b : Bool) (here : Option Line) → is_listening topic s ≡ b → s.here ≡ here → (rest : List Send) → 0 < aimed h (front dropped os topic payload b here rest)
+    by : (b : Bool) (here : Option Connection) → is_listening topic s ≡ b → s.here ≡ here → (rest : List Send) → 0 < aimed h (front dropped os topic payload b here rest)
         → (0 < aimed h (map (offer_of os dropped) (map outgoing rest)) → Found (s ∷ xs)) → Found (s ∷ xs)
     by true (Some l) hears at rest low more = to l at hears (is_client h (ring_of dropped (client_of os l.conn))) refl _ low more
     by true None hears at rest low more = more low

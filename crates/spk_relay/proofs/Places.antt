@@ -4,10 +4,10 @@ use Rattle.std.specs.List.{filter, find, list_any, AllByRecursion}
 use Rattle.std.specs.Option.{option_map_or}
 use Rattle.std.proofs.lemmas.Bool.{cases_eq, lt-leb, or_from, or_left, or_right}
 use Rattle.spk_ingress.specs.declared.rule.Message.{Message}
-use Rattle.spk_broker_rules.specs.Data.{Broker, Guest, Line, Seat}
+use Rattle.spk_broker_rules.specs.Data.{Broker, Newcomer, Connection, Session}
 use Rattle.spk_broker_rules.specs.Plan.{Event}
 use Rattle.spk_broker_rules.specs.Plan as event
-use Rattle.spk_broker_rules.specs.Step.{after, is_full, is_guest, knows, open_count, sits}
+use Rattle.spk_broker_rules.specs.Step.{after, is_full, is_newcomer, knows, open_count, sits}
 use Rattle.spk_broker_body.specs.Data.{Input, Says, Breaks, Cuts, Ends, Entry, Took, Accepted, Refused, Passed, Told, Room}
 use Rattle.spk_broker_body.specs.Log.{IsLog, room_of, taken_of}
 use Rattle.spk_broker_body.specs.Step.{called, called_on, client_of, conn_at, known, may_open, next_conn, opened, packet_on, took}
@@ -27,20 +27,20 @@ same-some x y e = cc
 
 -- ---- sessions with a connection
 
-abbrev has_line : Seat → Bool
-has_line s = is_some s.here
+abbrev has_connection : Session → Bool
+has_connection s = is_some s.here
 
-abbrev elsewhere : ℕ → Seat → Bool
+abbrev elsewhere : ℕ → Session → Bool
 elsewhere c s = not (sits c s)
 
-line-conn : (s : Seat) → has_line s ≡ true → (d : ℕ) × (sits d s ≡ true)
-line-conn s e = by s.here e
+connection-conn : (s : Session) → has_connection s ≡ true → (d : ℕ) × (sits d s ≡ true)
+connection-conn s e = by s.here e
   where
-    by : (o : Option Line) → is_some o ≡ true → (d : ℕ) × (option_map_or (λ (l : Line). eqb l.conn d) o false ≡ true)
+    by : (o : Option Connection) → is_some o ≡ true → (d : ℕ) × (option_map_or (λ (l : Connection). eqb l.conn d) o false ≡ true)
     by None e = absurd (no-yes e)
     by (Some l) e = (l.conn, eq-eqb l.conn l.conn refl)
 
-any-kept : (c d : ℕ) (xs : List Seat) → list_any (sits d) (filter (elsewhere c) xs) ≡ true → list_any (sits d) xs ≡ true
+any-kept : (c d : ℕ) (xs : List Session) → list_any (sits d) (filter (elsewhere c) xs) ≡ true → list_any (sits d) xs ≡ true
 any-kept c d [] e = e
 any-kept c d (s ∷ xs) e = by (sits c s) (sits d s) refl e (any-kept c d xs)
   where
@@ -51,7 +51,7 @@ any-kept c d (s ∷ xs) e = by (sits c s) (sits d s) refl e (any-kept c d xs)
     by true false same e rest = rest e
     by false false same e rest = rest (ap (λ x. x || list_any (sits d) (filter (elsewhere c) xs)) (sym same) ∙ e)
 
-none-kept : (c : ℕ) (xs : List Seat) → list_any (sits c) (filter (elsewhere c) xs) ≡ false
+none-kept : (c : ℕ) (xs : List Session) → list_any (sits c) (filter (elsewhere c) xs) ≡ false
 none-kept c [] = refl
 none-kept c (s ∷ xs) = by (sits c s) refl (none-kept c xs)
   where
@@ -59,7 +59,7 @@ none-kept c (s ∷ xs) = by (sits c s) refl (none-kept c xs)
     by true at rest = rest
     by false at rest = or_from _ _ at rest
 
-fewer-kept : (c d : ℕ) (xs : List Seat) → length (filter (sits d) (filter (elsewhere c) xs)) ≤ length (filter (sits d) xs)
+fewer-kept : (c d : ℕ) (xs : List Session) → length (filter (sits d) (filter (elsewhere c) xs)) ≤ length (filter (sits d) xs)
 fewer-kept c d [] = omega arith
 fewer-kept c d (s ∷ xs) = by (sits c s) (sits d s) refl (fewer-kept c d xs)
   where
@@ -74,39 +74,39 @@ fewer-kept c d (s ∷ xs) = by (sits c s) (sits d s) refl (fewer-kept c d xs)
         same false = low
 
 -- those with a connection are those that sit on this one, and the others
-parted : (c : ℕ) (xs : List Seat) → length (filter has_line xs) ≤ length (filter has_line (filter (elsewhere c) xs)) + length (filter (sits c) xs)
+parted : (c : ℕ) (xs : List Session) → length (filter has_connection xs) ≤ length (filter has_connection (filter (elsewhere c) xs)) + length (filter (sits c) xs)
 parted c [] = omega arith
-parted c (s ∷ xs) = by (sits c s) (has_line s) refl (parted c xs)
+parted c (s ∷ xs) = by (sits c s) (has_connection s) refl (parted c xs)
   where
-    by : (a b : Bool) → has_line s ≡ b → length (filter has_line xs) ≤ length (filter has_line (filter (elsewhere c) xs)) + length (filter (sits c) xs) →
-        length (cond b (s ∷ filter has_line xs) (filter has_line xs))
-        ≤ length (filter has_line (cond (not a) (s ∷ filter (elsewhere c) xs) (filter (elsewhere c) xs))) + length (cond a (s ∷ filter (sits c) xs) (filter (sits c) xs))
+    by : (a b : Bool) → has_connection s ≡ b → length (filter has_connection xs) ≤ length (filter has_connection (filter (elsewhere c) xs)) + length (filter (sits c) xs) →
+        length (cond b (s ∷ filter has_connection xs) (filter has_connection xs))
+        ≤ length (filter has_connection (cond (not a) (s ∷ filter (elsewhere c) xs) (filter (elsewhere c) xs))) + length (cond a (s ∷ filter (sits c) xs) (filter (sits c) xs))
     by true true at low = omega (arith, low)
     by true false at low = omega (arith, low)
-    by false b at low = subst (λ x. length (cond b (s ∷ filter has_line xs) (filter has_line xs)) ≤ length (cond x (s ∷ filter has_line (filter (elsewhere c) xs)) (filter has_line (filter (elsewhere c) xs))) + length (filter (sits c) xs))
+    by false b at low = subst (λ x. length (cond b (s ∷ filter has_connection xs) (filter has_connection xs)) ≤ length (cond x (s ∷ filter has_connection (filter (elsewhere c) xs)) (filter has_connection (filter (elsewhere c) xs))) + length (filter (sits c) xs))
         (sym at) (same b)
       where
-        same : (b : Bool) → length (cond b (s ∷ filter has_line xs) (filter has_line xs)) ≤ length (cond b (s ∷ filter has_line (filter (elsewhere c) xs)) (filter has_line (filter (elsewhere c) xs))) + length (filter (sits c) xs)
+        same : (b : Bool) → length (cond b (s ∷ filter has_connection xs) (filter has_connection xs)) ≤ length (cond b (s ∷ filter has_connection (filter (elsewhere c) xs)) (filter has_connection (filter (elsewhere c) xs))) + length (filter (sits c) xs)
         same true = omega (arith, low)
         same false = low
 
 -- a session with a connection, whose client is one of the first so many, which has never other
-abbrev pub HasClient : (ℕ → Option ℕ) → ℕ → List Seat → Type 0
+abbrev pub HasClient : (ℕ → Option ℕ) → ℕ → List Session → Type 0
 HasClient last m xs = (d : ℕ) → list_any (sits d) xs ≡ true → (j : ℕ) × (j < m) × (last j ≡ Some d)
 
-no-lines : (last : ℕ → Option ℕ) (xs : List Seat) → HasClient last 0 xs → length (filter has_line xs) ≤ 0
-no-lines last [] each = omega arith
-no-lines last (s ∷ xs) each = by (has_line s) refl (no-lines last xs (λ d e. each d (or_right _ _ e)))
+no-connections : (last : ℕ → Option ℕ) (xs : List Session) → HasClient last 0 xs → length (filter has_connection xs) ≤ 0
+no-connections last [] each = omega arith
+no-connections last (s ∷ xs) each = by (has_connection s) refl (no-connections last xs (λ d e. each d (or_right _ _ e)))
   where
-    by : (b : Bool) → has_line s ≡ b → length (filter has_line xs) ≤ 0 → length (cond b (s ∷ filter has_line xs) (filter has_line xs)) ≤ 0
-    by true at rest = let d = line-conn s at in let j = each d.0 (or_left _ _ d.1) in absurd (let low = j.1 in omega (arith, low))
+    by : (b : Bool) → has_connection s ≡ b → length (filter has_connection xs) ≤ 0 → length (cond b (s ∷ filter has_connection xs) (filter has_connection xs)) ≤ 0
+    by true at rest = let d = connection-conn s at in let j = each d.0 (or_left _ _ d.1) in absurd (let low = j.1 in omega (arith, low))
     by false at rest = rest
 
-few-lines : (last : ℕ → Option ℕ) (m : ℕ) (xs : List Seat) → HasClient last m xs → ((d : ℕ) → length (filter (sits d) xs) ≤ 1) → length (filter has_line xs) ≤ m
-few-lines last zero xs each once = no-lines last xs each
-few-lines last (suc m) xs each once = by (last m) refl (few-lines last m)
+few-connections : (last : ℕ → Option ℕ) (m : ℕ) (xs : List Session) → HasClient last m xs → ((d : ℕ) → length (filter (sits d) xs) ≤ 1) → length (filter has_connection xs) ≤ m
+few-connections last zero xs each once = no-connections last xs each
+few-connections last (suc m) xs each once = by (last m) refl (few-connections last m)
   where
-    by : (o : Option ℕ) → last m ≡ o → ((ys : List Seat) → HasClient last m ys → ((d : ℕ) → length (filter (sits d) ys) ≤ 1) → length (filter has_line ys) ≤ m) → length (filter has_line xs) ≤ suc m
+    by : (o : Option ℕ) → last m ≡ o → ((ys : List Session) → HasClient last m ys → ((d : ℕ) → length (filter (sits d) ys) ≤ 1) → length (filter has_connection ys) ≤ m) → length (filter has_connection xs) ≤ suc m
     by None at fewer =
         let low = fewer xs (λ d e. let j = each d e in (j.0, below j.0 j.1 (λ same. some-none d (sym at ∙ ap last (sym same) ∙ j.2)), j.2)) once in
         omega (arith, low)
@@ -147,15 +147,15 @@ none-zero : Facts → (limit : ℕ) (es : List Event) → knows (after limit es)
 none-zero f limit [] = refl
 none-zero f limit (e ∷ es) = f.gone (after limit es) 0 e (f.lawful limit es) (omega arith) (none-zero f limit es)
 
-count-waits : (c : ℕ) (gs : List Guest) → list_any (is_guest c) gs ≡ true → 1 ≤ length (filter (is_guest c) gs)
+count-waits : (c : ℕ) (gs : List Newcomer) → list_any (is_newcomer c) gs ≡ true → 1 ≤ length (filter (is_newcomer c) gs)
 count-waits c [] e = absurd (no-yes e)
-count-waits c (x ∷ xs) e = by (is_guest c x) refl (count-waits c xs)
+count-waits c (x ∷ xs) e = by (is_newcomer c x) refl (count-waits c xs)
   where
-    by : (b : Bool) → is_guest c x ≡ b → (list_any (is_guest c) xs ≡ true → 1 ≤ length (filter (is_guest c) xs)) → 1 ≤ length (cond b (x ∷ filter (is_guest c) xs) (filter (is_guest c) xs))
+    by : (b : Bool) → is_newcomer c x ≡ b → (list_any (is_newcomer c) xs ≡ true → 1 ≤ length (filter (is_newcomer c) xs)) → 1 ≤ length (cond b (x ∷ filter (is_newcomer c) xs) (filter (is_newcomer c) xs))
     by true at rest = omega arith
-    by false at rest = rest (sym (ap (λ b. b || list_any (is_guest c) xs) at) ∙ e)
+    by false at rest = rest (sym (ap (λ b. b || list_any (is_newcomer c) xs) at) ∙ e)
 
-count-sits : (c : ℕ) (ss : List Seat) → is_some (find (sits c) ss) ≡ true → 1 ≤ length (filter (sits c) ss)
+count-sits : (c : ℕ) (ss : List Session) → is_some (find (sits c) ss) ≡ true → 1 ≤ length (filter (sits c) ss)
 count-sits c [] e = absurd (no-yes e)
 count-sits c (x ∷ xs) e = by (sits c x) refl (count-sits c xs)
   where
@@ -164,16 +164,16 @@ count-sits c (x ∷ xs) e = by (sits c x) refl (count-sits c xs)
     by false at rest = rest (sym (ap (λ b. is_some (cond b (Some x) (find (sits c) xs))) at) ∙ e)
 
 -- nobody waits for its first packet
-no-guests : Facts → (limit : ℕ) (es : List Event) → AllJoined (after limit es) → length (after limit es).guests ≤ 0
-no-guests f limit es all = by (after limit es).guests refl
+no-newcomers : Facts → (limit : ℕ) (es : List Event) → AllJoined (after limit es) → length (after limit es).newcomers ≤ 0
+no-newcomers f limit es all = by (after limit es).newcomers refl
   where
-    by : (gs : List Guest) → (after limit es).guests ≡ gs → length gs ≤ 0
+    by : (gs : List Newcomer) → (after limit es).newcomers ≡ gs → length gs ≤ 0
     by [] at = omega arith
     by (g ∷ gs) at =
-        let waits : list_any (is_guest g.conn) (after limit es).guests ≡ true = ap (list_any (is_guest g.conn)) at ∙ or_left _ _ (eq-eqb g.conn g.conn refl) in
+        let waits : list_any (is_newcomer g.conn) (after limit es).newcomers ≡ true = ap (list_any (is_newcomer g.conn)) at ∙ or_left _ _ (eq-eqb g.conn g.conn refl) in
         let sat = all g.conn (or_left _ _ waits) in
-        let a = count-waits g.conn (after limit es).guests waits in
-        let b = count-sits g.conn (after limit es).seats sat in
+        let a = count-waits g.conn (after limit es).newcomers waits in
+        let b = count-sits g.conn (after limit es).sessions sat in
         let z = (f.lawful limit es).apart g.conn in
         absurd (omega (arith, a, b, z))
 
@@ -238,14 +238,14 @@ not-full : Facts → (limit : ℕ) (on : List ℕ → Bool) (m n : ℕ) (r : Roo
     is_full (after limit r.events) ≡ false
 not-full f limit on m n r few counted openers b all =
     or_from (leb 1000 (open_count b0)) (leb 18446744073709551615 b0.given)
-    (lt-leb 1000 (open_count b0) (let g = guests in let s = lines in omega (arith, g, s, few)))
+    (lt-leb 1000 (open_count b0) (let g = newcomers in let s = connections in omega (arith, g, s, few)))
     (lt-leb 18446744073709551615 b0.given (let o = openers.few in let z = b.sized in omega (arith, o, z, counted)))
   where
     b0 : Broker
     b0 = after limit r.events
 
-    guests : length b0.guests ≤ 0
-    guests = no-guests f limit r.events all
+    newcomers : length b0.newcomers ≤ 0
+    newcomers = no-newcomers f limit r.events all
 
     positive : (d : ℕ) → knows b0 d ≡ true → 0 < d
     positive d there = elim (cases_eq d 0) [
@@ -253,16 +253,16 @@ not-full f limit on m n r few counted openers b all =
       | inr other ↦ omega (arith, other)
     ]
 
-    each : HasClient r.last m b0.seats
+    each : HasClient r.last m b0.sessions
     each d e =
-        let there = joined-known b0 d (sat-found d b0.seats e) in
+        let there = joined-known b0 d (sat-found d b0.sessions e) in
         let low = known-low b0 d (f.lawful limit r.events) there in
         let size = b.sized in
         let j = client-low m r.openers d openers.clients (positive d there) (omega (arith, low, size)) in
         (j.0, j.2, b.newest j.0 d there j.1)
 
-    lines : length (filter has_line b0.seats) ≤ m
-    lines = few-lines r.last m b0.seats each (λ d. let a = (f.lawful limit r.events).apart d in omega (arith, a))
+    connections : length (filter has_connection b0.sessions) ≤ m
+    connections = few-connections r.last m b0.sessions each (λ d. let a = (f.lawful limit r.events).apart d in omega (arith, a))
 
 pub places-of : Facts → (limit edges : ℕ) (on : List ℕ → Bool) (k : ℕ) → limit ≤ 65535 → (l : List Entry) → IsLog limit edges l → AllMaySay on k edges l → AreSenders edges (taken_of l) → HasPlaces limit edges l
 places-of f limit edges on k small [] log says senders = tt

@@ -8,11 +8,11 @@ use Rattle.spk_packets.specs.Spelling.{unwritable}
 use Rattle.spk_session.specs.declared.answer.Sort.TheVariants as sort
 use Rattle.spk_session.specs.PacketIds.{next_id}
 use Rattle.spk_session.specs.Step.{has_room}
-use Rattle.spk_broker_rules.specs.Data.{Broker, Copy, Guest, Line, Post, Seat, Send}
+use Rattle.spk_broker_rules.specs.Data.{Broker, InFlight, Newcomer, Connection, AppMessage, Session, Send}
 use Rattle.spk_broker_rules.specs.Plan as event
 use Rattle.spk_broker_rules.specs.Plan.{Act, Event, Seen, plan, before}
-use Rattle.spk_broker_rules.specs.Step.{Turn, accept_of, act, acts, begun, bursts, conn_at, give_at, hand, hand_at, leave_at, forget_at, most, noted, numbered, offer, offer_at, other_grants, route, route_one, route_some, seen, serve, serve_at, step, take_at, ack_at, take_up, with_key, away_for, line_of, seat_at, swap, with_seats}
-use Rattle.spk_broker_rules.specs.Words.{best, codes_of, granted_of, level, numbered_packet, offers_to, with_entry, option_list, plain_packet, resent, sent_as, to_line}
+use Rattle.spk_broker_rules.specs.Step.{Turn, accept_of, act, acts, begun, bursts, conn_at, give_at, hand, hand_at, leave_at, forget_at, most, noted, numbered, offer, offer_at, other_grants, route, route_one, route_some, seen, serve, serve_at, step, take_at, ack_at, take_up, with_key, away_for, connection_of, session_by, swap, with_sessions}
+use Rattle.spk_broker_rules.specs.Words.{best, codes_of, granted_of, level, numbered_packet, offers_to, with_entry, option_list, plain_packet, resent, sent_as, to_connection}
 use Rattle.spk_broker_body.specs.Data.{Input, Says, Breaks, Cuts, Ends}
 
 -- a CONNACK of code 0, and a PUBLISH at QoS 0 or 1
@@ -36,35 +36,35 @@ pub kind-append : (xs ys : List Send) → AreKind xs → AreKind ys → AreKind 
 kind-append [] ys x y = y
 kind-append (s ∷ xs) ys x y = (x.0, kind-append xs ys x.1 y)
 
-kind-line : (o : Option ℕ) (p : Packet) → IsKind p → AreKind (to_line o p)
-kind-line None p k = tt
-kind-line (Some conn) p k = (k, tt)
+kind-connection : (o : Option ℕ) (p : Packet) → IsKind p → AreKind (to_connection o p)
+kind-connection None p k = tt
+kind-connection (Some conn) p k = (k, tt)
 
-kind-hand : (q : ℕ) (post : Post) (s : Seat) → AreKind (hand_at q post s).sends
-kind-hand zero post s = kind-line (conn_at s) (plain_packet post) (omega arith)
-kind-hand (suc q) post s = by (has_room s.used)
+kind-hand : (q : ℕ) (app_message : AppMessage) (s : Session) → AreKind (hand_at q app_message s).sends
+kind-hand zero app_message s = kind-connection (conn_at s) (plain_packet app_message) (omega arith)
+kind-hand (suc q) app_message s = by (has_room s.used)
   where
-    by : (b : Bool) → AreKind (cond b (numbered s post (next_id s.used s.last)) (bursts s)).sends
-    by true = kind-line (conn_at s) (numbered_packet false (next_id s.used s.last) post) (omega arith)
+    by : (b : Bool) → AreKind (cond b (numbered s app_message (next_id s.used s.last)) (bursts s)).sends
+    by true = kind-connection (conn_at s) (numbered_packet false (next_id s.used s.last) app_message) (omega arith)
     by false = tt
 
-kind-serve : (m : Post) (s : Seat) → AreKind (serve m s).sends
+kind-serve : (m : AppMessage) (s : Session) → AreKind (serve m s).sends
 kind-serve m s = by (level m.qos (best m.topic s.grants))
   where
     by : (o : Option ℕ) → AreKind (serve_at o m s).sends
     by None = tt
     by (Some q) = kind-hand (sent_as m q false).qos (sent_as m q false) s
 
-kind-all : (m : Post) (ss : List Seat) → AreKind (flat_map (λ (s : Seat). (serve m s).sends) ss)
+kind-all : (m : AppMessage) (ss : List Session) → AreKind (flat_map (λ (s : Session). (serve m s).sends) ss)
 kind-all m [] = tt
-kind-all m (s ∷ ss) = kind-append (serve m s).sends (flat_map (λ (x : Seat). (serve m x).sends) ss) (kind-serve m s) (kind-all m ss)
+kind-all m (s ∷ ss) = kind-append (serve m s).sends (flat_map (λ (x : Session). (serve m x).sends) ss) (kind-serve m s) (kind-all m ss)
 
 kind-some : (n : ℕ) (t : Turn) → AreKind t.sends → AreKind (route_some n t).sends
 unfolding route_some
 kind-some zero t k = k
-kind-some (suc n) t k = by t.waiting (λ m ms. kind-some n (route_one m (record t { waiting = ms })) (kind-append t.sends (flat_map (λ (s : Seat). (serve m s).sends) t.broker.seats) k (kind-all m t.broker.seats)))
+kind-some (suc n) t k = by t.waiting (λ m ms. kind-some n (route_one m (record t { waiting = ms })) (kind-append t.sends (flat_map (λ (s : Session). (serve m s).sends) t.broker.sessions) k (kind-all m t.broker.sessions)))
   where
-    by : (ws : List Post) → ((m : Post) (ms : List Post) → AreKind (route_some n (route_one m (record t { waiting = ms }))).sends) →
+    by : (ws : List AppMessage) → ((m : AppMessage) (ms : List AppMessage) → AreKind (route_some n (route_one m (record t { waiting = ms }))).sends) →
         AreKind (elim ws as (λ _. Turn) [ [] ↦ t | m ∷ ms ↦ route_some n (route_one m (record t { waiting = ms })) ]).sends
     by [] rest = k
     by (m ∷ ms) rest = rest m ms
@@ -73,39 +73,39 @@ kind-route : (t : Turn) → AreKind t.sends → AreKind (route t).sends
 unfolding route
 kind-route t k = kind-some (most t) t k
 
-kind-resent : (conn : ℕ) (copies : List Copy) → AreKind (resent conn copies)
+kind-resent : (conn : ℕ) (in_flight : List InFlight) → AreKind (resent conn in_flight)
 kind-resent conn [] = tt
 kind-resent conn (c ∷ cs) = (omega arith, kind-resent conn cs)
 
-kind-take-up : (o : Option Seat) (client : List ℕ) (kept : Bool) (line : Line) (t : Turn) → AreKind t.sends → AreKind (take_up o client kept line t).sends
-kind-take-up None client kept line t k = kind-append t.sends _ k (refl, tt)
-kind-take-up (Some s) client kept line t k = kind-append t.sends _ k (refl, kind-resent line.conn s.copies)
+kind-take-up : (o : Option Session) (client : List ℕ) (kept : Bool) (connection : Connection) (t : Turn) → AreKind t.sends → AreKind (take_up o client kept connection t).sends
+kind-take-up None client kept connection t k = kind-append t.sends _ k (refl, tt)
+kind-take-up (Some s) client kept connection t k = kind-append t.sends _ k (refl, kind-resent connection.conn s.in_flight)
 
-kind-accept : (o : Option Guest) (client : List ℕ) (kept : Bool) (alive : ℕ) (will : Option Post) (t : Turn) → AreKind t.sends → AreKind (accept_of o client kept alive will t).sends
+kind-accept : (o : Option Newcomer) (client : List ℕ) (kept : Bool) (alive : ℕ) (will : Option AppMessage) (t : Turn) → AreKind t.sends → AreKind (accept_of o client kept alive will t).sends
 kind-accept None client kept alive will t k = k
-kind-accept (Some g) client kept alive will t k = kind-take-up (away_for kept client t.broker.seats) client kept (line_of g alive will) t k
+kind-accept (Some g) client kept alive will t k = kind-take-up (away_for kept client t.broker.sessions) client kept (connection_of g alive will) t k
 
-kind-offer : (key : ℕ) (t : Turn) (post : Post) → AreKind t.sends → AreKind (offer key t post).sends
-kind-offer key t post k = by (with_key key t.broker.seats)
+kind-offer : (key : ℕ) (t : Turn) (app_message : AppMessage) → AreKind t.sends → AreKind (offer key t app_message).sends
+kind-offer key t app_message k = by (with_key key t.broker.sessions)
   where
-    by : (o : Option Seat) → AreKind (offer_at o key post t).sends
+    by : (o : Option Session) → AreKind (offer_at o key app_message t).sends
     by None = k
-    by (Some s) = kind-append t.sends (hand post s).sends k (kind-hand post.qos post s)
+    by (Some s) = kind-append t.sends (hand app_message s).sends k (kind-hand app_message.qos app_message s)
 
-kind-fold : (key : ℕ) (posts : List Post) (t : Turn) → AreKind t.sends → AreKind (fold (offer key) t posts).sends
+kind-fold : (key : ℕ) (app_messages : List AppMessage) (t : Turn) → AreKind t.sends → AreKind (fold (offer key) t app_messages).sends
 kind-fold key [] t k = k
 kind-fold key (p ∷ ps) t k = kind-fold key ps (offer key t p) (kind-offer key t p k)
 
 abbrev suback : (conn id : ℕ) → List ℕ → List Send
 suback conn id given = (record { conn = conn; packet = SubAck id given }) ∷ []
 
-kind-give : (o : Option Seat) (conn id : ℕ) (entries : List (List ℕ × ℕ)) (t : Turn) → AreKind t.sends → AreKind (give_at o conn id entries t).sends
+kind-give : (o : Option Session) (conn id : ℕ) (entries : List (List ℕ × ℕ)) (t : Turn) → AreKind t.sends → AreKind (give_at o conn id entries t).sends
 kind-give None conn id entries t k = k
-kind-give (Some s) conn id entries t k = kind-fold s.key (flat_map (offers_to t.broker.retained) (granted_of (other_grants s t.broker.seats) s.grants entries))
-    (record (with_seats (swap s.key ((record s { grants = fold (with_entry (other_grants s t.broker.seats)) s.grants entries }) ∷ []) t.broker.seats) t) {
-      sends = t.sends ++ suback conn id (codes_of (other_grants s t.broker.seats) s.grants entries);
+kind-give (Some s) conn id entries t k = kind-fold s.key (flat_map (offers_to t.broker.retained) (granted_of (other_grants s t.broker.sessions) s.grants entries))
+    (record (with_sessions (swap s.key ((record s { grants = fold (with_entry (other_grants s t.broker.sessions)) s.grants entries }) ∷ []) t.broker.sessions) t) {
+      sends = t.sends ++ suback conn id (codes_of (other_grants s t.broker.sessions) s.grants entries);
     })
-    (kind-append t.sends (suback conn id (codes_of (other_grants s t.broker.seats) s.grants entries)) k (tt, tt))
+    (kind-append t.sends (suback conn id (codes_of (other_grants s t.broker.sessions) s.grants entries)) k (tt, tt))
 
 -- ---- acts
 
@@ -117,7 +117,7 @@ IsKindAct (event.Hear conn) = Unit {0}
 IsKindAct (event.Drop conn) = Unit {0}
 IsKindAct (event.Leave conn wills) = Unit {0}
 IsKindAct (event.Tell conn) = Unit {0}
-IsKindAct (event.Queue post) = Unit {0}
+IsKindAct (event.Queue app_message) = Unit {0}
 IsKindAct event.Route = Unit {0}
 IsKindAct (event.Forget client) = Unit {0}
 IsKindAct (event.Accept conn client kept alive will) = Unit {0}
@@ -135,29 +135,29 @@ kind-act event.Opens t good k = k
 kind-act (event.At moment) t good k = k
 kind-act (event.Hear conn) t good k = k
 kind-act (event.Drop conn) t good k = k
-kind-act (event.Leave conn wills) t good k = by (seat_at conn t.broker.seats)
+kind-act (event.Leave conn wills) t good k = by (session_by conn t.broker.sessions)
   where
-    by : (o : Option Seat) → AreKind (leave_at o conn wills t).sends
+    by : (o : Option Session) → AreKind (leave_at o conn wills t).sends
     by None = k
     by (Some s) = k
 kind-act (event.Tell conn) t good k = k
-kind-act (event.Queue post) t good k = k
+kind-act (event.Queue app_message) t good k = k
 kind-act event.Route t good k = kind-route t k
 kind-act (event.Forget client) t good k = by _
   where
-    by : (o : Option Seat) → AreKind (forget_at o t).sends
+    by : (o : Option Session) → AreKind (forget_at o t).sends
     by None = k
     by (Some s) = k
 kind-act (event.Accept conn client kept alive will) t good k = kind-accept _ client kept alive will t k
 kind-act (event.Give conn id entries) t good k = kind-give _ conn id entries t k
 kind-act (event.Take conn filters) t good k = by _
   where
-    by : (o : Option Seat) → AreKind (take_at o filters t).sends
+    by : (o : Option Session) → AreKind (take_at o filters t).sends
     by None = k
     by (Some s) = k
 kind-act (event.Ack conn id) t good k = by _
   where
-    by : (o : Option Seat) → AreKind (ack_at o id t).sends
+    by : (o : Option Session) → AreKind (ack_at o id t).sends
     by None = k
     by (Some s) = k
 
@@ -202,18 +202,18 @@ acts-cond : (b : Bool) (xs ys : List Act) → AreKindActs xs → AreKindActs ys 
 acts-cond true xs ys x y = x
 acts-cond false xs ys x y = y
 
-kind-join : (older : Option ℕ) (conn : ℕ) (client : List ℕ) (clean : Bool) (alive : ℕ) (will : Option Post) → AreKindActs (event.join older conn client clean alive will)
+kind-join : (older : Option ℕ) (conn : ℕ) (client : List ℕ) (clean : Bool) (alive : ℕ) (will : Option AppMessage) → AreKindActs (event.join older conn client clean alive will)
 kind-join None conn client clean alive will = acts-append (cond clean (event.Forget client ∷ []) []) _ (acts-cond clean (event.Forget client ∷ []) [] (tt, tt) tt) (tt, tt)
 kind-join (Some older) conn client clean alive will = (tt, (tt, acts-append (cond clean (event.Forget client ∷ []) []) _ (acts-cond clean (event.Forget client ∷ []) [] (tt, tt) tt) (tt, (tt, tt))))
 
 kind-connect : (s : Seen) (conn : ℕ) (client : List ℕ) (alive : ℕ) (will : Option WillData) → AreKindActs (event.connect s conn client true alive will)
 kind-connect s conn client alive will = by (Rattle.spk_packets.specs.Spelling.is_empty client) (event.has_bad_topic will)
   where
-    by : (a b : Bool) → AreKindActs (cond (a && false) (event.turn_away conn 2) (cond b (event.shut conn) (event.join s.older conn client true alive (option_map Rattle.spk_broker_rules.specs.Words.will_post will))))
+    by : (a b : Bool) → AreKindActs (cond (a && false) (event.turn_away conn 2) (cond b (event.shut conn) (event.join s.older conn client true alive (option_map Rattle.spk_broker_rules.specs.Words.will_message will))))
     by true true = (tt, (tt, (tt, tt)))
     by false true = (tt, (tt, (tt, tt)))
-    by true false = kind-join s.older conn client true alive (option_map Rattle.spk_broker_rules.specs.Words.will_post will)
-    by false false = kind-join s.older conn client true alive (option_map Rattle.spk_broker_rules.specs.Words.will_post will)
+    by true false = kind-join s.older conn client true alive (option_map Rattle.spk_broker_rules.specs.Words.will_message will)
+    by false false = kind-join s.older conn client true alive (option_map Rattle.spk_broker_rules.specs.Words.will_message will)
 
 kind-first : (s : Seen) (conn : ℕ) (p : Packet) → JoinsClean p → AreKindActs (event.first_packet s conn p)
 kind-first s conn (Connect client clean alive will) good = subst (λ b. AreKindActs (event.connect s conn client b alive will)) (sym good) (kind-connect s conn client alive will)
@@ -232,12 +232,12 @@ kind-puback : (conn : ℕ) (id : Option ℕ) → AreKindActs (event.puback conn 
 kind-puback conn None = tt
 kind-puback conn (Some id) = (tt, tt)
 
-kind-publish : (conn : ℕ) (id : Option ℕ) (post : Post) → AreKindActs (event.publish conn id post)
-kind-publish conn id post = by (is_some (Rattle.spk_topics.specs.Text.topic_refusal post.topic))
+kind-publish : (conn : ℕ) (id : Option ℕ) (app_message : AppMessage) → AreKindActs (event.publish conn id app_message)
+kind-publish conn id app_message = by (is_some (Rattle.spk_topics.specs.Text.topic_refusal app_message.topic))
   where
-    by : (b : Bool) → AreKindActs (cond b (event.shut conn) (event.puback conn id ++ event.Queue post ∷ event.Route ∷ []))
+    by : (b : Bool) → AreKindActs (cond b (event.shut conn) (event.puback conn id ++ event.Queue app_message ∷ event.Route ∷ []))
     by true = (tt, (tt, (tt, tt)))
-    by false = acts-append (event.puback conn id) (event.Queue post ∷ event.Route ∷ []) (kind-puback conn id) (tt, (tt, tt))
+    by false = acts-append (event.puback conn id) (event.Queue app_message ∷ event.Route ∷ []) (kind-puback conn id) (tt, (tt, tt))
 
 kind-next : (s : Seen) (conn : ℕ) (p : Packet) → AreKindActs (event.next_packet s conn p)
 kind-next s conn (Connect client clean alive will) = (tt, (tt, (tt, tt)))

@@ -9,11 +9,11 @@ use Rattle.spk_topics.specs.Text.{filter_refusal, topic_refusal}
 use Rattle.spk_session.specs.declared.answer.Sort.TheVariants as sort
 use Rattle.spk_session.specs.PacketIds.{next_id}
 use Rattle.spk_session.specs.Step.{has_room}
-use Rattle.spk_broker_rules.specs.Data.{Broker, Copy, Guest, Line, Post, Seat, Send}
+use Rattle.spk_broker_rules.specs.Data.{Broker, InFlight, Newcomer, Connection, AppMessage, Session, Send}
 use Rattle.spk_broker_rules.specs.Plan as event
 use Rattle.spk_broker_rules.specs.Plan.{Act, Event, Seen, plan, before}
-use Rattle.spk_broker_rules.specs.Step.{Turn, accept_of, act, acts, begun, bursts, conn_at, give_at, hand, hand_at, leave_at, forget_at, most, noted, numbered, offer, offer_at, other_grants, route, route_one, route_some, seen, serve, serve_at, step, take_at, ack_at, take_up, with_key, away_for, line_of, seat_at, swap, with_seats}
-use Rattle.spk_broker_rules.specs.Words.{best, codes_of, granted_of, level, numbered_packet, offers_to, with_entry, plain_packet, resent, sent_as, to_line, will_post}
+use Rattle.spk_broker_rules.specs.Step.{Turn, accept_of, act, acts, begun, bursts, conn_at, give_at, hand, hand_at, leave_at, forget_at, most, noted, numbered, offer, offer_at, other_grants, route, route_one, route_some, seen, serve, serve_at, step, take_at, ack_at, take_up, with_key, away_for, connection_of, session_by, swap, with_sessions}
+use Rattle.spk_broker_rules.specs.Words.{best, codes_of, granted_of, level, numbered_packet, offers_to, with_entry, plain_packet, resent, sent_as, to_connection, will_message}
 
 abbrev pub HasMark : ℕ → Option ℕ → Type 0
 HasMark qos None = qos ≡ 0
@@ -41,35 +41,35 @@ mark-append (s ∷ xs) ys x y = (x.0, mark-append xs ys x.1 y)
 
 -- ---- what is handed to a session
 
-mark-line : (o : Option ℕ) (p : Packet) → IsMarked p → AreMarked (to_line o p)
-mark-line None p k = tt
-mark-line (Some conn) p k = (k, tt)
+mark-connection : (o : Option ℕ) (p : Packet) → IsMarked p → AreMarked (to_connection o p)
+mark-connection None p k = tt
+mark-connection (Some conn) p k = (k, tt)
 
-mark-hand : (q : ℕ) (post : Post) (s : Seat) → AreMarked (hand_at q post s).sends
-mark-hand zero post s = mark-line (conn_at s) (plain_packet post) refl
-mark-hand (suc q) post s = by (has_room s.used)
+mark-hand : (q : ℕ) (app_message : AppMessage) (s : Session) → AreMarked (hand_at q app_message s).sends
+mark-hand zero app_message s = mark-connection (conn_at s) (plain_packet app_message) refl
+mark-hand (suc q) app_message s = by (has_room s.used)
   where
-    by : (b : Bool) → AreMarked (cond b (numbered s post (next_id s.used s.last)) (bursts s)).sends
-    by true = mark-line (conn_at s) (numbered_packet false (next_id s.used s.last) post) refl
+    by : (b : Bool) → AreMarked (cond b (numbered s app_message (next_id s.used s.last)) (bursts s)).sends
+    by true = mark-connection (conn_at s) (numbered_packet false (next_id s.used s.last) app_message) refl
     by false = tt
 
-mark-serve : (m : Post) (s : Seat) → AreMarked (serve m s).sends
+mark-serve : (m : AppMessage) (s : Session) → AreMarked (serve m s).sends
 mark-serve m s = by (level m.qos (best m.topic s.grants))
   where
     by : (o : Option ℕ) → AreMarked (serve_at o m s).sends
     by None = tt
     by (Some q) = mark-hand (sent_as m q false).qos (sent_as m q false) s
 
-mark-all : (m : Post) (ss : List Seat) → AreMarked (flat_map (λ (s : Seat). (serve m s).sends) ss)
+mark-all : (m : AppMessage) (ss : List Session) → AreMarked (flat_map (λ (s : Session). (serve m s).sends) ss)
 mark-all m [] = tt
-mark-all m (s ∷ ss) = mark-append (serve m s).sends (flat_map (λ (x : Seat). (serve m x).sends) ss) (mark-serve m s) (mark-all m ss)
+mark-all m (s ∷ ss) = mark-append (serve m s).sends (flat_map (λ (x : Session). (serve m x).sends) ss) (mark-serve m s) (mark-all m ss)
 
 mark-some : (n : ℕ) (t : Turn) → AreMarked t.sends → AreMarked (route_some n t).sends
 unfolding route_some
 mark-some zero t k = k
-mark-some (suc n) t k = by t.waiting (λ m ms. mark-some n (route_one m (record t { waiting = ms })) (mark-append t.sends (flat_map (λ (s : Seat). (serve m s).sends) t.broker.seats) k (mark-all m t.broker.seats)))
+mark-some (suc n) t k = by t.waiting (λ m ms. mark-some n (route_one m (record t { waiting = ms })) (mark-append t.sends (flat_map (λ (s : Session). (serve m s).sends) t.broker.sessions) k (mark-all m t.broker.sessions)))
   where
-    by : (ws : List Post) → ((m : Post) (ms : List Post) → AreMarked (route_some n (route_one m (record t { waiting = ms }))).sends) →
+    by : (ws : List AppMessage) → ((m : AppMessage) (ms : List AppMessage) → AreMarked (route_some n (route_one m (record t { waiting = ms }))).sends) →
         AreMarked (elim ws as (λ _. Turn) [ [] ↦ t | m ∷ ms ↦ route_some n (route_one m (record t { waiting = ms })) ]).sends
     by [] rest = k
     by (m ∷ ms) rest = rest m ms
@@ -78,39 +78,39 @@ mark-route : (t : Turn) → AreMarked t.sends → AreMarked (route t).sends
 unfolding route
 mark-route t k = mark-some (most t) t k
 
-mark-resent : (conn : ℕ) (copies : List Copy) → AreMarked (resent conn copies)
+mark-resent : (conn : ℕ) (in_flight : List InFlight) → AreMarked (resent conn in_flight)
 mark-resent conn [] = tt
 mark-resent conn (c ∷ cs) = (refl, mark-resent conn cs)
 
-mark-take-up : (o : Option Seat) (client : List ℕ) (kept : Bool) (line : Line) (t : Turn) → AreMarked t.sends → AreMarked (take_up o client kept line t).sends
-mark-take-up None client kept line t k = mark-append t.sends _ k (tt, tt)
-mark-take-up (Some s) client kept line t k = mark-append t.sends _ k (tt, mark-resent line.conn s.copies)
+mark-take-up : (o : Option Session) (client : List ℕ) (kept : Bool) (connection : Connection) (t : Turn) → AreMarked t.sends → AreMarked (take_up o client kept connection t).sends
+mark-take-up None client kept connection t k = mark-append t.sends _ k (tt, tt)
+mark-take-up (Some s) client kept connection t k = mark-append t.sends _ k (tt, mark-resent connection.conn s.in_flight)
 
-mark-accept : (o : Option Guest) (client : List ℕ) (kept : Bool) (alive : ℕ) (will : Option Post) (t : Turn) → AreMarked t.sends → AreMarked (accept_of o client kept alive will t).sends
+mark-accept : (o : Option Newcomer) (client : List ℕ) (kept : Bool) (alive : ℕ) (will : Option AppMessage) (t : Turn) → AreMarked t.sends → AreMarked (accept_of o client kept alive will t).sends
 mark-accept None client kept alive will t k = k
-mark-accept (Some g) client kept alive will t k = mark-take-up (away_for kept client t.broker.seats) client kept (line_of g alive will) t k
+mark-accept (Some g) client kept alive will t k = mark-take-up (away_for kept client t.broker.sessions) client kept (connection_of g alive will) t k
 
-mark-offer : (key : ℕ) (t : Turn) (post : Post) → AreMarked t.sends → AreMarked (offer key t post).sends
-mark-offer key t post k = by (with_key key t.broker.seats)
+mark-offer : (key : ℕ) (t : Turn) (app_message : AppMessage) → AreMarked t.sends → AreMarked (offer key t app_message).sends
+mark-offer key t app_message k = by (with_key key t.broker.sessions)
   where
-    by : (o : Option Seat) → AreMarked (offer_at o key post t).sends
+    by : (o : Option Session) → AreMarked (offer_at o key app_message t).sends
     by None = k
-    by (Some s) = mark-append t.sends (hand post s).sends k (mark-hand post.qos post s)
+    by (Some s) = mark-append t.sends (hand app_message s).sends k (mark-hand app_message.qos app_message s)
 
-mark-fold : (key : ℕ) (posts : List Post) (t : Turn) → AreMarked t.sends → AreMarked (fold (offer key) t posts).sends
+mark-fold : (key : ℕ) (app_messages : List AppMessage) (t : Turn) → AreMarked t.sends → AreMarked (fold (offer key) t app_messages).sends
 mark-fold key [] t k = k
 mark-fold key (p ∷ ps) t k = mark-fold key ps (offer key t p) (mark-offer key t p k)
 
 abbrev suback : (conn id : ℕ) → List ℕ → List Send
 suback conn id given = (record { conn = conn; packet = SubAck id given }) ∷ []
 
-mark-give : (o : Option Seat) (conn id : ℕ) (entries : List (List ℕ × ℕ)) (t : Turn) → AreMarked t.sends → AreMarked (give_at o conn id entries t).sends
+mark-give : (o : Option Session) (conn id : ℕ) (entries : List (List ℕ × ℕ)) (t : Turn) → AreMarked t.sends → AreMarked (give_at o conn id entries t).sends
 mark-give None conn id entries t k = k
-mark-give (Some s) conn id entries t k = mark-fold s.key (flat_map (offers_to t.broker.retained) (granted_of (other_grants s t.broker.seats) s.grants entries))
-    (record (with_seats (swap s.key ((record s { grants = fold (with_entry (other_grants s t.broker.seats)) s.grants entries }) ∷ []) t.broker.seats) t) {
-      sends = t.sends ++ suback conn id (codes_of (other_grants s t.broker.seats) s.grants entries);
+mark-give (Some s) conn id entries t k = mark-fold s.key (flat_map (offers_to t.broker.retained) (granted_of (other_grants s t.broker.sessions) s.grants entries))
+    (record (with_sessions (swap s.key ((record s { grants = fold (with_entry (other_grants s t.broker.sessions)) s.grants entries }) ∷ []) t.broker.sessions) t) {
+      sends = t.sends ++ suback conn id (codes_of (other_grants s t.broker.sessions) s.grants entries);
     })
-    (mark-append t.sends (suback conn id (codes_of (other_grants s t.broker.seats) s.grants entries)) k (tt, tt))
+    (mark-append t.sends (suback conn id (codes_of (other_grants s t.broker.sessions) s.grants entries)) k (tt, tt))
 
 -- ---- acts
 
@@ -122,7 +122,7 @@ IsMarkedAct (event.Hear conn) = Unit {0}
 IsMarkedAct (event.Drop conn) = Unit {0}
 IsMarkedAct (event.Leave conn wills) = Unit {0}
 IsMarkedAct (event.Tell conn) = Unit {0}
-IsMarkedAct (event.Queue post) = Unit {0}
+IsMarkedAct (event.Queue app_message) = Unit {0}
 IsMarkedAct event.Route = Unit {0}
 IsMarkedAct (event.Forget client) = Unit {0}
 IsMarkedAct (event.Accept conn client kept alive will) = Unit {0}
@@ -140,29 +140,29 @@ mark-act event.Opens t good k = k
 mark-act (event.At moment) t good k = k
 mark-act (event.Hear conn) t good k = k
 mark-act (event.Drop conn) t good k = k
-mark-act (event.Leave conn wills) t good k = by (seat_at conn t.broker.seats)
+mark-act (event.Leave conn wills) t good k = by (session_by conn t.broker.sessions)
   where
-    by : (o : Option Seat) → AreMarked (leave_at o conn wills t).sends
+    by : (o : Option Session) → AreMarked (leave_at o conn wills t).sends
     by None = k
     by (Some s) = k
 mark-act (event.Tell conn) t good k = k
-mark-act (event.Queue post) t good k = k
+mark-act (event.Queue app_message) t good k = k
 mark-act event.Route t good k = mark-route t k
 mark-act (event.Forget client) t good k = by _
   where
-    by : (o : Option Seat) → AreMarked (forget_at o t).sends
+    by : (o : Option Session) → AreMarked (forget_at o t).sends
     by None = k
     by (Some s) = k
 mark-act (event.Accept conn client kept alive will) t good k = mark-accept _ client kept alive will t k
 mark-act (event.Give conn id entries) t good k = mark-give _ conn id entries t k
 mark-act (event.Take conn filters) t good k = by _
   where
-    by : (o : Option Seat) → AreMarked (take_at o filters t).sends
+    by : (o : Option Session) → AreMarked (take_at o filters t).sends
     by None = k
     by (Some s) = k
 mark-act (event.Ack conn id) t good k = by _
   where
-    by : (o : Option Seat) → AreMarked (ack_at o id t).sends
+    by : (o : Option Session) → AreMarked (ack_at o id t).sends
     by None = k
     by (Some s) = k
 
@@ -186,7 +186,7 @@ mark-shut conn = (tt, (tt, (tt, tt)))
 mark-away : (conn code : ℕ) → AreMarkedActs (event.turn_away conn code)
 mark-away conn code = (tt, (tt, (tt, (tt, tt))))
 
-mark-join : (older : Option ℕ) (conn : ℕ) (client : List ℕ) (clean : Bool) (alive : ℕ) (will : Option Post) → AreMarkedActs (event.join older conn client clean alive will)
+mark-join : (older : Option ℕ) (conn : ℕ) (client : List ℕ) (clean : Bool) (alive : ℕ) (will : Option AppMessage) → AreMarkedActs (event.join older conn client clean alive will)
 mark-join None conn client clean alive will = acts-append (cond clean (event.Forget client ∷ []) []) _ (acts-cond clean (event.Forget client ∷ []) [] (tt, tt) tt) (tt, tt)
 mark-join (Some older) conn client clean alive will = (tt, (tt, acts-append (cond clean (event.Forget client ∷ []) []) _ (acts-cond clean (event.Forget client ∷ []) [] (tt, tt) tt) (tt, (tt, tt))))
 
@@ -194,7 +194,7 @@ mark-connect : (s : Seen) (conn : ℕ) (client : List ℕ) (clean : Bool) (alive
 mark-connect s conn client clean alive will =
     acts-cond (is_empty client && not clean) (event.turn_away conn 2) _ (mark-away conn 2)
     (acts-cond (event.has_bad_topic will) (event.shut conn) _ (mark-shut conn)
-    (acts-cond (not clean && not s.welcome) (event.turn_away conn 3) _ (mark-away conn 3) (mark-join s.older conn client clean alive (option_map will_post will))))
+    (acts-cond (not clean && not s.welcome) (event.turn_away conn 3) _ (mark-away conn 3) (mark-join s.older conn client clean alive (option_map will_message will))))
 
 mark-first : (s : Seen) (conn : ℕ) (p : Packet) → AreMarkedActs (event.first_packet s conn p)
 mark-first s conn (Connect client clean alive will) = mark-connect s conn client clean alive will
@@ -213,10 +213,10 @@ mark-puback : (conn : ℕ) (id : Option ℕ) → AreMarkedActs (event.puback con
 mark-puback conn None = tt
 mark-puback conn (Some id) = (tt, tt)
 
-mark-publish : (conn : ℕ) (id : Option ℕ) (post : Post) → AreMarkedActs (event.publish conn id post)
-mark-publish conn id post =
-    acts-cond (is_some (topic_refusal post.topic)) (event.shut conn) _ (mark-shut conn)
-    (acts-append (event.puback conn id) (event.Queue post ∷ event.Route ∷ []) (mark-puback conn id) (tt, (tt, tt)))
+mark-publish : (conn : ℕ) (id : Option ℕ) (app_message : AppMessage) → AreMarkedActs (event.publish conn id app_message)
+mark-publish conn id app_message =
+    acts-cond (is_some (topic_refusal app_message.topic)) (event.shut conn) _ (mark-shut conn)
+    (acts-append (event.puback conn id) (event.Queue app_message ∷ event.Route ∷ []) (mark-puback conn id) (tt, (tt, tt)))
 
 mark-next : (s : Seen) (conn : ℕ) (p : Packet) → AreMarkedActs (event.next_packet s conn p)
 mark-next s conn (Connect client clean alive will) = mark-shut conn

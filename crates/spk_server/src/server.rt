@@ -87,7 +87,7 @@ impl Server {
 
     /// How many sessions the broker has, clean and kept ones, with and without a connection (section 3.1.2.4).
     pub fn sessions(&self) -> usize
-        ensures { result ≡ length self.entry.now.noted.broker.seats }
+        ensures { result ≡ length self.entry.now.noted.broker.sessions }
     {
         self.noted.broker().sessions()
     }

@@ -1,6 +1,6 @@
 use Rattle.std.proofs.Common.{◌∙◌, ap, cond, bytes_eq, Some, None, string_bytes}
 use Rattle.spk_broker.specs.Tables.{found}
-use Rattle.spk_broker.specs.declared.seat.Grant.{Grant}
+use Rattle.spk_broker.specs.declared.session.Grant.{Grant}
 use Rattle.spk_broker.proofs.Requested.{granted-more}
 use Rattle.spk_broker.proofs.filters.granted_filters.Goals as goal
 

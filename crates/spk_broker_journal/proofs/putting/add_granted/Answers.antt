@@ -1,6 +1,6 @@
 use Rattle.std.proofs.Common.{◌∷◌, ◌++◌, map, None}
 use Rattle.spk_broker_events.specs.declared.line.Kind.TheVariants as kind
-use Rattle.spk_broker_snapshot.specs.Lines.{copy_line, grant_line, in_use_line, line}
+use Rattle.spk_broker_snapshot.specs.Lines.{in_flight_line, grant_line, in_use_line, line}
 use Rattle.spk_broker_journal.specs.Adding.{IsAdded, IsNamedIn}
 use Rattle.spk_broker_journal.proofs.Records.{added-both, if-both, named-left, named-right, on-both}
 use Rattle.spk_broker_journal.proofs.putting.add_granted.Goals as goal
@@ -8,18 +8,18 @@ use Rattle.spk_broker_journal.proofs.putting.add_granted.Goals as goal
 pub returns-in-Ok-clause-added : goal.returns-in-Ok-clause-added
 returns-in-Ok-clause-added c =
     let xs = map grant_line c.args.of.now.grants in
-    let ys = map in_use_line c.args.of.now.used ++ (line kind.Last c.args.of.now.last 0 None ∷ map copy_line c.args.of.now.copies) in
+    let ys = map in_use_line c.args.of.now.used ++ (line kind.Last c.args.of.now.last 0 None ∷ map in_flight_line c.args.of.now.in_flight) in
     on-both c.add_given.result (IsAdded ys c.add.new.out.items c.add_given.new.out.items) (IsAdded (xs ++ ys) c.args.out.now.items c.add_given.new.out.items)
     (added-both xs ys c.args.out.now.items c.add.new.out.items c.add_given.new.out.items c.in-Ok.ensures.added) c.add_given.ensures.added
 
 pub returns-in-Ok-clause-refused : goal.returns-in-Ok-clause-refused
 returns-in-Ok-clause-refused c =
     let xs = map grant_line c.args.of.now.grants in
-    let ys = map in_use_line c.args.of.now.used ++ (line kind.Last c.args.of.now.last 0 None ∷ map copy_line c.args.of.now.copies) in
+    let ys = map in_use_line c.args.of.now.used ++ (line kind.Last c.args.of.now.last 0 None ∷ map in_flight_line c.args.of.now.in_flight) in
     if-both c.add_given.result (λ e. IsNamedIn e ys) (λ e. IsNamedIn e (xs ++ ys)) (λ e n. named-right e xs ys c.in-Ok.ensures.added.writable n) c.add_given.ensures.refused
 
 pub returns-in-Err-clause-refused : goal.returns-in-Err-clause-refused
 returns-in-Err-clause-refused c =
     let xs = map grant_line c.args.of.now.grants in
-    let ys = map in_use_line c.args.of.now.used ++ (line kind.Last c.args.of.now.last 0 None ∷ map copy_line c.args.of.now.copies) in
+    let ys = map in_use_line c.args.of.now.used ++ (line kind.Last c.args.of.now.last 0 None ∷ map in_flight_line c.args.of.now.in_flight) in
     named-left c.in-Err.fault xs ys c.in-Err.ensures.refused

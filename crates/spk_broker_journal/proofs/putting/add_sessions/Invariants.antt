@@ -5,4 +5,4 @@ use Rattle.spk_broker_journal.proofs.Records.{Going}
 use Rattle.spk_broker_journal.proofs.putting.add_sessions.Given as goal
 
 abbrev pub invariant-loop-at : goal.invariant-loop-at
-invariant-loop-at l = Going (flat_map session_lines l.broker.seats) (flat_map session_lines (drop l.at l.broker.seats)) l.initial.out.items l.out.items
+invariant-loop-at l = Going (flat_map session_lines l.broker.sessions) (flat_map session_lines (drop l.at l.broker.sessions)) l.initial.out.items l.out.items

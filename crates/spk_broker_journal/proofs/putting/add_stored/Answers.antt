@@ -7,19 +7,19 @@ use Rattle.spk_broker_journal.proofs.putting.add_stored.Goals as goal
 
 pub returns-in-Ok-clause-added : goal.returns-in-Ok-clause-added
 returns-in-Ok-clause-added c =
-    let xs = flat_map session_lines c.args.broker.now.seats in
+    let xs = flat_map session_lines c.args.broker.now.sessions in
     let ys = map retained_line c.args.broker.now.retained in
     on-both c.add.result (IsAdded ys c.add_sessions.new.out.items c.add.new.out.items) (IsAdded (xs ++ ys) c.args.out.now.items c.add.new.out.items)
     (added-both xs ys c.args.out.now.items c.add_sessions.new.out.items c.add.new.out.items c.in-Ok.ensures.added) c.add.ensures.added
 
 pub returns-in-Ok-clause-refused : goal.returns-in-Ok-clause-refused
 returns-in-Ok-clause-refused c =
-    let xs = flat_map session_lines c.args.broker.now.seats in
+    let xs = flat_map session_lines c.args.broker.now.sessions in
     let ys = map retained_line c.args.broker.now.retained in
     if-both c.add.result (λ e. IsNamedIn e ys) (λ e. IsNamedIn e (xs ++ ys)) (λ e n. named-right e xs ys c.in-Ok.ensures.added.writable n) c.add.ensures.refused
 
 pub returns-in-Err-clause-refused : goal.returns-in-Err-clause-refused
 returns-in-Err-clause-refused c =
-    let xs = flat_map session_lines c.args.broker.now.seats in
+    let xs = flat_map session_lines c.args.broker.now.sessions in
     let ys = map retained_line c.args.broker.now.retained in
     named-left c.in-Err.fault xs ys c.in-Err.ensures.refused

@@ -2,7 +2,7 @@ use Rattle.std.proofs.Common.{ℕ, ◌≤◌, ◌+◌, length, arith}
 use Rattle.std.specs.List.{filter}
 use Rattle.spk_broker_rules.specs.Data.{Broker}
 use Rattle.spk_broker_rules.specs.Lawful.{IsLawful}
-use Rattle.spk_broker_rules.specs.Step.{is_guest, sits}
+use Rattle.spk_broker_rules.specs.Step.{is_newcomer, sits}
 use Rattle.spk_broker_limits.proofs.Alone.{adds, forgets}
 use Rattle.spk_broker_limits.proofs.Fates.{accepted, its_will, once, stands, discarded, ended, nobody_lost, now_lost}
 use Rattle.spk_broker_limits.proofs.laws.wills.Goals as goal
@@ -17,14 +17,14 @@ returns-clause-same c = λ limit es e h conn l j k. (its_will limit (record { as
 pub returns-clause-unjoined : goal.returns-clause-unjoined
 returns-clause-unjoined c = λ limit es e conn j. nobody_lost limit (record { lawful = c.any_list.ensures.lawful limit; stays = c.staying.ensures.joined; closed = c.knowing.ensures.closed; ended = c.knowing.ensures.ended; gone = c.knowing.ensures.gone; given = c.knowing.ensures.given }) es e conn j
 
-one_seat : (b : Broker) (conn : ℕ) → IsLawful b → length (filter (sits conn) b.seats) ≤ 1
-one_seat b conn l = let most : length (filter (is_guest conn) b.guests) + length (filter (sits conn) b.seats) ≤ 1 = l.apart conn in omega arith
+one_session : (b : Broker) (conn : ℕ) → IsLawful b → length (filter (sits conn) b.sessions) ≤ 1
+one_session b conn l = let most : length (filter (is_newcomer conn) b.newcomers) + length (filter (sits conn) b.sessions) ≤ 1 = l.apart conn in omega arith
 
 pub returns-clause-adds : goal.returns-clause-adds
-returns-clause-adds c = λ b conn e l j f. adds c.routing.ensures.done b conn e (one_seat b conn l) j f
+returns-clause-adds c = λ b conn e l j f. adds c.routing.ensures.done b conn e (one_session b conn l) j f
 
 pub returns-clause-forgotten : goal.returns-clause-forgotten
-returns-clause-forgotten c = λ b conn moment l j. forgets b conn moment (one_seat b conn l) j
+returns-clause-forgotten c = λ b conn moment l j. forgets b conn moment (one_session b conn l) j
 
 pub returns-clause-once : goal.returns-clause-once
 returns-clause-once c = λ limit es conn. once limit (record { lawful = c.any_list.ensures.lawful limit; stays = c.staying.ensures.joined; closed = c.knowing.ensures.closed; ended = c.knowing.ensures.ended; gone = c.knowing.ensures.gone; given = c.knowing.ensures.given }) es conn

@@ -6,7 +6,7 @@ use Rattle.spk_broker.proofs.broker.Broker.closed.Goals as goal
 
 pub conclude-requires-clause-stands : goal.conclude-requires-clause-stands
 conclude-requires-clause-stands c =
-    stands-to (Closed c.args.conn c.args.now) c.args.self.now c.self.inside.desk c.draft_closed-drafted.new.self c.new-draft.result c.draft_closed-drafted.new.draft c.draft_closed-drafted.result
+    stands-to (Closed c.args.conn c.args.now) c.args.self.now c.self.inside.state c.draft_closed-drafted.new.self c.new-draft.result c.draft_closed-drafted.new.draft c.draft_closed-drafted.result
     (record { is = c.self.view_is; kept = c.self.invariant.sound; empty = c.new-draft.ensures; done = c.draft_closed-drafted.ensures.done; same = c.draft_closed-drafted.ensures.same })
 
 pub draft_closed-drafted-requires-clause-place : goal.draft_closed-drafted-requires-clause-place
@@ -17,14 +17,14 @@ draft_closed-drafted-requires-clause-alone c = c.seek-sought.ensures.alone
 
 pub invariant_of-self-2 : goal.invariant_of-self-2
 invariant_of-self-2 c =
-    let sound = kept-to (Closed c.args.conn c.args.now) c.args.self.now c.self.inside.desk c.draft_closed-drafted.new.self c.conclude.new.self c.new-draft.result c.draft_closed-drafted.new.draft c.draft_closed-drafted.result c.conclude.result
+    let sound = kept-to (Closed c.args.conn c.args.now) c.args.self.now c.self.inside.state c.draft_closed-drafted.new.self c.conclude.new.self c.new-draft.result c.draft_closed-drafted.new.draft c.draft_closed-drafted.result c.conclude.result
     (record { is = c.self.view_is; kept = c.self.invariant.sound; empty = c.new-draft.ensures; done = c.draft_closed-drafted.ensures.done; same = c.draft_closed-drafted.ensures.same })
     (record { done = c.conclude.ensures.done; sends = c.conclude.ensures.sends; closes = c.conclude.ensures.closes; variant = c.conclude.ensures.variant; same = c.conclude.ensures.same; settled = c.conclude.ensures.settled }) in
     record {
       sound = record { settled = sound.settled; lawful = sound.lawful };
-      index = held-to c.self.inside.index.tree c.conclude.new.index.tree c.self.inside.index.size c.conclude.new.index.size c.args.self.now c.self.inside.desk c.draft_closed-drafted.new.self c.conclude.new.self
+      index = held-to c.self.inside.index.tree c.conclude.new.index.tree c.self.inside.index.size c.conclude.new.index.size c.args.self.now c.self.inside.state c.draft_closed-drafted.new.self c.conclude.new.self
           c.self.invariant.sound c.draft_closed-drafted.ensures.same c.conclude.ensures.held c.self.invariant.index;
-      calm = calm-to c.self.inside.calm (Closed c.args.conn c.args.now) c.args.self.now c.self.inside.desk c.draft_closed-drafted.new.self c.conclude.new.self c.new-draft.result c.draft_closed-drafted.new.draft c.draft_closed-drafted.result c.conclude.result
+      calm = calm-to c.self.inside.calm (Closed c.args.conn c.args.now) c.args.self.now c.self.inside.state c.draft_closed-drafted.new.self c.conclude.new.self c.new-draft.result c.draft_closed-drafted.new.draft c.draft_closed-drafted.result c.conclude.result
           (record { is = c.self.view_is; kept = c.self.invariant.sound; empty = c.new-draft.ensures; done = c.draft_closed-drafted.ensures.done; same = c.draft_closed-drafted.ensures.same })
           (record { done = c.conclude.ensures.done; sends = c.conclude.ensures.sends; closes = c.conclude.ensures.closes; variant = c.conclude.ensures.variant; same = c.conclude.ensures.same; settled = c.conclude.ensures.settled })
           c.self.invariant.calm;
@@ -32,28 +32,28 @@ invariant_of-self-2 c =
 
 pub returns-clause-sends : goal.returns-clause-sends
 returns-clause-sends c =
-    sends-to (Closed c.args.conn c.args.now) c.args.self.now c.self.inside.desk c.draft_closed-drafted.new.self c.conclude.new.self c.new-draft.result c.draft_closed-drafted.new.draft c.draft_closed-drafted.result c.conclude.result
+    sends-to (Closed c.args.conn c.args.now) c.args.self.now c.self.inside.state c.draft_closed-drafted.new.self c.conclude.new.self c.new-draft.result c.draft_closed-drafted.new.draft c.draft_closed-drafted.result c.conclude.result
     (record { is = c.self.view_is; kept = c.self.invariant.sound; empty = c.new-draft.ensures; done = c.draft_closed-drafted.ensures.done; same = c.draft_closed-drafted.ensures.same })
     (record { done = c.conclude.ensures.done; sends = c.conclude.ensures.sends; closes = c.conclude.ensures.closes; variant = c.conclude.ensures.variant; same = c.conclude.ensures.same; settled = c.conclude.ensures.settled })
 
 pub returns-clause-closes : goal.returns-clause-closes
 returns-clause-closes c =
-    closes-to (Closed c.args.conn c.args.now) c.args.self.now c.self.inside.desk c.draft_closed-drafted.new.self c.conclude.new.self c.new-draft.result c.draft_closed-drafted.new.draft c.draft_closed-drafted.result c.conclude.result
+    closes-to (Closed c.args.conn c.args.now) c.args.self.now c.self.inside.state c.draft_closed-drafted.new.self c.conclude.new.self c.new-draft.result c.draft_closed-drafted.new.draft c.draft_closed-drafted.result c.conclude.result
     (record { is = c.self.view_is; kept = c.self.invariant.sound; empty = c.new-draft.ensures; done = c.draft_closed-drafted.ensures.done; same = c.draft_closed-drafted.ensures.same })
     (record { done = c.conclude.ensures.done; sends = c.conclude.ensures.sends; closes = c.conclude.ensures.closes; variant = c.conclude.ensures.variant; same = c.conclude.ensures.same; settled = c.conclude.ensures.settled })
 
 pub returns-clause-done : goal.returns-clause-done
 returns-clause-done c =
-    done-to (Closed c.args.conn c.args.now) c.args.self.now c.self.inside.desk c.draft_closed-drafted.new.self c.conclude.new.self c.new-draft.result c.draft_closed-drafted.new.draft c.draft_closed-drafted.result c.conclude.result
+    done-to (Closed c.args.conn c.args.now) c.args.self.now c.self.inside.state c.draft_closed-drafted.new.self c.conclude.new.self c.new-draft.result c.draft_closed-drafted.new.draft c.draft_closed-drafted.result c.conclude.result
     (record { is = c.self.view_is; kept = c.self.invariant.sound; empty = c.new-draft.ensures; done = c.draft_closed-drafted.ensures.done; same = c.draft_closed-drafted.ensures.same })
     (record { done = c.conclude.ensures.done; sends = c.conclude.ensures.sends; closes = c.conclude.ensures.closes; variant = c.conclude.ensures.variant; same = c.conclude.ensures.same; settled = c.conclude.ensures.settled })
 
 pub draft_closed-drafted-requires-clause-index : goal.draft_closed-drafted-requires-clause-index
-draft_closed-drafted-requires-clause-index c = now-index c.self.inside.index.tree c.self.inside.index.size c.self.inside.desk c.self.invariant.sound c.self.invariant.index
+draft_closed-drafted-requires-clause-index c = now-index c.self.inside.index.tree c.self.inside.index.size c.self.inside.state c.self.invariant.sound c.self.invariant.index
 
 pub draft_closed-drafted-requires-clause-order : goal.draft_closed-drafted-requires-clause-order
-draft_closed-drafted-requires-clause-order c = sound-order c.self.inside.index.tree c.self.inside.desk c.self.invariant.sound
+draft_closed-drafted-requires-clause-order c = sound-order c.self.inside.index.tree c.self.inside.state c.self.invariant.sound
 
 pub returns-clause-fault : goal.returns-clause-fault
 returns-clause-fault c =
-    refused-to c.args.conn c.args.self.now c.self.inside.desk c.seek-sought.result.known c.conclude.result c.self.invariant.sound c.self.view_is c.seek-sought.ensures.known (not-false c.seek-sought.result.known c.if-not-sought.false) c.conclude.ensures.fault
+    refused-to c.args.conn c.args.self.now c.self.inside.state c.seek-sought.result.known c.conclude.result c.self.invariant.sound c.self.view_is c.seek-sought.ensures.known (not-false c.seek-sought.result.known c.if-not-sought.false) c.conclude.ensures.fault

@@ -5,30 +5,30 @@ use Rattle.spk_broker_rules.specs.Lawful.{IsLawful}
 use Rattle.spk_broker_rules.specs.Plan.{Open}
 use Rattle.spk_broker_rules.specs.Step.{step}
 use Rattle.spk_broker_rules.proofs.AnyList.{step-lawful}
-use Rattle.spk_broker.specs.View.{desk_was, guest_was}
-use Rattle.spk_broker.proofs.Opening.{guests-more, opened, opened-settled, with_guests}
+use Rattle.spk_broker.specs.View.{state_was, newcomer_was}
+use Rattle.spk_broker.proofs.Opening.{newcomers-more, opened, opened-settled, with_newcomers}
 use Rattle.spk_broker.proofs.broker.Broker.greet.Goals as goal
 
 pub invariant_of-self-2 : goal.invariant_of-self-2
 invariant_of-self-2 c =
-    let d = c.self.inside.desk in
+    let d = c.self.inside.state in
     let more = c.push.new.self.items in
-    let all : with_guests (desk_was d) c.max-clock.result (map guest_was more) ≡ (step (desk_was d) (Open c.args.now)).broker =
-    opened (desk_was d) c.args.now c.max-clock.result (map guest_was more) c.max-clock.ensures
-    (ap (map guest_was) c.in_ok-push.ensures.items ∙ map_push guest_was d.guests.items _) in
+    let all : with_newcomers (state_was d) c.max-clock.result (map newcomer_was more) ≡ (step (state_was d) (Open c.args.now)).broker =
+    opened (state_was d) c.args.now c.max-clock.result (map newcomer_was more) c.max-clock.ensures
+    (ap (map newcomer_was) c.in_ok-push.ensures.items ∙ map_push newcomer_was d.newcomers.items _) in
     record {
       sound = record {
         settled = opened-settled d c.max-clock.result more c.self.invariant.sound.settled
-            (guests-more d.guests.items more _ c.in_ok-push.ensures.items (ap (λ (b : plain.Broker). b.guests) c.self.invariant.sound.settled) refl);
-        lawful = subst IsLawful (sym all) (step-lawful (desk_was d) (Open c.args.now) c.self.invariant.sound.lawful);
+            (newcomers-more d.newcomers.items more _ c.in_ok-push.ensures.items (ap (λ (b : plain.Broker). b.newcomers) c.self.invariant.sound.settled) refl);
+        lawful = subst IsLawful (sym all) (step-lawful (state_was d) (Open c.args.now) c.self.invariant.sound.lawful);
       };
       index = c.self.invariant.index;
-      calm = record { seats = c.self.invariant.calm.seats; soon = omega (arith, c.self.invariant.calm.soon, c.max-clock.ensures) };
+      calm = record { sessions = c.self.invariant.calm.sessions; soon = omega (arith, c.self.invariant.calm.soon, c.max-clock.ensures) };
     }
 
 pub returns-clause-done : goal.returns-clause-done
 returns-clause-done c =
-    let d = c.self.inside.desk in
-    opened (desk_was d) c.args.now c.max-clock.result (map guest_was c.push.new.self.items) c.max-clock.ensures
-    (ap (map guest_was) c.in_ok-push.ensures.items ∙ map_push guest_was d.guests.items _)
+    let d = c.self.inside.state in
+    opened (state_was d) c.args.now c.max-clock.result (map newcomer_was c.push.new.self.items) c.max-clock.ensures
+    (ap (map newcomer_was) c.in_ok-push.ensures.items ∙ map_push newcomer_was d.newcomers.items _)
     ∙ ap (λ b. (step b (Open c.args.now)).broker) c.self.view_is

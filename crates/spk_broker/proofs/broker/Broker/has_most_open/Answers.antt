@@ -5,7 +5,7 @@ use Rattle.std.specs.List.{filter}
 use Rattle.std.specs.Option.{is_some}
 use Rattle.spk_broker_rules.specs.Data as plain
 use Rattle.spk_broker_rules.specs.Step.{open_count}
-use Rattle.spk_broker.specs.View.{desk_was, guest_was, seat_was}
+use Rattle.spk_broker.specs.View.{state_was, newcomer_was, session_was}
 use Rattle.spk_broker.proofs.broker.Broker.has_most_open.Goals as goal
 
 few-pass : {X : Type 0} (p : X → Bool) (xs : List X) → length (filter p xs) ≤ length xs
@@ -18,9 +18,9 @@ few-pass {X} p (x ∷ xs) = by (p x) (few-pass p xs)
 
 pub returns-then-saturating_add-lt-MOST_OPEN : goal.returns-then-saturating_add-lt-MOST_OPEN
 returns-then-saturating_add-lt-MOST_OPEN c =
-    let b = desk_was c.self.inside.desk in
-    let lines = few-pass (λ (s : plain.Seat). is_some s.here) b.seats in
-    let seats = length-map c.self.inside.desk.seats.items seat_was in
-    let guests = length-map c.self.inside.desk.guests.items guest_was in
-    let few : open_count b < 1000 = omega (arith, lines, seats, guests, c.if-saturating_add-lt-MOST_OPEN.true, c.saturating_add.ensures, c.len.ensures, c.len-2.ensures) in
+    let b = state_was c.self.inside.state in
+    let connections = few-pass (λ (s : plain.Session). is_some s.here) b.sessions in
+    let sessions = length-map c.self.inside.state.sessions.items session_was in
+    let newcomers = length-map c.self.inside.state.newcomers.items newcomer_was in
+    let few : open_count b < 1000 = omega (arith, connections, sessions, newcomers, c.if-saturating_add-lt-MOST_OPEN.true, c.saturating_add.ensures, c.len.ensures, c.len-2.ensures) in
     sym (lt-leb 1000 (open_count b) few) ∙ ap (λ (x : plain.Broker). leb 1000 (open_count x)) c.self.view_is

@@ -6,5 +6,5 @@ use Rattle.spk_broker.proofs.broker.Broker.last_key.Goals as goal
 
 pub returns-in-Some : goal.returns-in-Some
 returns-in-Some c =
-    c.key.ensures.was ∙ last-is c.self.inside.desk.seats.items c.deref.result.now c.in-Some.seat.now c.deref.ensures.value c.in-Some.ensures.value
-    ∙ ap (λ (b : plain.Broker). last_key 0 b.seats) c.self.view_is
+    c.key.ensures.was ∙ last-is c.self.inside.state.sessions.items c.deref.result.now c.in-Some.session.now c.deref.ensures.value c.in-Some.ensures.value
+    ∙ ap (λ (b : plain.Broker). last_key 0 b.sessions) c.self.view_is

@@ -8,4 +8,4 @@ pub seek_in-requires : goal.seek_in-requires
 seek_in-requires c = subst (λ (b : plain.Broker). places c.args.conn b ≤ 1) (sym c.requires.settled) (c.requires.lawful.apart c.args.conn)
 
 pub returns-clause-alone : goal.returns-clause-alone
-returns-clause-alone c = settled-alone c.args.desk.now c.args.conn c.seek_in.result.place c.requires.settled (sym c.seek_in.ensures.place)
+returns-clause-alone c = settled-alone c.args.state.now c.args.conn c.seek_in.result.place c.requires.settled (sym c.seek_in.ensures.place)

@@ -1,5 +1,0 @@
-use Rattle.spk_broker.proofs.Fronts.{nothing-left}
-use Rattle.spk_broker.proofs.fitting.fits_rest.Goals as goal
-
-pub returns-in-empty : goal.returns-in-empty
-returns-in-empty c = nothing-left _ _ _ _ c.in-empty.len_below c.is_empty.ensures

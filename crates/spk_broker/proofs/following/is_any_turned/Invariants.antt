@@ -1,7 +1,0 @@
-use Rattle.std.proofs.Common.{ℕ, ◌<◌, get_or}
-use Rattle.spk_broker.specs.Both.{Both}
-use Rattle.spk_broker.specs.Filing.{IsAlike}
-use Rattle.spk_broker.proofs.following.is_any_turned.Given as goal
-
-abbrev pub invariant-loop-place : goal.invariant-loop-place
-invariant-loop-place l = (k : ℕ) (d : Both) → k < l.place-index → IsAlike (get_or l.seats (get_or l.places k 0) d)

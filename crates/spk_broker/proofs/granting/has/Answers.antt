@@ -1,6 +1,0 @@
-use Rattle.std.proofs.Common.{◌∙◌}
-use Rattle.spk_broker.proofs.Filtering.{has-grant}
-use Rattle.spk_broker.proofs.granting.has.Goals as goal
-
-pub returns : goal.returns
-returns c = c.has_one.ensures ∙ has-grant c.args.name.now c.args.grants.now

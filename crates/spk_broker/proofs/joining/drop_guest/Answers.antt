@@ -1,7 +1,0 @@
-use Rattle.std.proofs.Common.{◌==◌, not, rules}
-use Rattle.std.proofs.lemmas.Fn.{filter_same}
-use Rattle.spk_broker.specs.declared.guest.Guest.{Guest}
-use Rattle.spk_broker.proofs.joining.drop_guest.Goals as goal
-
-pub returns : goal.returns
-returns c = filter_same _ (λ (g : Guest). not (g.conn == c.args.conn)) _ (λ x b f k. search rules) _ _ c.retain.ensures.filtered
