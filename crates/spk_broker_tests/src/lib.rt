@@ -37,5 +37,3 @@ mod stored;
 mod twin;
 #[cfg(test)]
 mod unfriendly;
-#[cfg(test)]
-mod within;

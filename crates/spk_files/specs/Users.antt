@@ -1,5 +1,5 @@
 -- What a users' file gives (own rules).
-use Rattle.std.specs.Prelude.{◌≡◌, ◌≤◌, ◌×◌, Unit, ℕ, List, [], ◌∷◌, Bool, true, not, ◌&&◌, ◌==◌, Option, Vec, String, is_none, length}
+use Rattle.std.specs.Prelude.{◌≡◌, ◌≤◌, ℕ, List, [], ◌∷◌, Bool, true, not, ◌&&◌, ◌==◌, Option, Vec, String, is_none, length}
 use Rattle.std.specs.List.{list_all, list_any}
 use Rattle.std.specs.Option.{option_map_or}
 use Rattle.std.specs.Str.{bytes_eq}

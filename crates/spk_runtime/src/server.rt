@@ -344,6 +344,24 @@ fn hold(
     Ok(())
 }
 
+/// A store, and the clients of the broker that it kept, as `rounds_of` has them; what users may hold is looked at from now on, where there are some.
+fn begun<'a, D: Disk>(
+    alloc: Global,
+    door: Option<&Door>,
+    holdings: Option<Holdings>,
+    kept: Option<Kept<D>>,
+) -> Result<(Option<Store<D>>, Rounds<Client<'a>>), ServeFault>
+    ensures { IfErr result (λ e. e ≢ ServeFault.BadPlan) }
+{
+    match rounds_of(alloc, kept) {
+        Ok((store, mut rounds)) => match hold(&mut rounds, door, holdings) {
+            Ok(()) => Ok((store, rounds)),
+            Err(fault) => Err(fault),
+        },
+        Err(fault) => Err(fault),
+    }
+}
+
 /// What isn't on the disk yet is brought there at the end.
 fn sync_last<D: Disk>(store: &mut Option<Store<D>>) -> Result<(), ServeFault>
     ensures { IfErr result (λ e. e ≢ ServeFault.BadPlan) }
@@ -354,6 +372,38 @@ fn sync_last<D: Disk>(store: &mut Option<Store<D>>) -> Result<(), ServeFault>
             Err(fault) => Err(of_store(fault)),
         },
         None => Ok(()),
+    }
+}
+
+/// Runs rounds until no more clients come and all have ended; then all is on the disk.
+fn run_whole<'a, R: Wait + Clock, D: Disk, L: Write>(
+    rt: &R,
+    alloc: Global,
+    poll: &mut Poll,
+    events: &mut Events<Global>,
+    doors: &mut Doors<'a>,
+    rounds: &mut Rounds<Client<'a>>,
+    store: &mut Option<Store<D>>,
+    page: &mut Option<Page>,
+    log: &mut L,
+) -> Result<(), ServeFault>
+    ensures { IfErr result (λ e. e ≢ ServeFault.BadPlan) }
+{
+    match run(rt, alloc, poll, events, doors, rounds, store, page, log) {
+        Ok(()) => sync_last(store),
+        Err(fault) => Err(fault),
+    }
+}
+
+/// How many were served, where nothing failed.
+fn over(answer: Result<(), ServeFault>, doors: &Doors<'_>) -> Result<u32, ServeFault>
+    requires { IfErr answer (λ e. e ≢ ServeFault.BadPlan) }
+    ensures { IfErr result (λ e. e ≢ ServeFault.BadPlan) }
+{
+    match answer {
+        Ok(()) if doors.failed => Err(ServeFault::Device),
+        Ok(()) => Ok(doors.served),
+        Err(fault) => Err(fault),
     }
 }
 
@@ -380,9 +430,8 @@ fn serve_on<R: Wait + Clock + Net, D: Disk, L: Write>(
     }
     let mut events = Events::with_capacity(alloc, EVENTS)?;
     let mut doors = Doors::new(alloc, listener, door, clients);
-    let (mut store, mut rounds) = rounds_of(alloc, kept)?;
-    hold(&mut rounds, door, holdings)?;
-    run(
+    let (mut store, mut rounds) = begun(alloc, door, holdings, kept)?;
+    let answer = run_whole(
         rt,
         alloc,
         &mut poll,
@@ -392,12 +441,8 @@ fn serve_on<R: Wait + Clock + Net, D: Disk, L: Write>(
         &mut store,
         &mut page,
         log,
-    )?;
-    sync_last(&mut store)?;
-    if doors.failed {
-        return Err(ServeFault::Device);
-    }
-    Ok(doors.served)
+    );
+    over(answer, &doors)
 }
 
 /// How many clients come, if that is 1 to 1,000.

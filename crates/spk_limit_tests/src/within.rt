@@ -522,6 +522,23 @@ fn holds(alloc: Global, loops: &mut impl Loops, conns: &[Conn; 3], step: Step) -
     }
 }
 
+/// The place of the first step that doesn't come to what it says; None where each does.
+fn first_wrong(
+    alloc: Global,
+    loops: &mut impl Loops,
+    conns: &[Conn; 3],
+    steps: &[Step],
+) -> Option<Option<usize>> {
+    let mut place: usize = 0;
+    for step in steps {
+        if !holds(alloc, loops, conns, *step)? {
+            return Some(Some(place));
+        }
+        place = place.saturating_add(1);
+    }
+    Some(None)
+}
+
 #[test]
 fn no_user_comes_to_hold_more_than_it_may(rt: HostRuntime) -> Result<(), Fail> {
     let alloc = rt.alloc();
@@ -538,10 +555,8 @@ fn no_user_comes_to_hold_more_than_it_may(rt: HostRuntime) -> Result<(), Fail> {
             for conn in conns.iter_mut() {
                 *conn = loops.come(alloc, most).expect(&rt, "a client");
             }
-            for (place, step) in steps.iter().enumerate() {
-                let is = holds(alloc, &mut loops, &conns, *step).expect(&rt, "rounds");
-                assert!(rt; is, "{what}: step {place}, {most} bytes at a time");
-            }
+            let wrong = first_wrong(alloc, &mut loops, &conns, steps).expect(&rt, "rounds");
+            assert_eq!(rt; wrong, None, "{what}: {most} bytes at a time");
         }
     }
     Ok(())
