@@ -29,6 +29,32 @@ impl Cell {
     }
 }
 
+/// A place of the journal, or the number of a value.
+pub(crate) fn id_cell(number: u64) -> Cell {
+    match i64::try_from(number) {
+        Ok(number) => Cell::Whole(number),
+        Err(_) => Cell::Null,
+    }
+}
+
+/// The number of the node at a place: from 1 on.
+pub(crate) fn node_cell(place: usize) -> Cell {
+    id_cell((place as u64).saturating_add(1))
+}
+
+/// The number of a metric: from 1 on.
+pub(crate) fn metric_cell(number: u32) -> Cell {
+    Cell::Whole(i64::from(number) + 1)
+}
+
+/// A text, if there is one.
+pub(crate) fn text_cell(alloc: Global, given: Option<&str>) -> Result<Cell, AllocError> {
+    match given {
+        Some(given) => Ok(Cell::Text(String::from_str(alloc, given)?)),
+        None => Ok(Cell::Null),
+    }
+}
+
 /// A number: from 2^63 on as text.
 pub(crate) fn whole(alloc: Global, number: u64) -> Result<Cell, AllocError> {
     match i64::try_from(number) {

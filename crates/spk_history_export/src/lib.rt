@@ -6,6 +6,7 @@ mod cell;
 mod disk;
 mod making;
 mod messages;
+mod pending;
 mod schema;
 mod sql;
 mod tables;

@@ -17,7 +17,9 @@ fn fill<F: PartFiles, S: Alter, N: Write>(
     notes: &mut N,
 ) -> Result<Counts, ExportFault> {
     let mut tables = Tables::new(alloc, conn);
-    walk_over(alloc, plan, files, &mut tables, notes)
+    let counts = walk_over(alloc, plan, files, &mut tables, notes)?;
+    tables.put_waiting()?;
+    Ok(counts)
 }
 
 /// Makes the tables of a history in a database that has none of them. What is odd about a part is said on `notes`. After a refusal the database holds

@@ -1,8 +1,9 @@
 //! The tables of a history, as they are filled.
 
 use crate::bound::{id, metric_id, node_id, small, text, text_or_null};
-use crate::cell::{Cell, shown, whole, whole_or_null};
+use crate::cell::{Cell, id_cell, metric_cell, node_cell, shown, text_cell, whole, whole_or_null};
 use crate::messages::{kind_of, seq_of};
+use crate::pending::Pending;
 use crate::schema;
 use crate::sql::{batch, run};
 use spk_history::{Entry, SessionEvent};
@@ -24,7 +25,10 @@ pub(crate) struct Tables<'c, S: Alter> {
     metrics: Metrics,
     /// How many nodes the table of nodes has.
     nodes: usize,
-    /// How many values the table of values has, and how many it had as the transaction began.
+    /// The messages and the values that wait to be put with others.
+    messages: Pending,
+    waiting: Pending,
+    /// How many values came, and how many had come as the transaction began.
     values: u64,
     committed: u64,
 }
@@ -37,6 +41,8 @@ impl<'c, S: Alter> Tables<'c, S> {
             conn,
             metrics: Metrics::new(alloc),
             nodes: 0,
+            messages: Pending::new(alloc),
+            waiting: Pending::new(alloc),
             values: 0,
             committed: 0,
         }
@@ -101,6 +107,7 @@ impl<S: Alter> Tables<'_, S> {
         run(self.conn, schema::BIRTH, &values)
     }
 
+    /// A message, which waits to be put with others.
     fn put_message(
         &mut self,
         row: &Row,
@@ -111,21 +118,26 @@ impl<S: Alter> Tables<'_, S> {
         let Some((kind, device)) = kind_of(&row.entry) else {
             return Ok(());
         };
-        let at = whole(self.alloc, at)?;
-        let stamp = whole_or_null(self.alloc, payload.and_then(|p| p.timestamp))?;
-        let seq = whole_or_null(self.alloc, seq_of(&row.entry, payload))?;
-        let birth = whole_or_null(self.alloc, row.birth)?;
-        let values = [
-            id(row.place),
-            node_id(node),
-            birth.bound(),
-            text(kind),
-            text_or_null(device),
-            seq.bound(),
-            stamp.bound(),
-            at.bound(),
-        ];
-        run(self.conn, schema::MESSAGE, &values)
+        let alloc = self.alloc;
+        self.messages.push(id_cell(row.place))?;
+        self.messages.push(node_cell(node))?;
+        self.messages.push(whole_or_null(alloc, row.birth)?)?;
+        self.messages.push(text_cell(alloc, Some(kind))?)?;
+        self.messages.push(text_cell(alloc, device)?)?;
+        let seq = seq_of(&row.entry, payload);
+        self.messages.push(whole_or_null(alloc, seq)?)?;
+        let stamp = payload.and_then(|p| p.timestamp);
+        self.messages.push(whole_or_null(alloc, stamp)?)?;
+        self.messages.push(whole(alloc, at)?)?;
+        self.put_messages()
+    }
+
+    /// The messages that wait are put, where there are enough for one statement.
+    fn put_messages(&mut self) -> Result<(), ExportFault> {
+        if self.messages.len() < schema::TOGETHER * schema::MESSAGE_COLUMNS {
+            return Ok(());
+        }
+        self.messages.put(self.conn, schema::MESSAGES)
     }
 
     /// A birth and its message, or another message.
@@ -170,22 +182,32 @@ impl<S: Alter> Tables<'_, S> {
         Ok(number)
     }
 
+    /// A value, which waits to be put with others.
     fn put_value(
         &mut self,
         message: u64,
         metric: u32,
-        stamp: &Cell,
-        shown: &Cell,
+        stamp: Cell,
+        shown: Cell,
     ) -> Result<(), ExportFault> {
         self.values = self.values.saturating_add(1);
-        let values = [
-            id(self.values),
-            id(message),
-            metric_id(metric),
-            stamp.bound(),
-            shown.bound(),
-        ];
-        run(self.conn, schema::VALUE, &values)
+        self.waiting.push(id_cell(self.values))?;
+        self.waiting.push(id_cell(message))?;
+        self.waiting.push(metric_cell(metric))?;
+        self.waiting.push(stamp)?;
+        self.waiting.push(shown)?;
+        if self.waiting.len() < schema::TOGETHER * schema::VALUE_COLUMNS {
+            return Ok(());
+        }
+        self.waiting.put(self.conn, schema::VALUES)
+    }
+
+    /// What still waits is put.
+    pub(crate) fn put_waiting(&mut self) -> Result<(), ExportFault> {
+        self.messages
+            .put_each(self.conn, schema::MESSAGE, schema::MESSAGE_COLUMNS)?;
+        self.waiting
+            .put_each(self.conn, schema::VALUE, schema::VALUE_COLUMNS)
     }
 
     /// A metric of a message.
@@ -206,7 +228,7 @@ impl<S: Alter> Tables<'_, S> {
         })?;
         let stamp = whole_or_null(self.alloc, metric.timestamp)?;
         let shown = shown(self.alloc, metric, datatype)?;
-        self.put_value(message, number, &stamp, &shown)
+        self.put_value(message, number, stamp, shown)
     }
 
     /// The metrics of a message.
