@@ -87,7 +87,7 @@ fn door_text(alloc: Global, door: &Option<Door>) -> Result<String, AllocError> {
     Ok(text)
 }
 
-/// What users may hold, where it isn't what they may where nothing is said: 100 kept sessions, 1,000 filters, 1,000 retained messages and 64 MiB of them,
+/// What users may hold, where it isn't what they may where nothing is said: 100 clients at once, 100 kept sessions, 1,000 filters, 1,000 retained messages and 64 MiB of them,
 /// 64 MiB that wait, and 30 days.
 fn limits_text(alloc: Global, plan: &Option<LimitsPlan>) -> Result<String, AllocError> {
     let mut text = String::new(alloc);
@@ -99,16 +99,18 @@ fn limits_text(alloc: Global, plan: &Option<LimitsPlan>) -> Result<String, Alloc
     }
     for (user, limits) in limits.iter().enumerate() {
         let Limits {
+            connections,
             sessions,
             filters,
             retained,
             bytes,
             waiting,
         } = *limits;
-        if (sessions, filters, retained, bytes, waiting) != (100, 1000, 1000, 67108864, 67108864) {
+        let counts = (connections, sessions, filters, retained);
+        if (counts, bytes, waiting) != ((100, 100, 1000, 1000), 67108864, 67108864) {
             write!(
                 text,
-                " limits {user} {sessions} {filters} {retained} {bytes} {waiting}"
+                " limits {user} {connections} {sessions} {filters} {retained} {bytes} {waiting}"
             )?;
         }
     }

@@ -53,8 +53,9 @@ are_apart (u ∷ us) = not (list_any (has_name (string_bytes u.name)) us) && are
 
 -- ---- what a user may hold
 
--- no more than a broker holds: 1,000 kept sessions, 10,000 filters, 10,000 retained messages; and a tebibyte
+-- no more than a broker holds: 1,000 clients at once, 1,000 kept sessions, 10,000 filters, 10,000 retained messages; and a tebibyte
 pub record IsBounded (l : Limits) : Type 0 where
+  pub connections : l.connections ≤ 1000
   pub sessions : l.sessions ≤ 1000
   pub filters : l.filters ≤ 10000
   pub retained : l.retained ≤ 10000

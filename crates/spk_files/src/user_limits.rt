@@ -7,13 +7,17 @@ use crate::part::Part;
 use spk_quota::Limits;
 use std::alloc::Global;
 
-const LIMITS: [&str; 5] = [
+const LIMITS: [&str; 6] = [
+    "connections",
     "sessions",
     "filters",
     "retained",
     "retained_bytes",
     "waiting_bytes",
 ];
+
+/// The most clients at once, as many as `serve` takes.
+const MOST_CONNECTIONS: u64 = 1_000;
 
 /// The most kept sessions, as many as a broker holds.
 const MOST_SESSIONS: u64 = 1_000;
@@ -26,6 +30,7 @@ const MOST_BYTES: u64 = 1_099_511_627_776;
 
 /// What a user may hold where nothing is said: a tenth of what a broker holds, and 64 MiB of retained messages and of those that wait (own rules).
 const USUAL: Limits = Limits {
+    connections: 100,
     sessions: 100,
     filters: 1_000,
     retained: 1_000,
@@ -52,6 +57,11 @@ pub(crate) fn limits_of(alloc: Global, part: Option<Part<'_>>) -> Result<Limits,
     };
     part.only(alloc, &LIMITS)?;
     Ok(Limits {
+        connections: bound_of(
+            part.find("connections"),
+            USUAL.connections as u64,
+            MOST_CONNECTIONS,
+        )? as u32,
         sessions: bound_of(part.find("sessions"), USUAL.sessions as u64, MOST_SESSIONS)? as u32,
         filters: bound_of(part.find("filters"), USUAL.filters as u64, MOST_ENTRIES)? as u32,
         retained: bound_of(part.find("retained"), USUAL.retained as u64, MOST_ENTRIES)? as u32,

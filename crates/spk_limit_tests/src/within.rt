@@ -17,7 +17,7 @@ static KEY: [u8; 32] = [
     0x52, 0x4b, 0xc0, 0x7a, 0x31, 0x6a, 0xcc, 0xb5, 0xca, 0x00, 0x5d, 0xe5, 0x11, 0x7a, 0x3c, 0xa7,
 ];
 
-/// CONNECT of the client `a` with clean session 0, of `b`, and of both with clean session 1.
+/// CONNECT of the client `a` with clean session 0, of `b`, and of `a`, `b` and `c` with clean session 1.
 const KEPT_A: &[u8] = b"\x10\x1b\x00\x04MQTT\x04\xc0\x00<\x00\x01a\x00\x04pump\x00\x06secret";
 
 const KEPT_B: &[u8] = b"\x10\x1b\x00\x04MQTT\x04\xc0\x00<\x00\x01b\x00\x04pump\x00\x06secret";
@@ -25,6 +25,8 @@ const KEPT_B: &[u8] = b"\x10\x1b\x00\x04MQTT\x04\xc0\x00<\x00\x01b\x00\x04pump\x
 const A: &[u8] = b"\x10\x1b\x00\x04MQTT\x04\xc2\x00<\x00\x01a\x00\x04pump\x00\x06secret";
 
 const B: &[u8] = b"\x10\x1b\x00\x04MQTT\x04\xc2\x00<\x00\x01b\x00\x04pump\x00\x06secret";
+
+const C: &[u8] = b"\x10\x1b\x00\x04MQTT\x04\xc2\x00<\x00\x01c\x00\x04pump\x00\x06secret";
 
 /// CONNECT with clean session 0 and no client identifier, and the CONNACK that refuses it (section 3.1.3.1).
 const NAMELESS: &[u8] = b"\x10\x1a\x00\x04MQTT\x04\xc0\x00<\x00\x00\x00\x04pump\x00\x06secret";
@@ -204,11 +206,12 @@ fn door(alloc: Global) -> Option<Door> {
     })
 }
 
-/// One kept session, two filters, one retained message of eight bytes, and 20 bytes that wait; a kept session ends after a second.
+/// Two clients at once, one kept session, two filters, one retained message of eight bytes, and 20 bytes that wait; a kept session ends after a second.
 fn holdings(alloc: Global) -> Option<Holdings> {
     let mut limits = Vec::new(alloc);
     limits
         .push(Limits {
+            connections: 2,
             sessions: 1,
             filters: 2,
             retained: 1,
@@ -330,6 +333,8 @@ enum Step {
     Gets(usize, &'static [u8], &'static [u8]),
     /// It sends this, or is gone where there is nothing, and its socket is shut for this cause.
     Ends(usize, Option<&'static [u8]>, Cause),
+    /// It sends this and gets that, and the socket of another one is shut, whose session it took over.
+    TakesOver(usize, &'static [u8], &'static [u8], usize),
     /// It is refused: it gets this, and its socket is shut.
     Refused(usize, &'static [u8], &'static [u8]),
     /// At this moment a session was away for too long, or none was.
@@ -345,7 +350,35 @@ const AGAIN: &[u8] = b"\x20\x02\x01\x00";
 
 const UNAVAILABLE: &[u8] = b"\x20\x02\x00\x03";
 
-static ROWS: [(&str, &[Step]); 13] = [
+static ROWS: [(&str, &[Step]); 16] = [
+    (
+        "two clients at once",
+        &[
+            Step::Gets(0, A, WELCOME),
+            Step::Gets(1, B, WELCOME),
+            Step::Refused(2, C, UNAVAILABLE),
+            Step::Gets(0, PING, b"\xd0\x00"),
+            Step::Gets(1, PING, b"\xd0\x00"),
+        ],
+    ),
+    (
+        "one that is gone gives its place back",
+        &[
+            Step::Gets(0, A, WELCOME),
+            Step::Gets(1, KEPT_B, WELCOME),
+            Step::Ends(1, None, Cause::Gone),
+            Step::Gets(2, C, WELCOME),
+        ],
+    ),
+    (
+        "one that takes its own session over makes none more",
+        &[
+            Step::Gets(0, KEPT_A, WELCOME),
+            Step::Gets(1, B, WELCOME),
+            Step::TakesOver(2, KEPT_A, AGAIN, 0),
+            Step::Gets(1, PING, b"\xd0\x00"),
+        ],
+    ),
     (
         "one that the broker turns away counts nothing",
         &[
@@ -498,6 +531,13 @@ fn holds(alloc: Global, loops: &mut impl Loops, conns: &[Conn; 3], step: Step) -
             let conn = *conns.get(who)?;
             loops.send(conn, bytes, 0)?;
             Some(loops.shut() == Some((conn, cause)))
+        }
+        Step::TakesOver(who, bytes, gets, old) => {
+            let conn = *conns.get(who)?;
+            let old = *conns.get(old)?;
+            loops.send(conn, Some(bytes), 0)?;
+            let got = loops.got(alloc, conn)?;
+            Some(got.as_slice() == gets && loops.shut() == Some((old, Cause::TakenOver)))
         }
         Step::Refused(who, bytes, gets) => {
             let conn = *conns.get(who)?;

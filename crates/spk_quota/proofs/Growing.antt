@@ -13,15 +13,16 @@ use Rattle.spk_quota.specs.Step.{connected, ended, goes_on, is_filter, is_here, 
 use Rattle.spk_quota.specs.declared.limits.Held.{Held}
 use Rattle.spk_quota.specs.declared.limits.Limits.{Limits}
 use Rattle.spk_quota.proofs.Bounds.{bytes-shared}
-use Rattle.spk_quota.proofs.Lists.{filter-less, sum-map}
+use Rattle.spk_quota.proofs.Lists.{filter-less, map-less, sum-map}
 use Rattle.spk_quota.proofs.Others.{connect-keeps, more-keeps, publish-keeps, subscribed_by}
 use Rattle.spk_quota.proofs.Settling.{settled-less}
-use Rattle.spk_quota.proofs.Weights.{filter_weight, kept_weight, message_weight, one_if}
+use Rattle.spk_quota.proofs.Weights.{filter_weight, here_weight, kept_weight, message_weight, one_if}
 
 -- ---- orders of what is held
 
 pub within-less : (l : Limits) (before behind : Held) → HoldsLess behind before → HoldsWithin l before behind
 within-less l before behind h = record {
+  connections = omega (arith, h.connections);
   sessions = omega (arith, h.sessions);
   filters = omega (arith, h.filters);
   retained = omega (arith, h.retained);
@@ -30,6 +31,7 @@ within-less l before behind h = record {
 
 pub within-same : (l : Limits) (before behind : Held) → behind ≡ before → HoldsWithin l before behind
 within-same l before behind h = within-less l before behind (record {
+  connections = omega (arith, ap (λ (x : Held). x.connections) h);
   sessions = omega (arith, ap (λ (x : Held). x.sessions) h);
   filters = omega (arith, ap (λ (x : Held). x.filters) h);
   retained = omega (arith, ap (λ (x : Held). x.retained) h);
@@ -38,6 +40,7 @@ within-same l before behind h = within-less l before behind (record {
 
 pub within-more : (l : Limits) (a b c : Held) → HoldsWithin l a b → HoldsWithin l b c → HoldsWithin l a c
 within-more l a b c h k = record {
+  connections = omega (arith, h.connections, k.connections);
   sessions = omega (arith, h.sessions, k.sessions);
   filters = omega (arith, h.filters, k.filters);
   retained = omega (arith, h.retained, k.retained);
@@ -52,22 +55,24 @@ may-be most before behind h = by (nat_le behind most) refl (nat_le behind before
     by false is true also either = omega (arith, leb-true behind before also)
     by false is false also either = cc
 
-all-four : (a b c d : Bool) → (((a && b) && c) && d) ≡ true → (a ≡ true) × (b ≡ true) × (c ≡ true) × (d ≡ true)
-all-four true true true true h = (refl, refl, refl, refl)
-all-four true true true false h = cc
-all-four true true false d h = cc
-all-four true false c d h = cc
-all-four false b c d h = cc
+all-five : (a b c d e : Bool) → ((((a && b) && c) && d) && e) ≡ true → (a ≡ true) × (b ≡ true) × (c ≡ true) × (d ≡ true) × (e ≡ true)
+all-five true true true true true h = (refl, refl, refl, refl, refl)
+all-five true true true true false h = cc
+all-five true true true false e h = cc
+all-five true true false d e h = cc
+all-five true false c d e h = cc
+all-five false b c d e h = cc
 
 fits-within : (l : Limits) (before behind : Held) → fits l before behind ≡ true → HoldsWithin l before behind
 fits-within l before behind h =
-    let each = all-four (may_be l.sessions before.sessions behind.sessions) (may_be l.filters before.filters behind.filters)
+    let each = all-five (may_be l.connections before.connections behind.connections) (may_be l.sessions before.sessions behind.sessions) (may_be l.filters before.filters behind.filters)
     (may_be l.retained before.retained behind.retained) (may_be l.bytes before.bytes behind.bytes) h in
     record {
-      sessions = may-be _ _ _ each.0;
-      filters = may-be _ _ _ each.1;
-      retained = may-be _ _ _ each.2;
-      bytes = may-be _ _ _ each.3;
+      connections = may-be _ _ _ each.0;
+      sessions = may-be _ _ _ each.1;
+      filters = may-be _ _ _ each.2;
+      retained = may-be _ _ _ each.3;
+      bytes = may-be _ _ _ each.4;
     }
 
 -- what is let through is within the limits
@@ -75,7 +80,7 @@ lets-within : (d new : QuotaData) (user : ℕ) → lets d new user ≡ true → 
 lets-within d new user h = by (slice_get d.limits user) h
   where
     by : (o : Option Limits) → option_map_or (λ l. fits l (held d user) (held new user)) o false ≡ true
-        → HoldsWithin (unwrap_or o (record { sessions = 0; filters = 0; retained = 0; bytes = 0; waiting = 0 })) (held d user) (held new user)
+        → HoldsWithin (unwrap_or o (record { connections = 0; sessions = 0; filters = 0; retained = 0; bytes = 0; waiting = 0 })) (held d user) (held new user)
     by None none = cc
     by (Some l) some = fits-within l (held d user) (held new user) some
 
@@ -95,6 +100,7 @@ let-through d new owner user true is keeps = by (owner == user) refl
 
 pub without-less : (d : QuotaData) (owner user : ℕ) (client : List ℕ) → HoldsLess (held (without_session owner client d) user) (held d user)
 without-less d owner user client = record {
+  connections = filter-less (λ s. not (is_session owner client s)) (here_weight user) d.sessions;
   sessions = filter-less (λ s. not (is_session owner client s)) (kept_weight user) d.sessions;
   filters = filter-less (λ f. not (is_filter owner client f)) (filter_weight user) d.filters;
   retained = omega arith;
@@ -103,6 +109,7 @@ without-less d owner user client = record {
 
 pub messages-less : (d : QuotaData) (p : MessageData → Bool) (user : ℕ) → HoldsLess (held (record d { messages = filter p d.messages }) user) (held d user)
 messages-less d p user = record {
+  connections = omega arith;
   sessions = omega arith;
   filters = omega arith;
   retained = filter-less p (message_weight user) d.messages;
@@ -110,12 +117,13 @@ messages-less d p user = record {
 }
 
 same-less : (h : Held) → HoldsLess h h
-same-less h = record { sessions = omega arith; filters = omega arith; retained = omega arith; bytes = omega arith }
+same-less h = record { connections = omega arith; sessions = omega arith; filters = omega arith; retained = omega arith; bytes = omega arith }
 
 unsubscribe-less : (d : QuotaData) (user : ℕ) (client : List ℕ) (names : List (List ℕ)) (o : Option ℕ)
     → HoldsLess (held (option_map_or (λ owner. record d { filters = filter (λ (f : FilterData). not (is_filter owner client f && list_any (λ n. bytes_eq n f.filter) names)) d.filters }) o d) user) (held d user)
 unsubscribe-less d user client names None = same-less (held d user)
 unsubscribe-less d user client names (Some owner) = record {
+  connections = omega arith;
   sessions = omega arith;
   filters = filter-less (λ (f : FilterData). not (is_filter owner client f && list_any (λ n. bytes_eq n f.filter) names)) (filter_weight user) d.filters;
   retained = omega arith;
@@ -128,7 +136,7 @@ forget-less d user client None = same-less (held d user)
 forget-less d user client (Some s) = without-less d s.user user client
 
 left-less : (d : QuotaData) (conn user : ℕ) (client : List ℕ) (now : ℕ) (o : Option SessionData)
-    → HoldsLess (held (option_map_or (λ (s : SessionData). cond s.kept (record d { sessions = map (left_at conn client now) d.sessions }) (without_session s.user client d)) o d) user) (held d user)
+    → HoldsLess (held (option_map_or (λ (s : SessionData). cond s.kept (record d { sessions = map (left_at s.user conn client now) d.sessions }) (without_session s.user client d)) o d) user) (held d user)
 left-less d conn user client now None = same-less (held d user)
 left-less d conn user client now (Some s) = by s.kept
   where
@@ -136,9 +144,14 @@ left-less d conn user client now (Some s) = by s.kept
     one true x = refl
     one false x = refl
 
-    by : (k : Bool) → HoldsLess (held (cond k (record d { sessions = map (left_at conn client now) d.sessions }) (without_session s.user client d)) user) (held d user)
+    less : (b : Bool) (x : SessionData) → here_weight user (cond b (record x { conn = None; since = now }) x) ≤ here_weight user x
+    less true x = omega arith
+    less false x = omega arith
+
+    by : (k : Bool) → HoldsLess (held (cond k (record d { sessions = map (left_at s.user conn client now) d.sessions }) (without_session s.user client d)) user) (held d user)
     by true = record {
-      sessions = omega (arith, sum-map (left_at conn client now) (kept_weight user) d.sessions (λ x. one (is_here conn client x) x));
+      connections = map-less (left_at s.user conn client now) (here_weight user) d.sessions (λ x. less (x.user == s.user && is_here conn client x) x);
+      sessions = omega (arith, sum-map (left_at s.user conn client now) (kept_weight user) d.sessions (λ x. one (x.user == s.user && is_here conn client x) x));
       filters = omega arith;
       retained = omega arith;
       bytes = omega arith;
@@ -149,6 +162,7 @@ ended-less : (d : QuotaData) (conn user : ℕ) (client : List ℕ) (now : ℕ) �
 ended-less d conn user client now =
     let of_session = left-less d conn user client now (find (is_here conn client) d.sessions) in
     record {
+      connections = of_session.connections;
       sessions = of_session.sessions;
       filters = of_session.filters;
       retained = settled-less (message_weight user) conn d.messages (λ will. omega arith);
@@ -206,11 +220,11 @@ unsubscribe-limits d p None = refl
 unsubscribe-limits d p (Some owner) = refl
 
 left-limits : (d : QuotaData) (conn : ℕ) (client : List ℕ) (now : ℕ) (o : Option SessionData)
-    → (option_map_or (λ (s : SessionData). cond s.kept (record d { sessions = map (left_at conn client now) d.sessions }) (without_session s.user client d)) o d).limits ≡ d.limits
+    → (option_map_or (λ (s : SessionData). cond s.kept (record d { sessions = map (left_at s.user conn client now) d.sessions }) (without_session s.user client d)) o d).limits ≡ d.limits
 left-limits d conn client now None = refl
 left-limits d conn client now (Some s) = by s.kept
   where
-    by : (k : Bool) → (cond k (record d { sessions = map (left_at conn client now) d.sessions }) (without_session s.user client d)).limits ≡ d.limits
+    by : (k : Bool) → (cond k (record d { sessions = map (left_at s.user conn client now) d.sessions }) (without_session s.user client d)).limits ≡ d.limits
     by true = refl
     by false = refl
 
@@ -251,6 +265,7 @@ pub fresh-within : (limits : List Limits) (calls : List Call) (user : ℕ) → l
 fresh-within limits calls user ordinary =
     let h = calls-within (fresh limits) calls user ordinary in
     record {
+      connections = omega (arith, h.connections);
       sessions = omega (arith, h.sessions);
       filters = omega (arith, h.filters);
       retained = omega (arith, h.retained);
@@ -292,10 +307,11 @@ resume-given d user client names now = by (slice_get d.limits user)
     one-at-most false = omega arith
 
     by : (o : Option Limits) → HoldsGiven (length names) (held d user) (held (option_map_or (λ (l : Limits). with_session s fs d) o d) user)
-    by None = record { sessions = omega arith; filters = omega arith; retained = refl; bytes = refl }
+    by None = record { connections = omega arith; sessions = omega arith; filters = omega arith; retained = refl; bytes = refl }
     by (Some l) =
         let gone = without-less d user user client in
         record {
+          connections = omega (arith, gone.connections, sum_by_push (here_weight user) (without_session user client d).sessions s);
           sessions = omega (arith, gone.sessions, sum_by_push (kept_weight user) (without_session user client d).sessions s, one-at-most (user == user));
           filters = omega (arith, gone.filters, sum_by-append (filter_weight user) (without_session user client d).filters fs, put-all-count user user client names []);
           retained = refl;

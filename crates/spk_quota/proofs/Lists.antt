@@ -8,6 +8,34 @@ use Rattle.std.proofs.lemmas.List.Folds.{find_at}
 use Rattle.std.proofs.lemmas.List.Sums.{sum_by-cons, passes_at_first, sum_by-le-sum_by}
 use Rattle.std.proofs.lemmas.Option.{get_or_from_slice_get, slice_get_past, slice_get_cases, slice_get_within}
 
+-- where one passes, one passes a wider test
+pub any-wider : {X : Type 0} (p q : X → Bool) (xs : List X) → ((x : X) → p x ≡ true → q x ≡ true) → list_any p xs ≡ true → list_any q xs ≡ true
+any-wider p q [] wider h = cc
+any-wider {X} p q (x ∷ xs) wider h = by (p x) refl (q x) refl h (any-wider p q xs wider)
+  where
+    by : (b : Bool) → p x ≡ b → (c : Bool) → q x ≡ c → (b || list_any p xs) ≡ true → (list_any p xs ≡ true → list_any q xs ≡ true) → (c || list_any q xs) ≡ true
+    by b is true also any rest = refl
+    by true is false also any rest = cc (wider x is)
+    by false is false also any rest = rest any
+
+-- the last one passes
+pub any-last : {X : Type 0} (p : X → Bool) (xs : List X) (x : X) → p x ≡ true → list_any p (xs ++ x ∷ []) ≡ true
+any-last p [] x h = ap (λ b. b || false) h
+any-last {X} p (y ∷ xs) x h = by (p y) (any-last p xs x h)
+  where
+    by : (b : Bool) → list_any p (xs ++ x ∷ []) ≡ true → (b || list_any p (xs ++ x ∷ [])) ≡ true
+    by true rest = refl
+    by false rest = rest
+
+-- one that passes weighs
+pub any-weighs : {X : Type 0} (p : X → Bool) (g : X → ℕ) (xs : List X) → ((x : X) → p x ≡ true → 1 ≤ g x) → list_any p xs ≡ true → 1 ≤ sum_by g xs
+any-weighs p g [] weighs h = cc
+any-weighs {X} p g (x ∷ xs) weighs h = by (p x) refl h (any-weighs p g xs weighs)
+  where
+    by : (b : Bool) → p x ≡ b → (b || list_any p xs) ≡ true → (list_any p xs ≡ true → 1 ≤ sum_by g xs) → 1 ≤ sum_by g (x ∷ xs)
+    by true is any rest = omega (arith, weighs x is, sum_by-cons g x xs)
+    by false is any rest = omega (arith, rest any, sum_by-cons g x xs)
+
 -- some of what is mapped
 pub any-map : {X Y : Type 0} (p : Y → Bool) (f : X → Y) (xs : List X) → list_any p (map f xs) ≡ list_any (λ x. p (f x)) xs
 any-map p f [] = refl
@@ -57,9 +85,17 @@ found-passes {X} p (y ∷ xs) x h = by (p y) refl h (found-passes p xs x)
     by false is found rest = rest found
 
 -- what comes to the same of each, comes to the same of all
+pub sum-mapped : {X : Type 0} (f : X → X) (g h : X → ℕ) (xs : List X) → ((x : X) → g (f x) ≡ h x) → sum_by g (map f xs) ≡ sum_by h xs
+sum-mapped f g h [] same = refl
+sum-mapped f g h (x ∷ xs) same = omega (arith, sum_by-cons g (f x) (map f xs), sum_by-cons h x xs, same x, sum-mapped f g h xs same)
+
 pub sum-map : {X : Type 0} (f : X → X) (g : X → ℕ) (xs : List X) → ((x : X) → g (f x) ≡ g x) → sum_by g (map f xs) ≡ sum_by g xs
-sum-map f g [] same = refl
-sum-map f g (x ∷ xs) same = omega (arith, sum_by-cons g (f x) (map f xs), sum_by-cons g x xs, same x, sum-map f g xs same)
+sum-map f g xs same = sum-mapped f g g xs same
+
+-- what comes to no more of each, comes to no more of all
+pub map-less : {X : Type 0} (f : X → X) (g : X → ℕ) (xs : List X) → ((x : X) → g (f x) ≤ g x) → sum_by g (map f xs) ≤ sum_by g xs
+map-less f g [] less = omega arith
+map-less f g (x ∷ xs) less = omega (arith, sum_by-cons g (f x) (map f xs), sum_by-cons g x xs, less x, map-less f g xs less)
 
 -- what stands at a place that fails may as well be taken out
 without-at : {X : Type 0} (p : X → Bool) (xs : List X) (i : ℕ) (d : X) → i < length xs → p (get_or xs i d) ≡ false → filter p (remove xs i) ≡ filter p xs

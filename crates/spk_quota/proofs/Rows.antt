@@ -1,5 +1,5 @@
--- The rules at worked lists of calls, with figures worked out by hand, named by what they show. Two users: 0 may hold 1 kept session, 2 filters, 2 retained messages
--- and 100 bytes; 1 may hold 3, 3, 3 and 1000. Client identifiers, topics and filters are of one byte.
+-- The rules at worked lists of calls, with figures worked out by hand, named by what they show. Two users: 0 may hold 2 connections, 1 kept session, 2 filters,
+-- 2 retained messages and 100 bytes; 1 may hold 3, 3, 3, 3 and 1000. Client identifiers, topics and filters are of one byte.
 use Rattle.std.proofs.Common.{◌≡◌, ℕ, true, false, List, [], ◌∷◌, Some, None, refl}
 use Rattle.std.specs.List.{fold}
 use Rattle.spk_quota.specs.Calls.{Call, Clear, Connect, DiscardWill, Ended, Forget, Publish, Resume, Subscribe, Unsubscribe, step}
@@ -9,7 +9,10 @@ use Rattle.spk_quota.specs.Step.{lets_in, lets_retain, lets_subscribe, long_away
 use Rattle.spk_quota.specs.declared.limits.Limits.{Limits}
 
 abbrev limits : List Limits
-limits = record { sessions = 1; filters = 2; retained = 2; bytes = 100; waiting = 0 } ∷ record { sessions = 3; filters = 3; retained = 3; bytes = 1000; waiting = 0 } ∷ []
+limits =
+    record { connections = 2; sessions = 1; filters = 2; retained = 2; bytes = 100; waiting = 0 }
+    ∷ record { connections = 3; sessions = 3; filters = 3; retained = 3; bytes = 1000; waiting = 0 }
+    ∷ []
 
 abbrev behind : List Call → QuotaData
 behind calls = fold step (fresh limits) calls
@@ -17,6 +20,10 @@ behind calls = fold step (fresh limits) calls
 -- what a user holds behind some calls, as kept sessions, filters, retained messages and bytes
 abbrev figures : List Call → ℕ → ℕ × ℕ × ℕ × ℕ
 figures calls user = let h = held (behind calls) user in (h.sessions, h.filters, h.retained, h.bytes)
+
+-- how many of its clients are connected
+abbrev connections : List Call → ℕ → ℕ
+connections calls user = (held (behind calls) user).connections
 
 abbrev a : List ℕ
 a = 97 ∷ []
@@ -26,6 +33,38 @@ b = 98 ∷ []
 
 abbrev c : List ℕ
 c = 99 ∷ []
+
+-- ---- connections
+
+last_connection_may_be : lets_in (behind (Connect 0 7 a true None ∷ [])) 0 8 b true None ≡ true
+last_connection_may_be = refl
+
+one_connection_too_many : lets_in (behind (Connect 0 7 a true None ∷ Connect 0 8 b true None ∷ [])) 0 9 c true None ≡ false
+one_connection_too_many = refl
+
+refused_connection_does_not_count : connections (Connect 0 7 a true None ∷ Connect 0 8 b true None ∷ Connect 0 9 c true None ∷ []) 0 ≡ 2
+refused_connection_does_not_count = refl
+
+takeover_at_the_limit_is_let_in : lets_in (behind (Connect 0 7 a false None ∷ Connect 0 8 b true None ∷ [])) 0 9 a false None ≡ true
+takeover_at_the_limit_is_let_in = refl
+
+takeover_counts_once : connections (Connect 0 7 a false None ∷ Connect 0 8 b true None ∷ Connect 0 9 a false None ∷ []) 0 ≡ 2
+takeover_counts_once = refl
+
+clean_takeover_at_the_limit_is_let_in : lets_in (behind (Connect 0 7 a true None ∷ Connect 0 8 b true None ∷ [])) 0 9 a true None ≡ true
+clean_takeover_at_the_limit_is_let_in = refl
+
+ended_connection_may_be_had_again : lets_in (behind (Connect 0 7 a false None ∷ Connect 0 8 b true None ∷ Ended 7 a 50 ∷ [])) 0 9 c true None ≡ true
+ended_connection_may_be_had_again = refl
+
+connection_that_was_taken_over_ends_nothing : connections (Connect 0 7 a false None ∷ Connect 0 8 a false None ∷ Ended 7 a 50 ∷ []) 0 ≡ 1
+connection_that_was_taken_over_ends_nothing = refl
+
+resumed_session_has_none : connections (Resume 0 a [] 10 ∷ []) 0 ≡ 0
+resumed_session_has_none = refl
+
+another_users_connection_goes_on : connections (Connect 0 7 a false None ∷ Connect 1 7 a false None ∷ Ended 7 a 50 ∷ []) 1 ≡ 1
+another_users_connection_goes_on = refl
 
 -- ---- sessions
 

@@ -1,16 +1,19 @@
 -- What weighs for a user.
-use Rattle.std.proofs.Common.{◌≡◌, ◌∙◌, ◌&&◌, ◌==◌, ℕ, Bool, true, false, not, cond, List, [], ◌∷◌, ◌++◌, is_none, refl, ap, arith}
+use Rattle.std.proofs.Common.{◌≡◌, ◌∙◌, ◌&&◌, ◌==◌, ℕ, Bool, true, false, not, cond, List, [], ◌∷◌, ◌++◌, is_none, is_some, refl, ap, arith}
 use Rattle.std.specs.List.{filter, fold, list_any, sum_by}
 use Rattle.std.specs.Str.{bytes_eq}
 use Rattle.std.proofs.lemmas.Bool.{eqb-true}
 use Rattle.std.proofs.lemmas.List.Sums.{sum_by_push}
 use Rattle.spk_quota.specs.Data.{FilterData, MessageData, SessionData}
-use Rattle.spk_quota.specs.Held.{bytes_for, is_filter_by, is_kept_by, is_message_by}
+use Rattle.spk_quota.specs.Held.{bytes_for, is_filter_by, is_here_by, is_kept_by, is_message_by}
 use Rattle.spk_quota.specs.Step.{is_filter, is_it, is_retained, is_session, with_filter}
 use Rattle.spk_quota.proofs.Lists.{filter-keeps}
 
 abbrev pub one_if : Bool → ℕ
 one_if b = cond b 1 0
+
+abbrev pub here_weight : ℕ → SessionData → ℕ
+here_weight user s = cond (is_here_by user s) 1 0
 
 abbrev pub kept_weight : ℕ → SessionData → ℕ
 kept_weight user s = cond (is_kept_by user s) 1 0
@@ -38,13 +41,16 @@ and-second false b h = cc
 
 -- ---- what is another user's weighs nothing
 
+second-fails : (a b : Bool) → b ≡ false → one_if (a && b) ≡ 0
+second-fails true true h = cc
+second-fails true false h = refl
+second-fails false b h = refl
+
+pub light-here : (user : ℕ) (s : SessionData) → (s.user == user) ≡ false → here_weight user s ≡ 0
+light-here user s apart = second-fails (is_some s.conn) (s.user == user) apart
+
 pub light-session : (user : ℕ) (s : SessionData) → (s.user == user) ≡ false → kept_weight user s ≡ 0
-light-session user s apart = by s.kept (s.user == user) apart
-  where
-    by : (k b : Bool) → b ≡ false → one_if (k && b) ≡ 0
-    by true true h = cc
-    by true false h = refl
-    by false b h = refl
+light-session user s apart = second-fails s.kept (s.user == user) apart
 
 pub light-filter : (user : ℕ) (f : FilterData) → (f.user == user) ≡ false → filter_weight user f ≡ 0
 light-filter user f apart = ap one_if apart
@@ -57,11 +63,15 @@ light-bytes user m apart = let count : Bool → ℕ = λ b. cond b m.bytes 0 in 
 
 -- ---- of another user's session, filters and messages nothing is felt
 
-pub sessions-keep : (owner user : ℕ) (client : List ℕ) (ss : List SessionData) → (owner == user) ≡ false
-    → sum_by (kept_weight user) (filter (λ s. not (is_session owner client s)) ss) ≡ sum_by (kept_weight user) ss
-sessions-keep owner user client ss apart =
-    filter-keeps (λ s. not (is_session owner client s)) (kept_weight user) ss
-    (λ s fails. light-session user s (other s.user owner user (and-first (s.user == owner) (bytes_eq s.client client) (fails-not _ fails)) apart))
+-- a session weighs for its user alone
+abbrev pub IsOfUser : ℕ → (SessionData → ℕ) → Type 0
+IsOfUser user g = (s : SessionData) → (s.user == user) ≡ false → g s ≡ 0
+
+pub sessions-keep : (g : SessionData → ℕ) (owner user : ℕ) (client : List ℕ) (ss : List SessionData) → IsOfUser user g → (owner == user) ≡ false
+    → sum_by g (filter (λ s. not (is_session owner client s)) ss) ≡ sum_by g ss
+sessions-keep g owner user client ss light apart =
+    filter-keeps (λ s. not (is_session owner client s)) g ss
+    (λ s fails. light s (other s.user owner user (and-first (s.user == owner) (bytes_eq s.client client) (fails-not _ fails)) apart))
 
 pub filters-keep : (owner user : ℕ) (client : List ℕ) (fs : List FilterData) → (owner == user) ≡ false
     → sum_by (filter_weight user) (filter (λ f. not (is_filter owner client f)) fs) ≡ sum_by (filter_weight user) fs

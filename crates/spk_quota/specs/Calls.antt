@@ -60,10 +60,11 @@ is_clear _ = false
 
 -- a user's limits; of one who isn't known all are 0
 abbrev pub limits_of : List Limits → ℕ → Limits
-limits_of limits user = unwrap_or (slice_get limits user) (record { sessions = 0; filters = 0; retained = 0; bytes = 0; waiting = 0 })
+limits_of limits user = unwrap_or (slice_get limits user) (record { connections = 0; sessions = 0; filters = 0; retained = 0; bytes = 0; waiting = 0 })
 
 -- a user holds no more of anything
 pub record HoldsLess (behind before : Held) : Type 0 where
+  pub connections : behind.connections ≤ before.connections
   pub sessions : behind.sessions ≤ before.sessions
   pub filters : behind.filters ≤ before.filters
   pub retained : behind.retained ≤ before.retained
@@ -71,6 +72,7 @@ pub record HoldsLess (behind before : Held) : Type 0 where
 
 -- a user holds no more of anything than its limit, or than before, where that is more
 pub record HoldsWithin (l : Limits) (before behind : Held) : Type 0 where
+  pub connections : behind.connections ≤ max l.connections before.connections
   pub sessions : behind.sessions ≤ max l.sessions before.sessions
   pub filters : behind.filters ≤ max l.filters before.filters
   pub retained : behind.retained ≤ max l.retained before.retained
@@ -78,13 +80,15 @@ pub record HoldsWithin (l : Limits) (before behind : Held) : Type 0 where
 
 -- a user holds no more of anything than its limit
 pub record HoldsAtMost (l : Limits) (h : Held) : Type 0 where
+  pub connections : h.connections ≤ l.connections
   pub sessions : h.sessions ≤ l.sessions
   pub filters : h.filters ≤ l.filters
   pub retained : h.retained ≤ l.retained
   pub bytes : h.bytes ≤ l.bytes
 
--- what a resumed session gives its user: itself, and so many filters
+-- what a resumed session gives its user: itself, so many filters, and no connection
 pub record HoldsGiven (count : ℕ) (before behind : Held) : Type 0 where
+  pub connections : behind.connections ≤ before.connections
   pub sessions : behind.sessions ≤ before.sessions + 1
   pub filters : behind.filters ≤ before.filters + count
   pub retained : behind.retained ≡ before.retained

@@ -1,10 +1,14 @@
 -- What a user holds, and whether a call may make it hold this (own rules).
-use Rattle.std.specs.Prelude.{◌==◌, ◌&&◌, ◌||◌, ℕ, Bool, false, count_by, nat_le, slice_get, if◌then◌else◌}
+use Rattle.std.specs.Prelude.{◌==◌, ◌&&◌, ◌||◌, ℕ, Bool, false, count_by, is_some, nat_le, slice_get, if◌then◌else◌}
 use Rattle.std.specs.List.{sum_by}
 use Rattle.std.specs.Option.{option_map_or}
 use Rattle.spk_quota.specs.Data.{FilterData, MessageData, QuotaData, SessionData}
 use Rattle.spk_quota.specs.declared.limits.Held.{Held}
 use Rattle.spk_quota.specs.declared.limits.Limits.{Limits}
+
+-- a session of this user that has a connection
+abbrev pub is_here_by : ℕ → SessionData → Bool
+is_here_by user s = is_some s.conn && s.user == user
 
 abbrev pub is_kept_by : ℕ → SessionData → Bool
 is_kept_by user s = s.kept && s.user == user
@@ -19,9 +23,10 @@ is_message_by user m = m.user == user
 abbrev pub bytes_for : ℕ → MessageData → ℕ
 bytes_for user m = if m.user == user then m.bytes else 0
 
--- kept sessions, the filters of all sessions together, retained messages and wills, and the bytes of these
+-- sessions that have a connection, kept sessions, the filters of all sessions together, retained messages and wills, and the bytes of these
 abbrev pub held : QuotaData → ℕ → Held
 held d user = record {
+  connections = count_by (is_here_by user) d.sessions;
   sessions = count_by (is_kept_by user) d.sessions;
   filters = count_by (is_filter_by user) d.filters;
   retained = count_by (is_message_by user) d.messages;
@@ -34,7 +39,8 @@ may_be most before behind = nat_le behind most || nat_le behind before
 
 abbrev pub fits : Limits → (before behind : Held) → Bool
 fits l before behind =
-    may_be l.sessions before.sessions behind.sessions
+    may_be l.connections before.connections behind.connections
+    && may_be l.sessions before.sessions behind.sessions
     && may_be l.filters before.filters behind.filters
     && may_be l.retained before.retained behind.retained
     && may_be l.bytes before.bytes behind.bytes

@@ -165,14 +165,18 @@ settled conn messages =
     ++ retained_of will (bytes_on will.user will.topic messages) ∷ [])
     (find (is_will_of conn) messages) messages
 
--- its session is away from then on, or ends, where it isn't kept
-abbrev pub left_at : ℕ → List ℕ → ℕ → SessionData → SessionData
-left_at conn client now s = if is_here conn client s then record s { conn = None; since = now } else s
+-- its session, of this user, is away from then on, or ends, where it isn't kept
+abbrev pub left_at : ℕ → ℕ → List ℕ → ℕ → SessionData → SessionData
+left_at user conn client now s = if s.user == user && is_here conn client s then record s { conn = None; since = now } else s
+
+-- the sessions behind it, where that of this client is kept
+abbrev pub left_of : ℕ → List ℕ → ℕ → List SessionData → List SessionData
+left_of conn client now sessions = option_map_or (λ (s : SessionData). map (left_at s.user conn client now) sessions) (find (is_here conn client) sessions) sessions
 
 abbrev pub left : QuotaData → ℕ → List ℕ → ℕ → QuotaData
 left d conn client now =
     option_map_or
-    (λ (s : SessionData). if s.kept then record d { sessions = map (left_at conn client now) d.sessions } else without_session s.user client d)
+    (λ (s : SessionData). if s.kept then record d { sessions = map (left_at s.user conn client now) d.sessions } else without_session s.user client d)
     (find (is_here conn client) d.sessions) d
 
 abbrev pub ended : QuotaData → ℕ → List ℕ → ℕ → QuotaData

@@ -22,6 +22,11 @@ pub(crate) fn fits(limits: &Limits, before: &Held, others: &Held, more: &Held) -
     ensures fit { result ≡ true → others.now.bytes + more.now.bytes < 2 ^ 64 }
 {
     may_be(
+        u64::from(limits.connections),
+        before.connections,
+        others.connections,
+        more.connections,
+    ) && may_be(
         u64::from(limits.sessions),
         before.sessions,
         others.sessions,

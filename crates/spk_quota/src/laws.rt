@@ -1,11 +1,11 @@
 //! Laws of the definitions.
-ghost use Rattle.std.specs.Prelude.{◌≡◌, ◌+◌, ℕ, Bool, List, Option, Some, false, length};
+ghost use Rattle.std.specs.Prelude.{◌≡◌, ◌+◌, ◌&&◌, ℕ, Bool, List, Option, Some, false, length, true};
 ghost use Rattle.std.specs.List.{fold, list_any};
 ghost use Rattle.std.specs.Prelude.{count_by};
 ghost use Rattle.spk_quota.specs.Calls.{Call, HoldsAtMost, HoldsGiven, HoldsLess, HoldsWithin, is_by, is_clear, is_resume, limits_of, step};
 ghost use Rattle.spk_quota.specs.Data.{QuotaData, fresh};
 ghost use Rattle.spk_quota.specs.Held.{held};
-ghost use Rattle.spk_quota.specs.Step.{cleared, connected, discarded, is_filter, is_retained, is_retained_on, is_session, is_will_of, published, resumed, without_session};
+ghost use Rattle.spk_quota.specs.Step.{cleared, connected, discarded, has_conn, is_filter, is_retained, is_retained_on, is_session, is_will_of, published, resumed, without_session};
 ghost use Rattle.spk_quota.specs.declared.limits.Limits.{Limits};
 
 /// Behind any list of calls no user holds more of anything than its limit; one who isn't known holds nothing. From any data on, as behind the sessions that stood at
@@ -31,8 +31,12 @@ pub fn others_are_untouched()
         → HoldsLess (held (cleared d topic) user) (held d user) }
 {}
 
-/// What is let in counts: a will of a CONNECT as one more retained message of so many bytes, and of what a user publishes on a topic exactly one message.
+/// What is let in counts: behind a CONNECT a session of its user and client has its connection, its will counts as one more retained message of so many bytes, and of
+/// what a user publishes on a topic exactly one message.
 pub fn what_is_let_in_counts()
+    ensures connection { (d : QuotaData) (user conn : ℕ) (client : List ℕ) (clean : Bool) (will : Option (List ℕ × ℕ))
+        → list_any (λ s. is_session user client s && has_conn s.conn conn)
+        (connected d user conn client clean will).sessions ≡ true }
     ensures will { (d : QuotaData) (user conn : ℕ) (client : List ℕ) (clean : Bool) (will : List ℕ × ℕ)
         → (held (connected d user conn client clean (Some will)) user).retained ≡ (held d user).retained + 1 }
     ensures bytes { (d : QuotaData) (user conn : ℕ) (client : List ℕ) (clean : Bool) (will : List ℕ × ℕ)

@@ -1,5 +1,5 @@
-//! What each user of an MQTT 3.1.1 broker holds, and may hold, without IO (own rules over chapter 3): kept sessions, topic filters, retained messages and
-//! their bytes.
+//! What each user of an MQTT 3.1.1 broker holds, and may hold, without IO (own rules over chapter 3): connections, kept sessions, topic filters, retained
+//! messages and their bytes.
 #![tactic(auto)]
 
 mod filters;

@@ -3,6 +3,8 @@
 /// What one user may hold.
 #[derive(Clone, Copy, Debug, PartialEq, Eq)]
 pub struct Limits {
+    /// Clients that are connected.
+    pub connections: u32,
     /// Sessions with clean session 0.
     pub sessions: u32,
     /// Topic filters of all its sessions together.
@@ -18,6 +20,8 @@ pub struct Limits {
 /// What one user holds.
 #[derive(Clone, Copy, Debug, PartialEq, Eq)]
 pub struct Held {
+    /// Clients that are connected.
+    pub connections: u64,
     /// Sessions with clean session 0.
     pub sessions: u64,
     /// Topic filters of all its sessions together.

@@ -46,6 +46,7 @@ impl Quotas {
         ensures { result ≡ held (quotas_view self.now) user }
     {
         Held {
+            connections: sessions::connections(&self.sessions, user),
             sessions: sessions::count(&self.sessions, user),
             filters: filters::count(&self.filters, user),
             retained: self.messages.count(user),
@@ -58,6 +59,7 @@ impl Quotas {
         ensures { result ≡ held (without_session user client.now (quotas_view self.now)) user }
     {
         Held {
+            connections: sessions::other_connections(&self.sessions, user, client),
             sessions: sessions::count_others(&self.sessions, user, client),
             filters: filters::count_others(&self.filters, user, client),
             retained: self.messages.count(user),
@@ -70,6 +72,7 @@ impl Quotas {
         ensures { result ≡ held (without_retained user topic.now (quotas_view self.now)) user }
     {
         Held {
+            connections: sessions::connections(&self.sessions, user),
             sessions: sessions::count(&self.sessions, user),
             filters: filters::count(&self.filters, user),
             retained: self.messages.count_others(user, topic),
@@ -77,12 +80,15 @@ impl Quotas {
         }
     }
 
-    /// What a user holds beside the session of a client, or, where that goes on, all of it.
+    /// What a user holds beside the session of a client, or, where that goes on, all of it but for the connection of this session.
     fn others(&self, user: usize, client: &str, goes_on: bool) -> Held
         ensures { result ≡ others_of (quotas_view self.now) user client.now goes_on }
     {
         if goes_on {
-            self.held(user)
+            Held {
+                connections: sessions::connections_beside(&self.sessions, user, client),
+                ..self.held(user)
+            }
         } else {
             self.held_beside(user, client)
         }
@@ -152,7 +158,8 @@ impl Quotas {
     }
 
     /// A CONNECT (section 3.1) of a client, whose identifier is no other user's, by a connection of this number, with the topic and the bytes of its will, if it has
-    /// one with RETAIN and a payload: true where it is let in, and counts; false where a limit refuses it, or its user isn't known, and then nothing changes.
+    /// one with RETAIN and a payload: true where it is let in, and counts; false where a limit refuses it, or its user isn't known, and then nothing changes. Where
+    /// the session of this client has a connection already, the new one takes its place, and the user has no connection more.
     pub fn connect(
         &mut self,
         user: usize,
@@ -194,6 +201,7 @@ impl Quotas {
     {
         let others = self.held_but(user, topic);
         let more = Held {
+            connections: 0,
             sessions: 0,
             filters: 0,
             retained: 1,
@@ -347,6 +355,7 @@ fn more_filters(count: usize) -> Held
     ensures { result ≡ more_filters count }
 {
     Held {
+        connections: 0,
         sessions: 0,
         filters: count as u64,
         retained: 0,
@@ -366,6 +375,7 @@ fn more_of(is_new: bool, will: Option<(&str, u64)>) -> Held
     ensures { result ≡ more_of is_new (option_map (λ w. (w.0.now, w.1)) will.entry) }
 {
     Held {
+        connections: 1,
         sessions: if is_new { 1 } else { 0 },
         filters: 0,
         retained: if will.is_some() { 1 } else { 0 },

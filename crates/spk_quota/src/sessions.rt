@@ -2,8 +2,9 @@
 ghost use Rattle.std.specs.Prelude.{◌≡◌, ◌++◌, ◌∷◌, [], ◌<◌, ◌≤◌, ◌&&◌, IfOk, Some, count_by, map, not, vec_capacity, vec_len};
 ghost use Rattle.std.specs.List.{filter, find, list_any};
 ghost use Rattle.std.specs.Option.{option_map};
-ghost use Rattle.spk_quota.specs.Held.{is_kept_by};
-ghost use Rattle.spk_quota.specs.Step.{is_here, is_left, is_long_away, is_named, is_session, left_at, with_conn};
+ghost use Rattle.spk_quota.specs.Figures.{connections_beside, is_here_with};
+ghost use Rattle.spk_quota.specs.Held.{is_here_by, is_kept_by};
+ghost use Rattle.spk_quota.specs.Step.{is_here, is_left, is_long_away, is_named, is_session, left_at, left_of, with_conn};
 
 use crate::message::has_conn;
 use std::alloc::{AllocError, Global};
@@ -80,6 +81,20 @@ impl Session {
         self.kept && self.user == user
     }
 
+    /// Whether it is this user's, and has a connection.
+    fn is_here_by(&self, user: usize) -> bool
+        ensures { result ≡ is_here_by user self.now }
+    {
+        self.conn.is_some() && self.user == user
+    }
+
+    /// Whether it is this user's, and has a connection once the session of this client has one.
+    fn is_here_with(&self, user: usize, client: &str) -> bool
+        ensures { result ≡ is_here_with user client.now self.now }
+    {
+        self.is_of(user, client) || self.is_here_by(user)
+    }
+
     /// Whether it is the session of this user and this client.
     fn is_of(&self, user: usize, client: &str) -> bool
         ensures { result ≡ is_session user client.now self.now }
@@ -124,15 +139,44 @@ impl Session {
         }
     }
 
-    /// Its client is away since now, if it is this client's, by this connection.
-    fn leave(&mut self, conn: u64, client: &str, now: u64)
-        ensures { self.new ≡ left_at conn client.now now self.old }
+    /// Its client is away since now, if it is this user's and this client's, by this connection.
+    fn leave(&mut self, user: usize, conn: u64, client: &str, now: u64)
+        ensures { self.new ≡ left_at user conn client.now now self.old }
     {
-        if self.client.as_str() == client && has_conn(self.conn, conn) {
+        if self.user == user && self.is_here(conn, client) {
             self.conn = None;
             self.since = now;
         }
     }
+}
+
+/// How many sessions of a user have a connection.
+pub(crate) fn connections(sessions: &[Session], user: usize) -> u64
+    ensures { result ≡ count_by (is_here_by user) sessions.now }
+{
+    sessions.iter().filter(|s| s.is_here_by(user)).count() as u64
+}
+
+/// How many sessions of a user have a connection, but for that of this client.
+pub(crate) fn other_connections(sessions: &[Session], user: usize, client: &str) -> u64
+    ensures { result ≡ count_by (is_here_by user) (filter (λ s. not (is_session user client.now s)) sessions.now) }
+{
+    sessions
+        .iter()
+        .filter(|s| !s.is_of(user, client))
+        .filter(|s| s.is_here_by(user))
+        .count() as u64
+}
+
+/// How many sessions of a user have a connection once that of this client has one, but for this one.
+pub(crate) fn connections_beside(sessions: &[Session], user: usize, client: &str) -> u64
+    ensures { result ≡ connections_beside user client.now sessions.now }
+{
+    let all = sessions
+        .iter()
+        .filter(|s| s.is_here_with(user, client))
+        .count() as u64;
+    all.saturating_sub(1)
 }
 
 /// How many kept sessions a user has.
@@ -189,12 +233,21 @@ pub(crate) fn seat(sessions: &mut [Session], user: usize, client: &str, conn: u6
     }
 }
 
-/// The client is away since now, if its session has this connection.
-pub(crate) fn leave(sessions: &mut [Session], conn: u64, client: &str, now: u64)
-    ensures { sessions.new ≡ map (left_at conn client.now now) sessions.old }
+/// The client of this user is away since now, if its session has this connection.
+fn leave_by(sessions: &mut [Session], user: usize, conn: u64, client: &str, now: u64)
+    ensures { sessions.new ≡ map (left_at user conn client.now now) sessions.old }
 {
     for session in sessions.iter_mut() {
-        session.leave(conn, client, now);
+        session.leave(user, conn, client, now);
+    }
+}
+
+/// The client is away since now, if its session has this connection: of two users' sessions the first.
+pub(crate) fn leave(sessions: &mut [Session], conn: u64, client: &str, now: u64)
+    ensures { sessions.new ≡ left_of conn client.now now sessions.old }
+{
+    if let Some((user, _)) = owner_here(sessions, conn, client) {
+        leave_by(sessions, user, conn, client, now);
     }
 }
 

@@ -12,6 +12,7 @@ pub(crate) const UNAVAILABLE: u8 = 3;
 
 /// What somebody may hold who is no user: nothing.
 const NOTHING: Limits = Limits {
+    connections: 0,
     sessions: 0,
     filters: 0,
     retained: 0,
