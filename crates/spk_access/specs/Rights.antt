@@ -9,7 +9,7 @@ use Rattle.spk_topics.specs.Fitting.{is_match}
 use Rattle.spk_topics.specs.Levels.{levels, is_empty}
 use Rattle.spk_topics.specs.Spark.{Named, of_node, of_device, of_state, named_at}
 use Rattle.spk_topics.specs.declared.spark.Verb.{Verb}
-use Rattle.spk_topics.specs.declared.spark.Verb.TheVariants.{Birth, Death, Data, Command}
+use Rattle.spk_topics.specs.declared.spark.Verb.TheVariants.{Command}
 use Rattle.spk_access.specs.Covering.{covers}
 use Rattle.spk_access.specs.declared.rights.NodeName.{NodeName}
 use Rattle.spk_access.specs.declared.rights.Rights as declared
@@ -46,9 +46,7 @@ rights_view r = record {
 
 abbrev pub is_command : Verb → Bool
 is_command Command = true
-is_command Birth = false
-is_command Death = false
-is_command Data = false
+is_command _ = false
 
 abbrev pub is_node : Option NodeId → List ℕ → List ℕ → Bool
 is_node own group node = option_map_or (λ n. bytes_eq n.group group && bytes_eq n.node node) own false

@@ -14,12 +14,10 @@ use Rattle.spk_broker.specs.declared.out.Draft.{Draft}
 use Rattle.spk_broker.specs.declared.session.Session.{Session}
 
 abbrev pub ended : Ending → plain.Broker → plain.Broker
-ended Nothing b = b
-ended (One place) b = b
-ended (Few places sender) b = b
 ended (Enters entry) b = entered entry b
 ended (Joins entry) b = entered entry b
 ended (Acked conn place id) b = (act (Ack conn id) (begun b)).broker
+ended _ b = b
 
 -- the session of a connection, where it sits in one
 abbrev pub alone_at : Option ℕ → Ending
@@ -34,12 +32,9 @@ few_at (Some sender) (Some places) = Few places sender
 
 -- an entry is whole and finds room
 abbrev pub IsFit : Ending → Vec Session Global → Type 0
-IsFit Nothing sessions = Unit {0}
-IsFit (One place) sessions = Unit {0}
-IsFit (Few places sender) sessions = Unit {0}
 IsFit (Enters entry) sessions = IsWhole entry × HasRoom entry sessions
 IsFit (Joins entry) sessions = IsWhole entry × HasRoom entry sessions
-IsFit (Acked conn place id) sessions = Unit {0}
+IsFit _ sessions = Unit {0}
 
 -- that, and where sessions are named, the call has changed no other one, and no connection without CONNECT; where an entry joins, no session
 abbrev pub IsReady : Ending → State → Type 0

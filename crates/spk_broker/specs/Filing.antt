@@ -4,7 +4,7 @@ use Rattle.std.specs.declared.alloc.Global.{Global}
 use Rattle.std.specs.List.{AllByRecursion, flat_map, fold, list_any}
 use Rattle.std.specs.FinMap as tree
 use Rattle.std.specs.Str.{bytes_eq}
-use Rattle.spk_packets.specs.Message.{Message, Connect, ConnAck, Publish, PubAck, Subscribe, SubAck, Unsubscribe, UnsubAck, PingReq, PingResp, Disconnect}
+use Rattle.spk_packets.specs.Message.{Message, Publish}
 use Rattle.spk_topics.specs.Grants.{Finds, Grants}
 use Rattle.spk_topics.specs.Text.{topic_refusal}
 use Rattle.spk_broker_rules.specs.Data.{Session}
@@ -64,17 +64,8 @@ HasNoOther index sessions = (filter : List ℕ) (key : ℕ) → is_some (tree.ge
 
 -- a message, for which an index is made where there is none
 abbrev pub is_publish : Message → Bool
-is_publish (Connect client clean keep will) = false
-is_publish (ConnAck present code) = false
 is_publish (Publish dup qos retain topic id payload) = true
-is_publish (PubAck id) = false
-is_publish (Subscribe id filters) = false
-is_publish (SubAck id codes) = false
-is_publish (Unsubscribe id filters) = false
-is_publish (UnsubAck id) = false
-is_publish PingReq = false
-is_publish PingResp = false
-is_publish Disconnect = false
+is_publish _ = false
 
 -- ---- what it finds
 

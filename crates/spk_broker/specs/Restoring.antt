@@ -1,7 +1,7 @@
 -- A broker's data put together again, part by part, as they were kept before a restart (own rule).
 use Rattle.std.specs.Prelude.{◌≡◌, ℕ, ◌+◌, ◌==◌, Bool, true, false, not, ◌&&◌, nat_lt, nat_le, List, [], ◌∷◌, length, string_bytes, Option, Some, None}
 use Rattle.std.specs.Option.{option_map_or}
-use Rattle.spk_packets.specs.Message.{Message, Connect, ConnAck, Publish, PubAck, Subscribe, SubAck, Unsubscribe, UnsubAck, PingReq, PingResp, Disconnect}
+use Rattle.spk_packets.specs.Message.{Message, Publish}
 use Rattle.spk_packets.specs.Spelling.{is_empty}
 use Rattle.spk_session.specs.PacketIds.{is_in}
 use Rattle.spk_broker_rules.specs.Data as plain
@@ -33,17 +33,8 @@ sendable_as p = Publish false p.qos false p.topic (id_at p.qos) p.payload
 
 -- topic and payload of a PUBLISH
 abbrev pub words_of : Message → Option (List ℕ × List ℕ)
-words_of (Connect client clean keep will) = None
-words_of (ConnAck present code) = None
 words_of (Publish dup qos retain topic id payload) = Some (topic, payload)
-words_of (PubAck id) = None
-words_of (Subscribe id filters) = None
-words_of (SubAck id codes) = None
-words_of (Unsubscribe id filters) = None
-words_of (UnsubAck id) = None
-words_of PingReq = None
-words_of PingResp = None
-words_of Disconnect = None
+words_of _ = None
 
 -- ---- which fit
 

@@ -1,6 +1,6 @@
 -- What is sent, as contracts see it.
 use Rattle.std.specs.Prelude.{ℕ, List, ◌==◌, if◌then◌else◌}
-use Rattle.spk_packets.specs.Message.{Message, Connect, ConnAck, Publish, PubAck, Subscribe, SubAck, Unsubscribe, UnsubAck, PingReq, PingResp, Disconnect}
+use Rattle.spk_packets.specs.Message.{Message, Publish}
 use Rattle.spk_packets.specs.Spelling.{spelling}
 use Rattle.spk_session.specs.declared.answer.Sort.{Sort}
 use Rattle.spk_session.specs.declared.answer.Sort.TheVariants as sort
@@ -22,16 +22,7 @@ sort_at qos = if qos == 0 then sort.QosZero else sort.Other
 
 abbrev pub sort_of : Message → Sort
 sort_of (Publish dup qos retain topic id payload) = sort_at qos
-sort_of (Connect client clean keep will) = sort.Other
-sort_of (ConnAck present code) = sort.Other
-sort_of (PubAck id) = sort.Other
-sort_of (Subscribe id filters) = sort.Other
-sort_of (SubAck id codes) = sort.Other
-sort_of (Unsubscribe id filters) = sort.Other
-sort_of (UnsubAck id) = sort.Other
-sort_of PingReq = sort.Other
-sort_of PingResp = sort.Other
-sort_of Disconnect = sort.Other
+sort_of _ = sort.Other
 
 -- a packet for a connection is sent by its canonical spelling
 abbrev pub outgoing : Send → Sent

@@ -1,5 +1,6 @@
 -- What the broker's thread is given, and what it hands on when it is joined.
-use Rattle.std.specs.Prelude.{◌≡◌, ℕ, ◌-◌, ◌*◌, ◌^◌, ◌<◌, ◌==◌, Bool, true, List, [], length, Option, Some, None, count_by}
+use Rattle.spk_sequence.specs.Budget.{budget}
+use Rattle.std.specs.Prelude.{◌≡◌, ℕ, ◌-◌, ◌^◌, ◌<◌, ◌==◌, Bool, true, List, [], length, Option, Some, None, count_by}
 use Rattle.std.specs.List.{AllByRecursion, slice_get}
 use Rattle.spk_ingress.specs.Passes.{TakesFrom, frames_taken}
 use Rattle.spk_ingress.specs.declared.channel.Ingress.{Ingress}
@@ -49,10 +50,10 @@ AreTokens os got ts = (k : ℕ) (t : Option Token) → slice_get ts k ≡ Some t
 -- There is a log of all that was done, by which everything handed on is read. Edge nodes are the first senders, the host is the last.
 pub record BrokerDone (n : Ingress) (start : BrokerStart) (end : BrokerEnd) : Type 0 where
   pub log : List Entry
-  pub is_log : IsLog (256 - 2 * start.width) (n.senders - 1) log
+  pub is_log : IsLog (budget start.width) (n.senders - 1) log
   -- all was offered, and all refusals were told
-  pub offered : (room_of (256 - 2 * start.width) (n.senders - 1) log).pending ≡ []
-  pub told : (room_of (256 - 2 * start.width) (n.senders - 1) log).untold ≡ []
+  pub offered : (room_of (budget start.width) (n.senders - 1) log).pending ≡ []
+  pub told : (room_of (budget start.width) (n.senders - 1) log).untold ≡ []
   -- each sender's End was taken
   pub ended : (k : ℕ) → k < n.senders → has_ended k (taken_of log) ≡ true
   pub pass : TakesFrom n end.pass
@@ -66,7 +67,7 @@ pub record BrokerDone (n : Ingress) (start : BrokerStart) (end : BrokerEnd) : Ty
   -- a ring refuses nothing before it got as many items as it has room for
   pub full : AtRefusals (HasFilled start.outlets.items) log
   pub accepted : end.accepted.items ≡ accepted_of (n.senders - 1) log
-  pub is_cut : end.is_cut ≡ (room_of (256 - 2 * start.width) (n.senders - 1) log).closed (n.senders - 1)
+  pub is_cut : end.is_cut ≡ (room_of (budget start.width) (n.senders - 1) log).closed (n.senders - 1)
   pub sized : length end.tokens.items ≡ n.senders
   pub tokens : AreTokens start.outlets.items (λ k. got_of k log) end.tokens.items
 

@@ -16,38 +16,26 @@ use Rattle.spk_broker_body.specs.Step.{cuts_in, moved, fresh_room}
 abbrev pub taken_of : List Entry → List Message
 taken_of [] = []
 taken_of (Took m i ∷ l) = taken_of l ++ m ∷ []
-taken_of (Accepted k o ∷ l) = taken_of l
-taken_of (Refused k o ∷ l) = taken_of l
-taken_of (Passed o ∷ l) = taken_of l
-taken_of (Told o ∷ l) = taken_of l
+taken_of (_ ∷ l) = taken_of l
 
 -- the refused offers, oldest first: client, sort, and how many frames were taken before
 abbrev pub refusals_of : List Entry → List Refusal
 refusals_of [] = []
-refusals_of (Took m i ∷ l) = refusals_of l
-refusals_of (Accepted k o ∷ l) = refusals_of l
 refusals_of (Refused k o ∷ l) = refusals_of l ++ (record { client = k; sort = o.sort; taken = length (taken_of l) }) ∷ []
-refusals_of (Passed o ∷ l) = refusals_of l
-refusals_of (Told o ∷ l) = refusals_of l
+refusals_of (_ ∷ l) = refusals_of l
 
 -- what a client's ring got, oldest first: the bytes, and how many Cut frames of the client were taken before
 abbrev pub got_of : ℕ → List Entry → List Item
 got_of j [] = []
-got_of j (Took m i ∷ l) = got_of j l
 got_of j (Accepted k o ∷ l) =
     if k == j then got_of j l ++ (record { bytes = o.bytes; cuts = cuts_in j (taken_of l) }) ∷ [] else got_of j l
-got_of j (Refused k o ∷ l) = got_of j l
-got_of j (Passed o ∷ l) = got_of j l
-got_of j (Told o ∷ l) = got_of j l
+got_of j (_ ∷ l) = got_of j l
 
 -- for each item that a client's ring got, how many frames were taken before
 abbrev pub accepted_of : ℕ → List Entry → List ℕ
 accepted_of j [] = []
-accepted_of j (Took m i ∷ l) = accepted_of j l
 accepted_of j (Accepted k o ∷ l) = if k == j then accepted_of j l ++ length (taken_of l) ∷ [] else accepted_of j l
-accepted_of j (Refused k o ∷ l) = accepted_of j l
-accepted_of j (Passed o ∷ l) = accepted_of j l
-accepted_of j (Told o ∷ l) = accepted_of j l
+accepted_of j (_ ∷ l) = accepted_of j l
 
 -- what stands after a log
 abbrev pub room_of : ℕ → ℕ → List Entry → Room
@@ -86,11 +74,8 @@ IsLog limit edges (e ∷ l) = IsLog limit edges l × MayMove e (room_of limit ed
 -- wherever a send was refused, this holds of the client and of what its ring had got by then
 abbrev pub AtRefusals : (ℕ → List Item → Type 0) → List Entry → Type 0
 AtRefusals P [] = Unit {0}
-AtRefusals P (Took m i ∷ l) = AtRefusals P l
-AtRefusals P (Accepted k o ∷ l) = AtRefusals P l
 AtRefusals P (Refused k o ∷ l) = P k (got_of k l) × AtRefusals P l
-AtRefusals P (Passed o ∷ l) = AtRefusals P l
-AtRefusals P (Told o ∷ l) = AtRefusals P l
+AtRefusals P (_ ∷ l) = AtRefusals P l
 
 -- the client's ring, one of these, has got as many items as it has room for when it is new
 abbrev pub HasFilled : List Outlet → ℕ → List Item → Type 0

@@ -16,16 +16,12 @@ use Rattle.spk_broker_body.specs.Data.{Input, Says, Breaks, Cuts, Ends, Offer, E
 -- ---- what the frames taken say
 
 abbrev pub is_end : Frame → Bool
-is_end (frame.Packet bytes) = false
-is_end (frame.Fault f) = false
-is_end frame.Cut = false
 is_end frame.End = true
+is_end _ = false
 
 abbrev pub is_cut : Frame → Bool
-is_cut (frame.Packet bytes) = false
-is_cut (frame.Fault f) = false
 is_cut frame.Cut = true
-is_cut frame.End = false
+is_cut _ = false
 
 -- whether a sender's End is among these
 abbrev pub has_ended : ℕ → List Message → Bool

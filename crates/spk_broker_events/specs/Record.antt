@@ -56,12 +56,8 @@ record_of e = framed (content e)
 
 -- why an event has no record: its packet has no spelling
 abbrev pub refusal : plan.Event → Option PacketFault
-refusal (plan.Open moment) = None
 refusal (plan.Packet conn p moment) = first_of (unwritable p)
-refusal (plan.Fault conn why moment) = None
-refusal (plan.Closed conn moment) = None
-refusal (plan.Tick moment) = None
-refusal (plan.Refused conn which moment) = None
+refusal _ = None
 
 -- the most bytes of a content: a packet has 1,048,576
 abbrev pub most : ℕ

@@ -20,10 +20,7 @@ in_kind l s kind.Grant = granted l s
 in_kind l s kind.InUse = in_use l s
 in_kind l s kind.Last = gave l s
 in_kind l s kind.Unacknowledged = copied l s
-in_kind l s kind.Numbers = s
-in_kind l s kind.Waiting = s
-in_kind l s kind.Session = s
-in_kind l s kind.Retained = s
+in_kind l s _ = s
 
 abbrev pub in_line : Kept → Session → Session
 in_line l s = in_kind l s l.kind

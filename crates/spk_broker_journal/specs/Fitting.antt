@@ -75,10 +75,7 @@ is_part_fit s l kind.Grant = is_one_grant l.packet
 is_part_fit s l kind.InUse = is_id l.first && is_free l.first s.used
 is_part_fit s l kind.Last = is_id l.first
 is_part_fit s l kind.Unacknowledged = is_kept_message l.packet
-is_part_fit s l kind.Numbers = false
-is_part_fit s l kind.Waiting = false
-is_part_fit s l kind.Session = false
-is_part_fit s l kind.Retained = false
+is_part_fit s l _ = false
 
 abbrev pub is_within_fit : Stand → Kept → Bool
 is_within_fit st l = option_map_or (λ s. is_part_fit s l l.kind) st.session false
@@ -88,11 +85,7 @@ is_kind_fit st l kind.Numbers = nat_le l.second l.first
 is_kind_fit st l kind.Waiting = is_waiting_fit st l.first
 is_kind_fit st l kind.Session = is_session_line_fit st l.packet
 is_kind_fit st l kind.Retained = is_last_fit st l.packet
-is_kind_fit st l kind.Sits = is_within_fit st l
-is_kind_fit st l kind.Grant = is_within_fit st l
-is_kind_fit st l kind.InUse = is_within_fit st l
-is_kind_fit st l kind.Last = is_within_fit st l
-is_kind_fit st l kind.Unacknowledged = is_within_fit st l
+is_kind_fit st l _ = is_within_fit st l
 
 abbrev pub is_line_fit : Stand → Kept → Bool
 is_line_fit st l = is_kind_fit st l l.kind

@@ -3,13 +3,13 @@ use Rattle.std.specs.Prelude.{ℕ, ◌==◌, Bool, false, not, ◌&&◌, List, [
 use Rattle.std.specs.List.{filter, flat_map}
 use Rattle.std.specs.Option.{option_map, option_map_or}
 use Rattle.spk_packets.specs.Fault.{first_of}
-use Rattle.spk_packets.specs.Message.{Message, Connect, ConnAck, Publish, PubAck, Subscribe, SubAck, Unsubscribe, UnsubAck, PingReq, PingResp, Disconnect}
+use Rattle.spk_packets.specs.Message.{Message, Publish}
 use Rattle.spk_packets.specs.Spelling.{unwritable}
 use Rattle.spk_topics.specs.Text.{topic_refusal}
 use Rattle.spk_session.specs.declared.answer.Sort.TheVariants as sort
 use Rattle.spk_broker_rules.specs.Data.{AppMessage, Connection, Session, Broker}
 use Rattle.spk_broker_rules.specs.Words.{option_list}
-use Rattle.spk_broker_rules.specs.Plan.{Event, Open, Packet, Fault, Closed, Tick, Refused}
+use Rattle.spk_broker_rules.specs.Plan.{Event, Packet, Fault, Closed, Refused}
 use Rattle.spk_broker_rules.specs.Listening.{is_disconnect, is_joined}
 use Rattle.spk_broker_rules.specs.Step.{after, session_by, step}
 
@@ -19,12 +19,8 @@ will_in b conn = option_map_or (λ (s : Session). option_map_or (λ (l : Connect
 
 -- the event is this connection's DISCONNECT
 abbrev pub disconnects : ℕ → Event → Bool
-disconnects conn (Open moment) = false
 disconnects conn (Packet d p moment) = d == conn && is_disconnect p
-disconnects conn (Fault d f moment) = false
-disconnects conn (Closed d moment) = false
-disconnects conn (Tick moment) = false
-disconnects conn (Refused d s moment) = false
+disconnects conn _ = false
 
 -- the connection is joined no more behind the event, which isn't its DISCONNECT
 abbrev pub is_lost : Broker → Event → ℕ → Bool
@@ -49,28 +45,15 @@ all_lost limit (e ∷ es) = lost (after limit es) e ++ all_lost limit es
 
 -- the message of a PUBLISH on a topic name
 abbrev pub message_of : Message → List AppMessage
-message_of (Connect client clean alive will) = []
-message_of (ConnAck present code) = []
 message_of (Publish dup qos retain topic id payload) =
     if is_some (topic_refusal topic) then [] else record { topic = topic; payload = payload; qos = qos; retain = retain } ∷ []
-message_of (PubAck id) = []
-message_of (Subscribe id entries) = []
-message_of (SubAck id codes) = []
-message_of (Unsubscribe id filters) = []
-message_of (UnsubAck id) = []
-message_of PingReq = []
-message_of PingResp = []
-message_of Disconnect = []
+message_of _ = []
 
 -- the message of a packet that can be written, of a connection whose CONNECT was accepted
 abbrev pub taken : Broker → Event → List AppMessage
-taken b (Open moment) = []
 taken b (Packet conn p moment) =
     if is_some (first_of (unwritable p)) then [] else if is_joined b conn then message_of p else []
-taken b (Fault conn f moment) = []
-taken b (Closed conn moment) = []
-taken b (Tick moment) = []
-taken b (Refused conn s moment) = []
+taken b _ = []
 
 -- those of a list of events, newest first
 abbrev pub all_taken : ℕ → List Event → List AppMessage
@@ -98,10 +81,7 @@ without_will conn b = record b { sessions = map (λ (s : Session). record s { he
 
 -- The event ends this connection by itself: it is gone, what came is no packet, or a send to it that isn't a QoS 0 PUBLISH was refused.
 abbrev pub is_its_end : ℕ → Event → Bool
-is_its_end conn (Open moment) = false
-is_its_end conn (Packet d p moment) = false
 is_its_end conn (Fault d f moment) = d == conn
 is_its_end conn (Closed d moment) = d == conn
-is_its_end conn (Tick moment) = false
-is_its_end conn (Refused d sort.QosZero moment) = false
 is_its_end conn (Refused d sort.Other moment) = d == conn
+is_its_end conn _ = false

@@ -2,10 +2,10 @@
 use Rattle.std.specs.Prelude.{◌≡◌, ◌≢◌, ◌⊎◌, ◌==◌, ◌&&◌, ℕ, Bool, true, false, List, [], ◌∷◌, ◌++◌}
 use Rattle.std.specs.List.{list_any}
 use Rattle.std.specs.Str.{bytes_eq}
-use Rattle.spk_packets.specs.Message.{Message, Connect, ConnAck, Publish, PubAck, Subscribe, SubAck, Unsubscribe, UnsubAck, PingReq, PingResp, Disconnect}
+use Rattle.spk_packets.specs.Message.{Message, Connect, SubAck, Unsubscribe}
 use Rattle.spk_broker_rules.specs.Data.{Session, Broker, Send}
 use Rattle.spk_broker_rules.specs.Listening.{is_closed_in, lets_go}
-use Rattle.spk_broker_rules.specs.Plan.{Event, Open, Packet, Fault, Closed, Tick, Refused}
+use Rattle.spk_broker_rules.specs.Plan.{Event, Packet}
 use Rattle.spk_broker_rules.specs.Step.{after, sits, step}
 use Rattle.spk_broker_rules.specs.Table.{has}
 
@@ -30,39 +30,17 @@ IsAnswered b e conn id codes = (rest : List Send) × ((step b e).sends ≡ (reco
 -- a CONNECT
 abbrev pub is_connect : Message → Bool
 is_connect (Connect client clean alive will) = true
-is_connect (ConnAck present code) = false
-is_connect (Publish dup qos retain topic id payload) = false
-is_connect (PubAck id) = false
-is_connect (Subscribe id entries) = false
-is_connect (SubAck id codes) = false
-is_connect (Unsubscribe id filters) = false
-is_connect (UnsubAck id) = false
-is_connect PingReq = false
-is_connect PingResp = false
-is_connect Disconnect = false
+is_connect _ = false
 
 -- an UNSUBSCRIBE that names this filter
 abbrev pub names : List ℕ → Message → Bool
-names filter (Connect client clean alive will) = false
-names filter (ConnAck present code) = false
-names filter (Publish dup qos retain topic id payload) = false
-names filter (PubAck id) = false
-names filter (Subscribe id entries) = false
-names filter (SubAck id codes) = false
 names filter (Unsubscribe id filters) = list_any (λ f. bytes_eq f filter) filters
-names filter (UnsubAck id) = false
-names filter PingReq = false
-names filter PingResp = false
-names filter Disconnect = false
+names filter _ = false
 
 -- the connection's client takes the filter back (3.10)
 abbrev pub takes_off : ℕ → List ℕ → Event → Bool
-takes_off conn filter (Open moment) = false
 takes_off conn filter (Packet d p moment) = d == conn && names filter p
-takes_off conn filter (Fault d f moment) = false
-takes_off conn filter (Closed d moment) = false
-takes_off conn filter (Tick moment) = false
-takes_off conn filter (Refused d s moment) = false
+takes_off conn filter _ = false
 
 -- Through the events `later`, which came behind `before`, newest first: the connection's client neither ends it nor takes the filter back,
 -- and nobody is told to close it.

@@ -16,15 +16,7 @@ number_of Unwritten = 140
 -- what another crate's refusal comes to
 abbrev pub of_packet : PacketFault → NoteFault
 of_packet packet.NoMemory = NoMemory
-of_packet packet.More = Unwritten
-of_packet packet.BadLength = Unwritten
-of_packet packet.BadFlags = Unwritten
-of_packet packet.BadType = Unwritten
-of_packet packet.BadText = Unwritten
-of_packet packet.BadBody = Unwritten
-of_packet packet.TooLarge = Unwritten
-of_packet packet.QosTwo = Unwritten
-of_packet packet.BadLevel = Unwritten
+of_packet _ = Unwritten
 
 abbrev pub of_broker : BrokerFault → NoteFault
 of_broker broker.NoMemory = NoMemory

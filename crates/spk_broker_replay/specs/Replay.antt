@@ -30,17 +30,9 @@ bare b = record b { limit = 0; clock = 0; newcomers = map bare_newcomer b.newcom
 
 -- a packet that may change nothing but when its connection was heard: PINGREQ, and a PUBLISH of QoS 0 without RETAIN
 abbrev pub is_idle : Message → Bool
-is_idle (Connect client clean alive will) = false
-is_idle (ConnAck present code) = false
 is_idle (Publish dup qos retain topic id payload) = qos == 0 && not retain
-is_idle (PubAck id) = false
-is_idle (Subscribe id entries) = false
-is_idle (SubAck id codes) = false
-is_idle (Unsubscribe id filters) = false
-is_idle (UnsubAck id) = false
 is_idle PingReq = true
-is_idle PingResp = false
-is_idle Disconnect = false
+is_idle _ = false
 
 -- a CONNECT with a keep alive of one second, any other packet as it is
 abbrev pub timeless : Message → Message

@@ -54,6 +54,7 @@ pub record Stored : Type 0 where
   pub payload : List ℕ
   pub qos : ℕ
 
+-- All that a broker keeps.
 pub record Broker : Type 0 where
   -- the number of the drop that closes a connection; 0 acts as 1
   pub limit : ℕ
@@ -75,5 +76,6 @@ pub record Send : Type 0 where
   pub conn : ℕ
   pub packet : Message
 
+-- the data of a new broker: nobody came, and nothing is retained
 abbrev pub fresh_broker : ℕ → Broker
 fresh_broker limit = record { limit = limit; given = 0; made = 0; clock = 0; newcomers = []; sessions = []; retained = [] }

@@ -3,19 +3,15 @@ use Rattle.std.specs.Prelude.{◌≡◌, ℕ, ◌==◌, Bool, true, false, if◌
 use Rattle.spk_session.specs.declared.answer.Sort.TheVariants as sort
 use Rattle.spk_session.specs.Step.{one_more, is_spent}
 use Rattle.spk_broker_rules.specs.Data.{Broker}
-use Rattle.spk_broker_rules.specs.Plan.{Event, Open, Packet, Fault, Closed, Tick, Refused}
+use Rattle.spk_broker_rules.specs.Plan.{Event, Refused}
 use Rattle.spk_broker_rules.specs.Step.{drops_in, knows}
 
 -- a PUBLISH of QoS 0 to this connection was refused
 abbrev pub is_drop : ℕ → Event → Bool
-is_drop conn (Open moment) = false
-is_drop conn (Packet d p moment) = false
-is_drop conn (Fault d f moment) = false
-is_drop conn (Closed d moment) = false
-is_drop conn (Tick moment) = false
 is_drop conn (Refused d sort.QosZero moment) = d == conn
-is_drop conn (Refused d sort.Other moment) = false
+is_drop conn _ = false
 
+-- how many sends to it were dropped, behind this event
 abbrev pub drops_after : ℕ → Event → ℕ → ℕ
 drops_after conn e drops = if is_drop conn e then one_more drops else drops
 

@@ -7,13 +7,10 @@ use Rattle.spk_broker_rules.specs.Data.{Broker}
 use Rattle.spk_broker_rules.specs.Step.{welcome_in}
 use Rattle.spk_broker_rules.specs.Plan.{has_bad_topic, Event, Open, Packet, Fault, Closed, Tick, Refused}
 
+-- it opens a connection
 abbrev pub is_opening : Event → Bool
 is_opening (Open moment) = true
-is_opening (Packet d p moment) = false
-is_opening (Fault d f moment) = false
-is_opening (Closed d moment) = false
-is_opening (Tick moment) = false
-is_opening (Refused d s moment) = false
+is_opening _ = false
 
 -- it is an event of this connection
 abbrev pub speaks_of : ℕ → Event → Bool

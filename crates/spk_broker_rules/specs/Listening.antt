@@ -2,12 +2,12 @@
 use Rattle.std.specs.Prelude.{◌≡◌, ◌==◌, ◌&&◌, ℕ, Bool, true, false, List, [], None, is_some, if◌then◌else◌}
 use Rattle.std.specs.List.{list_any}
 use Rattle.spk_packets.specs.Fault.{first_of}
-use Rattle.spk_packets.specs.Message.{Message, Connect, ConnAck, Publish, PubAck, Subscribe, SubAck, Unsubscribe, UnsubAck, PingReq, PingResp, Disconnect}
+use Rattle.spk_packets.specs.Message.{Message, Publish, Unsubscribe, Disconnect}
 use Rattle.spk_packets.specs.Spelling.{unwritable}
 use Rattle.spk_topics.specs.Text.{topic_refusal}
 use Rattle.spk_broker_rules.specs.Data.{Session, Broker, Send}
 use Rattle.spk_broker_rules.specs.Words.{best, to_connection}
-use Rattle.spk_broker_rules.specs.Plan.{Event, Open, Packet, Fault, Closed, Tick, Refused}
+use Rattle.spk_broker_rules.specs.Plan.{Event, Packet, Closed}
 use Rattle.spk_broker_rules.specs.Step.{Turn, conn_at, session_by, sits}
 
 -- a CONNECT of this connection was accepted
@@ -18,6 +18,7 @@ is_joined b conn = is_some (session_by conn b.sessions)
 abbrev pub is_listening : List ℕ → Session → Bool
 is_listening topic session = is_some (best topic session.grants)
 
+-- a PUBLISH of QoS 0, without DUP and RETAIN (3.3)
 abbrev pub plain_publish : List ℕ → List ℕ → Message
 plain_publish topic payload = Publish false 0 false topic None payload
 
@@ -36,47 +37,25 @@ listens b conn topic = list_any (λ (s : Session). sits conn s && is_listening t
 
 -- its client ends it: a DISCONNECT, or the connection is gone
 abbrev pub is_disconnect : Message → Bool
-is_disconnect (Connect client clean alive will) = false
-is_disconnect (ConnAck present code) = false
-is_disconnect (Publish dup qos retain topic id payload) = false
-is_disconnect (PubAck id) = false
-is_disconnect (Subscribe id entries) = false
-is_disconnect (SubAck id codes) = false
-is_disconnect (Unsubscribe id filters) = false
-is_disconnect (UnsubAck id) = false
-is_disconnect PingReq = false
-is_disconnect PingResp = false
 is_disconnect Disconnect = true
+is_disconnect _ = false
 
+-- it is an UNSUBSCRIBE (3.10)
 abbrev pub is_unsubscribe : Message → Bool
-is_unsubscribe (Connect client clean alive will) = false
-is_unsubscribe (ConnAck present code) = false
-is_unsubscribe (Publish dup qos retain topic id payload) = false
-is_unsubscribe (PubAck id) = false
-is_unsubscribe (Subscribe id entries) = false
-is_unsubscribe (SubAck id codes) = false
 is_unsubscribe (Unsubscribe id filters) = true
-is_unsubscribe (UnsubAck id) = false
-is_unsubscribe PingReq = false
-is_unsubscribe PingResp = false
-is_unsubscribe Disconnect = false
+is_unsubscribe _ = false
 
+-- its client ends the connection: by a DISCONNECT, or it is gone
 abbrev pub lets_go : ℕ → Event → Bool
-lets_go conn (Open moment) = false
 lets_go conn (Packet d p moment) = d == conn && is_disconnect p
-lets_go conn (Fault d f moment) = false
 lets_go conn (Closed d moment) = d == conn
-lets_go conn (Tick moment) = false
-lets_go conn (Refused d s moment) = false
+lets_go conn _ = false
 
 -- it takes grants back
 abbrev pub takes_back : ℕ → Event → Bool
-takes_back conn (Open moment) = false
 takes_back conn (Packet d p moment) = d == conn && is_unsubscribe p
-takes_back conn (Fault d f moment) = false
-takes_back conn (Closed d moment) = false
-takes_back conn (Tick moment) = false
-takes_back conn (Refused d s moment) = false
+takes_back conn _ = false
 
+-- the caller is told to close this connection
 abbrev pub is_closed_in : ℕ → Turn → Bool
 is_closed_in conn t = list_any (λ d. d == conn) t.closes

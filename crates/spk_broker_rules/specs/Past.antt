@@ -35,29 +35,28 @@ pub data Deed : Type 0 where
   Numbered : (id : ℕ) (app_message : AppMessage) (handed : Bool) → Deed
   Acked : (id : ℕ) → Deed
 
+-- One thing that happened: the clock was told a moment, a connection or a session did something, or a message was routed.
 pub data Fact : Type 0 where
   Moment : (moment : ℕ) → Fact
   OfConn : (conn : ℕ) (deed : ConnDeed) → Fact
   OfSession : (session : ℕ) (deed : Deed) → Fact
   Routed : (app_message : AppMessage) → Fact
 
+-- all that happened, newest first
 abbrev pub Past : Type 0
 Past = List Fact
 
 -- the facts of one connection, and those of one session
 abbrev pub conn_deeds : Past → ℕ → List ConnDeed
 conn_deeds [] c = []
-conn_deeds (Moment m ∷ h) c = conn_deeds h c
 conn_deeds (OfConn d deed ∷ h) c = if d == c then deed ∷ conn_deeds h c else conn_deeds h c
-conn_deeds (OfSession s deed ∷ h) c = conn_deeds h c
-conn_deeds (Routed m ∷ h) c = conn_deeds h c
+conn_deeds (_ ∷ h) c = conn_deeds h c
 
+-- the facts of one session
 abbrev pub deeds : Past → ℕ → List Deed
 deeds [] s = []
-deeds (Moment m ∷ h) s = deeds h s
-deeds (OfConn c deed ∷ h) s = deeds h s
 deeds (OfSession t deed ∷ h) s = if t == s then deed ∷ deeds h s else deeds h s
-deeds (Routed m ∷ h) s = deeds h s
+deeds (_ ∷ h) s = deeds h s
 
 -- ---- the clock, connections and sessions
 
@@ -65,40 +64,29 @@ deeds (Routed m ∷ h) s = deeds h s
 abbrev pub clock : Past → ℕ
 clock [] = 0
 clock (Moment m ∷ h) = max (clock h) m
-clock (OfConn c deed ∷ h) = clock h
-clock (OfSession s deed ∷ h) = clock h
-clock (Routed m ∷ h) = clock h
+clock (_ ∷ h) = clock h
 
+-- the connection was opened
 abbrev pub is_opening : ConnDeed → Bool
 is_opening (Opened at_clock) = true
-is_opening (Heard at_clock) = false
-is_opening Dropped = false
-is_opening Ended = false
+is_opening _ = false
 
+-- the session was made
 abbrev pub is_making : Deed → Bool
 is_making (Made client kept) = true
-is_making (Joined conn alive will) = false
-is_making (Left conn) = false
-is_making Over = false
-is_making (Granted filter qos) = false
-is_making (TakenBack filter) = false
-is_making (Numbered id app_message handed) = false
-is_making (Acked id) = false
+is_making _ = false
 
 -- how many connections were opened, and how many sessions were made
 abbrev pub given : Past → ℕ
 given [] = 0
-given (Moment m ∷ h) = given h
 given (OfConn c deed ∷ h) = if is_opening deed then given h + 1 else given h
-given (OfSession s deed ∷ h) = given h
-given (Routed m ∷ h) = given h
+given (_ ∷ h) = given h
 
+-- how many sessions were made
 abbrev pub made : Past → ℕ
 made [] = 0
-made (Moment m ∷ h) = made h
-made (OfConn c deed ∷ h) = made h
 made (OfSession s deed ∷ h) = if is_making deed then made h + 1 else made h
-made (Routed m ∷ h) = made h
+made (_ ∷ h) = made h
 
 -- begins or ends with a fact, among numbers in the order in which they began
 abbrev pub opened_by : ℕ → ConnDeed → List ℕ → List ℕ
@@ -107,15 +95,10 @@ opened_by c (Heard at_clock) cs = cs
 opened_by c Dropped cs = cs
 opened_by c Ended cs = without c cs
 
+-- a connection whose CONNECT was accepted is none of these any more
 abbrev pub joined_by : Deed → List ℕ → List ℕ
-joined_by (Made client kept) cs = cs
 joined_by (Joined conn alive will) cs = without conn cs
-joined_by (Left conn) cs = cs
-joined_by Over cs = cs
-joined_by (Granted filter qos) cs = cs
-joined_by (TakenBack filter) cs = cs
-joined_by (Numbered id app_message handed) cs = cs
-joined_by (Acked id) cs = cs
+joined_by _ cs = cs
 
 -- the connections that were opened and neither joined nor ended since, in the order of opening
 abbrev pub newcomers : Past → List ℕ
@@ -125,15 +108,10 @@ newcomers (OfConn c deed ∷ h) = opened_by c deed (newcomers h)
 newcomers (OfSession s deed ∷ h) = joined_by deed (newcomers h)
 newcomers (Routed m ∷ h) = newcomers h
 
+-- a connection that left its session is none of these any more
 abbrev pub left_by : Deed → List ℕ → List ℕ
-left_by (Made client kept) cs = cs
-left_by (Joined conn alive will) cs = cs
 left_by (Left conn) cs = without conn cs
-left_by Over cs = cs
-left_by (Granted filter qos) cs = cs
-left_by (TakenBack filter) cs = cs
-left_by (Numbered id app_message handed) cs = cs
-left_by (Acked id) cs = cs
+left_by _ cs = cs
 
 -- the connections that were opened and haven't ended since
 abbrev pub open_conns : Past → List ℕ
@@ -143,23 +121,17 @@ open_conns (OfConn c deed ∷ h) = opened_by c deed (open_conns h)
 open_conns (OfSession s deed ∷ h) = left_by deed (open_conns h)
 open_conns (Routed m ∷ h) = open_conns h
 
+-- a session that was made is one of these, at the end, until it is over
 abbrev pub made_by : ℕ → Deed → List ℕ → List ℕ
 made_by s (Made client kept) ss = ss ++ s ∷ []
-made_by s (Joined conn alive will) ss = ss
-made_by s (Left conn) ss = ss
 made_by s Over ss = without s ss
-made_by s (Granted filter qos) ss = ss
-made_by s (TakenBack filter) ss = ss
-made_by s (Numbered id app_message handed) ss = ss
-made_by s (Acked id) ss = ss
+made_by s _ ss = ss
 
 -- the sessions that were made and aren't over, in the order of making
 abbrev pub sessions : Past → List ℕ
 sessions [] = []
-sessions (Moment m ∷ h) = sessions h
-sessions (OfConn c deed ∷ h) = sessions h
 sessions (OfSession s deed ∷ h) = made_by s deed (sessions h)
-sessions (Routed m ∷ h) = sessions h
+sessions (_ ∷ h) = sessions h
 
 -- ---- a connection, from its facts
 
@@ -181,28 +153,17 @@ drops (Ended ∷ ds) = drops ds
 
 -- ---- a session, from its facts since it was made
 
+-- the client identifier that it was made with
 abbrev pub client : List Deed → List ℕ
 client [] = []
 client (Made c k ∷ ds) = c
-client (Joined conn alive will ∷ ds) = client ds
-client (Left conn ∷ ds) = client ds
-client (Over ∷ ds) = client ds
-client (Granted filter qos ∷ ds) = client ds
-client (TakenBack filter ∷ ds) = client ds
-client (Numbered id app_message handed ∷ ds) = client ds
-client (Acked id ∷ ds) = client ds
+client (_ ∷ ds) = client ds
 
 -- made with clean session 0
 abbrev pub kept : List Deed → Bool
 kept [] = false
 kept (Made c k ∷ ds) = k
-kept (Joined conn alive will ∷ ds) = kept ds
-kept (Left conn ∷ ds) = kept ds
-kept (Over ∷ ds) = kept ds
-kept (Granted filter qos ∷ ds) = kept ds
-kept (TakenBack filter ∷ ds) = kept ds
-kept (Numbered id app_message handed ∷ ds) = kept ds
-kept (Acked id ∷ ds) = kept ds
+kept (_ ∷ ds) = kept ds
 
 -- an accepted CONNECT: its connection, keep alive and will
 pub record Joining : Type 0 where
@@ -216,16 +177,13 @@ here [] = None
 here (Made c k ∷ ds) = None
 here (Joined conn alive will ∷ ds) = Some (record { conn = conn; alive = alive; will = will })
 here (Left conn ∷ ds) = None
-here (Over ∷ ds) = here ds
-here (Granted filter qos ∷ ds) = here ds
-here (TakenBack filter ∷ ds) = here ds
-here (Numbered id app_message handed ∷ ds) = here ds
-here (Acked id ∷ ds) = here ds
+here (_ ∷ ds) = here ds
 
 -- What is said of a text: a value, or that it has none any more; newest first.
 abbrev pub Notes : Type 0 → Type 0
 Notes V = List (List ℕ × Option V)
 
+-- a text with a value stays where it is or comes last; one without goes
 abbrev pub begins : {V : Type 0} → List ℕ → Option V → List (List ℕ) → List (List ℕ)
 begins key None keys = filter (λ k. not (bytes_eq k key)) keys
 begins key (Some v) keys = if list_any (λ k. bytes_eq k key) keys then keys else keys ++ key ∷ []
@@ -240,6 +198,7 @@ abbrev pub last_said : {V : Type 0} → Notes V → List ℕ → Option V
 last_said [] key = None
 last_said (n ∷ ns) key = if bytes_eq key n.0 then n.1 else last_said ns key
 
+-- the entry of a text, where it has a value
 abbrev pub entry : {V : Type 0} → List ℕ → Option V → Table V
 entry key None = []
 entry key (Some v) = (key, v) ∷ []
@@ -252,13 +211,9 @@ table ns = flat_map (λ k. entry k (last_said ns k)) (staying ns)
 abbrev pub grant_notes : List Deed → Notes ℕ
 grant_notes [] = []
 grant_notes (Made c k ∷ ds) = []
-grant_notes (Joined conn alive will ∷ ds) = grant_notes ds
-grant_notes (Left conn ∷ ds) = grant_notes ds
-grant_notes (Over ∷ ds) = grant_notes ds
 grant_notes (Granted filter qos ∷ ds) = (filter, Some qos) ∷ grant_notes ds
 grant_notes (TakenBack filter ∷ ds) = (filter, None) ∷ grant_notes ds
-grant_notes (Numbered id app_message handed ∷ ds) = grant_notes ds
-grant_notes (Acked id ∷ ds) = grant_notes ds
+grant_notes (_ ∷ ds) = grant_notes ds
 
 -- a filter's grant is the last one given for it and not taken back
 abbrev pub grants : List Deed → Table ℕ
@@ -270,13 +225,11 @@ abbrev pub unacked : List Deed → List InFlight
 unacked [] = []
 unacked (Made c k ∷ ds) = []
 unacked (Joined conn alive will ∷ ds) = map handed_out (unacked ds)
-unacked (Left conn ∷ ds) = unacked ds
-unacked (Over ∷ ds) = unacked ds
-unacked (Granted filter qos ∷ ds) = unacked ds
-unacked (TakenBack filter ∷ ds) = unacked ds
 unacked (Numbered id app_message handed ∷ ds) = unacked ds ++ (record { id = id; app_message = app_message; handed = handed }) ∷ []
 unacked (Acked id ∷ ds) = without_id id (unacked ds)
+unacked (_ ∷ ds) = unacked ds
 
+-- the identifiers of the messages without an acknowledgement, in the order in which they were given
 abbrev pub used : List Deed → List ℕ
 used ds = map (λ (c : InFlight). c.id) (unacked ds)
 
@@ -288,22 +241,16 @@ in_flight ds = if kept ds then unacked ds else []
 abbrev pub last_id : List Deed → ℕ
 last_id [] = 0
 last_id (Made c k ∷ ds) = 0
-last_id (Joined conn alive will ∷ ds) = last_id ds
-last_id (Left conn ∷ ds) = last_id ds
-last_id (Over ∷ ds) = last_id ds
-last_id (Granted filter qos ∷ ds) = last_id ds
-last_id (TakenBack filter ∷ ds) = last_id ds
 last_id (Numbered id app_message handed ∷ ds) = id
-last_id (Acked id ∷ ds) = last_id ds
+last_id (_ ∷ ds) = last_id ds
 
 -- ---- retained messages
 
+-- the messages routed, newest first
 abbrev pub routed : Past → List AppMessage
 routed [] = []
-routed (Moment m ∷ h) = routed h
-routed (OfConn c deed ∷ h) = routed h
-routed (OfSession s deed ∷ h) = routed h
 routed (Routed m ∷ h) = m ∷ routed h
+routed (_ ∷ h) = routed h
 
 -- an empty payload removes what is retained (3.3.1.3)
 abbrev pub retained_value : AppMessage → Option Stored
@@ -313,9 +260,11 @@ retained_value m = if is_empty m.payload then None else Some (stored m)
 abbrev pub counts : List (List ℕ) → AppMessage → Bool
 counts topics m = is_empty m.payload || (list_any (λ k. bytes_eq k m.topic) topics || nat_lt (length topics) most_topics)
 
+-- what a message says of its topic, where it counts
 abbrev pub note_if : Bool → AppMessage → Notes Stored → Notes Stored
 note_if b m ns = if b then (m.topic, retained_value m) ∷ ns else ns
 
+-- what the messages routed say of their topics, newest first
 abbrev pub retained_notes : List AppMessage → Notes Stored
 retained_notes [] = []
 retained_notes (m ∷ ms) = note_if (m.retain && counts (staying (retained_notes ms)) m) m (retained_notes ms)
@@ -326,9 +275,11 @@ retained h = table (retained_notes (routed h))
 
 -- ---- what the rules ask of the past
 
+-- the connection of a session, where it has one
 abbrev pub conn_here : Past → ℕ → Option ℕ
 conn_here h s = option_map (λ (j : Joining). j.conn) (here (deeds h s))
 
+-- the session has this connection
 abbrev pub sits_at : Past → ℕ → ℕ → Bool
 sits_at h c s = option_map_or (λ (j : Joining). j.conn == c) (here (deeds h s)) false
 
@@ -336,6 +287,7 @@ sits_at h c s = option_map_or (λ (j : Joining). j.conn == c) (here (deeds h s))
 abbrev pub session_at : Past → ℕ → Option ℕ
 session_at h c = find (sits_at h c) (sessions h)
 
+-- the session is of this client
 abbrev pub is_of : Past → List ℕ → ℕ → Bool
 is_of h c s = bytes_eq (client (deeds h s)) c
 
@@ -349,6 +301,7 @@ abbrev pub is_welcome : Past → List ℕ → Bool
 is_welcome h c = list_any (λ s. kept (deeds h s) && is_of h c s) (sessions h)
     || nat_lt (length (filter (λ s. kept (deeds h s)) (sessions h))) most_kept
 
+-- the drops of the connection of a session
 abbrev pub joined_drops : Past → ℕ → ℕ
 joined_drops h s = option_map_or (λ (j : Joining). drops (conn_deeds h j.conn)) (here (deeds h s)) 0
 
@@ -357,6 +310,7 @@ abbrev pub drops_of : Past → ℕ → ℕ
 drops_of h c = option_map_or (λ g. drops (conn_deeds h g)) (find (λ g. g == c) (newcomers h))
     (option_map_or (joined_drops h) (session_at h c) 0)
 
+-- the connection of a session, where it was silent for too long
 abbrev pub silent_of : Past → ℕ → List ℕ
 silent_of h s = option_map_or (λ (j : Joining). if is_silent (clock h) j.alive (heard (conn_deeds h j.conn)) then j.conn ∷ [] else [])
     (here (deeds h s)) []
@@ -370,9 +324,11 @@ abbrev pub heavy_for : Past → Option ℕ → List (List ℕ × ℕ) → Bool
 heavy_for h None entries = false
 heavy_for h (Some s) entries = is_heavy (retained h) (granted_of (other_pairs h s) (grants (deeds h s)) entries)
 
+-- the same of the session of a connection
 abbrev pub heavy_of : Past → ℕ → List (List ℕ × ℕ) → Bool
 heavy_of h conn entries = heavy_for h (session_at h conn) entries
 
+-- what the rules ask at an event, asked of the past
 abbrev pub seen_in : ℕ → Past → Event → Seen
 seen_in limit h e = record {
   joined = is_some (session_at h (conn_of e));
@@ -395,9 +351,11 @@ may_open h = not (nat_le most_open (length (open_conns h)) || nat_le last_number
 
 -- ---- the data that the past asks for
 
+-- what the broker keeps of a connection without an accepted CONNECT
 abbrev pub newcomer_of : Past → ℕ → Newcomer
 newcomer_of h c = record { conn = c; heard = heard (conn_deeds h c); drops = drops (conn_deeds h c) }
 
+-- what it keeps of a connection with an accepted CONNECT
 abbrev pub connection_of : Past → Joining → Connection
 connection_of h j = record {
   conn = j.conn;
@@ -407,6 +365,7 @@ connection_of h j = record {
   drops = drops (conn_deeds h j.conn);
 }
 
+-- what it keeps of a session, from its facts, with its connection read by `connection`
 abbrev pub session_with : (Joining → Connection) → ℕ → List Deed → Session
 session_with connection s ds = record {
   key = s;
@@ -419,9 +378,11 @@ session_with connection s ds = record {
   in_flight = in_flight ds;
 }
 
+-- what it keeps of a session
 abbrev pub session_of : Past → ℕ → Session
 session_of h s = session_with (connection_of h) s (deeds h s)
 
+-- all that a broker with this limit keeps
 abbrev pub broker_of : ℕ → Past → Broker
 broker_of limit h = record {
   limit = limit;

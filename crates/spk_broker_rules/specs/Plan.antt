@@ -6,7 +6,7 @@ use Rattle.std.specs.Option.{option_map}
 use Rattle.spk_packets.specs.declared.fault.PacketFault.{PacketFault}
 use Rattle.spk_packets.specs.declared.fault.PacketFault.TheVariants as fault
 use Rattle.spk_packets.specs.Fault.{first_of}
-use Rattle.spk_packets.specs.Message.{Message, WillData, Connect, ConnAck, Publish, PubAck, Subscribe, SubAck, Unsubscribe, UnsubAck, PingReq, PingResp, Disconnect}
+use Rattle.spk_packets.specs.Message.{Message, WillData, Connect, ConnAck, Publish, PubAck, Subscribe, Unsubscribe, UnsubAck, PingReq, PingResp, Disconnect}
 use Rattle.spk_packets.specs.Spelling.{unwritable, is_empty}
 use Rattle.spk_topics.specs.Text.{filter_refusal, topic_refusal}
 use Rattle.spk_session.specs.declared.answer.Sort.{Sort}
@@ -26,6 +26,7 @@ pub data Event : Type 0 where
   -- a send to this connection couldn't be taken
   Refused : (conn : ℕ) (sort : Sort) (moment : ℕ) → Event
 
+-- One thing that a broker does at an event.
 pub data Act : Type 0 where
   -- a new connection
   Opens : Act
@@ -88,14 +89,18 @@ abbrev pub take_over : Option ℕ → List Act
 take_over None = []
 take_over (Some older) = Leave older true ∷ Route ∷ []
 
+-- the caller is told to close the older connection, where there is one
 abbrev pub tell_older : Option ℕ → List Act
 tell_older None = []
 tell_older (Some older) = Tell older ∷ []
 
+-- The older connection leaves first; with clean session 1 a kept session ends (3.1.2.4); then the client has its session, and the
+-- older connection is closed.
 abbrev pub join : Option ℕ → ℕ → List ℕ → Bool → ℕ → Option AppMessage → List Act
 join older conn client clean alive will =
     take_over older ++ ((if clean then Forget client ∷ [] else []) ++ Accept conn client (not clean) alive will ∷ tell_older older)
 
+-- the will's topic is no topic name (4.7)
 abbrev pub has_bad_topic : Option WillData → Bool
 has_bad_topic None = false
 has_bad_topic (Some will) = is_some (topic_refusal will.topic)
@@ -111,16 +116,7 @@ connect seen conn client clean alive will =
 -- any other first packet closes the connection (3.1.0-1)
 abbrev pub first_packet : Seen → ℕ → Message → List Act
 first_packet seen conn (Connect client clean alive will) = connect seen conn client clean alive will
-first_packet seen conn (ConnAck present code) = shut conn
-first_packet seen conn (Publish dup qos retain topic id payload) = shut conn
-first_packet seen conn (PubAck id) = shut conn
-first_packet seen conn (Subscribe id entries) = shut conn
-first_packet seen conn (SubAck id codes) = shut conn
-first_packet seen conn (Unsubscribe id filters) = shut conn
-first_packet seen conn (UnsubAck id) = shut conn
-first_packet seen conn PingReq = shut conn
-first_packet seen conn PingResp = shut conn
-first_packet seen conn Disconnect = shut conn
+first_packet seen conn _ = shut conn
 
 -- ---- further packets
 
@@ -129,9 +125,11 @@ abbrev pub puback : ℕ → Option ℕ → List Act
 puback conn None = []
 puback conn (Some id) = Say conn (PubAck id) ∷ []
 
+-- A PUBLISH is acknowledged at QoS 1 and routed. One on a text that is no topic name closes the connection (3.3.2.1).
 abbrev pub publish : ℕ → Option ℕ → AppMessage → List Act
 publish conn id app_message = if is_some (topic_refusal app_message.topic) then shut conn else puback conn id ++ Queue app_message ∷ Route ∷ []
 
+-- a text among them is no topic filter (4.7)
 abbrev pub has_bad_filter : List (List ℕ) → Bool
 has_bad_filter filters = list_any (λ f. is_some (filter_refusal f)) filters
 
@@ -140,24 +138,22 @@ abbrev pub subscribe : Seen → ℕ → ℕ → List (List ℕ × ℕ) → List 
 subscribe seen conn id entries =
     if list_any (λ e. is_some (filter_refusal e.0)) entries || seen.heavy then shut conn else Give conn id entries ∷ Route ∷ []
 
+-- The grants are taken back and UNSUBACK is sent, whether or not there were such grants (3.10.4); a text that is no filter closes
+-- the connection.
 abbrev pub unsubscribe : ℕ → ℕ → List (List ℕ) → List Act
 unsubscribe conn id filters =
     if has_bad_filter filters then shut conn else Take conn filters ∷ Say conn (UnsubAck id) ∷ []
 
 -- a second CONNECT, and what only a broker sends, closes the connection (3.1.0-2)
 abbrev pub next_packet : Seen → ℕ → Message → List Act
-next_packet seen conn (Connect client clean alive will) = shut conn
-next_packet seen conn (ConnAck present code) = shut conn
 next_packet seen conn (Publish dup qos retain topic id payload) =
     publish conn id (record { topic = topic; payload = payload; qos = qos; retain = retain })
 next_packet seen conn (PubAck id) = Ack conn id ∷ []
 next_packet seen conn (Subscribe id entries) = subscribe seen conn id entries
-next_packet seen conn (SubAck id codes) = shut conn
 next_packet seen conn (Unsubscribe id filters) = unsubscribe conn id filters
-next_packet seen conn (UnsubAck id) = shut conn
 next_packet seen conn PingReq = Say conn PingResp ∷ []
-next_packet seen conn PingResp = shut conn
 next_packet seen conn Disconnect = Leave conn false ∷ []
+next_packet seen conn _ = shut conn
 
 -- a packet that can't be written closes the connection as its bytes would
 abbrev pub packet : Seen → ℕ → Message → List Act
@@ -168,17 +164,10 @@ packet seen conn p =
 
 -- ---- the other events
 
+-- bytes of a CONNECT of another protocol level
 abbrev pub is_bad_level : PacketFault → Bool
 is_bad_level fault.BadLevel = true
-is_bad_level fault.NoMemory = false
-is_bad_level fault.More = false
-is_bad_level fault.BadLength = false
-is_bad_level fault.BadFlags = false
-is_bad_level fault.BadType = false
-is_bad_level fault.BadText = false
-is_bad_level fault.BadBody = false
-is_bad_level fault.TooLarge = false
-is_bad_level fault.QosTwo = false
+is_bad_level _ = false
 
 -- a first packet of another protocol level gets CONNACK code 1 (3.1.2.2)
 abbrev pub bad_bytes : Seen → ℕ → PacketFault → List Act
@@ -193,6 +182,7 @@ abbrev pub is_fatal : Sort → Bool → Bool
 is_fatal sort.QosZero spent = spent
 is_fatal sort.Other spent = true
 
+-- at a send that couldn't be taken
 abbrev pub refused : Seen → ℕ → Sort → List Act
 refused seen conn s = if is_fatal s seen.spent then shut conn else []
 
@@ -206,6 +196,7 @@ before (Tick moment) = At moment ∷ []
 before (Refused conn sort.QosZero moment) = At moment ∷ Drop conn ∷ []
 before (Refused conn sort.Other moment) = At moment ∷ []
 
+-- the acts of an event, behind what is noted first
 abbrev pub plan : Seen → Event → List Act
 plan seen (Open moment) = Opens ∷ []
 plan seen (Packet conn p moment) = packet seen conn p
@@ -223,45 +214,22 @@ conn_of (Closed conn moment) = conn
 conn_of (Tick moment) = 0
 conn_of (Refused conn s moment) = conn
 
+-- the client identifier in a CONNECT
 abbrev pub client_in : Message → List ℕ
 client_in (Connect client clean alive will) = client
-client_in (ConnAck present code) = []
-client_in (Publish dup qos retain topic id payload) = []
-client_in (PubAck id) = []
-client_in (Subscribe id entries) = []
-client_in (SubAck id codes) = []
-client_in (Unsubscribe id filters) = []
-client_in (UnsubAck id) = []
-client_in PingReq = []
-client_in PingResp = []
-client_in Disconnect = []
+client_in _ = []
 
+-- the client that the rules ask of: that of a CONNECT
 abbrev pub client_of : Event → List ℕ
-client_of (Open moment) = []
 client_of (Packet conn p moment) = client_in p
-client_of (Fault conn f moment) = []
-client_of (Closed conn moment) = []
-client_of (Tick moment) = []
-client_of (Refused conn s moment) = []
+client_of _ = []
 
 -- the entries that a SUBSCRIBE asks for
 abbrev pub entries_in : Message → List (List ℕ × ℕ)
-entries_in (Connect client clean alive will) = []
-entries_in (ConnAck present code) = []
-entries_in (Publish dup qos retain topic id payload) = []
-entries_in (PubAck id) = []
 entries_in (Subscribe id entries) = entries
-entries_in (SubAck id codes) = []
-entries_in (Unsubscribe id filters) = []
-entries_in (UnsubAck id) = []
-entries_in PingReq = []
-entries_in PingResp = []
-entries_in Disconnect = []
+entries_in _ = []
 
+-- the entries that the rules ask of: those of a SUBSCRIBE
 abbrev pub entries_of : Event → List (List ℕ × ℕ)
-entries_of (Open moment) = []
 entries_of (Packet conn p moment) = entries_in p
-entries_of (Fault conn f moment) = []
-entries_of (Closed conn moment) = []
-entries_of (Tick moment) = []
-entries_of (Refused conn s moment) = []
+entries_of _ = []

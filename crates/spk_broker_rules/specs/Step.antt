@@ -22,6 +22,7 @@ pub record Turn : Type 0 where
 
 -- ---- looking up
 
+-- the connection of a session, where it has one
 abbrev pub conn_at : Session → Option ℕ
 conn_at session = option_map (λ (l : Connection). l.conn) session.here
 
@@ -29,12 +30,15 @@ conn_at session = option_map (λ (l : Connection). l.conn) session.here
 abbrev pub sits : ℕ → Session → Bool
 sits conn session = option_map_or (λ (l : Connection). l.conn == conn) session.here false
 
+-- the session of this connection
 abbrev pub session_by : ℕ → List Session → Option Session
 session_by conn sessions = find (sits conn) sessions
 
+-- the newcomer is this connection
 abbrev pub is_newcomer : ℕ → Newcomer → Bool
 is_newcomer conn newcomer = newcomer.conn == conn
 
+-- the newcomers but this one
 abbrev pub other_newcomers : ℕ → List Newcomer → List Newcomer
 other_newcomers conn newcomers = filter (λ (g : Newcomer). not (g.conn == conn)) newcomers
 
@@ -46,11 +50,13 @@ is_away client session = session.kept && (not (is_some session.here) && bytes_eq
 abbrev pub swap : ℕ → List Session → List Session → List Session
 swap key new sessions = flat_map (λ (s : Session). if s.key == key then new else s ∷ []) sessions
 
+-- the sessions are these from now on
 abbrev pub with_sessions : List Session → Turn → Turn
 with_sessions sessions t = record t { broker = record t.broker { sessions = sessions } }
 
 -- ---- what one message does to one session
 
+-- What a message does to one session: what is left of it, and what it sends, closes and makes wait.
 pub record Served : Type 0 where
   -- the session, unless it ended
   pub left : List Session
@@ -58,6 +64,7 @@ pub record Served : Type 0 where
   pub closes : List ℕ
   pub wills : List AppMessage
 
+-- the session stays, as it is here, and sends these
 abbrev pub stays : Session → List Send → Served
 stays session sends = record { left = session ∷ []; sends = sends; closes = []; wills = [] }
 
@@ -70,10 +77,12 @@ bursts session = record {
   wills = option_map_or (λ (l : Connection). option_list l.will) session.here [];
 }
 
+-- what a kept session has in flight with one message more
 abbrev pub in_flight_with : Session → ℕ → AppMessage → List InFlight
 in_flight_with session id app_message =
     if session.kept then session.in_flight ++ (record { id = id; app_message = app_message; handed = is_some session.here }) ∷ [] else session.in_flight
 
+-- a message at QoS 1 takes an identifier, and goes to the connection, where there is one
 abbrev pub numbered : Session → AppMessage → ℕ → Served
 numbered session app_message id =
     stays (record session { used = session.used ++ id ∷ []; last = id; in_flight = in_flight_with session id app_message })
@@ -84,9 +93,11 @@ abbrev pub hand_at : ℕ → AppMessage → Session → Served
 hand_at zero app_message session = stays session (to_connection (conn_at session) (plain_packet app_message))
 hand_at (suc q) app_message session = if has_room session.used then numbered session app_message (next_id session.used session.last) else bursts session
 
+-- a message as it is sent, for one session
 abbrev pub hand : AppMessage → Session → Served
 hand app_message session = hand_at app_message.qos app_message session
 
+-- nothing without a grant; else the message with the QoS of its level, RETAIN 0 (3.3.1.3)
 abbrev pub serve_at : Option ℕ → AppMessage → Session → Served
 serve_at None m session = stays session []
 serve_at (Some q) m session = hand (sent_as m q false) session
@@ -104,6 +115,7 @@ retain_in table m =
     else if has m.topic table || nat_lt (length table) most_topics then put m.topic (stored m) table
     else table
 
+-- a message with RETAIN is retained, any other changes nothing there
 abbrev pub retained_with : Table Stored → AppMessage → Table Stored
 retained_with table m = if m.retain then retain_in table m else table
 
@@ -128,11 +140,13 @@ route_some (suc n) t = elim t.waiting [ [] ↦ t | m ∷ ms ↦ route_some n (ro
 abbrev pub most : Turn → ℕ
 most t = length t.waiting + length t.broker.sessions
 
+-- All that waits is routed, in order, and what comes to wait by that.
 unfoldable pub route : Turn → Turn
 route t = route_some (most t) t
 
 -- ---- coming and going
 
+-- a connection comes, under the next number
 abbrev pub opens : Turn → Turn
 opens t = record t {
   broker = record t.broker {
@@ -141,15 +155,19 @@ opens t = record t {
   };
 }
 
+-- the newcomer of this connection was heard at this moment
 abbrev pub newcomer_heard : ℕ → ℕ → Newcomer → Newcomer
 newcomer_heard conn clock g = if g.conn == conn then record g { heard = clock } else g
 
+-- the same of a connection with an accepted CONNECT
 abbrev pub connection_heard : ℕ → ℕ → Connection → Connection
 connection_heard conn clock l = if l.conn == conn then record l { heard = clock } else l
 
+-- a send to the newcomer of this connection was dropped
 abbrev pub newcomer_dropped : ℕ → Newcomer → Newcomer
 newcomer_dropped conn g = if g.conn == conn then record g { drops = one_more g.drops } else g
 
+-- the same of a connection with an accepted CONNECT
 abbrev pub connection_dropped : ℕ → Connection → Connection
 connection_dropped conn l = if l.conn == conn then record l { drops = one_more l.drops } else l
 
@@ -162,6 +180,7 @@ on_connections on_newcomer on_connection t = record t {
   };
 }
 
+-- the will of a session's connection, where it is to be routed
 abbrev pub will_at : Bool → Session → List AppMessage
 will_at true session = option_map_or (λ (l : Connection). option_list l.will) session.here []
 will_at false session = []
@@ -170,18 +189,22 @@ will_at false session = []
 abbrev pub left_behind : Session → List Session
 left_behind session = if session.kept then (record session { here = None }) ∷ [] else []
 
+-- The connection goes: from its session, with its will, or from the newcomers.
 abbrev pub leave_at : Option Session → ℕ → Bool → Turn → Turn
 leave_at None conn wills t = record t { broker = record t.broker { newcomers = other_newcomers conn t.broker.newcomers } }
 leave_at (Some session) conn wills t =
     record (with_sessions (swap session.key (left_behind session) t.broker.sessions) t) { waiting = t.waiting ++ will_at wills session }
 
+-- the session is gone
 abbrev pub forget_at : Option Session → Turn → Turn
 forget_at None t = t
 forget_at (Some session) t = with_sessions (swap session.key [] t.broker.sessions) t
 
+-- the connection that a newcomer becomes by its CONNECT
 abbrev pub connection_of : Newcomer → ℕ → Option AppMessage → Connection
 connection_of newcomer alive will = record { conn = newcomer.conn; alive = alive; heard = newcomer.heard; will = will; drops = newcomer.drops }
 
+-- a session that is made: nothing is granted, and no identifier was given
 abbrev pub new_session : ℕ → List ℕ → Bool → Connection → Session
 new_session key client kept connection =
     record { key = key; client = client; kept = kept; here = Some connection; grants = []; used = []; last = 0; in_flight = [] }
@@ -204,9 +227,11 @@ take_up (Some session) client kept connection t = record t {
   sends = t.sends ++ (record { conn = connection.conn; packet = ConnAck true 0 }) ∷ resent connection.conn session.in_flight;
 }
 
+-- the kept session that a CONNECT takes up, which is none with clean session 1
 abbrev pub away_for : Bool → List ℕ → List Session → Option Session
 away_for kept client sessions = if kept then find (is_away client) sessions else None
 
+-- what a CONNECT of this newcomer does
 abbrev pub accept_of : Option Newcomer → List ℕ → Bool → ℕ → Option AppMessage → Turn → Turn
 accept_of None client kept alive will t = t
 accept_of (Some newcomer) client kept alive will t =
@@ -224,12 +249,15 @@ offer_at (Some session) key app_message t = record {
   waiting = t.waiting ++ (hand app_message session).wills;
 }
 
+-- the session of this key
 abbrev pub with_key : ℕ → List Session → Option Session
 with_key key sessions = find (λ (s : Session). s.key == key) sessions
 
+-- the same, of the key
 abbrev pub offer : ℕ → Turn → AppMessage → Turn
 offer key t app_message = offer_at (with_key key t.broker.sessions) key app_message t
 
+-- how many pairs of a session and a filter there are
 abbrev pub all_grants : List Session → ℕ
 all_grants sessions = length (flat_map (λ (s : Session). s.grants) sessions)
 
@@ -237,6 +265,8 @@ all_grants sessions = length (flat_map (λ (s : Session). s.grants) sessions)
 abbrev pub other_grants : Session → List Session → ℕ
 other_grants session sessions = all_grants sessions - length session.grants
 
+-- The entries are granted and SUBACK is sent; then come the retained messages for each granted entry, one after the other
+-- (3.8.4).
 abbrev pub give_with : ℕ → Session → ℕ → ℕ → List (List ℕ × ℕ) → Turn → Turn
 give_with others session conn id entries t =
     fold (offer session.key)
@@ -245,15 +275,18 @@ give_with others session conn id entries t =
     })
     (flat_map (offers_to t.broker.retained) (granted_of others session.grants entries))
 
+-- the same, where the connection has a session
 abbrev pub give_at : Option Session → ℕ → ℕ → List (List ℕ × ℕ) → Turn → Turn
 give_at None conn id entries t = t
 give_at (Some session) conn id entries t = give_with (other_grants session t.broker.sessions) session conn id entries t
 
+-- the filters' grants are taken from the session of the connection, where it has one
 abbrev pub take_at : Option Session → List (List ℕ) → Turn → Turn
 take_at None filters t = t
 take_at (Some session) filters t =
     with_sessions (swap session.key ((record session { grants = fold (λ g f. remove f g) session.grants filters }) ∷ []) t.broker.sessions) t
 
+-- The session has no message of this identifier in flight any more, and the identifier is free.
 abbrev pub ack_at : Option Session → ℕ → Turn → Turn
 ack_at None id t = t
 ack_at (Some session) id t =
@@ -261,6 +294,7 @@ ack_at (Some session) id t =
 
 -- ---- an act, and a list of them
 
+-- what an act changes, sends and closes
 abbrev pub act : Act → Turn → Turn
 act Opens t = opens t
 act (At moment) t = record t { broker = record t.broker { clock = max t.broker.clock moment } }
@@ -277,26 +311,32 @@ act (Give conn id entries) t = give_at (session_by conn t.broker.sessions) conn 
 act (Take conn filters) t = take_at (session_by conn t.broker.sessions) filters t
 act (Ack conn id) t = ack_at (session_by conn t.broker.sessions) id t
 
+-- a list of acts, each behind the one before
 abbrev pub acts : List Act → Turn → Turn
 acts [] t = t
 acts (a ∷ as_list) t = acts as_list (act a t)
 
 -- ---- what the rules ask of the tables
 
+-- the connection of the client's session, unless the client identifier is empty
 abbrev pub older_in : List ℕ → List Session → Option ℕ
 older_in client sessions = if is_empty client then None
     else option_map_or conn_at (find (λ (s : Session). is_some s.here && bytes_eq s.client client) sessions) None
 
+-- a kept session of this client
 abbrev pub is_kept_of : List ℕ → Session → Bool
 is_kept_of client s = s.kept && bytes_eq s.client client
 
+-- the client has a kept session, or there are fewer of them than there may be
 abbrev pub welcome_in : List ℕ → List Session → Bool
 welcome_in client sessions = list_any (is_kept_of client) sessions || nat_lt (length (filter (λ (s : Session). s.kept) sessions)) most_kept
 
+-- how many sends were dropped on a connection
 abbrev pub drops_in : ℕ → Broker → ℕ
 drops_in conn b = option_map_or (λ (g : Newcomer). g.drops) (find (is_newcomer conn) b.newcomers)
     (option_map_or (λ (s : Session). option_map_or (λ (l : Connection). l.drops) s.here 0) (session_by conn b.sessions) 0)
 
+-- the connection of a session, where it was silent for too long
 abbrev pub silent_at : ℕ → Session → List ℕ
 silent_at clock s = option_map_or (λ (l : Connection). if is_silent clock l.alive l.heard then l.conn ∷ [] else []) s.here []
 
@@ -305,9 +345,11 @@ abbrev pub heavy_at : Option Session → List (List ℕ × ℕ) → Broker → B
 heavy_at None entries b = false
 heavy_at (Some session) entries b = is_heavy b.retained (granted_of (other_grants session b.sessions) session.grants entries)
 
+-- the same of the session of a connection
 abbrev pub heavy_in : ℕ → List (List ℕ × ℕ) → Broker → Bool
 heavy_in conn entries b = heavy_at (session_by conn b.sessions) entries b
 
+-- what the rules ask at an event, asked of the tables
 abbrev pub seen : Broker → Event → Seen
 seen b e = record {
   joined = is_some (session_by (conn_of e) b.sessions);
@@ -320,12 +362,15 @@ seen b e = record {
 
 -- ---- a whole event
 
+-- an event begins here: nothing is sent or closed yet, and nothing waits
 abbrev pub begun : Broker → Turn
 begun b = record { broker = b; sends = []; closes = []; waiting = [] }
 
+-- what an event tells is noted before the rules look
 abbrev pub noted : Broker → Event → Turn
 noted b e = acts (before e) (begun b)
 
+-- What an event changes, sends and closes: what it tells is noted, and then the acts of its plan are done.
 unfoldable pub step : Broker → Event → Turn
 step b e = acts (plan (seen (noted b e).broker e) e) (noted b e)
 

@@ -23,6 +23,7 @@ note facts t = record t { past = facts ++ t.past }
 
 -- ---- what one message gives one session
 
+-- What a message gives one session: what happens to it, and what is sent, closed and waits by that.
 pub record Share : Type 0 where
   -- of this session, newest first
   pub deeds : List Deed
@@ -30,6 +31,7 @@ pub record Share : Type 0 where
   pub closes : List ℕ
   pub wills : List AppMessage
 
+-- these facts and these sends, and no more
 abbrev pub gives : List Deed → List Send → Share
 gives ds sends = record { deeds = ds; sends = sends; closes = []; wills = [] }
 
@@ -38,6 +40,7 @@ abbrev pub ends_at : Option Joining → Share
 ends_at None = record { deeds = Over ∷ []; sends = []; closes = []; wills = [] }
 ends_at (Some j) = record { deeds = Over ∷ Left j.conn ∷ []; sends = []; closes = j.conn ∷ []; wills = option_list j.will }
 
+-- a message at QoS 1 takes an identifier, and goes to the connection, where there is one
 abbrev pub numbers : Past → ℕ → AppMessage → ℕ → Share
 numbers h s app_message id =
     gives (Numbered id app_message (is_some (here (deeds h s))) ∷ []) (to_connection (conn_here h s) (numbered_packet false id app_message))
@@ -49,9 +52,11 @@ given_at zero h s app_message = gives [] (to_connection (conn_here h s) (plain_p
 given_at (suc q) h s app_message = if has_room (used (deeds h s))
     then numbers h s app_message (next_id (used (deeds h s)) (last_id (deeds h s))) else ends_at (here (deeds h s))
 
+-- a message as it is sent, for one session
 abbrev pub gift : Past → ℕ → AppMessage → Share
 gift h s app_message = given_at app_message.qos h s app_message
 
+-- nothing without a grant; else the message with the QoS of its level, RETAIN 0 (3.3.1.3)
 abbrev pub share_at : Option ℕ → Past → AppMessage → ℕ → Share
 share_at None h m s = gives [] []
 share_at (Some q) h m s = gift h s (sent_as m q false)
@@ -60,6 +65,7 @@ share_at (Some q) h m s = gift h s (sent_as m q false)
 abbrev pub share : Past → AppMessage → ℕ → Share
 share h m s = share_at (level m.qos (best m.topic (grants (deeds h s)))) h m s
 
+-- these facts are of this session
 abbrev pub session_facts : ℕ → List Deed → Past
 session_facts s ds = map (OfSession s) ds
 
@@ -81,9 +87,11 @@ pub data Routes : Story → Story → Type 0 where
 
 -- ---- coming and going
 
+-- a connection comes, under the next number
 abbrev pub told_opens : Story → Story
 told_opens t = note (OfConn (given t.past + 1) (Opened (clock t.past)) ∷ []) t
 
+-- the will of a connection, where it is to be routed
 abbrev pub will_of : Bool → Option Joining → List AppMessage
 will_of true j = option_map_or (λ (i : Joining). option_list i.will) j []
 will_of false j = []
@@ -93,6 +101,7 @@ abbrev pub leaving : Bool → ℕ → List Deed
 leaving true conn = Left conn ∷ []
 leaving false conn = Over ∷ Left conn ∷ []
 
+-- The connection goes: from its session, with its will, or from the newcomers.
 abbrev pub told_leave : Option ℕ → ℕ → Bool → Story → Story
 told_leave None conn wills t = note (OfConn conn Ended ∷ []) t
 told_leave (Some s) conn wills t = record (note (session_facts s (leaving (kept (deeds t.past s)) conn)) t) {
@@ -103,10 +112,12 @@ told_leave (Some s) conn wills t = record (note (session_facts s (leaving (kept 
 abbrev pub is_away : Past → List ℕ → ℕ → Bool
 is_away h c s = kept (deeds h s) && (not (is_some (here (deeds h s))) && is_of h c s)
 
+-- the session is over
 abbrev pub told_forget : Option ℕ → Story → Story
 told_forget None t = t
 told_forget (Some s) t = note (session_facts s (Over ∷ [])) t
 
+-- the kept session that a CONNECT takes up, which is none with clean session 1
 abbrev pub away_for : Past → Bool → List ℕ → Option ℕ
 away_for h keeps c = if keeps then find (is_away h c) (sessions h) else None
 
@@ -121,6 +132,7 @@ told_take_up (Some s) conn c keeps alive will t =
       sends = t.sends ++ (record { conn = conn; packet = ConnAck true 0 }) ∷ resent conn (in_flight (deeds t.past s));
     }
 
+-- what a CONNECT of this newcomer does
 abbrev pub told_accept : Option ℕ → List ℕ → Bool → ℕ → Option AppMessage → Story → Story
 told_accept None c keeps alive will t = t
 told_accept (Some conn) c keeps alive will t = told_take_up (away_for t.past keeps c) conn c keeps alive will t
@@ -137,15 +149,20 @@ told_offer_at true s app_message t = record {
   waiting = t.waiting ++ (gift t.past s app_message).wills;
 }
 
+-- the session was made and isn't over
 abbrev pub stands : Past → ℕ → Bool
 stands h s = is_some (find (λ t. t == s) (sessions h))
 
+-- the same, of the session as it is by then
 abbrev pub told_offer : ℕ → Story → AppMessage → Story
 told_offer s t app_message = told_offer_at (stands t.past s) s app_message t
 
+-- an entry is granted to a session
 abbrev pub granting : ℕ → Past → List ℕ × ℕ → Past
 granting s h entry = OfSession s (Granted entry.0 entry.1) ∷ h
 
+-- The entries are granted and SUBACK is sent; then come the retained messages for each granted entry, one after the other
+-- (3.8.4).
 abbrev pub told_give_with : ℕ → ℕ → ℕ → ℕ → List (List ℕ × ℕ) → Story → Story
 told_give_with others s conn id entries t =
     fold (told_offer s)
@@ -155,17 +172,21 @@ told_give_with others s conn id entries t =
     })
     (flat_map (offers_to (retained t.past)) (granted_of others (grants (deeds t.past s)) entries))
 
+-- what a SUBSCRIBE of the session's connection does
 abbrev pub told_give : Option ℕ → ℕ → ℕ → List (List ℕ × ℕ) → Story → Story
 told_give None conn id entries t = t
 told_give (Some s) conn id entries t = told_give_with (other_pairs t.past s) s conn id entries t
 
+-- the grant of a filter is taken back from a session
 abbrev pub taking_back : ℕ → Past → List ℕ → Past
 taking_back s h filter = OfSession s (TakenBack filter) ∷ h
 
+-- the filters' grants are taken back from the session, where there is one
 abbrev pub told_take : Option ℕ → List (List ℕ) → Story → Story
 told_take None filters t = t
 told_take (Some s) filters t = record t { past = fold (taking_back s) t.past filters }
 
+-- the message of this identifier is acknowledged
 abbrev pub told_ack : Option ℕ → ℕ → Story → Story
 told_ack None id t = t
 told_ack (Some s) id t = note (session_facts s (Acked id ∷ [])) t
@@ -190,6 +211,7 @@ Tells (Give conn id entries) t u = u ≡ told_give (session_at t.past conn) conn
 Tells (Take conn filters) t u = u ≡ told_take (session_at t.past conn) filters t
 Tells (Ack conn id) t u = u ≡ told_ack (session_at t.past conn) id t
 
+-- a list of acts, each behind the one before
 abbrev pub TellsAll : List Act → Story → Story → Type 0
 TellsAll [] t u = t ≡ u
 TellsAll (a ∷ more_acts) t u = (v : Story) × Tells a t v × TellsAll more_acts v u

@@ -14,6 +14,7 @@ may_be h (Closed conn moment) = is_open h conn
 may_be h (Tick moment) = true
 may_be h (Refused conn s moment) = is_open h conn
 
+-- an event begins here: nothing is sent or closed yet, and nothing waits
 abbrev pub story_at : Past → Story
 story_at h = record { past = h; sends = []; closes = []; waiting = [] }
 

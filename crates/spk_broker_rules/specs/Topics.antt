@@ -1,11 +1,11 @@
 -- Which filters and topics stand in the data of a broker, which an event brings, and on which topics is sent.
 use Rattle.std.specs.Prelude.{◌≡◌, ℕ, Bool, false, List}
 use Rattle.std.specs.List.{AllByRecursion}
-use Rattle.spk_packets.specs.Message.{Message, Connect, ConnAck, Publish, PubAck, Subscribe, SubAck, Unsubscribe, UnsubAck, PingReq, PingResp, Disconnect}
+use Rattle.spk_packets.specs.Message.{Message, Subscribe}
 use Rattle.spk_topics.specs.Fitting.{is_match}
 use Rattle.spk_broker_rules.specs.Data.{InFlight, Session, Stored, Broker, Send}
 use Rattle.spk_broker_rules.specs.Origins.{WillSays, Says, SaysAll}
-use Rattle.spk_broker_rules.specs.Plan.{Event, Open, Packet, Fault, Closed, Tick, Refused}
+use Rattle.spk_broker_rules.specs.Plan.{Event, Packet}
 
 -- it is none of these topics
 abbrev pub IsOff : (List ℕ → Bool) → List ℕ → Type 0
@@ -31,26 +31,13 @@ TopicIn P = Says (λ topic payload. P topic)
 
 -- the filters of a SUBSCRIBE
 abbrev pub FiltersIn : (List ℕ → Type 0) → Message → Type 0
-FiltersIn P (Connect client clean alive will) = Unit {0}
-FiltersIn P (ConnAck present code) = Unit {0}
-FiltersIn P (Publish dup qos retain topic id payload) = Unit {0}
-FiltersIn P (PubAck id) = Unit {0}
 FiltersIn P (Subscribe id entries) = AllByRecursion (λ (e : List ℕ × ℕ). P e.0) entries
-FiltersIn P (SubAck id codes) = Unit {0}
-FiltersIn P (Unsubscribe id filters) = Unit {0}
-FiltersIn P (UnsubAck id) = Unit {0}
-FiltersIn P PingReq = Unit {0}
-FiltersIn P PingResp = Unit {0}
-FiltersIn P Disconnect = Unit {0}
+FiltersIn P _ = Unit {0}
 
 -- what holds of the packet that an event brings, where it brings one
 abbrev pub Brings : (Message → Type 0) → Event → Type 0
-Brings Q (Open moment) = Unit {0}
 Brings Q (Packet conn p moment) = Q p
-Brings Q (Fault conn f moment) = Unit {0}
-Brings Q (Closed conn moment) = Unit {0}
-Brings Q (Tick moment) = Unit {0}
-Brings Q (Refused conn s moment) = Unit {0}
+Brings Q _ = Unit {0}
 
 -- each PUBLISH that is sent is on such a topic
 abbrev pub SendsOn : (List ℕ → Type 0) → List Send → Type 0

@@ -22,9 +22,11 @@ level qos (Some grant) = Some (min qos grant)
 abbrev pub sent_as : AppMessage → ℕ → Bool → AppMessage
 sent_as m qos retain = record { topic = m.topic; payload = m.payload; qos = qos; retain = retain }
 
+-- the PUBLISH of a message at QoS 0: without DUP and identifier (3.3)
 abbrev pub plain_packet : AppMessage → Message
 plain_packet m = Publish false 0 m.retain m.topic None m.payload
 
+-- the PUBLISH of a message at QoS 1, under an identifier (3.3)
 abbrev pub numbered_packet : Bool → ℕ → AppMessage → Message
 numbered_packet dup id m = Publish dup 1 m.retain m.topic (Some id) m.payload
 
@@ -33,9 +35,11 @@ abbrev pub to_connection : Option ℕ → Message → List Send
 to_connection None packet = []
 to_connection (Some conn) packet = record { conn = conn; packet = packet } ∷ []
 
+-- the message that a will becomes (3.1.2.5)
 abbrev pub will_message : WillData → AppMessage
 will_message will = record { topic = will.topic; payload = will.message; qos = will.qos; retain = will.retain }
 
+-- a list of what is there: one, or none
 abbrev pub option_list : {X : Type 0} → Option X → List X
 option_list None = []
 option_list (Some x) = x ∷ []
@@ -46,9 +50,11 @@ option_list (Some x) = x ∷ []
 abbrev pub resent : ℕ → List InFlight → List Send
 resent conn in_flight = map (λ c. record { conn = conn; packet = numbered_packet c.handed c.id c.app_message }) in_flight
 
+-- the same message, handed out
 abbrev pub handed_out : InFlight → InFlight
 handed_out c = record c { handed = true }
 
+-- the messages in flight but those of this identifier
 abbrev pub without_id : ℕ → List InFlight → List InFlight
 without_id id in_flight = filter (λ c. not (c.id == id)) in_flight
 
@@ -58,9 +64,11 @@ without_id id in_flight = filter (λ c. not (c.id == id)) in_flight
 abbrev pub most_topics : ℕ
 most_topics = 10000
 
+-- the same of pairs of a session and a filter
 abbrev pub most_grants : ℕ
 most_grants = 10000
 
+-- the same of kept sessions
 abbrev pub most_kept : ℕ
 most_kept = 1000
 
@@ -68,9 +76,11 @@ most_kept = 1000
 abbrev pub most_open : ℕ
 most_open = 1000
 
+-- the greatest number of a connection: that of 64 bits
 abbrev pub last_number : ℕ
 last_number = 18446744073709551615
 
+-- what is kept of a message that is retained
 abbrev pub stored : AppMessage → Stored
 stored m = record { payload = m.payload; qos = m.qos }
 
@@ -113,6 +123,7 @@ codes_of others grants (e ∷ es) =
 abbrev pub weight : AppMessage → ℕ
 weight m = length m.topic + length m.payload + 9
 
+-- what several messages weigh together
 abbrev pub weight_of : List AppMessage → ℕ
 weight_of ms = sum_by weight ms
 

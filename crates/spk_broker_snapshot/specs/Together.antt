@@ -1,7 +1,7 @@
 -- What lines put together, one after the other: a broker's data, and the session that is under way (own rules).
 use Rattle.std.specs.Prelude.{ℕ, Bool, not, List, [], ◌∷◌, ◌++◌, Option, Some, None}
 use Rattle.std.specs.Option.{option_map, option_map_or}
-use Rattle.spk_packets.specs.Message.{Message, Connect, ConnAck, Publish, PubAck, Subscribe, SubAck, Unsubscribe, UnsubAck, PingReq, PingResp, Disconnect}
+use Rattle.spk_packets.specs.Message.{Message, Connect, Publish, Subscribe}
 use Rattle.spk_broker_rules.specs.Data.{AppMessage, InFlight, Connection, Session, Broker}
 use Rattle.spk_broker_rules.specs.Table.{Table}
 use Rattle.spk_broker_replay.specs.Parts as part
@@ -23,30 +23,12 @@ ended st = option_map_or (λ (s : Session). with_part st.broker (part.SessionPar
 -- a client, and whether it is kept
 abbrev pub client_in : Message → Option (List ℕ × Bool)
 client_in (Connect client clean alive will) = Some (client, not clean)
-client_in (ConnAck present code) = None
-client_in (Publish dup qos retain topic id payload) = None
-client_in (PubAck id) = None
-client_in (Subscribe id entries) = None
-client_in (SubAck id codes) = None
-client_in (Unsubscribe id filters) = None
-client_in (UnsubAck id) = None
-client_in PingReq = None
-client_in PingResp = None
-client_in Disconnect = None
+client_in _ = None
 
 -- its entries
 abbrev pub entries_in : Message → Table ℕ
-entries_in (Connect client clean alive will) = []
-entries_in (ConnAck present code) = []
-entries_in (Publish dup qos retain topic id payload) = []
-entries_in (PubAck id) = []
 entries_in (Subscribe id entries) = entries
-entries_in (SubAck id codes) = []
-entries_in (Unsubscribe id filters) = []
-entries_in (UnsubAck id) = []
-entries_in PingReq = []
-entries_in PingResp = []
-entries_in Disconnect = []
+entries_in _ = []
 
 -- a message, with DUP and its identifier
 pub record Sent : Type 0 where
@@ -55,17 +37,8 @@ pub record Sent : Type 0 where
   pub app_message : AppMessage
 
 abbrev pub sent_in : Message → Option Sent
-sent_in (Connect client clean alive will) = None
-sent_in (ConnAck present code) = None
 sent_in (Publish dup qos retain topic id payload) = Some (record { dup = dup; id = id; app_message = record { topic = topic; payload = payload; qos = qos; retain = retain } })
-sent_in (PubAck id) = None
-sent_in (Subscribe id entries) = None
-sent_in (SubAck id codes) = None
-sent_in (Unsubscribe id filters) = None
-sent_in (UnsubAck id) = None
-sent_in PingReq = None
-sent_in PingResp = None
-sent_in Disconnect = None
+sent_in _ = None
 
 -- what a packet says, where there is one
 abbrev pub of_packet : {X : Type 0} → (Message → Option X) → Option Message → Option X

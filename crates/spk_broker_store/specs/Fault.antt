@@ -19,15 +19,7 @@ of_part part.Unfit = Unfit
 
 abbrev pub of_packet : PacketFault → StoreFault
 of_packet packet.NoMemory = NoMemory
-of_packet packet.More = Unfit
-of_packet packet.BadLength = Unfit
-of_packet packet.BadFlags = Unfit
-of_packet packet.BadType = Unfit
-of_packet packet.BadText = Unfit
-of_packet packet.BadBody = Unfit
-of_packet packet.TooLarge = Unfit
-of_packet packet.QosTwo = Unfit
-of_packet packet.BadLevel = Unfit
+of_packet _ = Unfit
 
 -- what a broker is refused with whose lines are to be written: Unfit exactly where one of them can't be, or want of memory
 abbrev pub IsNotWritten : Option PacketFault → StoreFault → Type 0

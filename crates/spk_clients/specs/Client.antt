@@ -1,6 +1,6 @@
 -- One client of a server (own rules).
 use Rattle.std.specs.Prelude.{◌≡◌, ◌≢◌, ◌⊎◌, ℕ, ◌+◌, ◌-◌, ◌≤◌, min, nat_lt, nat_le, ◌==◌, Bool, true, false, not, ◌&&◌, ◌||◌, List, [], ◌∷◌, ◌++◌, length, Option, Some, None, Result, Ok, Err, if◌then◌else◌}
-use Rattle.spk_packets.specs.Message.{Message, PubAck, Connect, ConnAck, Publish, Subscribe, SubAck, Unsubscribe, UnsubAck, PingReq, PingResp, Disconnect}
+use Rattle.spk_packets.specs.Message.{Message, PubAck}
 use Rattle.spk_packets.specs.Fault.{first_of, IsNamed}
 use Rattle.spk_packets.specs.Refusals.{refusals}
 use Rattle.spk_packets.specs.Stream.{TakesPacket}
@@ -97,16 +97,7 @@ heard_phase Done = Done
 
 abbrev pub is_puback : Message → Bool
 is_puback (PubAck id) = true
-is_puback (Connect client clean keep will) = false
-is_puback (ConnAck present code) = false
-is_puback (Publish dup qos retain topic id payload) = false
-is_puback (Subscribe id entries) = false
-is_puback (SubAck id codes) = false
-is_puback (Unsubscribe id filters) = false
-is_puback (UnsubAck id) = false
-is_puback PingReq = false
-is_puback PingResp = false
-is_puback Disconnect = false
+is_puback _ = false
 
 -- What stands at the front of what it sent is given: a packet, which is taken off, or why there can be none; nothing where no packet
 -- is whole yet, or its end came.
@@ -137,10 +128,8 @@ over_until until cause c = if is_over c then c else record c { phase = Over; unt
 
 -- its end came, and its socket isn't to be shut yet
 abbrev pub is_leaving : Phase → Bool
-is_leaving Quiet = false
-is_leaving Open = false
 is_leaving Over = true
-is_leaving Done = false
+is_leaving _ = false
 
 -- its socket is to be shut from now on
 abbrev pub settles : Client → Bool
@@ -148,10 +137,8 @@ settles c = is_leaving c.phase && is_done c
 
 -- its socket is to be shut
 abbrev pub is_shut : Phase → Bool
-is_shut Quiet = false
-is_shut Open = false
-is_shut Over = false
 is_shut Done = true
+is_shut _ = false
 
 -- the same of a client
 abbrev pub is_to_shut : Client → Bool

@@ -41,46 +41,31 @@ IsRun keep spread (e ∷ es) d = (c : Connection) × IsRun keep spread es c × I
 -- the bytes that were read
 abbrev pub read_in : List Event → List ℕ
 read_in [] = []
-read_in (Opened now ∷ es) = read_in es
 read_in (Read piece now ∷ es) = read_in es ++ piece
-read_in (Took p ∷ es) = read_in es
-read_in (Sent packet ∷ es) = read_in es
-read_in (Asked now ∷ es) = read_in es
-read_in (Wrote first others now ∷ es) = read_in es
 read_in (Over now ∷ es) = []
+read_in (_ ∷ es) = read_in es
 
 -- the packets that were taken, in order
 abbrev pub taken_in : List Event → List Message
 taken_in [] = []
-taken_in (Opened now ∷ es) = taken_in es
-taken_in (Read piece now ∷ es) = taken_in es
 taken_in (Took p ∷ es) = taken_in es ++ p ∷ []
-taken_in (Sent packet ∷ es) = taken_in es
-taken_in (Asked now ∷ es) = taken_in es
-taken_in (Wrote first others now ∷ es) = taken_in es
 taken_in (Over now ∷ es) = []
+taken_in (_ ∷ es) = taken_in es
 
 -- the bytes that were sent, PINGREQs too
 abbrev pub sent_in : List Event → List ℕ
 sent_in [] = []
-sent_in (Opened now ∷ es) = sent_in es
-sent_in (Read piece now ∷ es) = sent_in es
-sent_in (Took p ∷ es) = sent_in es
 sent_in (Sent packet ∷ es) = sent_in es ++ packet
 sent_in (Asked now ∷ es) = sent_in es ++ ping
-sent_in (Wrote first others now ∷ es) = sent_in es
 sent_in (Over now ∷ es) = []
+sent_in (_ ∷ es) = sent_in es
 
 -- the bytes that were written
 abbrev pub written_in : List Event → List ℕ
 written_in [] = []
-written_in (Opened now ∷ es) = written_in es
-written_in (Read piece now ∷ es) = written_in es
-written_in (Took p ∷ es) = written_in es
-written_in (Sent packet ∷ es) = written_in es
-written_in (Asked now ∷ es) = written_in es
 written_in (Wrote first others now ∷ es) = written_in es ++ first ∷ others
 written_in (Over now ∷ es) = []
+written_in (_ ∷ es) = written_in es
 
 -- These bytes spell these packets, one after the other (MQTT 3.1.1, chapter 2).
 abbrev pub AreSpelled : List Message → List ℕ → Type 0

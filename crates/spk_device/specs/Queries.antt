@@ -10,18 +10,14 @@ use Rattle.spk_device.specs.Calls.{Call, AddDevice, AddMetric, Set, Turn, refusa
 abbrev pub devices_from : List DeviceData → List Call → List DeviceData
 devices_from first [] = first
 devices_from first (AddDevice name ∷ h) = devices_from first h ++ (record { name = name; up = false }) ∷ []
-devices_from first (AddMetric owner name datatype value ∷ h) = devices_from first h
-devices_from first (Set alias value ∷ h) = devices_from first h
-devices_from first (Turn name up ∷ h) = devices_from first h
+devices_from first (_ ∷ h) = devices_from first h
 
 -- the metrics with their first values, in order of adding: those that were there, and those added
 abbrev pub metrics_from : List GaugeData → List Call → List GaugeData
 metrics_from first [] = first
-metrics_from first (AddDevice name ∷ h) = metrics_from first h
 metrics_from first (AddMetric owner name datatype value ∷ h) =
     metrics_from first h ++ (record { owner = owner; name = name; datatype = datatype; value = value }) ∷ []
-metrics_from first (Set alias value ∷ h) = metrics_from first h
-metrics_from first (Turn name up ∷ h) = metrics_from first h
+metrics_from first (_ ∷ h) = metrics_from first h
 
 abbrev pub metrics_added : List Call → List GaugeData
 metrics_added h = metrics_from [] h
@@ -29,18 +25,14 @@ metrics_added h = metrics_from [] h
 -- the value last set at an alias, or else the first
 abbrev pub last_set : List Call → ℕ → Option Typed → Option Typed
 last_set [] alias first = first
-last_set (AddDevice name ∷ h) alias first = last_set h alias first
-last_set (AddMetric owner name datatype value ∷ h) alias first = last_set h alias first
 last_set (Set a value ∷ h) alias first = if alias == a then value else last_set h alias first
-last_set (Turn name up ∷ h) alias first = last_set h alias first
+last_set (_ ∷ h) alias first = last_set h alias first
 
 -- whether a device is up by the last turn of its name, or else as it was first
 abbrev pub last_turn : List Call → List ℕ → Bool → Bool
 last_turn [] name first = first
-last_turn (AddDevice other ∷ h) name first = last_turn h name first
-last_turn (AddMetric owner other datatype value ∷ h) name first = last_turn h name first
-last_turn (Set alias value ∷ h) name first = last_turn h name first
 last_turn (Turn other up ∷ h) name first = if bytes_eq other name then up else last_turn h name first
+last_turn (_ ∷ h) name first = last_turn h name first
 
 abbrev pub device_by : List Call → DeviceData → DeviceData
 device_by h d = record d { up = last_turn h d.name d.up }

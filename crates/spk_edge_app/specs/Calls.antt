@@ -26,7 +26,7 @@ use Rattle.spk_packets.specs.declared.fault.PacketFault.{PacketFault}
 use Rattle.spk_packets.specs.declared.fault.PacketFault.TheVariants.{More}
 use Rattle.spk_payload.specs.Typing.{Typed}
 use Rattle.spk_record.specs.declared.record.Record.{Record}
-use Rattle.spk_edge_app.specs.Data.{App, Answered, Asked, Coming, Deed, Dropped, GaveUp, Handed, Heard, LoginData, Opened, Over, Read, Refused, Saved, Told, Wrote}
+use Rattle.spk_edge_app.specs.Data.{App, Answered, Asked, Coming, Deed, Dropped, GaveUp, Heard, LoginData, Opened, Refused, Told}
 use Rattle.spk_edge_app.specs.Data as deed
 use Rattle.spk_edge_app.specs.Fault as faults
 use Rattle.spk_edge_app.specs.Step.{IsRun, IsStep, bytes_in, wanted_by, with_connection}
@@ -91,13 +91,11 @@ pub record IsUnlogged (a : App) (now : ℕ) (b : App) (e : EdgeAppFault) : Type 
 
 abbrev pub IsUnopened : App → ℕ → App → EdgeAppFault → Type 0
 IsUnopened a now b fault.NoMemory = b ≡ a
-IsUnopened a now b fault.TooLarge = ⊥
-IsUnopened a now b fault.NotOpen = ⊥
 IsUnopened a now b fault.Open = (is_open a.connection ≡ true) × (b ≡ a)
 IsUnopened a now b fault.Stopped = (a.stopped ≡ true) × (b ≡ a)
 IsUnopened a now b (fault.Edge e) = (answer_at a.node.config a.node.standing (plain_input now Open) ≡ Err e) × (b ≡ a)
 IsUnopened a now b (fault.Login e) = IsUnlogged a now b (fault.Login e)
-IsUnopened a now b (fault.Packet e) = ⊥
+IsUnopened a now b _ = ⊥
 
 -- ---- what the program tells the node
 
@@ -140,16 +138,7 @@ IsKept Dropped = ⊥
 
 abbrev pub IsHearing : ℕ → Deed → Type 0
 IsHearing now (Heard packet at came) = (at ≡ now) × IsKept came
-IsHearing now (Opened at out bytes sent) = ⊥
-IsHearing now (Read piece at) = ⊥
-IsHearing now (Told input out sent) = ⊥
-IsHearing now (Asked at) = ⊥
-IsHearing now (Wrote first others at) = ⊥
-IsHearing now (Saved saved) = ⊥
-IsHearing now (GaveUp at) = ⊥
-IsHearing now deed.Stopped = ⊥
-IsHearing now Handed = ⊥
-IsHearing now (Over at) = ⊥
+IsHearing now _ = ⊥
 
 -- packets are taken, one after the other
 pub record HearsAll (now : ℕ) (a b : App) : Type 0 where
@@ -220,9 +209,7 @@ IsUnread a piece now b e = (a.closing ≡ None) × (IsShut a piece now b e ⊎ I
 
 abbrev pub is_ping : Due → Bool
 is_ping due.Ping = true
-is_ping due.Nothing = false
-is_ping due.Connect = false
-is_ping due.End = false
+is_ping _ = false
 
 -- PINGREQ is sent exactly where it is due
 abbrev pub IsPinged : App → ℕ → App → Type 0
@@ -230,9 +217,7 @@ IsPinged a now b = ((is_ping (due_at a now) ≡ true) × IsStep a (Asked now) b)
 
 abbrev pub is_born : Phase → Bool
 is_born Born = true
-is_born Idle = false
-is_born Connecting = false
-is_born Waiting = false
+is_born _ = false
 
 -- how many bytes may wait to be written while kept changes are sent (own rule)
 abbrev pub little : ℕ

@@ -8,8 +8,8 @@ use Rattle.spk_edge.specs.Patch.{plain_input}
 use Rattle.spk_edge_rules.specs.Arriving.{input_of}
 use Rattle.spk_edge_rules.specs.Config.{Config}
 use Rattle.spk_edge_rules.specs.Inputs as inputs
-use Rattle.spk_packets.specs.Message.{Message, Connect, ConnAck, Publish, PubAck, Subscribe, SubAck, Unsubscribe, UnsubAck, PingReq, PingResp, Disconnect}
-use Rattle.spk_edge_app.specs.Data.{Coming, Answered, Refused, Dropped, Deed, Opened, Read, Heard, Told, Asked, Wrote, Saved, GaveUp, Stopped, Handed, Over}
+use Rattle.spk_packets.specs.Message.{Message, Publish}
+use Rattle.spk_edge_app.specs.Data.{Coming, Answered, Refused, Dropped, Deed, Opened, Read, Heard, Told, Asked, Wrote, Saved, GaveUp, Over}
 use Rattle.spk_edge_app.specs.Step.{bytes_in, puback}
 
 -- ---- the record
@@ -17,16 +17,7 @@ use Rattle.spk_edge_app.specs.Step.{bytes_in, puback}
 -- the record that was wanted is on the disk
 abbrev pub is_saved : Deed → Bool
 is_saved (Saved saved) = true
-is_saved (Opened now out bytes sent) = false
-is_saved (Read piece now) = false
-is_saved (Heard packet now came) = false
-is_saved (Told input out sent) = false
-is_saved (Asked now) = false
-is_saved (Wrote first others now) = false
-is_saved (GaveUp now) = false
-is_saved Stopped = false
-is_saved Handed = false
-is_saved (Over now) = false
+is_saved _ = false
 
 -- ---- the connection
 
@@ -39,16 +30,7 @@ sent_as false bytes = []
 -- the identifier under which a packet is acknowledged, if it is: that of a PUBLISH of QoS 1
 abbrev pub ack_in : Message → Option ℕ
 ack_in (Publish dup qos retain topic id payload) = if qos == 1 then id else None
-ack_in (Connect client clean keep will) = None
-ack_in (ConnAck present code) = None
-ack_in (PubAck id) = None
-ack_in (Subscribe id entries) = None
-ack_in (SubAck id codes) = None
-ack_in (Unsubscribe id filters) = None
-ack_in (UnsubAck id) = None
-ack_in PingReq = None
-ack_in PingResp = None
-ack_in Disconnect = None
+ack_in _ = None
 
 abbrev pub acknowledged_as : Option ℕ → List Event
 acknowledged_as None = []
@@ -68,11 +50,8 @@ on_connection (Heard packet now came) = sent_for packet came ++ event.Took packe
 on_connection (Told input out sent) = sent_as sent (bytes_in out)
 on_connection (Asked now) = event.Asked now ∷ []
 on_connection (Wrote first others now) = event.Wrote first others now ∷ []
-on_connection (Saved saved) = []
-on_connection (GaveUp now) = []
-on_connection Stopped = []
-on_connection Handed = []
 on_connection (Over now) = event.Over now ∷ []
+on_connection _ = []
 
 abbrev pub of_connection : List Deed → List Event
 of_connection deeds = flat_map on_connection deeds
@@ -97,12 +76,7 @@ on_node c (Heard packet now came) = told_of c packet now came
 on_node c (Told input out sent) = cut_where sent ++ Tell input out ∷ []
 on_node c (GaveUp now) = CutOff ∷ []
 on_node c (Over now) = CutOff ∷ []
-on_node c (Read piece now) = []
-on_node c (Asked now) = []
-on_node c (Wrote first others now) = []
-on_node c (Saved saved) = []
-on_node c Stopped = []
-on_node c Handed = []
+on_node c _ = []
 
 abbrev pub of_node : Config → List Deed → List Call
 of_node c deeds = flat_map (on_node c) deeds

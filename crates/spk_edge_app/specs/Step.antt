@@ -171,13 +171,7 @@ is_own (inputs.Changes changes) = true
 is_own (inputs.Turn name up) = true
 is_own inputs.Drain = true
 is_own inputs.Stop = true
-is_own inputs.Open = false
-is_own inputs.Accepted = false
-is_own (inputs.Command topic payload) = false
-is_own (inputs.State payload) = false
-is_own inputs.Cut = false
-is_own inputs.TurnedAway = false
-is_own inputs.Pass = false
+is_own _ = false
 
 -- a packet was taken, and this came of it
 pub record Hears (a : App) (i : Input) (came : Coming) (c : Connection) (b : App) : Type 0 where

@@ -5,7 +5,7 @@ use Rattle.spk_packets.specs.Spelling.{spelling}
 use Rattle.spk_edge_rules.specs.declared.fault.EdgeFault.{EdgeFault}
 use Rattle.spk_edge_rules.specs.Answers.{Answer}
 use Rattle.spk_edge_rules.specs.Config.{Setup}
-use Rattle.spk_edge_rules.specs.Inputs.{Act, Open, Accepted, Change, Changes, Turn, Command, State, Drain, Stop, Cut, TurnedAway, Pass, Input}
+use Rattle.spk_edge_rules.specs.Inputs.{Act, Cut, Input}
 use Rattle.spk_edge_rules.specs.Run.{right_at, run_of}
 use Rattle.spk_ingress.specs.Passes.{frames_put}
 use Rattle.spk_ingress.specs.declared.channel.PutPass.{PutPass}
@@ -13,18 +13,8 @@ use Rattle.spk_ingress.specs.declared.frame.Frame.{Frame}
 use Rattle.spk_ingress.specs.declared.frame.Frame.TheVariants as frame
 
 abbrev pub is_cut : Act → Bool
-is_cut Open = false
-is_cut Accepted = false
-is_cut (Change alias value) = false
-is_cut (Changes changes) = false
-is_cut (Turn name up) = false
-is_cut (Command topic payload) = false
-is_cut (State payload) = false
-is_cut Drain = false
-is_cut Stop = false
 is_cut Cut = true
-is_cut TurnedAway = false
-is_cut Pass = false
+is_cut _ = false
 
 abbrev pub cut_if : Bool → List Frame
 cut_if true = frame.Cut ∷ []
@@ -51,17 +41,13 @@ frames_of s (i ∷ is) = frames_of s is ++ frames_at s is i
 -- how many ends of connections there are among frames
 abbrev pub cuts_in : List Frame → ℕ
 cuts_in [] = 0
-cuts_in (frame.Packet bytes ∷ fs) = cuts_in fs
-cuts_in (frame.Fault fault ∷ fs) = cuts_in fs
 cuts_in (frame.Cut ∷ fs) = cuts_in fs + 1
-cuts_in (frame.End ∷ fs) = cuts_in fs
+cuts_in (_ ∷ fs) = cuts_in fs
 
 -- a sender's own end
 abbrev pub is_end : Frame → Bool
-is_end (frame.Packet bytes) = false
-is_end (frame.Fault fault) = false
-is_end frame.Cut = false
 is_end frame.End = true
+is_end _ = false
 
 -- how many of its own ends a sender put through a pass
 abbrev pub ends_put : PutPass → ℕ

@@ -4,7 +4,7 @@ use Rattle.std.specs.Prelude.{Bool, true, false, not, ◌&&◌, ◌||◌, ℕ, L
 use Rattle.spk_state.specs.Text.{state_at}
 use Rattle.spk_state.specs.declared.state.State.{State as Said}
 use Rattle.spk_edge_rules.specs.Config.{Setup}
-use Rattle.spk_edge_rules.specs.Inputs.{Act, Open, Accepted, Change, Changes, Turn, Command, State, Drain, Stop, Cut, TurnedAway, Pass, Input}
+use Rattle.spk_edge_rules.specs.Inputs.{Act, Open, State, Input}
 use Rattle.spk_edge_rules.specs.Run.{right_at, run_of}
 
 -- what a STATE says, if it can be read
@@ -20,16 +20,7 @@ is_offline payload = is_off (state_at payload)
 abbrev pub vain_after : Act → Bool → Bool → Bool
 vain_after Open refused before = refused && before
 vain_after (State payload) refused before = refused || is_offline payload
-vain_after Accepted refused before = before
-vain_after (Change alias value) refused before = before
-vain_after (Changes changes) refused before = before
-vain_after (Turn name up) refused before = before
-vain_after (Command topic payload) refused before = before
-vain_after Drain refused before = before
-vain_after Stop refused before = before
-vain_after Cut refused before = before
-vain_after TurnedAway refused before = before
-vain_after Pass refused before = before
+vain_after _ refused before = before
 
 -- behind a list of inputs, newest first
 abbrev pub in_vain : Setup → List Input → Bool

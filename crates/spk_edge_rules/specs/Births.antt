@@ -31,10 +31,12 @@ abbrev pub owner_is_up : Book → Owner → Bool
 owner_is_up b Node = true
 owner_is_up b (Device n) = option_map_or (λ d. d.up) (device_at b n) false
 
+-- the name of the device that owns it; none is the node
 abbrev pub device_of : Book → Owner → Option (List ℕ)
 device_of b Node = None
 device_of b (Device n) = option_map (λ d. d.name) (device_at b n)
 
+-- the owner of the metric of this alias
 abbrev pub owner_at : Book → ℕ → Owner
 owner_at b alias = option_map_or (λ g. g.owner) (gauge_at b alias) Node
 
@@ -44,6 +46,7 @@ owner_at b alias = option_map_or (λ g. g.owner) (gauge_at b alias) Node
 abbrev pub stamped : ℕ → MetricData → MetricData
 stamped stamp m = record m { timestamp = Some stamp }
 
+-- the metrics of an owner as a birth of this stamp lists them, in order of adding
 abbrev pub own_metrics : Book → ℕ → Owner → List MetricData
 own_metrics b stamp owner = map (stamped stamp) (births_of b owner)
 
@@ -112,5 +115,6 @@ data_metric b alias time historical value = record {
 abbrev pub kept_metric : Book → ChangeData → MetricData
 kept_metric b change = data_metric b change.alias change.time (Some true) change.value
 
+-- the NDATA or DDATA of an owner with these metrics
 abbrev pub data_draft : Book → Owner → ℕ → List MetricData → Draft
 data_draft b owner stamp metrics = record { verb = Data; device = device_of b owner; stamp = stamp; metrics = metrics }

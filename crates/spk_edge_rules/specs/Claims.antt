@@ -21,7 +21,7 @@ use Rattle.spk_topics.specs.declared.spark.Verb.TheVariants as verb
 use Rattle.spk_edge_rules.specs.Births.{births_at, own_metrics, rebirth_metric}
 use Rattle.spk_edge_rules.specs.Config.{Config, Setup}
 use Rattle.spk_edge_rules.specs.History.{can_go, front_run, history, most}
-use Rattle.spk_edge_rules.specs.Inputs.{Act, ChangeData, Open, Accepted, Change, Changes, Turn, Command, State, Drain, Stop, Cut, TurnedAway, Pass}
+use Rattle.spk_edge_rules.specs.Inputs.{Act, ChangeData, Open, Accepted, Command, Stop, Cut}
 use Rattle.spk_edge_rules.specs.Messages.{Draft, is_birth, opens, payload_of, wire}
 use Rattle.spk_edge_rules.specs.Packets.{session_metric}
 use Rattle.spk_edge_rules.specs.Rules.{Given}
@@ -35,6 +35,7 @@ SaysSession s m = opens m.draft ≡ true →
 
 -- ---- each message (Sparkplug 3.0.0, chapters 4 and 6)
 
+-- a message of this kind has a sequence number: any but an NDEATH and a command
 abbrev pub has_number : Verb → Option (List ℕ) → Bool
 has_number Birth device = true
 has_number Data device = true
@@ -71,6 +72,7 @@ abbrev pub numbers_from : Config → ℕ → List Draft → List ℕ
 numbers_from c seq [] = []
 numbers_from c seq (d ∷ ds) = number_of c seq d ∷ numbers_from c (next_of c seq d) ds
 
+-- the numbers of the positions from p on, of which these messages are
 abbrev pub numbers_at : Setup → List Message → ℕ → List Draft → List ℕ
 numbers_at s messages p drafts = map (λ e. number_at s messages e.0) (enumerate_from p drafts)
 
@@ -91,6 +93,7 @@ IsBirthOf b bd d None =
     d.metrics ≡ session_metric bd (Some d.stamp) ∷ rebirth_metric d.stamp ∷ own_metrics b d.stamp Node
 IsBirthOf b bd d (Some name) = IsDeviceBirth b name d
 
+-- where it is a birth, it lists what the registry has
 abbrev pub ListsWhatIs : Book → ℕ → Draft → Type 0
 ListsWhatIs b bd d = is_birth d.verb ≡ true → IsBirthOf b bd d d.device
 
@@ -105,12 +108,12 @@ AreWholeBirths b bd drafts =
 abbrev pub AreNumbered : Book → Type 0
 AreNumbered b = (n : ℕ) (d : DeviceData) → slice_get b.devices n ≡ Some d → book.number_of b d.name ≡ Some n
 
+-- it is an NDEATH or a DDEATH
 abbrev pub is_death : Verb → Bool
-is_death Birth = false
 is_death Death = true
-is_death Data = false
-is_death verb.Command = false
+is_death _ = false
 
+-- it is a message of the device of this name
 abbrev pub is_of_device : List ℕ → Draft → Bool
 is_of_device name d = option_map_or (λ device. bytes_eq device name) d.device false
 
@@ -118,6 +121,7 @@ is_of_device name d = option_map_or (λ device. bytes_eq device name) d.device f
 abbrev pub is_birth_of : List ℕ → Draft → Bool
 is_birth_of name d = is_birth d.verb && is_of_device name d
 
+-- it is the device's DDEATH
 abbrev pub is_death_of : List ℕ → Draft → Bool
 is_death_of name d = is_death d.verb && is_of_device name d
 
@@ -135,29 +139,25 @@ IsAlive name birth session (m ∷ ms) = IsBornBy name birth session m ms ⊎ IsA
 
 -- ---- between an accepted open and the next stop, cut or closing
 
+-- How the connection stands: closed, asked for, or joined.
 pub data Link : Type 0 where
   Closed : Link
   Asked : Link
   Joined : Link
 
+-- the connection that was asked for is joined by an accepted CONNECT
 abbrev pub accepted_by : Link → Link
 accepted_by Closed = Closed
 accepted_by Asked = Joined
 accepted_by Joined = Joined
 
+-- what an input makes of it
 abbrev pub link_by : Act → Link → Link
 link_by Open link = Asked
 link_by Accepted link = accepted_by link
-link_by (Change alias value) link = link
-link_by (Changes changes) link = link
-link_by (Turn name up) link = link
-link_by (Command topic payload) link = link
-link_by (State payload) link = link
-link_by Drain link = link
 link_by Stop link = Closed
 link_by Cut link = Closed
-link_by TurnedAway link = link
-link_by Pass link = link
+link_by _ link = link
 
 -- a connection is asked for by Open, joined once it is accepted, and closed by a stop, a cut or the node itself
 abbrev pub link_of : List Done → Link
@@ -171,6 +171,7 @@ pub record IsWhole (bytes : List ℕ) (c : Config) (number : ℕ) (d : Draft) : 
   pub spelled : Spells bytes (wire c number d)
   pub fits : PayloadFits (payload_of number d)
 
+-- it is a DISCONNECT
 abbrev pub is_disconnect : packets.Message → Bool
 is_disconnect packets.Disconnect = true
 is_disconnect _ = false
@@ -180,6 +181,7 @@ abbrev pub topic_in : packets.Message → List ℕ
 topic_in (packets.Publish dup qos retain topic id payload) = topic
 topic_in _ = []
 
+-- what a PUBLISH carries
 abbrev pub payload_in : packets.Message → List ℕ
 payload_in (packets.Publish dup qos retain topic id payload) = payload
 payload_in _ = []

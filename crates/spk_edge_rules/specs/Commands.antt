@@ -5,7 +5,7 @@ use Rattle.std.specs.Option.{option_map, option_map_or, option_and_then}
 use Rattle.std.specs.Str.{bytes_eq}
 use Rattle.spk_payload.specs.declared.fault.PayloadFault.{PayloadFault}
 use Rattle.spk_payload.specs.declared.values.Values.TheVariants as choice
-use Rattle.spk_payload.specs.Meaning.{Content, Int, Long, Flag, Words, Octets, Float, Double, Other, MetricData, PayloadData}
+use Rattle.spk_payload.specs.Meaning.{Content, Flag, MetricData, PayloadData}
 use Rattle.spk_payload.specs.Reading.{payload_at}
 use Rattle.spk_payload.specs.Typing.{typed_of}
 use Rattle.spk_device.specs.Book.{Book, GaugeData, alias_of, gauge_at, is_owner, number_of}
@@ -14,7 +14,7 @@ use Rattle.spk_device.specs.declared.owner.Owner.TheVariants.{Node, Device}
 use Rattle.spk_topics.specs.Spark.{Named, named_at}
 use Rattle.spk_topics.specs.Spark.Named.{of_node, of_device, of_state}
 use Rattle.spk_topics.specs.declared.spark.Verb.{Verb}
-use Rattle.spk_topics.specs.declared.spark.Verb.TheVariants.{Birth, Death, Data, Command}
+use Rattle.spk_topics.specs.declared.spark.Verb.TheVariants.{Command}
 use Rattle.spk_edge_rules.specs.Config.{Config}
 use Rattle.spk_edge_rules.specs.Inputs.{WriteData}
 
@@ -23,11 +23,10 @@ pub data Target : Type 0 where
   ToNode : Target
   ToDevice : (name : List ℕ) → Target
 
+-- it is an NCMD or a DCMD
 abbrev pub is_command : Verb → Bool
-is_command Birth = false
-is_command Death = false
-is_command Data = false
 is_command Command = true
+is_command _ = false
 
 -- NCMD or DCMD of this node
 abbrev pub target_in : Config → Named → Option Target
@@ -37,6 +36,7 @@ target_in c (of_device group verb node device) =
     if is_command verb && bytes_eq group c.group && bytes_eq node c.node then Some (ToDevice device) else None
 target_in c (of_state host) = None
 
+-- to whom a message on this topic is a command, where it is one to this node
 abbrev pub target_of : Config → List ℕ → Option Target
 target_of c topic = option_and_then (target_in c) (named_at topic)
 
@@ -59,15 +59,10 @@ is_control (ToDevice name) m = false
 abbrev pub content_in : MetricData → Option Content
 content_in m = if option_map_or (λ b. b) m.null false then None else m.value
 
+-- the truth value, where it is one
 abbrev pub flag_in : Content → Option Bool
-flag_in (Int n) = None
-flag_in (Long n) = None
 flag_in (Flag b) = Some b
-flag_in (Words bytes) = None
-flag_in (Octets bytes) = None
-flag_in (Float n) = None
-flag_in (Double n) = None
-flag_in Other = None
+flag_in _ = None
 
 -- the alias that the metric names: its alias where it has one, else the alias of its name
 abbrev pub alias_in : Book → Owner → MetricData → Option ℕ
@@ -101,6 +96,7 @@ orders_of b target [] = Some []
 orders_of b target (m ∷ ms) =
     option_and_then (λ order. option_map (λ orders. order ∷ orders) (orders_of b target ms)) (order_of b target m)
 
+-- the same of a payload that could be read
 abbrev pub orders_in : Book → Target → Result PayloadData PayloadFault → Option (List Order)
 orders_in b target (Ok p) = orders_of b target p.metrics
 orders_in b target (Err fault) = None
@@ -112,13 +108,16 @@ command_of c b topic payload = option_and_then (λ target. orders_in b target (p
 
 -- ---- what they come to
 
+-- the write that an order is, where it is one
 abbrev pub write_in : Order → Option WriteData
 write_in (Rebirth asked) = None
 write_in (Writing w) = Some w
 
+-- the writes among orders, in order
 abbrev pub writes_in : List Order → List WriteData
 writes_in orders = filter_map write_in orders
 
+-- it asks for a rebirth
 abbrev pub asks_rebirth : Order → Bool
 asks_rebirth (Rebirth asked) = asked
 asks_rebirth (Writing w) = false

@@ -3,6 +3,7 @@ use Rattle.std.specs.Prelude.{ℕ}
 use Rattle.spk_edge_rules.specs.declared.fault.EdgeFault.{EdgeFault}
 use Rattle.spk_edge_rules.specs.declared.fault.EdgeFault.TheVariants.{NoMemory, WrongPhase, ClockEnd, BadCommand, BadConfig, TooLarge, Device, State, TwoOwners}
 
+-- each fault's number
 abbrev pub number_of : EdgeFault → ℕ
 number_of NoMemory = 1
 number_of WrongPhase = 60

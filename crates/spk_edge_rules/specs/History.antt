@@ -17,6 +17,7 @@ have_one_owner x y = is_owner x.owner y.owner
 abbrev pub most : ℕ
 most = 32
 
+-- how many changes at the front are of one owner, and go into one message
 abbrev pub front_run : List ChangeData → ℕ
 front_run changes = min most (run_of have_one_owner changes)
 

@@ -3,6 +3,7 @@ use Rattle.std.specs.Prelude.{ℕ, Bool, List, Option}
 use Rattle.spk_payload.specs.Typing.{Typed}
 use Rattle.spk_device.specs.declared.owner.Owner.{Owner}
 
+-- What an input asks or says.
 pub data Act : Type 0 where
   -- a connection is to be opened
   Open : Act

@@ -6,7 +6,7 @@ use Rattle.spk_packets.specs.Message.{Message, Publish}
 use Rattle.spk_topics.specs.Spark.{Named, topic_of}
 use Rattle.spk_topics.specs.Spark.Named.{of_node, of_device}
 use Rattle.spk_topics.specs.declared.spark.Verb.{Verb}
-use Rattle.spk_topics.specs.declared.spark.Verb.TheVariants.{Birth, Death, Data, Command}
+use Rattle.spk_topics.specs.declared.spark.Verb.TheVariants.{Birth}
 use Rattle.spk_edge_rules.specs.Config.{Config}
 
 -- A message before it has its number: what is sent, of which device (none is the node itself), its stamp in
@@ -17,11 +17,10 @@ pub record Draft : Type 0 where
   pub stamp : ℕ
   pub metrics : List MetricData
 
+-- it is an NBIRTH or a DBIRTH
 abbrev pub is_birth : Verb → Bool
 is_birth Birth = true
-is_birth Death = false
-is_birth Data = false
-is_birth Command = false
+is_birth _ = false
 
 -- it is an NBIRTH
 abbrev pub opens : Draft → Bool
@@ -32,6 +31,7 @@ abbrev pub spark_of : Config → Verb → Option (List ℕ) → Named
 spark_of c verb None = of_node c.group verb c.node
 spark_of c verb (Some device) = of_device c.group verb c.node device
 
+-- the topic of a message, by its names
 abbrev pub named_by : Config → Draft → Named
 named_by c d = spark_of c d.verb d.device
 

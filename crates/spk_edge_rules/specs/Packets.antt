@@ -26,6 +26,7 @@ session_metric bd time = record {
 abbrev pub death_payload : ℕ → ℕ → PayloadData
 death_payload bd time = record { timestamp = Some time; metrics = session_metric bd None ∷ []; seq = None }
 
+-- the topic of the node's NDEATH
 abbrev pub death_topic : Config → List ℕ
 death_topic c = topic_of (of_node c.group Death c.node)
 
@@ -46,6 +47,7 @@ abbrev pub state_filter : Option (List ℕ) → List (List ℕ × ℕ)
 state_filter None = []
 state_filter (Some host) = (topic_of (of_state host), 1) ∷ []
 
+-- the SUBSCRIBE of a session
 abbrev pub subscribe_of : Config → Message
 subscribe_of c = Subscribe 1
     ((topic_of (of_node c.group Command c.node), 1)

@@ -53,34 +53,31 @@ pub record Given : Type 0 where
   pub phase : Phase
   pub store : Option (Call ChangeData)
 
+-- nothing is sent, written or kept, and the phase stays
 abbrev pub nothing : Asked → Given
 nothing a = record { plain = []; drafts = []; writes = []; close = false; phase = a.phase; store = None }
 
 -- ---- phases
 
+-- the births of the session were given
 abbrev pub is_born : Phase → Bool
 is_born Born = true
-is_born Waiting = false
-is_born Connecting = false
-is_born Idle = false
+is_born _ = false
 
+-- the births wait for the primary host
 abbrev pub is_waiting : Phase → Bool
 is_waiting Waiting = true
-is_waiting Born = false
-is_waiting Connecting = false
-is_waiting Idle = false
+is_waiting _ = false
 
+-- a CONNECT was sent, and isn't answered yet
 abbrev pub is_connecting : Phase → Bool
 is_connecting Connecting = true
-is_connecting Waiting = false
-is_connecting Born = false
-is_connecting Idle = false
+is_connecting _ = false
 
+-- there is no connection
 abbrev pub is_idle : Phase → Bool
 is_idle Idle = true
-is_idle Connecting = false
-is_idle Waiting = false
-is_idle Born = false
+is_idle _ = false
 
 -- the server accepted the connection, and it stands
 abbrev pub is_joined : Phase → Bool
@@ -93,16 +90,12 @@ is_joined Idle = false
 abbrev pub fits : Phase → Act → Bool
 fits phase Open = is_idle phase
 fits phase Accepted = is_connecting phase
-fits phase (Change alias value) = true
 fits phase (Changes changes) = is_born phase
-fits phase (Turn name up) = true
 fits phase (Command topic payload) = is_joined phase
 fits phase (State payload) = is_joined phase
 fits phase Drain = is_born phase
 fits phase Stop = is_joined phase
-fits phase Cut = true
-fits phase TurnedAway = true
-fits phase Pass = true
+fits phase _ = true
 
 -- ---- births and ends
 
@@ -114,6 +107,7 @@ born a now g = record g { drafts = births_at a.book a.will_bd (birth_stamp a.sta
 abbrev pub leaving : Config → Asked → Given
 leaving c a = record (nothing a) { plain = farewell c a.will_bd a.will_time; close = true; phase = Idle }
 
+-- CONNECT, with the NDEATH of a new session as its will
 abbrev pub opening : Config → Asked → ℕ → Given
 opening c a now = record (nothing a) { plain = connect_of c a.bd now ∷ []; phase = Connecting }
 
@@ -121,14 +115,17 @@ opening c a now = record (nothing a) { plain = connect_of c a.bd now ∷ []; pha
 abbrev pub joining : Config → Asked → Given
 joining c a = record (nothing a) { plain = subscribe_of c ∷ []; phase = Waiting }
 
+-- SUBSCRIBE, and the births behind it where no primary host is named
 abbrev pub accepting : Config → Asked → ℕ → Given
 accepting c a now = if is_some c.primary then joining c a else born a now (joining c a)
 
+-- the connection that was asked for is closed
 abbrev pub turned_away : Asked → Given
 turned_away a = if is_connecting a.phase then record (nothing a) { close = true; phase = Idle } else nothing a
 
 -- ---- changes and devices
 
+-- refused where the registry refuses it
 abbrev pub refused_or : Option Refusal → Given → Result Given EdgeFault
 refused_or (Some refusal) g = Err (fault.Device refusal)
 refused_or None g = Ok g
@@ -184,9 +181,11 @@ first_fault b owner n (x ∷ xs) = option_map_or (λ f. Some (n, f)) (change_fau
 abbrev pub refused_first : Book → List (ℕ × Option Typed) → Option (ℕ × EdgeFault)
 refused_first b changes = first_fault b (owner_of b changes) 0 changes
 
+-- with what several changes are refused: as the first one of them that is
 abbrev pub changes_fault : Book → List (ℕ × Option Typed) → Option EdgeFault
 changes_fault b changes = option_map (λ e. e.1) (refused_first b changes)
 
+-- refused where there is a fault
 abbrev pub faulted_or : Option EdgeFault → Given → Result Given EdgeFault
 faulted_or (Some f) g = Err f
 faulted_or None g = Ok g
@@ -203,9 +202,11 @@ saying a now owner (x ∷ xs) =
     then record (nothing a) { drafts = changes_draft a.book owner (later_stamp a.stamp now) (x ∷ xs) ∷ [] }
     else nothing a
 
+-- what several changes of one owner come to
 abbrev pub several : Asked → ℕ → List (ℕ × Option Typed) → Given
 several a now changes = saying a now (owner_of a.book changes) (others_in a.book changes)
 
+-- the device is up, or down, already
 abbrev pub is_so_already : Book → List ℕ → Bool → Bool
 is_so_already b name up = option_map_or (λ was. flag_eq was up) (is_up b name) false
 
@@ -224,6 +225,7 @@ obeying a now orders =
     let g = record (nothing a) { writes = writes_in orders } in
     if wants_rebirth orders && is_born a.phase then born a now g else g
 
+-- what a command comes to: its orders, or BadCommand (62) where it can't be done whole
 abbrev pub commanded : Asked → ℕ → Option (List Order) → Result Given EdgeFault
 commanded a now None = Err fault.BadCommand
 commanded a now (Some orders) = Ok (obeying a now orders)
@@ -234,10 +236,12 @@ hearing c a now Online = if is_waiting a.phase then born a now (nothing a) else 
 hearing c a now Offline = if is_born a.phase then leaving c a else nothing a
 hearing c a now Ignored = nothing a
 
+-- what a STATE comes to: State (66) where it can't be read
 abbrev pub heard_in : Config → Asked → ℕ → Option read.State → Result Given EdgeFault
 heard_in c a now None = Err (fault.State BadState)
 heard_in c a now (Some s) = Ok (hearing c a now (heard_as a.heard s))
 
+-- the same of a payload; a node without a primary host doesn't read it
 abbrev pub stating : Config → Asked → ℕ → List ℕ → Result Given EdgeFault
 stating c a now payload = if is_some c.primary then heard_in c a now (state_at payload) else Ok (nothing a)
 
@@ -262,6 +266,7 @@ draining c number a now (x ∷ xs) =
 
 -- ---- all of them
 
+-- what each act comes to, where its phase and its moment are right
 abbrev pub acts : Config → ℕ → Asked → ℕ → Act → Result Given EdgeFault
 acts c number a now Open = Ok (opening c a now)
 acts c number a now Accepted = Ok (accepting c a now)
@@ -276,6 +281,7 @@ acts c number a now Cut = Ok (record (nothing a) { phase = Idle })
 acts c number a now TurnedAway = Ok (turned_away a)
 acts c number a now Pass = Ok (nothing a)
 
+-- goes on with what was given, and keeps a refusal
 abbrev pub on_ok : {A B E : Type 0} → Result A E → (A → Result B E) → Result B E
 on_ok (Ok x) f = f x
 on_ok (Err e) f = Err e
@@ -284,6 +290,7 @@ on_ok (Err e) f = Err e
 abbrev pub is_timely : Given → Bool
 is_timely g = list_all (λ d. nat_lt d.stamp (2 ^ 63)) g.drafts
 
+-- ClockEnd (61) where a stamp isn't
 abbrev pub timely : Given → Result Given EdgeFault
 timely g = if is_timely g then Ok g else Err fault.ClockEnd
 

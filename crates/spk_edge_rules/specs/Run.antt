@@ -31,6 +31,7 @@ pub record Done : Type 0 where
 
 -- ---- sessions: one for each Open, counted from 0
 
+-- how many sessions were opened
 abbrev pub opened : List Done → ℕ
 opened [] = 0
 opened (e ∷ h) = if is_open e.input.act then opened h + 1 else opened h
@@ -59,9 +60,11 @@ posts session births (d ∷ ds) =
     let births_after = if opens d then births + 1 else births in
     (record { birth = births_after - 1; session = session; draft = d }) ∷ posts session births_after ds
 
+-- what was published, and these behind it
 abbrev pub with_posts : List Message → ℕ → List Draft → List Message
 with_posts published session drafts = published ++ posts session (births_in published) drafts
 
+-- all that was published
 abbrev pub published : List Done → List Message
 published [] = []
 published (e ∷ h) = with_posts (published h) (opened h - 1) e.given.drafts
@@ -102,6 +105,7 @@ set_by (Change a value) alias before = if alias == a then value else before
 set_by (Changes changes) alias before = last_in changes alias before
 set_by _ alias before = before
 
+-- the value of an alias by all that was done, where it was `first` at the beginning
 abbrev pub last_set : List Done → ℕ → Option Typed → Option Typed
 last_set [] alias first = first
 last_set (e ∷ h) alias first = set_by e.input.act alias (last_set h alias first)
@@ -111,13 +115,16 @@ abbrev pub turned_by : Act → List ℕ → Bool → Bool
 turned_by (Turn other up) name before = if bytes_eq other name then up else before
 turned_by _ name before = before
 
+-- whether a device is up by all that was done, where it was as `first` says at the beginning
 abbrev pub last_turn : List Done → List ℕ → Bool → Bool
 last_turn [] name first = first
 last_turn (e ∷ h) name first = turned_by e.input.act name (last_turn h name first)
 
+-- a device as it is by all that was done
 abbrev pub device_by : List Done → DeviceData → DeviceData
 device_by h d = record d { up = last_turn h d.name d.up }
 
+-- a metric with its value by all that was done; aliases count from 1
 abbrev pub gauge_by : List Done → ℕ × GaugeData → GaugeData
 gauge_by h e = record e.1 { value = last_set h (e.0 + 1) e.1.value }
 
@@ -134,6 +141,7 @@ abbrev pub with_call : Option (Call ChangeData) → List (Call ChangeData) → L
 with_call None calls = calls
 with_call (Some call) calls = call ∷ calls
 
+-- all that was done to the kept changes, newest first
 abbrev pub calls_of : List Done → List (Call ChangeData)
 calls_of [] = []
 calls_of (e ∷ h) = with_call e.given.store (calls_of h)
@@ -152,19 +160,23 @@ greater None y = y
 greater (Some x) None = Some x
 greater (Some x) (Some y) = Some (max x y)
 
+-- the timestamp of a STATE that came
 abbrev pub timestamp_in : Act → Option ℕ
 timestamp_in (State payload) = option_map (λ s. s.timestamp) (state_at payload)
 timestamp_in _ = None
 
+-- the greatest timestamp of the STATEs that came
 abbrev pub greatest_of : List Done → Option ℕ
 greatest_of [] = None
 greatest_of (e ∷ h) = greater (timestamp_in e.input.act) (greatest_of h)
 
+-- the same, where a primary host is named
 abbrev pub heard_of : Config → List Done → Option ℕ
 heard_of c h = if is_some c.primary then greatest_of h else None
 
 -- ---- what may be asked
 
+-- the phase that the last input left
 abbrev pub phase_of : List Done → Phase
 phase_of [] = Idle
 phase_of (e ∷ h) = e.given.phase
@@ -173,6 +185,7 @@ phase_of (e ∷ h) = e.given.phase
 abbrev pub stamp_of : Setup → List Done → Option ℕ
 stamp_of s h = last_or s.stamp (map (λ m. m.draft.stamp) (published h))
 
+-- what the rules look at, asked of the run
 abbrev pub asked_of : Setup → List Done → Asked
 asked_of s h = record {
   phase = phase_of h;
@@ -201,16 +214,20 @@ next_number s h =
     let d = data_draft s.book Node (later_stamp (stamp_of s h) 0) [] in
     number_at s (with_posts (published h) (opened h - 1) (d ∷ [])) (length (published h))
 
+-- the packets of messages, each under the number of its position, where p is the first one's
 abbrev pub wires_at : Setup → List Message → ℕ → List Draft → List packets.Message
 wires_at s messages p drafts = map (λ e. wire s.config (number_at s messages e.0) e.1) (enumerate_from p drafts)
 
+-- the packets of what is given: the plain ones, then the messages behind all that was published
 abbrev pub packets_of : Setup → List Done → Given → List packets.Message
 packets_of s h g =
     g.plain ++ wires_at s (with_posts (published h) (opened h - 1) g.drafts) (length (published h)) g.drafts
 
+-- the answer to an input behind this run, or its refusal
 abbrev pub right_at : Setup → List Done → Input → Result Answer EdgeFault
 right_at s h i = on_ok (rules s.config (next_number s h) (asked_of s h) i) (λ g. checked g (packets_of s h g))
 
+-- the run with an input that was taken; one that was refused isn't in it
 abbrev pub with_done : List Done → Input → Result Answer EdgeFault → List Done
 with_done h i (Ok answer) = (record { input = i; given = answer.given }) ∷ h
 with_done h i (Err fault) = h

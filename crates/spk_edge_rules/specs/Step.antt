@@ -15,7 +15,7 @@ use Rattle.spk_edge_rules.specs.declared.fault.EdgeFault.{EdgeFault}
 use Rattle.spk_edge_rules.specs.declared.phase.Phase.TheVariants.{Idle}
 use Rattle.spk_edge_rules.specs.Answers.{Answer, checked}
 use Rattle.spk_edge_rules.specs.Config.{Config, Setup}
-use Rattle.spk_edge_rules.specs.Inputs.{Act, Open, Accepted, Change, Changes, Turn, Command, State, Drain, Stop, Cut, TurnedAway, Pass, Input, ChangeData}
+use Rattle.spk_edge_rules.specs.Inputs.{Act, Open, Change, Changes, Turn, State, Input, ChangeData}
 use Rattle.spk_edge_rules.specs.Messages.{Draft, opens, wire}
 use Rattle.spk_edge_rules.specs.Rules.{Asked, Given, on_ok, rules, with_values}
 
@@ -31,6 +31,7 @@ abbrev pub begins_anew : Numbering → Draft → Bool
 begins_anew RunsOn d = false
 begins_anew Restarts d = opens d
 
+-- the sequence number that a message gets, where `seq` comes next
 abbrev pub number_of : Config → ℕ → Draft → ℕ
 number_of c seq d = if begins_anew c.numbering d then 0 else seq
 
@@ -38,71 +39,51 @@ number_of c seq d = if begins_anew c.numbering d then 0 else seq
 abbrev pub next_of : Config → ℕ → Draft → ℕ
 next_of c seq d = (number_of c seq d + 1) % 256
 
+-- the packets of messages, each under the number that comes next by then
 abbrev pub wires : Config → ℕ → List Draft → List Message
 wires c seq [] = []
 wires c seq (d ∷ ds) = wire c (number_of c seq d) d ∷ wires c (next_of c seq d) ds
 
+-- the number that comes next behind these messages
 abbrev pub seq_after : Config → ℕ → List Draft → ℕ
 seq_after c seq [] = seq
 seq_after c seq (d ∷ ds) = seq_after c (next_of c seq d) ds
 
 -- ---- the data after an input
 
+-- the registry behind an act
 abbrev pub book_after : Book → Act → Book
-book_after b Open = b
-book_after b Accepted = b
 book_after b (Change alias value) = with_value b alias value
 book_after b (Changes changes) = with_values b changes
 book_after b (Turn name up) = with_turn b name up
-book_after b (Command topic payload) = b
-book_after b (State payload) = b
-book_after b Drain = b
-book_after b Stop = b
-book_after b Cut = b
-book_after b TurnedAway = b
-book_after b Pass = b
+book_after b _ = b
 
+-- the kept changes behind what is done to them
 abbrev pub store_after : Kept ChangeData → Option (Call ChangeData) → Kept ChangeData
 store_after s None = s
 store_after s (Some call) = after_call s call
 
+-- the greatest timestamp heard of the primary host, behind one more STATE
 abbrev pub heard_by : Option (List ℕ) → Option ℕ → Option read.State → Option ℕ
 heard_by None heard s = heard
 heard_by (Some host) heard None = heard
 heard_by (Some host) heard (Some s) = after_heard heard s
 
+-- the same, behind an act
 abbrev pub heard_after : Config → Option ℕ → Act → Option ℕ
-heard_after c heard Open = heard
-heard_after c heard Accepted = heard
-heard_after c heard (Change alias value) = heard
-heard_after c heard (Changes changes) = heard
-heard_after c heard (Turn name up) = heard
-heard_after c heard (Command topic payload) = heard
 heard_after c heard (State payload) = heard_by c.primary heard (state_at payload)
-heard_after c heard Drain = heard
-heard_after c heard Stop = heard
-heard_after c heard Cut = heard
-heard_after c heard TurnedAway = heard
-heard_after c heard Pass = heard
+heard_after c heard _ = heard
 
+-- it opens a session
 abbrev pub is_open : Act → Bool
 is_open Open = true
-is_open Accepted = false
-is_open (Change alias value) = false
-is_open (Changes changes) = false
-is_open (Turn name up) = false
-is_open (Command topic payload) = false
-is_open (State payload) = false
-is_open Drain = false
-is_open Stop = false
-is_open Cut = false
-is_open TurnedAway = false
-is_open Pass = false
+is_open _ = false
 
 -- the stamp of the last message
 abbrev pub stamp_after : Option ℕ → List Draft → Option ℕ
 stamp_after stamp drafts = last_or stamp (map (λ d. d.stamp) drafts)
 
+-- what the rules look at, behind an input that was taken
 abbrev pub asked_after : Config → Asked → Input → Given → Asked
 asked_after c a i g = record {
   phase = g.phase;
@@ -115,11 +96,13 @@ asked_after c a i g = record {
   will_time = if is_open i.act then i.now else a.will_time;
 }
 
+-- the data behind an input that was taken
 abbrev pub stepped : Config → Standing → Input → Given → Standing
 stepped c st i g = record { asked = asked_after c st.asked i g; seq = seq_after c st.seq g.drafts }
 
 -- ---- answers
 
+-- the answer to an input, or its refusal
 abbrev pub answer_at : Config → Standing → Input → Result Answer EdgeFault
 answer_at c st i = on_ok (rules c st.seq st.asked i) (λ g. checked g (g.plain ++ wires c st.seq g.drafts))
 
@@ -128,11 +111,13 @@ abbrev pub after_answer : Config → Standing → Input → Result Answer EdgeFa
 after_answer c st i (Ok answer) = stepped c st i answer.given
 after_answer c st i (Err fault) = st
 
+-- the data behind an input
 abbrev pub after : Config → Standing → Input → Standing
 after c st i = after_answer c st i (answer_at c st i)
 
 -- ---- what a node that runs after this one goes on with
 
+-- What is kept on disk of a node: the number that comes next, the bdSeq that comes next, and the last stamp.
 pub record Record : Type 0 where
   pub seq : ℕ
   pub bd : ℕ
@@ -143,11 +128,13 @@ abbrev pub seq_kept : Numbering → ℕ → ℕ
 seq_kept RunsOn seq = seq
 seq_kept Restarts seq = 0
 
+-- what a node with these data leaves to the one after it
 abbrev pub record_at : Config → Standing → Record
 record_at c st = record { seq = seq_kept c.numbering st.seq; bd = st.asked.bd; stamp = st.asked.stamp }
 
 -- ---- over a list of inputs, newest first
 
+-- the data of a node that was just made
 abbrev pub fresh_standing : Setup → Standing
 fresh_standing s = record {
   asked = record {
@@ -163,6 +150,7 @@ fresh_standing s = record {
   seq = s.seq % 256;
 }
 
+-- the data behind a list of inputs
 abbrev pub standing_of : Setup → List Input → Standing
 standing_of s [] = fresh_standing s
 standing_of s (i ∷ is) = after s.config (standing_of s is) i

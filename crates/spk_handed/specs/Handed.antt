@@ -1,6 +1,7 @@
 -- What a broker that keeps the order hands of one node to one host session (MQTT 3.1.1, section 4.6): of the messages that the node
 -- published some, in their order, each once, and few of them missing in a row while the host follows the node. Inputs stand newest first.
-use Rattle.std.specs.Prelude.{◌≡◌, ℕ, ◌+◌, ◌-◌, ◌*◌, ◌<◌, ◌≤◌, true, List, [], ◌∷◌}
+use Rattle.std.specs.Prelude.{◌≡◌, ℕ, ◌+◌, ◌-◌, ◌<◌, ◌≤◌, true, List, [], ◌∷◌}
+use Rattle.spk_sequence.specs.Budget.{budget}
 use Rattle.spk_sequence.specs.Claims.{AllPublished}
 use Rattle.spk_sequence.specs.Following.{following, taken}
 use Rattle.spk_sequence.specs.HostRecord.{Input, MessageComes, DeathComes, TickComes, record_of}
@@ -35,7 +36,7 @@ Follows s is = (following s (record_of s is)).on ≡ true
 
 -- A message that comes while the host follows: fewer than 256 - 2 * width positions between it and the one that came before it are missing.
 abbrev pub FewMiss : Setting → List Input → Input → Type 0
-FewMiss s is (MessageComes p now) = Follows s is → p - past_newest (positions_in is) < 256 - 2 * s.width
+FewMiss s is (MessageComes p now) = Follows s is → p - past_newest (positions_in is) < budget s.width
 FewMiss s is (DeathComes session now) = Unit {0}
 FewMiss s is (TickComes now) = Unit {0}
 

@@ -6,7 +6,7 @@ use Rattle.spk_sequence.specs.HostRecord.{Input, MessageComes, DeathComes, TickC
 use Rattle.spk_order.specs.Ordered.{Ordered}
 use Rattle.spk_reading.specs.Data.{NumberedData}
 use Rattle.spk_host_node.specs.Inputs as node
-use Rattle.spk_host_node.specs.Inputs.{Comes, Dies, Ticks, Ends, order_after}
+use Rattle.spk_host_node.specs.Inputs.{Comes, Dies, Ticks, order_after}
 use Rattle.spk_host_node.specs.Step.{taken_of}
 use Rattle.spk_edge_rules.specs.Config.{Setup}
 use Rattle.spk_edge_rules.specs.Run as edge
@@ -38,9 +38,7 @@ AreMessagesAt s published _ _ = ⊥
 
 abbrev pub taken_at : Ordered NumberedData → node.Input → List NumberedData
 taken_at o (Comes read now) = taken_of o read now
-taken_at o (Dies bd) = []
-taken_at o (Ticks now) = []
-taken_at o Ends = []
+taken_at o _ = []
 
 -- in the order of time
 abbrev pub all_taken : ℕ → ℕ → List node.Input → List NumberedData

@@ -1,5 +1,5 @@
 -- What the history of a list of events is, newest first, and what a historian keeps of it (own rules).
-use Rattle.std.specs.Prelude.{◌≡◌, ◌⊎◌, ℕ, ◌==◌, ◌-◌, ◌^◌, ◌&&◌, min, Bool, true, false, not, List, [], ◌∷◌, ◌++◌, length, reverse, slice_index_or, Option, Some, None, IfSome, if◌then◌else◌}
+use Rattle.std.specs.Prelude.{◌≡◌, ◌⊎◌, ℕ, ◌==◌, ◌-◌, ◌^◌, min, Bool, true, false, List, [], ◌∷◌, ◌++◌, length, reverse, slice_index_or, Option, Some, None, IfSome, if◌then◌else◌}
 use Rattle.std.specs.List.{filter, list_any}
 use Rattle.std.specs.Option.{option_map_or}
 use Rattle.spk_payload.specs.Spelling.{PayloadFits, spelling}
@@ -17,27 +17,16 @@ use Rattle.spk_historian.specs.Event.{node_of, NameData, WhatData, NodeBirth, No
 
 -- an event is a message of this node
 abbrev pub is_use : ℕ → EventData → Bool
-is_use n (Began at) = false
-is_use n (Ended at) = false
 is_use n (Consumed at node what seq payload) = node.number == n
-is_use n (Died at node bd) = false
-is_use n (Gap at node missing) = false
-is_use n (Hole node from to missing unused ended_by) = false
+is_use n _ = false
 
 abbrev pub is_node_birth : WhatData → Bool
 is_node_birth (NodeBirth stamp bd) = true
-is_node_birth NodeData = false
-is_node_birth (DeviceBirth device) = false
-is_node_birth (DeviceData device) = false
-is_node_birth (DeviceDeath device) = false
+is_node_birth _ = false
 
 abbrev pub is_birth : EventData → Bool
-is_birth (Began at) = false
-is_birth (Ended at) = false
 is_birth (Consumed at node what seq payload) = is_node_birth what
-is_birth (Died at node bd) = false
-is_birth (Gap at node missing) = false
-is_birth (Hole node from to missing unused ended_by) = false
+is_birth _ = false
 
 -- the newest ones, to the first that is such a one
 abbrev pub until : {X : Type 0} → (X → Bool) → List X → List X
@@ -63,12 +52,8 @@ message_of at n seq payload (DeviceDeath device) = entry.Message at n (entry.Dev
 
 -- the bytes that are kept of an event's payload; none where it has none
 abbrev pub spelling_of : EventData → List ℕ
-spelling_of (Began at) = []
-spelling_of (Ended at) = []
 spelling_of (Consumed at node what seq payload) = spelling payload
-spelling_of (Died at node bd) = []
-spelling_of (Gap at node missing) = []
-spelling_of (Hole node from to missing unused ended_by) = []
+spelling_of _ = []
 
 -- of an event before which this position of its node is awaited
 abbrev pub entry_with : ℕ → EventData → EntryData
@@ -92,33 +77,20 @@ entries_of (e ∷ es) = entry_of es e ∷ entries_of es
 
 -- an entry of a message that was consumed
 abbrev pub is_message : EntryData → Bool
-is_message (entry.Session at what) = false
-is_message (entry.Node node group name) = false
 is_message (entry.Birth at node stamp bd payload) = true
-is_message (entry.Death at node bd) = false
-is_message (entry.Gap at node awaited missing) = false
-is_message (entry.Hole node from to missing unused ended_by) = false
 is_message (entry.Message at node kind seq payload) = true
+is_message _ = false
 
 -- the entry of a message that was consumed, where the event is one
 abbrev pub consumed : EventData → Option EntryData
-consumed (Began at) = None
-consumed (Ended at) = None
 consumed (Consumed at node what seq payload) = Some (message_of at node.number seq (spelling payload) what)
-consumed (Died at node bd) = None
-consumed (Gap at node missing) = None
-consumed (Hole node from to missing unused ended_by) = None
+consumed _ = None
 
 -- ---- the nodes that entries name, and those that they are of
 
 abbrev pub names : ℕ → EntryData → Bool
-names n (entry.Session at what) = false
 names n (entry.Node node group name) = node == n
-names n (entry.Birth at node stamp bd payload) = false
-names n (entry.Death at node bd) = false
-names n (entry.Gap at node awaited missing) = false
-names n (entry.Hole node from to missing unused ended_by) = false
-names n (entry.Message at node kind seq payload) = false
+names n _ = false
 
 -- whether some entry names the node of this number
 abbrev pub are_named : ℕ → List EntryData → Bool
@@ -126,13 +98,8 @@ are_named n entries = list_any (names n) entries
 
 -- an entry that isn't the naming of a node
 abbrev pub is_event : EntryData → Bool
-is_event (entry.Session at what) = true
 is_event (entry.Node node group name) = false
-is_event (entry.Birth at node stamp bd payload) = true
-is_event (entry.Death at node bd) = true
-is_event (entry.Gap at node awaited missing) = true
-is_event (entry.Hole node from to missing unused ended_by) = true
-is_event (entry.Message at node kind seq payload) = true
+is_event _ = true
 
 -- the entries that aren't
 abbrev pub happened : List EntryData → List EntryData
@@ -194,12 +161,8 @@ IsNotTold h e f = (f ≡ NoMemory) ⊎ (IsNotNamed h.parts (node_of e) f ⊎ IsN
 
 -- what is kept of its payload can be spelled, so that it is read again
 abbrev pub Fits : EventData → Type 0
-Fits (Began at) = Unit {0}
-Fits (Ended at) = Unit {0}
 Fits (Consumed at node what seq payload) = PayloadFits (kept_payload payload)
-Fits (Died at node bd) = Unit {0}
-Fits (Gap at node missing) = Unit {0}
-Fits (Hole node from to missing unused ended_by) = Unit {0}
+Fits _ = Unit {0}
 
 -- An entry that names no node was put behind those of a part.
 pub record AddsTo (old : PartsData) (e : EntryData) (new : PartsData) : Type 0 where

@@ -2,7 +2,7 @@
 use Rattle.std.specs.Prelude.{◌≡◌, ℕ, ◌<◌, Bool, true, false, ◌||◌, List, length, nat_lt}
 use Rattle.spk_history.specs.declared.fault.HistoryFault.{HistoryFault}
 use Rattle.spk_history.specs.declared.fault.HistoryFault.TheVariants.{NoMemory, LongName, LongRecord, FullPart, Unwritten}
-use Rattle.spk_history.specs.Entry.{KindData, NodeData, DeviceBirth, DeviceData, DeviceDeath, EntryData, Session, Node, Birth, Death, Gap, Hole, Message}
+use Rattle.spk_history.specs.Entry.{KindData, NodeData, DeviceBirth, DeviceData, DeviceDeath, EntryData, Node, Message}
 use Rattle.spk_history.specs.Record.{content, most}
 
 abbrev pub number_of : HistoryFault → ℕ
@@ -23,13 +23,9 @@ has_long_device (DeviceDeath device) = is_long device
 
 -- a name has more than 65,535 bytes
 unfoldable pub has_long_name : EntryData → Bool
-has_long_name (Session at what) = false
 has_long_name (Node node group name) = is_long group || is_long name
-has_long_name (Birth at node stamp bd payload) = false
-has_long_name (Death at node bd) = false
-has_long_name (Gap at node awaited missing) = false
-has_long_name (Hole node from to missing unused ended_by) = false
 has_long_name (Message at node kind seq payload) = has_long_device kind
+has_long_name _ = false
 
 -- What an entry is refused for: a long name first. NoMemory says nothing of it.
 abbrev pub IsRefusedFor : EntryData → HistoryFault → Type 0

@@ -45,21 +45,10 @@ IsFront bytes fronts.Broken = (0 < length bytes) × ¬ (IsTorn bytes) × HasNoRe
 -- Two answers say the same.
 abbrev pub SaysSame : Front → Front → Type 0
 SaysSame (fronts.Record entry len) (fronts.Record other size) = (said entry ≡ said other) × (len ≡ size)
-SaysSame (fronts.Record entry len) fronts.End = ⊥
-SaysSame (fronts.Record entry len) fronts.Torn = ⊥
-SaysSame (fronts.Record entry len) fronts.Broken = ⊥
-SaysSame fronts.End (fronts.Record other size) = ⊥
 SaysSame fronts.End fronts.End = Unit {0}
-SaysSame fronts.End fronts.Torn = ⊥
-SaysSame fronts.End fronts.Broken = ⊥
-SaysSame fronts.Torn (fronts.Record other size) = ⊥
-SaysSame fronts.Torn fronts.End = ⊥
 SaysSame fronts.Torn fronts.Torn = Unit {0}
-SaysSame fronts.Torn fronts.Broken = ⊥
-SaysSame fronts.Broken (fronts.Record other size) = ⊥
-SaysSame fronts.Broken fronts.End = ⊥
-SaysSame fronts.Broken fronts.Torn = ⊥
 SaysSame fronts.Broken fronts.Broken = Unit {0}
+SaysSame _ _ = ⊥
 
 -- ---- whole files
 

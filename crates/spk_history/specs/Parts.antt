@@ -2,7 +2,7 @@
 use Rattle.std.specs.Prelude.{◌≡◌, ℕ, ◌+◌, ◌≤◌, Bool, true, false, ◌&&◌, ◌||◌, List, [], ◌∷◌, ◌++◌, length, nat_lt}
 use Rattle.spk_history.specs.declared.fault.HistoryFault.{HistoryFault}
 use Rattle.spk_history.specs.declared.fault.HistoryFault.TheVariants.{NoMemory, LongName, LongRecord, FullPart, Unwritten}
-use Rattle.spk_history.specs.Entry.{EntryData, Session, Node, Birth, Death, Gap, Hole, Message}
+use Rattle.spk_history.specs.Entry.{EntryData, Node}
 use Rattle.spk_history.specs.Fault.{IsRefusedFor}
 use Rattle.spk_history.specs.File.{AreEntries, file_of, records_of}
 use Rattle.spk_history.specs.Record.{HasTexts, content, most, record_of}
@@ -18,13 +18,8 @@ pub record PartsData : Type 0 where
 
 -- the entry again, if it names a node
 abbrev pub named : EntryData → List EntryData
-named (Session at what) = []
 named (Node node group name) = Node node group name ∷ []
-named (Birth at node stamp bd payload) = []
-named (Death at node bd) = []
-named (Gap at node awaited missing) = []
-named (Hole node from to missing unused ended_by) = []
-named (Message at node kind seq payload) = []
+named _ = []
 
 -- A part of this length has no room for so many bytes: it would pass its most bytes, and has a record; or no number counts its bytes.
 abbrev pub is_over : (len size most : ℕ) → (has_record : Bool) → Bool

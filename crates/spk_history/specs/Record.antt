@@ -92,13 +92,9 @@ HasDevice (DeviceDeath device) = IsText device
 
 -- its texts are UTF-8, of at most 65,535 bytes
 unfoldable pub HasTexts : EntryData → Type 0
-HasTexts (Session at what) = Unit {0}
 HasTexts (Node node group name) = IsText group × IsText name
-HasTexts (Birth at node stamp bd payload) = Unit {0}
-HasTexts (Death at node bd) = Unit {0}
-HasTexts (Gap at node awaited missing) = Unit {0}
-HasTexts (Hole node from to missing unused ended_by) = Unit {0}
 HasTexts (Message at node kind seq payload) = HasDevice kind
+HasTexts _ = Unit {0}
 
 -- An entry that has a record.
 pub record IsEntry (e : EntryData) : Type 0 where
@@ -108,10 +104,6 @@ pub record IsEntry (e : EntryData) : Type 0 where
 
 -- the payload that an entry carries, if any
 unfoldable pub payload_of : EntryData → List ℕ
-payload_of (Session at what) = []
-payload_of (Node node group name) = []
 payload_of (Birth at node stamp bd payload) = payload
-payload_of (Death at node bd) = []
-payload_of (Gap at node awaited missing) = []
-payload_of (Hole node from to missing unused ended_by) = []
 payload_of (Message at node kind seq payload) = payload
+payload_of _ = []

@@ -1,6 +1,6 @@
 -- The rows of a history in parts.
 use Rattle.std.specs.Prelude.{◌≡◌, ℕ, Bool, true, false, List, [], ◌∷◌, ◌++◌}
-use Rattle.spk_history.specs.Entry.{EntryData, Session, Node, Birth, Death, Gap, Hole, Message}
+use Rattle.spk_history.specs.Entry.{EntryData, Birth, Message}
 use Rattle.spk_history.specs.File.{IsRead}
 use Rattle.spk_history_rows.specs.Row.{RowData, row_of}
 
@@ -19,13 +19,9 @@ rows_of parts = with_parts [] parts
 
 -- a message that was consumed, an NBIRTH too
 abbrev pub is_message : EntryData → Bool
-is_message (Session at what) = false
-is_message (Node node group name) = false
 is_message (Birth at node stamp bd payload) = true
-is_message (Death at node bd) = false
-is_message (Gap at node awaited missing) = false
-is_message (Hole node from to missing unused ended_by) = false
 is_message (Message at node kind seq payload) = true
+is_message _ = false
 
 -- What is read of each file, as the entries of a part.
 abbrev pub AreReadAs : List (List ℕ) → List (List EntryData) → Type 0

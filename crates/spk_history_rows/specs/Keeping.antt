@@ -1,7 +1,7 @@
 -- What an entry changes of what is kept, in two steps: its number is named, and its node is born. These serve the proof of `Rows::take`.
 use Rattle.std.specs.Prelude.{◌≡◌, ◌≢◌, ◌⊎◌, ℕ, Bool, true, false, List, [], ◌∷◌, ◌++◌, length, Option, Some, None, slice_get, slice_set}
 use Rattle.std.specs.Option.{option_and_then, option_flatten}
-use Rattle.spk_history.specs.Entry.{EntryData, Session, Node, Birth, Death, Gap, Hole, Message}
+use Rattle.spk_history.specs.Entry.{EntryData, Node}
 use Rattle.spk_history_rows.specs.Data.{RowsData, place_of}
 use Rattle.spk_history_rows.specs.Row.{NodeData, last}
 
@@ -16,13 +16,8 @@ IsGiven r n a q = (i : ℕ) × HasPlace r.names r.births a i q.names q.births ×
 
 -- the number of an entry that names a node stands for its place
 abbrev pub IsNaming : RowsData → EntryData → RowsData → Type 0
-IsNaming r (Session at what) q = q ≡ r
 IsNaming r (Node node group name) q = IsGiven r node (record { group = group; name = name }) q
-IsNaming r (Birth at node stamp bd payload) q = q ≡ r
-IsNaming r (Death at node bd) q = q ≡ r
-IsNaming r (Gap at node awaited missing) q = q ≡ r
-IsNaming r (Hole node from to missing unused ended_by) q = q ≡ r
-IsNaming r (Message at node kind seq payload) q = q ≡ r
+IsNaming r _ q = q ≡ r
 
 -- the place that a number stands for
 abbrev pub place_in : RowsData → Option ℕ → Option ℕ

@@ -34,22 +34,12 @@ number_of (Message at node kind seq payload) = Some node
 
 -- the node that an entry names by this number
 abbrev pub named_by : ℕ → EntryData → Option NodeData
-named_by n (Session at what) = None
 named_by n (Node node group name) = if node == n then Some (record { group = group; name = name }) else None
-named_by n (Birth at node stamp bd payload) = None
-named_by n (Death at node bd) = None
-named_by n (Gap at node awaited missing) = None
-named_by n (Hole node from to missing unused ended_by) = None
-named_by n (Message at node kind seq payload) = None
+named_by n _ = None
 
 abbrev pub is_birth : EntryData → Bool
-is_birth (Session at what) = false
-is_birth (Node node group name) = false
 is_birth (Birth at node stamp bd payload) = true
-is_birth (Death at node bd) = false
-is_birth (Gap at node awaited missing) = false
-is_birth (Hole node from to missing unused ended_by) = false
-is_birth (Message at node kind seq payload) = false
+is_birth _ = false
 
 -- An entry, how many stand before it in all parts, the names of its node, and the place of that node's last birth.
 pub record RowData : Type 0 where

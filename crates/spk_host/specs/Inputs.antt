@@ -69,9 +69,7 @@ abbrev pub with_node_call : Call → (group name : List ℕ) → List node.Input
 with_node_call (Heard heard now) group name before = with_heard heard now group name before
 with_node_call (Ticked now) group name before = node.Ticks now ∷ before
 with_node_call (Connected now) group name before = before
-with_node_call (Stopped now) group name before = node.Ends ∷ before
-with_node_call Ended group name before = node.Ends ∷ before
-with_node_call (Renewed now) group name before = node.Ends ∷ before
+with_node_call _ group name before = node.Ends ∷ before
 
 -- what the node of these names is told by the calls
 abbrev pub node_calls : List Call → (group name : List ℕ) → List node.Input

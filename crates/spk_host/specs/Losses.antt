@@ -28,9 +28,7 @@ content_loss nodes said.Nothing now = no_loss
 -- by a packet, within a session. (Where the session ends, all that is held is lost: `at_stake` of each node.)
 abbrev pub packet_loss : List Entry → HeardData → ℕ → Loss
 packet_loss nodes (said.Published ack content) now = content_loss nodes content now
-packet_loss nodes (said.Answered code) now = no_loss
-packet_loss nodes said.Granted now = no_loss
-packet_loss nodes said.Other now = no_loss
+packet_loss nodes _ now = no_loss
 
 -- some are lost
 abbrev pub is_lost : Loss → Bool

@@ -11,7 +11,7 @@ use Rattle.spk_host_session.specs.Packets.{rebirth_payload}
 use Rattle.spk_host_node.specs.Inputs.{asked_in, events_of, gap_asked, order_after, since_end}
 use Rattle.spk_host_node.specs.Step.{heard_of}
 use Rattle.spk_host.specs.Index.{is_named}
-use Rattle.spk_host.specs.Inputs.{Call, Heard, Ticked, Connected, Stopped, Ended, Renewed, node_calls}
+use Rattle.spk_host.specs.Inputs.{Call, Heard, node_calls}
 use Rattle.spk_host.specs.Step.{topics_to}
 
 -- a rebirth request to this topic: at QoS 0, not retained, with `Node Control/Rebirth`, a true Boolean
@@ -23,19 +23,11 @@ request_to now topic = Publish false 0 false (topic_of topic) None (spelling (re
 -- the node that a call is a message of: its group and its name
 abbrev pub speaker_in : HeardData → Option (List ℕ × List ℕ)
 speaker_in (said.Published ack (said.Message m)) = Some (m.group, m.node)
-speaker_in (said.Published ack (said.Death group name bd)) = None
-speaker_in (said.Published ack said.Nothing) = None
-speaker_in (said.Answered code) = None
-speaker_in said.Granted = None
-speaker_in said.Other = None
+speaker_in _ = None
 
 abbrev pub speaker : Call → Option (List ℕ × List ℕ)
 speaker (Heard heard now) = speaker_in heard
-speaker (Ticked now) = None
-speaker (Connected now) = None
-speaker (Stopped now) = None
-speaker Ended = None
-speaker (Renewed now) = None
+speaker _ = None
 
 -- a name that is new stands last
 abbrev pub with_speaker : Option (List ℕ × List ℕ) → List (List ℕ × List ℕ) → List (List ℕ × List ℕ)

@@ -37,9 +37,7 @@ IsIdentified (Some id) = 0 < id
 
 abbrev pub HasIdentifier : HeardData → Type 0
 HasIdentifier (said.Published ack content) = IsIdentified ack
-HasIdentifier (said.Answered code) = Unit {0}
-HasIdentifier said.Granted = Unit {0}
-HasIdentifier said.Other = Unit {0}
+HasIdentifier _ = Unit {0}
 
 -- So many rebirth requests to a node. A node whose NCMD topic can't be written is asked for none.
 abbrev pub topics_to : List ℕ → List ℕ → ℕ → List Named

@@ -17,7 +17,7 @@ use Rattle.spk_host_app.specs.Data.{Whole, Unsent, Lost, Began, Connected, Read,
 use Rattle.spk_host_app.specs.Meant.{IsRefused, refuses}
 use Rattle.spk_host_app.specs.Step.{after, answered, called, is_full, is_within, taken}
 use Rattle.spk_host_app.specs.declared.fault.HostAppFault.{HostAppFault}
-use Rattle.spk_host_app.specs.declared.fault.HostAppFault.TheVariants.{NoMemory, TooLarge, WrongPhase, NotOpen, NoPacket, BadLogin}
+use Rattle.spk_host_app.specs.declared.fault.HostAppFault.TheVariants.{NotOpen, NoPacket}
 
 -- ---- what a deed must find
 
@@ -33,12 +33,9 @@ MayTell a = (is_within a ≡ true) × (a.closing ≡ false) × (is_full a ≡ fa
 
 -- why the connection is given up; want of memory may always be claimed
 abbrev pub IsReason : HostAppFault → App → Type 0
-IsReason NoMemory a = Unit {0}
-IsReason TooLarge a = Unit {0}
-IsReason WrongPhase a = Unit {0}
 IsReason NotOpen a = is_open a.connection ≡ false
 IsReason NoPacket a = (f : PacketFault) × (first_of (refusals a.connection.unread) ≡ Some f) × (f ≢ More)
-IsReason BadLogin a = Unit {0}
+IsReason _ a = Unit {0}
 
 abbrev pub May : Deed → App → Type 0
 May (Began now) a = is_open a.connection ≡ false

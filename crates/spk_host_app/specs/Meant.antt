@@ -2,7 +2,7 @@
 -- (MQTT 3.1.1, section 3.9.3).
 use Rattle.std.specs.Prelude.{◌≡◌, ◌⊎◌, ℕ, ◌==◌, Bool, true, false, List, [], Option, None, Result, Ok, Err}
 use Rattle.std.specs.List.{list_any}
-use Rattle.spk_packets.specs.Message.{Message, Connect, ConnAck, Publish, PubAck, Subscribe, SubAck, Unsubscribe, UnsubAck, PingReq, PingResp, Disconnect}
+use Rattle.spk_packets.specs.Message.{Message, Publish, SubAck}
 use Rattle.spk_reading.specs.Meaning.{heard}
 use Rattle.spk_reading.specs.View.{heard_view}
 use Rattle.spk_reading.specs.declared.fault.ReadFault.{ReadFault}
@@ -21,44 +21,17 @@ is_refusal codes = list_any (λ code. code == 128) codes
 -- a SUBACK that refuses the subscription
 abbrev pub refuses : Message → Bool
 refuses (SubAck id codes) = is_refusal codes
-refuses (Connect client clean keep will) = false
-refuses (ConnAck present code) = false
-refuses (Publish dup qos retain topic id payload) = false
-refuses (PubAck id) = false
-refuses (Subscribe id filters) = false
-refuses (Unsubscribe id filters) = false
-refuses (UnsubAck id) = false
-refuses PingReq = false
-refuses PingResp = false
-refuses Disconnect = false
+refuses _ = false
 
 -- the topic of a PUBLISH
 abbrev pub topic_in : Message → List ℕ
 topic_in (Publish dup qos retain topic id payload) = topic
-topic_in (Connect client clean keep will) = []
-topic_in (ConnAck present code) = []
-topic_in (PubAck id) = []
-topic_in (Subscribe id filters) = []
-topic_in (SubAck id codes) = []
-topic_in (Unsubscribe id filters) = []
-topic_in (UnsubAck id) = []
-topic_in PingReq = []
-topic_in PingResp = []
-topic_in Disconnect = []
+topic_in _ = []
 
 -- the identifier of a PUBLISH at QoS 1
 abbrev pub id_in : Message → Option ℕ
 id_in (Publish dup qos retain topic id payload) = id
-id_in (Connect client clean keep will) = None
-id_in (ConnAck present code) = None
-id_in (PubAck id) = None
-id_in (Subscribe id filters) = None
-id_in (SubAck id codes) = None
-id_in (Unsubscribe id filters) = None
-id_in (UnsubAck id) = None
-id_in PingReq = None
-id_in PingResp = None
-id_in Disconnect = None
+id_in _ = None
 
 -- what reading answered of a packet is what it says, or why it is refused, unless memory was refused
 abbrev pub IsReadOf : Message → Result Heard ReadFault → Type 0

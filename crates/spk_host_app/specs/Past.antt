@@ -7,7 +7,7 @@ use Rattle.spk_host.specs.Inputs.{host_after}
 use Rattle.spk_connection.specs.Run as conn
 use Rattle.spk_host_app.specs.Data.{Deed, Fate, LoginData, Word}
 use Rattle.spk_host_app.specs.Data as word
-use Rattle.spk_host_app.specs.Data.{Whole, Unsent, Lost, Began, Connected, Read, Told, Denied, Unsubscribed, Ticked, Requested, Pinged, Stopped, GaveUp, Wrote, Over, Printed}
+use Rattle.spk_host_app.specs.Data.{Whole, Unsent, Lost, Began, Connected, Read, Told, Denied, Unsubscribed, Ticked, Requested, Pinged, Stopped, Wrote, Over, Printed}
 use Rattle.spk_host_app.specs.Meant.{topic_in}
 use Rattle.spk_host_app.specs.Step.{ack_of, bytes_of, request_bytes, request_words, words_of}
 
@@ -21,15 +21,7 @@ calls_in (Told p rest heard now fate ∷ ds) = host.Heard heard now ∷ calls_in
 calls_in (Ticked now fate ∷ ds) = host.Ticked now ∷ calls_in ds
 calls_in (Stopped now fate ∷ ds) = host.Stopped now ∷ calls_in ds
 calls_in (Over now ∷ ds) = host.Ended ∷ calls_in ds
-calls_in (Began now ∷ ds) = calls_in ds
-calls_in (Read piece now ∷ ds) = calls_in ds
-calls_in (Denied p rest fault fate ∷ ds) = calls_in ds
-calls_in (Unsubscribed p rest ∷ ds) = calls_in ds
-calls_in (Requested group node now fate ∷ ds) = calls_in ds
-calls_in (Pinged now ∷ ds) = calls_in ds
-calls_in (GaveUp fault ∷ ds) = calls_in ds
-calls_in (Wrote bytes now ∷ ds) = calls_in ds
-calls_in (Printed w ∷ ds) = calls_in ds
+calls_in (_ ∷ ds) = calls_in ds
 
 -- ---- the connection
 
@@ -51,11 +43,9 @@ events_of login h (Ticked now fate) = sends fate (bytes_of login h (host.Ticked 
 events_of login h (Requested group node now fate) = sends fate (request_bytes group node now)
 events_of login h (Pinged now) = conn.Asked now ∷ []
 events_of login h (Stopped now fate) = sends fate (bytes_of login h (host.Stopped now))
-events_of login h (GaveUp fault) = []
-events_of login h (Wrote [] now) = []
 events_of login h (Wrote (b ∷ bs) now) = conn.Wrote b bs now ∷ []
 events_of login h (Over now) = conn.Over now ∷ []
-events_of login h (Printed w) = []
+events_of login h _ = []
 
 -- what happened to the connection: the packets that were told to the host or refused were taken, CONNECT, what the host answered, acknowledgements of what
 -- it refused, requests for rebirths beside the rules and PINGREQs were sent
@@ -76,18 +66,7 @@ abbrev pub has_begun : List Deed → Bool
 has_begun [] = false
 has_begun (Began now ∷ ds) = true
 has_begun (Over now ∷ ds) = false
-has_begun (Connected now fate ∷ ds) = has_begun ds
-has_begun (Read piece now ∷ ds) = has_begun ds
-has_begun (Told p rest heard now fate ∷ ds) = has_begun ds
-has_begun (Denied p rest fault fate ∷ ds) = has_begun ds
-has_begun (Unsubscribed p rest ∷ ds) = has_begun ds
-has_begun (Ticked now fate ∷ ds) = has_begun ds
-has_begun (Requested group node now fate ∷ ds) = has_begun ds
-has_begun (Pinged now ∷ ds) = has_begun ds
-has_begun (Stopped now fate ∷ ds) = has_begun ds
-has_begun (GaveUp fault ∷ ds) = has_begun ds
-has_begun (Wrote bytes now ∷ ds) = has_begun ds
-has_begun (Printed w ∷ ds) = has_begun ds
+has_begun (_ ∷ ds) = has_begun ds
 
 -- what a deed said, the host before it being this
 abbrev pub said_of : HostData → Bool → Deed → List Word
@@ -99,12 +78,7 @@ said_of h begun (Ticked now fate) = says fate (words_of h (host.Ticked now))
 said_of h begun (Requested group node now fate) = says fate (request_words group node)
 said_of h begun (Stopped now fate) = says fate (words_of h (host.Stopped now))
 said_of h begun (Over now) = if begun then word.Ended ∷ [] else []
-said_of h begun (Began now) = []
-said_of h begun (Read piece now) = []
-said_of h begun (Pinged now) = []
-said_of h begun (GaveUp fault) = []
-said_of h begun (Wrote bytes now) = []
-said_of h begun (Printed w) = []
+said_of h begun _ = []
 
 -- all that was said, in order: what is lost, what the host consumed, what became of messages, its requests, deaths, refusals, and ends
 abbrev pub said_in : Config → List Deed → List Word
@@ -115,16 +89,4 @@ said_in config (d ∷ ds) = said_in config ds ++ said_of (host_after config (cal
 abbrev pub printed_in : List Deed → List Word
 printed_in [] = []
 printed_in (Printed w ∷ ds) = printed_in ds ++ w ∷ []
-printed_in (Began now ∷ ds) = printed_in ds
-printed_in (Over now ∷ ds) = printed_in ds
-printed_in (Connected now fate ∷ ds) = printed_in ds
-printed_in (Read piece now ∷ ds) = printed_in ds
-printed_in (Told p rest heard now fate ∷ ds) = printed_in ds
-printed_in (Denied p rest fault fate ∷ ds) = printed_in ds
-printed_in (Unsubscribed p rest ∷ ds) = printed_in ds
-printed_in (Ticked now fate ∷ ds) = printed_in ds
-printed_in (Requested group node now fate ∷ ds) = printed_in ds
-printed_in (Pinged now ∷ ds) = printed_in ds
-printed_in (Stopped now fate ∷ ds) = printed_in ds
-printed_in (GaveUp fault ∷ ds) = printed_in ds
-printed_in (Wrote bytes now ∷ ds) = printed_in ds
+printed_in (_ ∷ ds) = printed_in ds

@@ -65,11 +65,7 @@ first_of_heard said.Other = []
 
 abbrev pub first_words : host.Call → List Word
 first_words (host.Heard heard now) = first_of_heard heard
-first_words (host.Ticked now) = []
-first_words (host.Connected now) = []
-first_words (host.Stopped now) = []
-first_words host.Ended = []
-first_words (host.Renewed now) = []
+first_words _ = []
 
 -- what is said of a loss of a node: nothing, where none is lost
 abbrev pub lost_word : (group node : List ℕ) → Loss → List Word
@@ -83,9 +79,7 @@ lost_by_content nodes said.Nothing now = []
 
 abbrev pub lost_by : List Entry → HeardData → ℕ → List Word
 lost_by nodes (said.Published ack content) now = lost_by_content nodes content now
-lost_by nodes (said.Answered code) now = []
-lost_by nodes said.Granted now = []
-lost_by nodes said.Other now = []
+lost_by nodes _ now = []
 
 -- what is said first of a moment: each node that loses some at it, in their order
 abbrev pub losing_word : ℕ → Entry → Word
@@ -97,10 +91,7 @@ lost_at now nodes = map (losing_word now) (losing now nodes)
 abbrev pub lost_words : HostData → host.Call → List Word
 lost_words h (host.Heard heard now) = lost_by h.nodes heard now
 lost_words h (host.Ticked now) = lost_at now h.nodes
-lost_words h (host.Connected now) = []
-lost_words h (host.Stopped now) = []
-lost_words h host.Ended = []
-lost_words h (host.Renewed now) = []
+lost_words h _ = []
 
 abbrev pub out_words : OutData → List Word
 out_words o = map word.Consumed o.consumed ++ (map word.Became o.steps ++ map word.Asked o.rebirths)
@@ -125,18 +116,13 @@ bytes_of login h (host.Renewed now) = join (answer h (host.Renewed now)).packets
 
 -- the calls behind which the connection is to be closed: a CONNACK that turns the host away, and a farewell
 abbrev pub ends_heard : HeardData → Bool
-ends_heard (said.Published ack content) = false
 ends_heard (said.Answered code) = not (code == 0)
-ends_heard said.Granted = false
-ends_heard said.Other = false
+ends_heard _ = false
 
 abbrev pub ends : host.Call → Bool
 ends (host.Heard heard now) = ends_heard heard
-ends (host.Ticked now) = false
-ends (host.Connected now) = false
 ends (host.Stopped now) = true
-ends host.Ended = false
-ends (host.Renewed now) = false
+ends _ = false
 
 -- ---- what is said and sent
 
@@ -220,9 +206,7 @@ fresh_app config keep spread login = record {
 -- PINGREQ, where it is due and the connection isn't to be closed
 abbrev pub is_ping : Due → Bool
 is_ping due.Ping = true
-is_ping due.Connect = false
-is_ping due.End = false
-is_ping due.Nothing = false
+is_ping _ = false
 
 abbrev pub pinged : ℕ → App → App
 pinged now a = if not a.closing && is_ping (due_at a.connection.link now) then after (Pinged now) a else a

@@ -8,12 +8,10 @@ use Rattle.spk_host.specs.Step.{nothing, packet_out, said_by, sends, tick_out}
 
 -- A session is begun outside one; packets, moments and a farewell are for one within. Any other such call is refused.
 abbrev pub is_done : HostData → Call → Bool
-is_done h (Heard heard now) = is_some h.session.began
-is_done h (Ticked now) = is_some h.session.began
 is_done h (Connected now) = not (is_some h.session.began)
-is_done h (Stopped now) = is_some h.session.began
 is_done h Ended = true
 is_done h (Renewed now) = true
+is_done h _ = is_some h.session.began
 
 -- what a call that is done hands out
 abbrev pub out_at : HostData → Call → OutData

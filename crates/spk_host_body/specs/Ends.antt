@@ -47,10 +47,8 @@ pub record HostDone (n : Ingress) (s : HostStart) (e : HostEnd) : Type 0 where
 -- ---- a run that failed
 
 abbrev pub is_end : Frame → Bool
-is_end (frame.Packet bytes) = false
-is_end (frame.Fault f) = false
-is_end frame.Cut = false
 is_end frame.End = true
+is_end _ = false
 
 -- how many of its own ends a sender put through a pass
 abbrev pub ends_put : PutPass → ℕ

@@ -44,12 +44,7 @@ pub record Puts (packets left : List (List ℕ)) (put_before put : List Frame) :
 abbrev pub answered : Result Out HostFault → Result (Option Out) HostCause
 answered (Ok out) = Ok (Some out)
 answered (Err host.NoMemory) = Err why.NoMemory
-answered (Err host.NotSparkplug) = Ok None
-answered (Err host.BadPayload) = Ok None
-answered (Err host.NoSeq) = Ok None
-answered (Err host.NoStamp) = Ok None
-answered (Err host.NoBdSeq) = Ok None
-answered (Err host.WrongPhase) = Ok None
+answered _ = Ok None
 
 abbrev pub handed : Option Out → OutData
 handed None = nothing

@@ -66,12 +66,7 @@ consumptions config (told ∷ before) = consumed_at config before told ∷ consu
 -- a numbered message of the node of these names at the time it is handed: what the host consumes then is that node's
 abbrev pub of_node : (group name : List ℕ) → Option HeardData → List NumberedData → List NumberedData
 of_node group name (Some (said.Published ack (said.Message m))) consumed = if is_same group name m.group m.node then consumed else []
-of_node group name (Some (said.Published ack (said.Death other_group other_name bd))) consumed = []
-of_node group name (Some (said.Published ack said.Nothing)) consumed = []
-of_node group name (Some (said.Answered code)) consumed = []
-of_node group name (Some said.Granted) consumed = []
-of_node group name (Some said.Other) consumed = []
-of_node group name None consumed = []
+of_node group name _ consumed = []
 
 -- all that the host consumes of the node, oldest first
 abbrev pub consumed_of : Config → (group name : List ℕ) → List (Option HeardData) → List NumberedData
@@ -86,10 +81,7 @@ consumed_for group name g = of_node group name (heard_in g) (consumed_in g)
 -- no CONNACK turns the host away: each of them has code 0
 abbrev pub IsWelcome : Option HeardData → Type 0
 IsWelcome (Some (said.Answered code)) = (code == 0) ≡ true
-IsWelcome (Some (said.Published ack content)) = Unit {0}
-IsWelcome (Some said.Granted) = Unit {0}
-IsWelcome (Some said.Other) = Unit {0}
-IsWelcome None = Unit {0}
+IsWelcome _ = Unit {0}
 
 abbrev pub AreWelcome : List (Option HeardData) → Type 0
 AreWelcome [] = Unit {0}

@@ -1,5 +1,5 @@
 -- What is kept of the words of a host's program.
-use Rattle.std.specs.Prelude.{ℕ, List, [], ◌∷◌, Option, Some, None}
+use Rattle.std.specs.Prelude.{ℕ, List, [], ◌∷◌}
 use Rattle.std.specs.Option.{unwrap_or}
 use Rattle.spk_sequence.specs.declared.message.Kind.{Kind}
 use Rattle.spk_sequence.specs.declared.message.Kind.TheVariants as kind
@@ -31,12 +31,5 @@ consumed number at m = Consumed at (record { number = number; group = m.group; n
 -- What is told of a word: a message that was consumed, and the end of the host's session. Other words are told by what they make of a node.
 abbrev pub events_of : ℕ → ℕ → Word → List EventData
 events_of number at (app.Consumed message) = consumed number at message ∷ []
-events_of number at (app.Became step) = []
-events_of number at (app.Died group node) = []
-events_of number at (app.Dropped group node loss) = []
-events_of number at app.Granted = []
-events_of number at (app.Asked topic) = []
-events_of number at (app.Refused fault topic) = []
-events_of number at (app.TurnedAway code) = []
-events_of number at app.SubscriptionRefused = []
 events_of number at app.Ended = Ended at ∷ []
+events_of number at _ = []

@@ -6,11 +6,9 @@ use Rattle.spk_view.specs.Plain.{has_texts}
 
 -- data of a node's own or of a device
 abbrev pub IsData : SubjectData → Type 0
-IsData said.NodeBirth = ⊥
 IsData said.NodeData = Unit {0}
-IsData (said.DeviceBirth device) = ⊥
 IsData (said.DeviceData device) = Unit {0}
-IsData (said.DeviceDeath device) = ⊥
+IsData _ = ⊥
 
 -- data, none of whose values is a text or bytes
 pub record IsPlain (m : NumberedData) : Type 0 where

@@ -34,7 +34,4 @@ abbrev pub is_told : Step → Watch → NumberedData → Bool
 is_told (step.Consumed n) w m = n == 1 && is_soon_told w m
 is_told step.Gap w m = true
 is_told step.NotLive w m = true
-is_told step.Held w m = false
-is_told step.Old w m = false
-is_told step.OldBirth w m = false
-is_told step.DeadSession w m = false
+is_told _ w m = false

@@ -36,10 +36,7 @@ abbrev pub heard_by : Step → List NumberedData → ℕ → List Event
 heard_by (step.Consumed n) taken now = map (consumed_at now) taken
 heard_by step.Gap taken now = Gap now ∷ []
 heard_by step.NotLive taken now = NotLive now ∷ []
-heard_by step.Held taken now = []
-heard_by step.Old taken now = []
-heard_by step.OldBirth taken now = []
-heard_by step.DeadSession taken now = []
+heard_by _ taken now = []
 
 -- what is kept after these events, the oldest first
 abbrev pub watched : ℕ → Watch → List Event → Watch

@@ -4,17 +4,13 @@ use Rattle.std.specs.Prelude.{Bool, true, false, map, if◌then◌else◌}
 use Rattle.spk_payload.specs.declared.values.Values.{Values}
 use Rattle.spk_payload.specs.declared.values.Values.TheVariants as choice
 use Rattle.spk_payload.specs.Meaning.{whole_metric}
-use Rattle.spk_payload.specs.Typing.{Typed, Signed, Unsigned, Truth, Text, Bytes, Binary32, Binary64}
+use Rattle.spk_payload.specs.Typing.{Typed, Binary32, Binary64}
 use Rattle.spk_host_rules.specs.Data.{Shown, Nothing, Value, Other, Row, Device, View, Message, NodeBirth, NodeData, DeviceBirth, DeviceData, DeviceDeath, Event, Consumed, Gap, NotLive, Over}
 
 abbrev pub is_whole : Typed → Bool
-is_whole (Signed z) = true
-is_whole (Unsigned n) = true
-is_whole (Truth b) = true
-is_whole (Text bytes) = true
-is_whole (Bytes bytes) = true
 is_whole (Binary32 n) = false
 is_whole (Binary64 n) = false
+is_whole _ = true
 
 abbrev pub is_shown_whole : Shown → Bool
 is_shown_whole Nothing = true

@@ -124,9 +124,7 @@ moment_of Over = 0
 
 abbrev pub is_birth : Event → Bool
 is_birth (Consumed m now) = is_node_birth m
-is_birth (Gap now) = false
-is_birth (NotLive now) = false
-is_birth Over = false
+is_birth _ = false
 
 -- None was asked for, a birth was taken since, or `wait` or more has passed. A moment before the last request's counts as none.
 abbrev pub may_ask : ℕ → ℕ → Option ℕ → Bool → Bool

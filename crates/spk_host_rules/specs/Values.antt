@@ -40,37 +40,27 @@ last_part (DeviceDeath name ∷ before) = option_map (later (DeviceDeath name)) 
 -- the metrics of the node's own data
 abbrev pub node_data : List Message → List MetricData
 node_data [] = []
-node_data (NodeBirth ms ∷ before) = node_data before
 node_data (NodeData ms ∷ before) = reverse ms ++ node_data before
-node_data (DeviceBirth name ms ∷ before) = node_data before
-node_data (DeviceData name ms ∷ before) = node_data before
-node_data (DeviceDeath name ∷ before) = node_data before
+node_data (_ ∷ before) = node_data before
 
 -- ---- a device: the metrics of its last DBIRTH, those of its data since, and whether it died since
 
 abbrev pub device_birth : List ℕ → List Message → Option (List MetricData)
 device_birth device [] = None
-device_birth device (NodeBirth ms ∷ before) = device_birth device before
-device_birth device (NodeData ms ∷ before) = device_birth device before
 device_birth device (DeviceBirth name ms ∷ before) = if bytes_eq name device then Some ms else device_birth device before
-device_birth device (DeviceData name ms ∷ before) = device_birth device before
-device_birth device (DeviceDeath name ∷ before) = device_birth device before
+device_birth device (_ ∷ before) = device_birth device before
 
 abbrev pub device_data : List ℕ → List Message → List MetricData
 device_data device [] = []
-device_data device (NodeBirth ms ∷ before) = device_data device before
-device_data device (NodeData ms ∷ before) = device_data device before
 device_data device (DeviceBirth name ms ∷ before) = if bytes_eq name device then [] else device_data device before
 device_data device (DeviceData name ms ∷ before) = (if bytes_eq name device then reverse ms else []) ++ device_data device before
-device_data device (DeviceDeath name ∷ before) = device_data device before
+device_data device (_ ∷ before) = device_data device before
 
 abbrev pub has_died : List ℕ → List Message → Bool
 has_died device [] = false
-has_died device (NodeBirth ms ∷ before) = has_died device before
-has_died device (NodeData ms ∷ before) = has_died device before
 has_died device (DeviceBirth name ms ∷ before) = if bytes_eq name device then false else has_died device before
-has_died device (DeviceData name ms ∷ before) = has_died device before
 has_died device (DeviceDeath name ∷ before) = bytes_eq name device || has_died device before
+has_died device (_ ∷ before) = has_died device before
 
 pub record DeviceValues : Type 0 where
   pub alive : Bool
@@ -87,24 +77,17 @@ device_at device since =
 abbrev pub consumed_of : List Event → List Message
 consumed_of [] = []
 consumed_of (Consumed m now ∷ before) = m ∷ consumed_of before
-consumed_of (Gap now ∷ before) = consumed_of before
-consumed_of (NotLive now ∷ before) = consumed_of before
-consumed_of (Over ∷ before) = consumed_of before
+consumed_of (_ ∷ before) = consumed_of before
 
 abbrev pub is_node_birth : Message → Bool
 is_node_birth (NodeBirth ms) = true
-is_node_birth (NodeData ms) = false
-is_node_birth (DeviceBirth name ms) = false
-is_node_birth (DeviceData name ms) = false
-is_node_birth (DeviceDeath name) = false
+is_node_birth _ = false
 
 -- a birth was taken, and no gap and no end came since
 abbrev pub is_followed : List Event → Bool
-is_followed [] = false
 is_followed (Consumed m now ∷ before) = is_node_birth m || is_followed before
-is_followed (Gap now ∷ before) = false
 is_followed (NotLive now ∷ before) = is_followed before
-is_followed (Over ∷ before) = false
+is_followed _ = false
 
 -- a birth was taken, and no end came since: a gap leaves online what was online
 abbrev pub is_online : List Event → Bool

@@ -32,27 +32,20 @@ abbrev pub is_open : List Event → Bool
 is_open [] = false
 is_open (Opened now ∷ es) = true
 is_open (Over now ∷ es) = false
-is_open (Sent now ∷ es) = is_open es
-is_open (Heard now ∷ es) = is_open es
-is_open (Asked now ∷ es) = is_open es
+is_open (_ ∷ es) = is_open es
 
 -- when it began; a beginning while there is one is none
 abbrev pub began : List Event → ℕ
 began [] = 0
 began (Opened now ∷ es) = if is_open es then began es else now
-began (Over now ∷ es) = began es
-began (Sent now ∷ es) = began es
-began (Heard now ∷ es) = began es
-began (Asked now ∷ es) = began es
+began (_ ∷ es) = began es
 
 -- when something was heard last of it, or when it began
 abbrev pub last_heard : List Event → ℕ
 last_heard [] = 0
 last_heard (Opened now ∷ es) = if is_open es then last_heard es else now
-last_heard (Over now ∷ es) = last_heard es
-last_heard (Sent now ∷ es) = last_heard es
 last_heard (Heard now ∷ es) = now
-last_heard (Asked now ∷ es) = last_heard es
+last_heard (_ ∷ es) = last_heard es
 
 -- when something was sent last, PINGREQ too
 abbrev pub last_sent : List Event → ℕ
@@ -67,10 +60,8 @@ last_sent (Asked now ∷ es) = now
 abbrev pub last_asked : List Event → ℕ
 last_asked [] = 0
 last_asked (Opened now ∷ es) = if is_open es then last_asked es else now
-last_asked (Over now ∷ es) = last_asked es
-last_asked (Sent now ∷ es) = last_asked es
-last_asked (Heard now ∷ es) = last_asked es
 last_asked (Asked now ∷ es) = now
+last_asked (_ ∷ es) = last_asked es
 
 abbrev pub moments : List Event → Moments
 moments es = record { since = began es; sent = last_sent es; heard = last_heard es; asked = last_asked es }
@@ -84,11 +75,8 @@ lasted now es = is_open es && is_over now (began es) lasting
 -- how many ends stand in a row, of connections and tries, the first of them perhaps of a connection that lasted
 abbrev pub row : List Event → ℕ
 row [] = 0
-row (Opened now ∷ es) = row es
 row (Over now ∷ es) = if lasted now es then 1 else row es + 1
-row (Sent now ∷ es) = row es
-row (Heard now ∷ es) = row es
-row (Asked now ∷ es) = row es
+row (_ ∷ es) = row es
 
 -- the pause behind so many ends before: twice as long each time, up to the longest
 abbrev pub pause_of : ℕ → ℕ
@@ -97,11 +85,8 @@ pause_of ends = min (shortest * 2 ^ ends) longest
 -- when the next try is due: behind the pause of the last end, at once where there was none
 abbrev pub due_in : ℕ → List Event → ℕ
 due_in spread [] = 0
-due_in spread (Opened now ∷ es) = due_in spread es
 due_in spread (Over now ∷ es) = due_behind spread (pause_of (row (Over now ∷ es) - 1)) now
-due_in spread (Sent now ∷ es) = due_in spread es
-due_in spread (Heard now ∷ es) = due_in spread es
-due_in spread (Asked now ∷ es) = due_in spread es
+due_in spread (_ ∷ es) = due_in spread es
 
 -- how it stands by all that
 abbrev pub stand_in : ℕ → List Event → Stand

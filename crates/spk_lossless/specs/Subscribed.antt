@@ -1,5 +1,6 @@
 -- When the host of a plant subscribed, and whether a node's connection stood when it published (own rules).
-use Rattle.std.specs.Prelude.{◌≡◌, ℕ, ◌-◌, ◌*◌, Bool, true, List, [], ◌∷◌, ◌++◌, length, Some, is_some}
+use Rattle.spk_sequence.specs.Budget.{budget}
+use Rattle.std.specs.Prelude.{◌≡◌, ℕ, Bool, true, List, [], ◌∷◌, ◌++◌, length, Some, is_some}
 use Rattle.std.specs.List.{flat_map, range_with_len}
 use Rattle.spk_packets.specs.Message.{Subscribe}
 use Rattle.spk_topics.specs.Fitting.{is_match}
@@ -7,7 +8,7 @@ use Rattle.spk_ingress.specs.declared.rule.Message.{Message}
 use Rattle.spk_broker_rules.specs.Plan.{Packet}
 use Rattle.spk_broker_rules.specs.Step.{after}
 use Rattle.spk_broker_listening.specs.Granted.{Grants, IsAnswered}
-use Rattle.spk_broker_body.specs.Data.{Entry, Took, Accepted, Refused, Passed, Told, Says}
+use Rattle.spk_broker_body.specs.Data.{Entry, Took, Says}
 use Rattle.spk_broker_body.specs.Log.{room_of, taken_of}
 use Rattle.spk_broker_body.specs.Step.{conn_at}
 use Rattle.spk_heard.specs.Read.{AreMessagesAt}
@@ -23,9 +24,9 @@ use Rattle.spk_running.specs.Standing.{room_at}
 pub record TakesSubscribe (p : Plan) (k : ℕ) (m : Message) (id : ℕ) (entries : List (List ℕ × ℕ)) (before : List Entry) : Type 0 where
   pub sender : m.sender ≡ length p.nodes.items
   pub conn : ℕ
-  pub has : conn_at (256 - 2 * p.width) (room_at p before) (length p.nodes.items) ≡ Some conn
+  pub has : conn_at (budget p.width) (room_at p before) (length p.nodes.items) ≡ Some conn
   pub codes : List ℕ
-  pub answered : IsAnswered (after (256 - 2 * p.width) (room_at p before).events)
+  pub answered : IsAnswered (after (budget p.width) (room_at p before).events)
       (Packet conn (Subscribe id entries) (length (taken_of (Took m (Says (Subscribe id entries)) ∷ before)))) conn id codes
   pub filter : List ℕ
   pub granted : Grants filter entries codes
@@ -38,14 +39,11 @@ abbrev pub HasConnection : (limit edges : ℕ) → (List ℕ → Bool) → ℕ �
 HasConnection limit edges on k [] before = Unit {0}
 HasConnection limit edges on k (Took m i ∷ l) before =
     (is_numbered on k m i ≡ true → is_some (conn_at limit (room_of limit edges (l ++ before)) k) ≡ true) × HasConnection limit edges on k l before
-HasConnection limit edges on k (Accepted j o ∷ l) before = HasConnection limit edges on k l before
-HasConnection limit edges on k (Refused j o ∷ l) before = HasConnection limit edges on k l before
-HasConnection limit edges on k (Passed o ∷ l) before = HasConnection limit edges on k l before
-HasConnection limit edges on k (Told o ∷ l) before = HasConnection limit edges on k l before
+HasConnection limit edges on k (_ ∷ l) before = HasConnection limit edges on k l before
 
 -- that of the node at place k of the plan
 abbrev pub HasConnectionAt : Plan → ℕ → (later before : List Entry) → Type 0
-HasConnectionAt p k later before = HasConnection (256 - 2 * p.width) (length p.nodes.items) (is_topic_at p k) k later before
+HasConnectionAt p k later before = HasConnection (budget p.width) (length p.nodes.items) (is_topic_at p k) k later before
 
 -- the broker closed the client at place k by then
 abbrev pub is_closed_at : Plan → List Entry → ℕ → Bool

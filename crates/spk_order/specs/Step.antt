@@ -55,8 +55,4 @@ IsBeyond x number answer = (n : ℕ) → answer ≡ step.Consumed n → 0 < ahea
 abbrev pub IsAlone : Step → Type 0
 IsAlone (step.Consumed n) = n ≤ 1
 IsAlone step.Held = ⊥
-IsAlone step.Old = Unit {0}
-IsAlone step.Gap = Unit {0}
-IsAlone step.OldBirth = Unit {0}
-IsAlone step.DeadSession = Unit {0}
-IsAlone step.NotLive = Unit {0}
+IsAlone _ = Unit {0}

@@ -18,15 +18,7 @@ number_of BadLevel = 18
 -- whether a fault says something of the bytes, and not of memory
 abbrev pub is_of_bytes : PacketFault → Bool
 is_of_bytes NoMemory = false
-is_of_bytes More = true
-is_of_bytes BadLength = true
-is_of_bytes BadFlags = true
-is_of_bytes BadType = true
-is_of_bytes BadText = true
-is_of_bytes BadBody = true
-is_of_bytes TooLarge = true
-is_of_bytes QosTwo = true
-is_of_bytes BadLevel = true
+is_of_bytes _ = true
 
 -- The fault of the first condition that holds.
 abbrev pub first_of : List (Bool × PacketFault) → Option PacketFault

@@ -130,9 +130,7 @@ IsBody (Subscribe id filters) body = (front rest : List ℕ) × IsId front id ×
 IsBody (SubAck id codes) body = (front : List ℕ) × IsId front id × (0 < length codes) × (list_all is_grant codes ≡ true) × (body ≡ front ++ codes)
 IsBody (Unsubscribe id filters) body = (front rest : List ℕ) × IsId front id × (0 < length filters) × AreEach IsText rest filters × (body ≡ front ++ rest)
 IsBody (UnsubAck id) body = IsId body id
-IsBody PingReq body = body ≡ []
-IsBody PingResp body = body ≡ []
-IsBody Disconnect body = body ≡ []
+IsBody _ body = body ≡ []
 
 -- The first byte: the type in bits 7 to 4, the flags in bits 3 to 0 (sections 2.2.1 and 2.2.2).
 abbrev pub first_byte : Message → ℕ

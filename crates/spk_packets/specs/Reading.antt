@@ -48,30 +48,16 @@ kind_of b = if nat_lt b 16 then Err BadType else if nat_le 240 b then Err BadTyp
 -- whether a packet of this kind keeps a text, a payload or a list
 abbrev pub keeps_kind : Kind → Bool
 keeps_kind kinds.Connect = true
-keeps_kind kinds.ConnAck = false
 keeps_kind (kinds.Publish dup qos retain) = true
-keeps_kind kinds.PubAck = false
 keeps_kind kinds.Subscribe = true
 keeps_kind kinds.SubAck = true
 keeps_kind kinds.Unsubscribe = true
-keeps_kind kinds.UnsubAck = false
-keeps_kind kinds.PingReq = false
-keeps_kind kinds.PingResp = false
-keeps_kind kinds.Disconnect = false
+keeps_kind _ = false
 
 -- whether a packet of this kind is a PUBLISH
 abbrev pub is_publish_kind : Kind → Bool
-is_publish_kind kinds.Connect = false
-is_publish_kind kinds.ConnAck = false
 is_publish_kind (kinds.Publish dup qos retain) = true
-is_publish_kind kinds.PubAck = false
-is_publish_kind kinds.Subscribe = false
-is_publish_kind kinds.SubAck = false
-is_publish_kind kinds.Unsubscribe = false
-is_publish_kind kinds.UnsubAck = false
-is_publish_kind kinds.PingReq = false
-is_publish_kind kinds.PingResp = false
-is_publish_kind kinds.Disconnect = false
+is_publish_kind _ = false
 
 -- ---- the remaining length
 

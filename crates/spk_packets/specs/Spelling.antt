@@ -4,7 +4,7 @@ use Rattle.std.specs.Prelude.{ℕ, ◌+◌, ◌/◌, ◌%◌, ◌<◌, Bool, tru
 use Rattle.std.specs.List.{list_any, list_all, flat_map}
 use Rattle.std.specs.Str.{IsUtf8}
 use Rattle.spk_packets.specs.declared.fault.PacketFault.TheVariants.{BadText, BadBody, TooLarge, QosTwo}
-use Rattle.spk_packets.specs.Message.{WillData, Message, Connect, ConnAck, Publish, PubAck, Subscribe, SubAck, Unsubscribe, UnsubAck, PingReq, PingResp, Disconnect}
+use Rattle.spk_packets.specs.Message.{WillData, Message, Connect, ConnAck, Publish, PubAck, Subscribe, SubAck, Unsubscribe, UnsubAck}
 use Rattle.spk_packets.specs.Grammar.{bit, has_zero, is_grant, connect_flags, protocol, first_byte, largest}
 use Rattle.spk_packets.specs.Refusals.{Refusals}
 
@@ -38,9 +38,7 @@ body (Subscribe id filters) = number id ++ flat_map request filters
 body (SubAck id codes) = number id ++ codes
 body (Unsubscribe id filters) = number id ++ flat_map counted filters
 body (UnsubAck id) = number id
-body PingReq = []
-body PingResp = []
-body Disconnect = []
+body _ = []
 
 -- the remaining length in as few bytes as it has groups of seven bits
 unfoldable pub shortest : ℕ → List ℕ
@@ -64,16 +62,10 @@ has_bad_topic (Some will) = is_bad_text will.topic
 
 unfoldable pub has_bad_text : Message → Bool
 has_bad_text (Connect client clean keep will) = is_bad_text client || has_bad_topic will
-has_bad_text (ConnAck present code) = false
 has_bad_text (Publish dup qos retain topic id payload) = is_bad_text topic
-has_bad_text (PubAck id) = false
 has_bad_text (Subscribe id filters) = list_any (λ entry. is_bad_text entry.0) filters
-has_bad_text (SubAck id codes) = false
 has_bad_text (Unsubscribe id filters) = list_any is_bad_text filters
-has_bad_text (UnsubAck id) = false
-has_bad_text PingReq = false
-has_bad_text PingResp = false
-has_bad_text Disconnect = false
+has_bad_text _ = false
 
 abbrev pub is_empty : {X : Type 0} → List X → Bool
 is_empty [] = true
@@ -98,9 +90,7 @@ has_bad_body (Subscribe id filters) = id == 0 || is_empty filters || list_any (�
 has_bad_body (SubAck id codes) = id == 0 || is_empty codes || not (list_all is_grant codes)
 has_bad_body (Unsubscribe id filters) = id == 0 || is_empty filters
 has_bad_body (UnsubAck id) = id == 0
-has_bad_body PingReq = false
-has_bad_body PingResp = false
-has_bad_body Disconnect = false
+has_bad_body _ = false
 
 abbrev pub will_is_of_qos_two : Option WillData → Bool
 will_is_of_qos_two None = false
@@ -109,16 +99,8 @@ will_is_of_qos_two (Some will) = will.qos == 2
 -- a publish or a will of QoS 2
 unfoldable pub is_qos_two : Message → Bool
 is_qos_two (Connect client clean keep will) = will_is_of_qos_two will
-is_qos_two (ConnAck present code) = false
 is_qos_two (Publish dup qos retain topic id payload) = qos == 2
-is_qos_two (PubAck id) = false
-is_qos_two (Subscribe id filters) = false
-is_qos_two (SubAck id codes) = false
-is_qos_two (Unsubscribe id filters) = false
-is_qos_two (UnsubAck id) = false
-is_qos_two PingReq = false
-is_qos_two PingResp = false
-is_qos_two Disconnect = false
+is_qos_two _ = false
 
 abbrev pub content_refusals : Message → Refusals
 content_refusals p = (has_bad_text p, BadText) ∷ (has_bad_body p, BadBody) ∷ (is_qos_two p, QosTwo) ∷ []
@@ -136,16 +118,13 @@ IsWord (Some id) = id < 65536
 -- Its numbers have two bytes.
 unfoldable pub HasWords : Message → Type 0
 HasWords (Connect client clean keep will) = keep < 65536
-HasWords (ConnAck present code) = Unit {0}
 HasWords (Publish dup qos retain topic id payload) = IsWord id
 HasWords (PubAck id) = id < 65536
 HasWords (Subscribe id filters) = id < 65536
 HasWords (SubAck id codes) = id < 65536
 HasWords (Unsubscribe id filters) = id < 65536
 HasWords (UnsubAck id) = id < 65536
-HasWords PingReq = Unit {0}
-HasWords PingResp = Unit {0}
-HasWords Disconnect = Unit {0}
+HasWords _ = Unit {0}
 
 -- ---- texts are UTF-8, as they are in each packet of the code
 
@@ -163,16 +142,10 @@ WillIsUtf8 (Some will) = IsUtf8 will.topic
 
 abbrev pub TextsAreUtf8 : Message → Type 0
 TextsAreUtf8 (Connect client clean keep will) = IsUtf8 client × WillIsUtf8 will
-TextsAreUtf8 (ConnAck present code) = Unit {0}
 TextsAreUtf8 (Publish dup qos retain topic id payload) = IsUtf8 topic
-TextsAreUtf8 (PubAck id) = Unit {0}
 TextsAreUtf8 (Subscribe id filters) = AreRequestsUtf8 filters
-TextsAreUtf8 (SubAck id codes) = Unit {0}
 TextsAreUtf8 (Unsubscribe id filters) = AreUtf8 filters
-TextsAreUtf8 (UnsubAck id) = Unit {0}
-TextsAreUtf8 PingReq = Unit {0}
-TextsAreUtf8 PingResp = Unit {0}
-TextsAreUtf8 Disconnect = Unit {0}
+TextsAreUtf8 _ = Unit {0}
 
 -- its numbers have 16 bits and its texts are UTF-8
 abbrev pub PacketFits : Message → Type 0

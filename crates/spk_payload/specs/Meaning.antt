@@ -24,14 +24,9 @@ pub data Content : Type 0 where
 
 -- whether a value is a text or bytes: to copy any other takes no memory
 abbrev pub is_text_or_bytes : Content → Bool
-is_text_or_bytes (Int n) = false
-is_text_or_bytes (Long n) = false
-is_text_or_bytes (Flag b) = false
 is_text_or_bytes (Words bytes) = true
 is_text_or_bytes (Octets bytes) = true
-is_text_or_bytes (Float n) = false
-is_text_or_bytes (Double n) = false
-is_text_or_bytes Other = false
+is_text_or_bytes _ = false
 
 -- whether there is one, and it is a text or bytes
 abbrev pub has_text_or_bytes : Option Content → Bool
@@ -63,27 +58,19 @@ pub record PayloadData : Type 0 where
 
 abbrev pub varint_of : Shape → Option ℕ
 varint_of (Varint n) = Some n
-varint_of (Eight bytes) = None
-varint_of (Bytes bytes) = None
-varint_of (Four bytes) = None
+varint_of _ = None
 
 abbrev pub eight_of : Shape → Option (List ℕ)
-eight_of (Varint n) = None
 eight_of (Eight bytes) = Some bytes
-eight_of (Bytes bytes) = None
-eight_of (Four bytes) = None
+eight_of _ = None
 
 abbrev pub bytes_of : Shape → Option (List ℕ)
-bytes_of (Varint n) = None
-bytes_of (Eight bytes) = None
 bytes_of (Bytes bytes) = Some bytes
-bytes_of (Four bytes) = None
+bytes_of _ = None
 
 abbrev pub four_of : Shape → Option (List ℕ)
-four_of (Varint n) = None
-four_of (Eight bytes) = None
-four_of (Bytes bytes) = None
 four_of (Four bytes) = Some bytes
+four_of _ = None
 
 -- The number in an entry of field n, and the bytes in one: nothing of another number or wire type.
 abbrev pub number_in : ℕ → Entry → Option ℕ
@@ -175,9 +162,7 @@ whole_content (Long n) = Long n
 whole_content (Flag b) = Flag b
 whole_content (Words bytes) = Words bytes
 whole_content (Octets bytes) = Octets bytes
-whole_content (Float n) = Other
-whole_content (Double n) = Other
-whole_content Other = Other
+whole_content _ = Other
 
 abbrev pub whole_metric : MetricData → MetricData
 whole_metric m = record m { value = option_map whole_content m.value }

@@ -5,7 +5,7 @@ use Rattle.std.specs.Option.{option_map}
 use Rattle.spk_payload.specs.declared.typing.Value.{Value}
 use Rattle.spk_payload.specs.declared.typing.Value.TheVariants as value
 use Rattle.std.specs.String.{string_bytes}
-use Rattle.spk_payload.specs.Meaning.{Content, Int, Long, Flag, Words, Octets, Float, Double, Other}
+use Rattle.spk_payload.specs.Meaning.{Content, Int, Long, Flag, Words, Octets, Float, Double}
 
 -- A value with its type, without where it lies in memory: a float and a double by the bits of IEEE 754 binary32 and binary64, so
 -- that a NaN is equal to itself, and 0 and -0 differ.
@@ -29,75 +29,36 @@ typed_view (value.Double n) = Binary64 n
 
 -- whether a value is a text or bytes: to write or copy any other takes no memory
 abbrev pub is_text_or_bytes : Typed → Bool
-is_text_or_bytes (Signed z) = false
-is_text_or_bytes (Unsigned n) = false
-is_text_or_bytes (Truth b) = false
 is_text_or_bytes (Text bytes) = true
 is_text_or_bytes (Bytes bytes) = true
-is_text_or_bytes (Binary32 n) = false
-is_text_or_bytes (Binary64 n) = false
+is_text_or_bytes _ = false
 
 -- ---- what stands in a field of the value
 
 abbrev pub int_in : Content → Option ℕ
 int_in (Int n) = Some n
-int_in (Long n) = None
-int_in (Flag b) = None
-int_in (Words bytes) = None
-int_in (Octets bytes) = None
-int_in (Float n) = None
-int_in (Double n) = None
-int_in Other = None
+int_in _ = None
 
 abbrev pub long_in : Content → Option ℕ
-long_in (Int n) = None
 long_in (Long n) = Some n
-long_in (Flag b) = None
-long_in (Words bytes) = None
-long_in (Octets bytes) = None
-long_in (Float n) = None
-long_in (Double n) = None
-long_in Other = None
+long_in _ = None
 
 abbrev pub int_or_long_in : Content → Option ℕ
 int_or_long_in (Int n) = Some n
 int_or_long_in (Long n) = Some n
-int_or_long_in (Flag b) = None
-int_or_long_in (Words bytes) = None
-int_or_long_in (Octets bytes) = None
-int_or_long_in (Float n) = None
-int_or_long_in (Double n) = None
-int_or_long_in Other = None
+int_or_long_in _ = None
 
 abbrev pub truth_in : Content → Option Typed
-truth_in (Int n) = None
-truth_in (Long n) = None
 truth_in (Flag b) = Some (Truth b)
-truth_in (Words bytes) = None
-truth_in (Octets bytes) = None
-truth_in (Float n) = None
-truth_in (Double n) = None
-truth_in Other = None
+truth_in _ = None
 
 abbrev pub text_in : Content → Option Typed
-text_in (Int n) = None
-text_in (Long n) = None
-text_in (Flag b) = None
 text_in (Words bytes) = Some (Text bytes)
-text_in (Octets bytes) = None
-text_in (Float n) = None
-text_in (Double n) = None
-text_in Other = None
+text_in _ = None
 
 abbrev pub bytes_in : Content → Option Typed
-bytes_in (Int n) = None
-bytes_in (Long n) = None
-bytes_in (Flag b) = None
-bytes_in (Words bytes) = None
 bytes_in (Octets bytes) = Some (Bytes bytes)
-bytes_in (Float n) = None
-bytes_in (Double n) = None
-bytes_in Other = None
+bytes_in _ = None
 
 abbrev pub float_in : Content → Option Typed
 float_in (Float n) = Some (Binary32 n)
@@ -164,66 +125,31 @@ is_signed_below half (negsuc n) = nat_lt n half
 
 abbrev pub int_of_signed : ℕ → Typed → Option Content
 int_of_signed half (Signed z) = if is_signed_below half z then Some (Int (bits_32 z)) else None
-int_of_signed half (Unsigned n) = None
-int_of_signed half (Truth b) = None
-int_of_signed half (Text bytes) = None
-int_of_signed half (Bytes bytes) = None
-int_of_signed half (Binary32 n) = None
-int_of_signed half (Binary64 n) = None
+int_of_signed half _ = None
 
 abbrev pub long_of_signed : Typed → Option Content
 long_of_signed (Signed z) = Some (Long (bits_64 z))
-long_of_signed (Unsigned n) = None
-long_of_signed (Truth b) = None
-long_of_signed (Text bytes) = None
-long_of_signed (Bytes bytes) = None
-long_of_signed (Binary32 n) = None
-long_of_signed (Binary64 n) = None
+long_of_signed _ = None
 
 abbrev pub int_of_unsigned : ℕ → Typed → Option Content
-int_of_unsigned limit (Signed z) = None
 int_of_unsigned limit (Unsigned n) = if nat_lt n limit then Some (Int n) else None
-int_of_unsigned limit (Truth b) = None
-int_of_unsigned limit (Text bytes) = None
-int_of_unsigned limit (Bytes bytes) = None
-int_of_unsigned limit (Binary32 n) = None
-int_of_unsigned limit (Binary64 n) = None
+int_of_unsigned limit _ = None
 
 abbrev pub long_of_unsigned : Typed → Option Content
-long_of_unsigned (Signed z) = None
 long_of_unsigned (Unsigned n) = Some (Long n)
-long_of_unsigned (Truth b) = None
-long_of_unsigned (Text bytes) = None
-long_of_unsigned (Bytes bytes) = None
-long_of_unsigned (Binary32 n) = None
-long_of_unsigned (Binary64 n) = None
+long_of_unsigned _ = None
 
 abbrev pub flag_of : Typed → Option Content
-flag_of (Signed z) = None
-flag_of (Unsigned n) = None
 flag_of (Truth b) = Some (Flag b)
-flag_of (Text bytes) = None
-flag_of (Bytes bytes) = None
-flag_of (Binary32 n) = None
-flag_of (Binary64 n) = None
+flag_of _ = None
 
 abbrev pub words_of : Typed → Option Content
-words_of (Signed z) = None
-words_of (Unsigned n) = None
-words_of (Truth b) = None
 words_of (Text bytes) = Some (Words bytes)
-words_of (Bytes bytes) = None
-words_of (Binary32 n) = None
-words_of (Binary64 n) = None
+words_of _ = None
 
 abbrev pub octets_of : Typed → Option Content
-octets_of (Signed z) = None
-octets_of (Unsigned n) = None
-octets_of (Truth b) = None
-octets_of (Text bytes) = None
 octets_of (Bytes bytes) = Some (Octets bytes)
-octets_of (Binary32 n) = None
-octets_of (Binary64 n) = None
+octets_of _ = None
 
 abbrev pub float_written : Typed → Option Content
 float_written (Binary32 n) = Some (Float n)
@@ -260,8 +186,6 @@ abbrev pub TypedFits : Typed → Type 0
 TypedFits (Signed (pos n)) = n < 2 ^ 63
 TypedFits (Signed (negsuc n)) = n < 2 ^ 63
 TypedFits (Unsigned n) = n < 2 ^ 64
-TypedFits (Truth b) = Unit {0}
-TypedFits (Text bytes) = Unit {0}
-TypedFits (Bytes bytes) = Unit {0}
 TypedFits (Binary32 n) = n < 2 ^ 32
 TypedFits (Binary64 n) = n < 2 ^ 64
+TypedFits _ = Unit {0}

@@ -57,7 +57,5 @@ Turns view (Err f) new due = Fails f due
 abbrev pub Writes : Result Raw PayloadFault → Option Content → Type 0
 Writes (Ok r) due = due ≡ Some (content_of r)
 Writes (Err NoMemory) due = (c : Content) × (due ≡ Some c)
-Writes (Err (Wire w)) due = ⊥
-Writes (Err NotText) due = ⊥
-Writes (Err HasOther) due = ⊥
 Writes (Err Mistyped) due = due ≡ None
+Writes _ due = ⊥

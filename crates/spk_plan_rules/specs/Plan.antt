@@ -15,27 +15,18 @@ use Rattle.spk_plan.specs.declared.script.Step.TheVariants as step
 
 -- ---- limits
 
+-- the step opens a connection
 abbrev pub is_open : Step → Bool
 is_open step.Open = true
-is_open step.Born = false
-is_open (step.Set alias value) = false
-is_open (step.Ramp alias kind changes) = false
-is_open (step.Device name up) = false
-is_open step.Drain = false
-is_open step.Cut = false
-is_open step.Stop = false
+is_open _ = false
 
 -- how many changes a step asks for
 abbrev pub changes_at : Step → ℕ
-changes_at step.Open = 0
-changes_at step.Born = 0
 changes_at (step.Set alias value) = 1
 changes_at (step.Ramp alias kind changes) = changes
-changes_at (step.Device name up) = 0
-changes_at step.Drain = 0
-changes_at step.Cut = 0
-changes_at step.Stop = 0
+changes_at _ = 0
 
+-- how many changes these steps ask for together
 abbrev pub changes_in : List Step → ℕ
 changes_in [] = 0
 changes_in (x ∷ xs) = changes_at x + changes_in xs
@@ -44,6 +35,7 @@ changes_in (x ∷ xs) = changes_at x + changes_in xs
 abbrev pub fits : PlanNode → Bool
 fits n = nat_le (count_by is_open n.script.items) 200 && nat_le (changes_in n.script.items) 100000
 
+-- the node has this name
 abbrev pub has_name : List ℕ → PlanNode → Bool
 has_name name n = bytes_eq (string_bytes n.node) name
 
@@ -52,6 +44,8 @@ abbrev pub are_distinct : List PlanNode → Bool
 are_distinct [] = true
 are_distinct (n ∷ ns) = not (list_any (has_name (string_bytes n.node)) ns) && are_distinct ns
 
+-- Within its limits: 1 to 16 nodes of different names, rings of 4 to 65,536 places, an ingress of 1 to 65,536, and scripts that
+-- fit.
 pub record IsWithin (p : Plan) : Type 0 where
   pub some : 1 ≤ length p.nodes.items
   pub most : length p.nodes.items ≤ 16
@@ -83,6 +77,7 @@ edge_setup group host n = record {
 abbrev pub is_edge : (group host : List ℕ) → PlanNode → Bool
 is_edge group host n = edge_patch.is_good (edge_config group host (string_bytes n.node)) n.capacity
 
+-- what a node of the plan begins with
 abbrev pub setup_in : Plan → PlanNode → edge.Setup
 setup_in p n = edge_setup (string_bytes p.group) (string_bytes p.host) n
 
@@ -90,6 +85,7 @@ setup_in p n = edge_setup (string_bytes p.group) (string_bytes p.host) n
 abbrev pub host_config : (group host : List ℕ) → (wait width : ℕ) → host_names.Config
 host_config group host wait width = record { name = host; group = group; wait = wait; keep = 0; width = width }
 
+-- the host of the plan
 abbrev pub host_in : Plan → host_names.Config
 host_in p = host_config (string_bytes p.group) (string_bytes p.host) p.wait p.width
 
@@ -105,6 +101,7 @@ pub record CanRun (p : Plan) : Type 0 where
 
 -- ---- every plan
 
+-- the node's registry is as every registry is
 abbrev pub HasLawful : PlanNode → Type 0
 HasLawful n = IsLawful n.registry
 

@@ -1,5 +1,6 @@
 -- What a report of a plant says: a log of its broker, and of each thread what it did along it (own rules).
-use Rattle.std.specs.Prelude.{◌≡◌, ℕ, ◌+◌, ◌-◌, ◌*◌, ◌^◌, ◌<◌, ◌≤◌, true, List, [], ◌∷◌, ◌++◌, length, map, Some}
+use Rattle.spk_sequence.specs.Budget.{budget}
+use Rattle.std.specs.Prelude.{◌≡◌, ℕ, ◌+◌, ◌^◌, ◌<◌, ◌≤◌, true, List, [], ◌∷◌, ◌++◌, length, map, Some}
 use Rattle.std.specs.List.{AllByRecursion, slice_get}
 use Rattle.spk_edge.specs.Along.{AllWhole, messages_from}
 use Rattle.spk_edge.specs.View.{message_view}
@@ -97,7 +98,7 @@ HasRoom p log = AtRefusals (λ k got. p.ring ≤ length got) log
 
 pub record RunsAs (p : Plan) (r : Report) : Type 0 where
   pub log : List Entry
-  pub logged : IsLogged (256 - 2 * p.width) (length p.nodes.items) log r
+  pub logged : IsLogged (budget p.width) (length p.nodes.items) log r
   pub room : HasRoom p log
   pub sized : length r.nodes.items ≡ length p.nodes.items
   pub nodes : (k : ℕ) (x : NodeReport) → slice_get r.nodes.items k ≡ Some x → IsNodeAt p log k x

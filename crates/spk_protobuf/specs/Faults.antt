@@ -10,9 +10,7 @@ use Rattle.spk_protobuf.specs.Grammar.{Entry, IsVarint, IsField}
 abbrev pub IsVarintFault : List ℕ → WireFault → Type 0
 IsVarintFault text Truncated = (length text < 10) × All (λ b. 128 ≤ b) text
 IsVarintFault text VarintTooLong = (10 ≤ length text) × All (λ b. 128 ≤ b) (take 10 text)
-IsVarintFault text Group = ⊥
-IsVarintFault text FieldZero = ⊥
-IsVarintFault text WireType = ⊥
+IsVarintFault text _ = ⊥
 
 -- A length stands at the front, and fewer bytes than it says.
 abbrev pub IsShorterThanSaid : List ℕ → Type 0

@@ -126,14 +126,7 @@ heard (packet.Publish dup qos retain topic id payload) =
     content_at topic payload >>= λ content. Ok (Published (if qos == 1 then id else None) content)
 heard (packet.ConnAck present code) = Ok (Answered code)
 heard (packet.SubAck id codes) = Ok Granted
-heard (packet.Connect client clean keep will) = Ok Other
-heard (packet.PubAck id) = Ok Other
-heard (packet.Subscribe id filters) = Ok Other
-heard (packet.Unsubscribe id filters) = Ok Other
-heard (packet.UnsubAck id) = Ok Other
-heard packet.PingReq = Ok Other
-heard packet.PingResp = Ok Other
-heard packet.Disconnect = Ok Other
+heard _ = Ok Other
 
 -- All the bytes spell one packet, and it says this.
 pub record Says (bytes : List ℕ) (h : HeardData) : Type 0 where

@@ -9,7 +9,7 @@ use Rattle.spk_edge_rules.specs.Config.{Setup}
 use Rattle.spk_edge_rules.specs.Run as edge
 use Rattle.spk_tie.specs.Tie.{host_setting}
 use Rattle.spk_heard.specs.Read.{AreRead}
-use Rattle.spk_broker_body.specs.Data.{Entry, Took, Accepted, Refused, Passed, Told}
+use Rattle.spk_broker_body.specs.Data.{Entry, Accepted}
 use Rattle.spk_relay.specs.Relayed.{IsRelayed, positions_in}
 use Rattle.spk_relay.specs.Shown.{is_relaying}
 
@@ -21,12 +21,9 @@ IsNoMessageOf group name bytes =
 -- What the host's ring got beside the numbered messages of the node at place k is none of them.
 abbrev pub AreOthers : (List ℕ → Bool) → (k host : ℕ) → (group name : List ℕ) → List Entry → Type 0
 AreOthers on k host group name [] = Unit {0}
-AreOthers on k host group name (Took m i ∷ l) = AreOthers on k host group name l
 AreOthers on k host group name (Accepted j o ∷ l) =
     (j ≡ host → is_relaying on k l ≡ false → IsNoMessageOf group name o.bytes) × AreOthers on k host group name l
-AreOthers on k host group name (Refused j o ∷ l) = AreOthers on k host group name l
-AreOthers on k host group name (Passed o ∷ l) = AreOthers on k host group name l
-AreOthers on k host group name (Told o ∷ l) = AreOthers on k host group name l
+AreOthers on k host group name (_ ∷ l) = AreOthers on k host group name l
 
 -- What was told of a node was read at these inputs, one by one, which are relayed: their positions are these.
 pub record IsHeard (s : Setup) (published : List edge.Message) (wait width : ℕ) (positions : List ℕ) (told : List node.Input) : Type 0 where

@@ -1,5 +1,6 @@
 -- What comes to a host of a node through a broker that drops few: positions in order, each once, and few of them missing.
-use Rattle.std.specs.Prelude.{◌≡◌, ℕ, ◌+◌, ◌-◌, ◌*◌, ◌<◌, ◌≤◌, List, [], ◌∷◌, length}
+use Rattle.std.specs.Prelude.{◌≡◌, ℕ, ◌+◌, ◌-◌, ◌<◌, ◌≤◌, List, [], ◌∷◌, length}
+use Rattle.spk_sequence.specs.Budget.{budget}
 use Rattle.spk_sequence.specs.Claims.{AllPublished}
 use Rattle.spk_sequence.specs.HostRecord.{Input, MessageComes, DeathComes, TickComes}
 use Rattle.spk_sequence.specs.NodeRecord.{NodeRecord, IsNodeRecord, RunsOn, Setting, session_at}
@@ -53,6 +54,6 @@ pub record IsRelayed (s : Setting) (inputs : List Input) : Type 0 where
   pub runs_on : s.numbering ≡ RunsOn
   pub published : AllPublished s inputs
   pub rising : AreRising (positions_in inputs)
-  pub few : missing (positions_in inputs) < 256 - 2 * s.width
+  pub few : missing (positions_in inputs) < budget s.width
   pub sessions : HasFewSessions s.published
   pub deaths : AreEarlyDeaths inputs

@@ -1,35 +1,24 @@
 -- What a log of a plant's broker shows the host of one edge node. `on` are the topics of the node's numbered messages. A log stands
 -- newest first, and so do positions.
 use Rattle.std.specs.Prelude.{◌≡◌, ℕ, ◌+◌, ◌-◌, ◌<◌, ◌≤◌, ◌==◌, max, Bool, true, false, ◌&&◌, List, [], ◌∷◌, if◌then◌else◌}
-use Rattle.spk_packets.specs.Message.{Connect, ConnAck, Publish, PubAck, Subscribe, SubAck, Unsubscribe, UnsubAck, PingReq, PingResp, Disconnect}
+use Rattle.spk_packets.specs.Message.{Publish}
 use Rattle.spk_packets.specs.Message.{Message as Packet}
 use Rattle.spk_ingress.specs.declared.rule.Message.{Message}
 use Rattle.spk_broker_rules.specs.Listening.{IsPlain, is_disconnect, is_unsubscribe, plain_publish}
 use Rattle.spk_broker_rules.specs.Step.{after, is_full}
 use Rattle.spk_broker_rules.specs.Topics.{FiltersIn, FitsAlike}
-use Rattle.spk_broker_body.specs.Data.{Input, Says, Breaks, Cuts, Ends, Entry, Took, Accepted, Refused, Passed, Told}
+use Rattle.spk_broker_body.specs.Data.{Input, Says, Breaks, Cuts, Ends, Entry, Took, Accepted, Told}
 use Rattle.spk_broker_body.specs.Log.{room_of}
 use Rattle.spk_relay.specs.Relayed.{AreRising, missing, past_newest}
 
 -- a PUBLISH on one of these topics
 abbrev pub is_publish_on : (List ℕ → Bool) → Packet → Bool
 is_publish_on on (Publish dup qos retain topic id payload) = on topic
-is_publish_on on (Connect client clean keep will) = false
-is_publish_on on (ConnAck present code) = false
-is_publish_on on (PubAck id) = false
-is_publish_on on (Subscribe id filters) = false
-is_publish_on on (SubAck id codes) = false
-is_publish_on on (Unsubscribe id filters) = false
-is_publish_on on (UnsubAck id) = false
-is_publish_on on PingReq = false
-is_publish_on on PingResp = false
-is_publish_on on Disconnect = false
+is_publish_on on _ = false
 
 abbrev pub is_on : (List ℕ → Bool) → Input → Bool
 is_on on (Says p) = is_publish_on on p
-is_on on (Breaks f) = false
-is_on on Cuts = false
-is_on on Ends = false
+is_on on _ = false
 
 -- a frame that is a numbered message of the node of this place
 abbrev pub is_numbered : (List ℕ → Bool) → ℕ → Message → Input → Bool
@@ -39,29 +28,21 @@ is_numbered on k m i = (m.sender == k) && is_on on i
 abbrev pub count_numbered : (List ℕ → Bool) → ℕ → List Entry → ℕ
 count_numbered on k [] = 0
 count_numbered on k (Took m i ∷ l) = if is_numbered on k m i then count_numbered on k l + 1 else count_numbered on k l
-count_numbered on k (Accepted j o ∷ l) = count_numbered on k l
-count_numbered on k (Refused j o ∷ l) = count_numbered on k l
-count_numbered on k (Passed o ∷ l) = count_numbered on k l
-count_numbered on k (Told o ∷ l) = count_numbered on k l
+count_numbered on k (_ ∷ l) = count_numbered on k l
 
 -- What is offered next is what a numbered message of the node sends: it was taken last, and nothing was told since.
 abbrev pub is_relaying : (List ℕ → Bool) → ℕ → List Entry → Bool
 is_relaying on k [] = false
 is_relaying on k (Took m i ∷ l) = is_numbered on k m i
-is_relaying on k (Accepted j o ∷ l) = is_relaying on k l
-is_relaying on k (Refused j o ∷ l) = is_relaying on k l
-is_relaying on k (Passed o ∷ l) = is_relaying on k l
 is_relaying on k (Told o ∷ l) = false
+is_relaying on k (_ ∷ l) = is_relaying on k l
 
 -- The positions that the host's ring got: at each the number of numbered messages that were taken, less one.
 abbrev pub shown : (List ℕ → Bool) → (k host : ℕ) → List Entry → List ℕ
 shown on k host [] = []
-shown on k host (Took m i ∷ l) = shown on k host l
 shown on k host (Accepted j o ∷ l) =
     if (j == host) && is_relaying on k l then (count_numbered on k l - 1) ∷ shown on k host l else shown on k host l
-shown on k host (Refused j o ∷ l) = shown on k host l
-shown on k host (Passed o ∷ l) = shown on k host l
-shown on k host (Told o ∷ l) = shown on k host l
+shown on k host (_ ∷ l) = shown on k host l
 
 -- ---- what clients say
 
@@ -86,19 +67,13 @@ MaySay on k host sender Ends = Unit {0}
 abbrev pub AllMaySay : (List ℕ → Bool) → (k host : ℕ) → List Entry → Type 0
 AllMaySay on k host [] = Unit {0}
 AllMaySay on k host (Took m i ∷ l) = MaySay on k host m.sender i × AllMaySay on k host l
-AllMaySay on k host (Accepted j o ∷ l) = AllMaySay on k host l
-AllMaySay on k host (Refused j o ∷ l) = AllMaySay on k host l
-AllMaySay on k host (Passed o ∷ l) = AllMaySay on k host l
-AllMaySay on k host (Told o ∷ l) = AllMaySay on k host l
+AllMaySay on k host (_ ∷ l) = AllMaySay on k host l
 
 -- wherever a frame is taken, the broker may have a further connection
 abbrev pub HasPlaces : (limit edges : ℕ) → List Entry → Type 0
 HasPlaces limit edges [] = Unit {0}
 HasPlaces limit edges (Took m i ∷ l) = (is_full (after limit (room_of limit edges l).events) ≡ false) × HasPlaces limit edges l
-HasPlaces limit edges (Accepted j o ∷ l) = HasPlaces limit edges l
-HasPlaces limit edges (Refused j o ∷ l) = HasPlaces limit edges l
-HasPlaces limit edges (Passed o ∷ l) = HasPlaces limit edges l
-HasPlaces limit edges (Told o ∷ l) = HasPlaces limit edges l
+HasPlaces limit edges (_ ∷ l) = HasPlaces limit edges l
 
 -- ---- what is shown of the node
 

@@ -1,7 +1,8 @@
 -- What the clients of a plant say: each edge node what its rules give for its inputs, and the host what its calls give.
-use Rattle.std.specs.Prelude.{◌≡◌, ℕ, ◌-◌, ◌*◌, ◌<◌, true, List, [], ◌∷◌, ◌++◌, map, Option, Some, None}
+use Rattle.std.specs.Prelude.{◌≡◌, ℕ, ◌<◌, true, List, [], ◌∷◌, ◌++◌, map, Option, Some, None}
 use Rattle.std.specs.Str.{IsUtf8}
 use Rattle.spk_topics.specs.Spark.{is_name}
+use Rattle.spk_sequence.specs.Budget.{budget}
 use Rattle.spk_sequence.specs.NodeRecord.{RunsOn}
 use Rattle.spk_reading.specs.Data.{HeardData}
 use Rattle.spk_edge_rules.specs.Claims.{HasNames, IsUnreserved}
@@ -51,7 +52,7 @@ pub record IsHostSpeech (c : host.Config) (told : List (Option HeardData)) (fram
 
 -- A log of a plant's broker whose clients are these edge nodes, by their places, no two of one name, and the host behind them.
 pub record IsPlant (width edges : ℕ) (setup : ℕ → Setup) (inputs : ℕ → List Input) (c : host.Config) (told : List (Option HeardData)) (log : List Entry) : Type 0 where
-  pub is_log : IsLog (256 - 2 * width) edges log
+  pub is_log : IsLog (budget width) edges log
   pub senders : AreSenders edges (taken_of log)
   pub distinct : (i j : ℕ) → i < edges → j < edges → (setup i).config.group ≡ (setup j).config.group →
       (setup i).config.node ≡ (setup j).config.node → i ≡ j

@@ -1,6 +1,7 @@
 //! Laws of the definitions alone: functions that do nothing, whose contracts speak of definitions.
 ghost use Rattle.std.specs.Prelude.{◌≡◌, ℕ, ◌-◌, ◌*◌, ◌<◌, ◌≤◌, Bool, List, [], ◌∷◌, ◌++◌, length, map, Option};
 ghost use Rattle.std.specs.List.{flat_map};
+ghost use Rattle.spk_sequence.specs.Budget.{budget};
 ghost use Rattle.spk_sequence.specs.Claims.{AfterDeath, AfterGap, BirthPrefixes, HasCause, IsLawful, SameStep, TakesBirth};
 ghost use Rattle.spk_sequence.specs.HostRecord.{Input, MessageComes, consumed_of, done_at, record_of, standing_of};
 ghost use Rattle.spk_sequence.specs.NodeRecord.{Setting};
@@ -138,15 +139,15 @@ pub fn shown()
     ensures few { (width edges k : ℕ) (setup : ℕ → Setup) (inputs : ℕ → List edge.Input)
         (c : Config) (told : List (Option HeardData)) (log : List Entry) → k < edges
         → IsPlant width edges setup inputs c told log
-        → IsFew (256 - 2 * width) (length (published (run_of (setup k) (inputs k))))
+        → IsFew (budget width) (length (published (run_of (setup k) (inputs k))))
         (shown (is_numbered_topic (setup k).config.group (setup k).config.node) k edges log) }
 
     // where no send to the host was refused and all was offered, these are all that were due to it
     ensures complete { (width edges k : ℕ) (setup : ℕ → Setup) (inputs : ℕ → List edge.Input)
         (c : Config) (told : List (Option HeardData)) (log : List Entry) → k < edges
         → IsPlant width edges setup inputs c told log → refused_to edges (refusals_of log) ≡ 0
-        → (room_of (256 - 2 * width) edges log).pending ≡ []
-        → due (256 - 2 * width) edges
+        → (room_of (budget width) edges log).pending ≡ []
+        → due (budget width) edges
         (is_numbered_topic (setup k).config.group (setup k).config.node) k edges log
         ≡ shown (is_numbered_topic (setup k).config.group (setup k).config.node) k edges log }
 

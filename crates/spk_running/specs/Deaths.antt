@@ -3,7 +3,7 @@ use Rattle.std.specs.Prelude.{◌≡◌, ℕ, ◌<◌, Bool, List, [], ◌∷◌
 use Rattle.spk_sequence.specs.HostRecord.{Input, MessageComes, DeathComes, TickComes}
 use Rattle.spk_reading.specs.Data.{Death, Published}
 use Rattle.spk_reading.specs.Meaning.{Says}
-use Rattle.spk_broker_body.specs.Data.{Entry, Took, Accepted, Refused, Passed, Told}
+use Rattle.spk_broker_body.specs.Data.{Entry, Accepted}
 use Rattle.spk_edge_rules.specs.Config.{Setup}
 use Rattle.spk_edge_rules.specs.Packets.{death_topic}
 use Rattle.spk_edge_rules.specs.Run.{session_number}
@@ -50,10 +50,7 @@ pub record IsOwnDeath (s : Setup) (opened k : ℕ) (l : List Entry) (bytes : Lis
 -- The same of all that rings got, wherever it says to a host that the node died.
 abbrev pub AreOwnDeaths : (s : Setup) (opened k : ℕ) → List Entry → Type 0
 AreOwnDeaths s opened k [] = Unit {0}
-AreOwnDeaths s opened k (Took m i ∷ l) = AreOwnDeaths s opened k l
 AreOwnDeaths s opened k (Accepted j o ∷ l) =
     ((ack : Option ℕ) (bd : ℕ) → Says o.bytes (Published ack (Death s.config.group s.config.node bd)) → IsOwnDeath s opened k l o.bytes bd)
     × AreOwnDeaths s opened k l
-AreOwnDeaths s opened k (Refused j o ∷ l) = AreOwnDeaths s opened k l
-AreOwnDeaths s opened k (Passed o ∷ l) = AreOwnDeaths s opened k l
-AreOwnDeaths s opened k (Told o ∷ l) = AreOwnDeaths s opened k l
+AreOwnDeaths s opened k (_ ∷ l) = AreOwnDeaths s opened k l

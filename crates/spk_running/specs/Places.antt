@@ -1,7 +1,8 @@
 -- The edge nodes of a plant by their places, as its plan and its report have them (own rules).
-use Rattle.std.specs.Prelude.{ℕ, ◌-◌, ◌*◌, Bool, List, [], length, None}
+use Rattle.std.specs.Prelude.{ℕ, Bool, List, [], length, None}
 use Rattle.std.specs.List.{slice_get}
 use Rattle.std.specs.Option.{option_map_or}
+use Rattle.spk_sequence.specs.Budget.{budget}
 use Rattle.spk_sequence.specs.NodeRecord.{RunsOn}
 use Rattle.spk_device.specs.Book.{empty_book}
 use Rattle.spk_edge_rules.specs.Config.{Setup}
@@ -50,4 +51,4 @@ shown_at p log k = shown (is_topic_at p k) k (length p.nodes.items) log
 
 -- those that were due to the host: taken while the node's connection and the host's ring stood and the host was subscribed
 abbrev pub due_at : Plan → List Entry → ℕ → List ℕ
-due_at p log k = due (256 - 2 * p.width) (length p.nodes.items) (is_topic_at p k) k (length p.nodes.items) log
+due_at p log k = due (budget p.width) (length p.nodes.items) (is_topic_at p k) k (length p.nodes.items) log

@@ -7,6 +7,7 @@ ghost use Rattle.spk_edge.specs.View.{message_view};
 ghost use Rattle.spk_edge_rules.specs.Packets.{death_topic};
 ghost use Rattle.spk_edge_rules.specs.Run.{opened, run_of};
 ghost use Rattle.spk_heard.specs.Read.{AreMessagesAt, HandsOutFronts};
+ghost use Rattle.spk_sequence.specs.Budget.{budget};
 ghost use Rattle.spk_sequence.specs.HostRecord.{consumed_of, record_of};
 ghost use Rattle.spk_host.specs.Inputs.{node_calls};
 ghost use Rattle.spk_host_body.specs.Told.{asked, consumed_for, told_in};
@@ -56,7 +57,7 @@ pub fn running()
     // fewer are missing than refusals close the host's connection
     ensures few { (p : Plan) (r : Report) (k : ℕ) → CanRun p → IsMade p → (ran : RunsAs p r)
         → k < length p.nodes.items
-        → IsFew (256 - 2 * p.width) (length (published_at p r k)) (shown_at p ran.log k) }
+        → IsFew (budget p.width) (length (published_at p r k)) (shown_at p ran.log k) }
 
     // where no send to the host was refused, these are all that were due to it
     ensures complete { (p : Plan) (r : Report) (k : ℕ) → CanRun p → IsMade p → (ran : RunsAs p r)

@@ -1,5 +1,6 @@
 -- What may be handed over: positions inside the window, and births and deaths whose bdSeq is told apart.
-use Rattle.std.specs.Prelude.{◌≡◌, ℕ, ◌+◌, ◌-◌, ◌*◌, ◌<◌, ◌≤◌, ◌⊎◌, true, List, [], ◌∷◌, length, Option, Some, None}
+use Rattle.std.specs.Prelude.{◌≡◌, ℕ, ◌+◌, ◌<◌, ◌≤◌, ◌⊎◌, true, List, [], ◌∷◌, length, Option, Some, None}
+use Rattle.spk_sequence.specs.Budget.{budget}
 use Rattle.spk_sequence.specs.NodeRecord.{Setting, Numbering, RunsOn, Restarts, opens, session_at, start_of, written_session}
 use Rattle.spk_sequence.specs.HostRecord.{Input, MessageComes, DeathComes, TickComes, HostRecord, record_of, reach}
 use Rattle.spk_sequence.specs.Following.{taken, following, contains}
@@ -9,7 +10,7 @@ use Rattle.spk_sequence.specs.Following.{taken, following, contains}
 pub record InWindow (s : Setting) (h : HostRecord) (p : ℕ) : Type 0 where
   pub published : p < length s.published
   pub not_far_behind : reach h ≤ p + s.width
-  pub not_far_ahead : (following s h).on ≡ true → p < reach h + (256 - 2 * s.width)
+  pub not_far_ahead : (following s h).on ≡ true → p < reach h + budget s.width
 
 -- a session less than 256 away from that of the birth taken last, where there is one
 abbrev pub IsNearTo : Setting → Option ℕ → ℕ → Type 0

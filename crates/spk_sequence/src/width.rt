@@ -1,3 +1,4 @@
+ghost use Rattle.spk_sequence.specs.Budget.{budget};
 ghost use Rattle.std.specs.Prelude.{◌≡◌, ◌-◌, ◌*◌, ◌<◌, ◌≤◌, ◌↔◌, IsSome, IfSome};
 
 use std::marker::Model;
@@ -45,7 +46,7 @@ impl Width {
     /// The number of lost messages in a row from which on a byte of number can no longer tell the
     /// later ones from old ones: 256 less twice the width (own rule).
     pub fn budget(self) -> u16
-        ensures value { result ≡ 256 - 2 * self }
+        ensures value { result ≡ budget self }
     {
         256 - 2 * u16::from(self.get())
     }

@@ -14,7 +14,7 @@ use Rattle.spk_clients.specs.declared.client.Offered.{Offered}
 use Rattle.spk_clients.specs.declared.client.Offered.TheVariants.{Taken, Refused, Passed}
 use Rattle.spk_clients.specs.declared.client.Phase.TheVariants.{Quiet, Over, Done}
 use Rattle.spk_clients.specs.Client.{is_due, is_over, is_untold, sort_untold}
-use Rattle.spk_server.specs.Data.{Deed, InHand, Room, Slow, Why, Gone, Silent, Want, Timed, Joined, Fed, Skipped, Took, Came, Broke, Left, Ticked, Handed, Shut, Told, Cut, Tried, Waited, Freed, Dropped, Wrote, Blocked, Named, Forgot, Kept, Begun}
+use Rattle.spk_server.specs.Data.{Deed, InHand, Room, Slow, Why, Gone, Silent, Want, Joined, Fed, Skipped, Took, Came, Broke, Left, Ticked, Handed, Shut, Told, Cut, Tried, Waited, Freed, Dropped, Wrote, Forgot, Kept}
 use Rattle.spk_server.specs.Step.{after, still_waits}
 
 -- ---- what a deed must find
@@ -65,7 +65,6 @@ MayLeave Silent conn r = HasClient (λ c. (c.phase ≡ Quiet) × (is_due r.now c
 MayLeave Want conn r = Unit {0}
 
 abbrev pub May : Deed → Room → Type 0
-May (Timed moment) r = IsRested r
 May (Joined conn) r = IsRested r × (is_full r.noted.broker ≡ false) × (conn ≡ r.noted.broker.given + 1)
 May (Fed conn piece) r = IsRested r × (is_open r conn ≡ true)
 May (Skipped conn piece) r = IsRested r × (is_open r conn ≡ false)
@@ -84,11 +83,9 @@ May (Waited conn) r = IsRested r × IsFirst conn r.held × (still_waits r.now r.
 May (Freed conn) r = IsRested r × IsFirst conn r.held × (still_waits r.now r.clients conn ≡ false)
 May (Dropped conn) r = IsRested r × HasClient (λ c. (c.phase ≡ Over) × (is_due r.now c ≡ true)) conn r
 May (Wrote conn count) r = IsRested r × (is_all_kept r ≡ true)
-May (Blocked conn) r = IsRested r
-May (Named conn) r = IsRested r
 May (Forgot conn) r = IsRested r × HasClient (λ c. c.phase ≡ Done) conn r
 May (Kept bytes) r = IsRested r × (bytes ≡ bytes_of r.noted.notes)
-May Begun r = IsRested r
+May _ r = IsRested r
 
 -- these deeds, each of them of those that are allowed, lead from the one to the other
 abbrev pub IsRun : (Deed → Bool) → Room → List Deed → Room → Type 0

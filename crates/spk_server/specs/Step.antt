@@ -2,7 +2,7 @@
 use Rattle.std.specs.Prelude.{ℕ, ◌+◌, min, max, ◌==◌, nat_lt, Bool, true, false, List, [], ◌∷◌, ◌++◌, map, Option, Some, None, is_some, if◌then◌else◌}
 use Rattle.std.specs.List.{list_any}
 use Rattle.std.specs.Option.{option_map, option_map_or}
-use Rattle.spk_packets.specs.Message.{Message, Connect, ConnAck, Publish, PubAck, Subscribe, SubAck, Unsubscribe, UnsubAck, PingReq, PingResp, Disconnect}
+use Rattle.spk_packets.specs.Message.{Message, Connect, Disconnect}
 use Rattle.spk_broker.specs.Sent.{Sent, outgoing}
 use Rattle.spk_packets.specs.declared.fault.PacketFault.{PacketFault}
 use Rattle.spk_broker_rules.specs.Plan.{Event, is_bad_level}
@@ -14,7 +14,7 @@ use Rattle.spk_clients.specs.declared.cause.Cause.{Cause}
 use Rattle.spk_clients.specs.declared.cause.Cause.TheVariants as cause
 use Rattle.spk_clients.specs.declared.client.Client.{Client}
 use Rattle.spk_clients.specs.declared.client.Phase.{Phase}
-use Rattle.spk_clients.specs.declared.client.Phase.TheVariants.{Quiet, Open, Over, Done}
+use Rattle.spk_clients.specs.declared.client.Phase.TheVariants.{Quiet, Open}
 use Rattle.spk_clients.specs.declared.client.Offered.{Offered}
 use Rattle.spk_clients.specs.declared.client.Offered.TheVariants.{Taken, Refused, Passed}
 use Rattle.spk_clients.specs.Client.{after_hearing, awaited, cut_off, freed, fresh_client, given_up, has_many, has_some, is_awaited, leaves, most_number, refused_with, takes_in, taken_in, told, untouched, waiting_for, written_to}
@@ -56,9 +56,7 @@ placed c conn clients = λ k. if k == conn then c else clients k
 -- it sent no packet yet
 abbrev pub is_quiet : Phase → Bool
 is_quiet Quiet = true
-is_quiet Open = false
-is_quiet Over = false
-is_quiet Done = false
+is_quiet _ = false
 
 -- ---- what comes to the broker
 
@@ -67,16 +65,7 @@ offer_of by s = record { by = by; send = s }
 
 abbrev pub is_connect : Message → Bool
 is_connect (Connect client clean keep will) = true
-is_connect (Publish dup qos retain topic id payload) = false
-is_connect (ConnAck present code) = false
-is_connect (PubAck id) = false
-is_connect (Subscribe id entries) = false
-is_connect (SubAck id codes) = false
-is_connect (Unsubscribe id filters) = false
-is_connect (UnsubAck id) = false
-is_connect PingReq = false
-is_connect PingResp = false
-is_connect Disconnect = false
+is_connect _ = false
 
 -- why the broker closes another connection at a packet: that of the client identifier of a CONNECT is taken over (3.1.4), else one for whom
 -- too many messages are unacknowledged
@@ -86,11 +75,8 @@ cause_other p = if is_connect p then cause.TakenOver else cause.Slow
 -- whose bytes an event is of, and why the broker closes another connection at it
 abbrev pub packet_of : Event → Option (ℕ × Cause)
 packet_of (event.Packet conn p moment) = Some (conn, cause_other p)
-packet_of (event.Open moment) = None
 packet_of (event.Fault conn f moment) = Some (conn, cause.Slow)
-packet_of (event.Closed conn moment) = None
-packet_of (event.Tick moment) = None
-packet_of (event.Refused conn s moment) = None
+packet_of _ = None
 
 -- a CONNECT of another protocol level is refused (3.1.2.2), and what is no packet can't be read
 abbrev pub cause_fault : PacketFault → Cause
@@ -100,11 +86,9 @@ cause_fault f = if is_bad_level f then cause.Refused else cause.Unreadable
 -- may be one unacknowledged message too many for its receiver.
 abbrev pub cause_of : Event → Cause
 cause_of (event.Packet conn p moment) = cause.Refused
-cause_of (event.Open moment) = cause.Slow
 cause_of (event.Fault conn f moment) = cause_fault f
-cause_of (event.Closed conn moment) = cause.Slow
 cause_of (event.Tick moment) = cause.KeepAlive
-cause_of (event.Refused conn s moment) = cause.Slow
+cause_of _ = cause.Slow
 
 -- the same for one connection
 abbrev pub cause_for : Option (ℕ × Cause) → Cause → ℕ → Cause
@@ -134,16 +118,7 @@ called_on by conn e r = if knows r.noted.broker conn then called by e r else r
 
 abbrev pub is_disconnect : Message → Bool
 is_disconnect Disconnect = true
-is_disconnect (Publish dup qos retain topic id payload) = false
-is_disconnect (Connect client clean keep will) = false
-is_disconnect (ConnAck present code) = false
-is_disconnect (PubAck id) = false
-is_disconnect (Subscribe id entries) = false
-is_disconnect (SubAck id codes) = false
-is_disconnect (Unsubscribe id filters) = false
-is_disconnect (UnsubAck id) = false
-is_disconnect PingReq = false
-is_disconnect PingResp = false
+is_disconnect _ = false
 
 -- whose own PUBLISH a packet is, if it is one
 abbrev pub publisher : InHand → Option ℕ

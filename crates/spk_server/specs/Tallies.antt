@@ -1,6 +1,6 @@
 -- What is counted (own rules), deed by deed. A count stands at the greatest number.
 use Rattle.std.specs.Prelude.{ℕ, ◌+◌, min, nat_le, nat_lt, Bool, true, false, ◌&&◌, List, [], ◌∷◌, if◌then◌else◌}
-use Rattle.spk_packets.specs.Message.{Message, Connect, ConnAck, Publish, PubAck, Subscribe, SubAck, Unsubscribe, UnsubAck, PingReq, PingResp, Disconnect}
+use Rattle.spk_packets.specs.Message.{Message, Publish}
 use Rattle.spk_clients.specs.Client.{most_number}
 use Rattle.spk_clients.specs.declared.client.Offered.{Offered}
 use Rattle.spk_clients.specs.declared.client.Offered.TheVariants.{Taken, Refused, Passed}
@@ -14,16 +14,7 @@ one_more n = min (n + 1) most_number
 
 abbrev pub is_publish : Message → Bool
 is_publish (Publish dup qos retain topic id payload) = true
-is_publish (Connect client clean keep will) = false
-is_publish (ConnAck present code) = false
-is_publish (PubAck id) = false
-is_publish (Subscribe id entries) = false
-is_publish (SubAck id codes) = false
-is_publish (Unsubscribe id filters) = false
-is_publish (UnsubAck id) = false
-is_publish PingReq = false
-is_publish PingResp = false
-is_publish Disconnect = false
+is_publish _ = false
 
 -- The first byte of a PUBLISH: 3 in its upper half (MQTT 3.1.1, 2.2.1).
 abbrev pub is_message : List ℕ → Bool

@@ -89,6 +89,4 @@ abbrev pub LeavesIds : List ℕ → List Call → Type 0
 LeavesIds ids [] = Unit {0}
 LeavesIds ids (Ack id ∷ calls) = (is_in ids id ≡ false) × LeavesIds ids calls
 LeavesIds ids (Rewind n last ∷ calls) = (length ids ≤ n) × LeavesIds ids calls
-LeavesIds ids (Sent ∷ calls) = LeavesIds ids calls
-LeavesIds ids (Refuse some ∷ calls) = LeavesIds ids calls
-LeavesIds ids (Reopen ∷ calls) = LeavesIds ids calls
+LeavesIds ids (_ ∷ calls) = LeavesIds ids calls

@@ -67,11 +67,9 @@ ids_after_calls i [] = i
 ids_after_calls i (call ∷ calls) = ids_after_calls (ids_after_call i call) calls
 
 abbrev pub drops_after_call : Drops → Call → Drops
-drops_after_call d Sent = d
-drops_after_call d (Ack id) = d
 drops_after_call d (Refuse some) = drops_after d some
 drops_after_call d Reopen = drops_reopened d
-drops_after_call d (Rewind n last) = d
+drops_after_call d _ = d
 
 abbrev pub drops_after_calls : Drops → List Call → Drops
 drops_after_calls d [] = d

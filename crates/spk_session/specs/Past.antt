@@ -22,17 +22,12 @@ pub data Event : Type 0 where
 abbrev pub ends : ℕ → Event → Bool
 ends id (Acked other) = nat_eq id other
 ends id (TookBack ids last) = is_in ids id
-ends id (Gave other) = false
-ends id (Refused some) = false
-ends id Reopened = false
+ends id _ = false
 
 -- the id that an event gave, unless its use ended since
 abbrev pub stays : Event → List Event → List ℕ
 stays (Gave id) since = if list_any (ends id) since then [] else id ∷ []
-stays (Acked id) since = []
-stays (Refused some) since = []
-stays Reopened since = []
-stays (TookBack ids last) since = []
+stays _ since = []
 
 -- the ids given and neither acknowledged nor taken back since, in the order of giving
 abbrev pub in_use : List Event → List ℕ
@@ -43,9 +38,7 @@ in_use (event ∷ since) = stays event since ++ in_use since
 abbrev pub says_last : Event → Option ℕ
 says_last (Gave id) = Some id
 says_last (TookBack ids last) = Some last
-says_last (Acked id) = None
-says_last (Refused some) = None
-says_last Reopened = None
+says_last _ = None
 
 -- what the last event says that says anything
 abbrev pub or_else : Option ℕ → Option ℕ → Option ℕ
@@ -62,18 +55,11 @@ last_given events = unwrap_or (last_said events) 0
 
 abbrev pub is_drop : Event → Bool
 is_drop (Refused sort.QosZero) = true
-is_drop (Refused sort.Other) = false
-is_drop (Gave id) = false
-is_drop (Acked id) = false
-is_drop Reopened = false
-is_drop (TookBack ids last) = false
+is_drop _ = false
 
 abbrev pub is_reopening : Event → Bool
 is_reopening Reopened = true
-is_reopening (Gave id) = false
-is_reopening (Acked id) = false
-is_reopening (Refused some) = false
-is_reopening (TookBack ids last) = false
+is_reopening _ = false
 
 -- how many drops there were since the session was made or reopened
 abbrev pub drops_of : List Event → ℕ

@@ -10,7 +10,7 @@ use Rattle.spk_host_rules.specs.Data.{Message, View}
 use Rattle.spk_host_rules.specs.Showing.{ShowsDevice, device_in}
 use Rattle.spk_host_rules.specs.Values.{Part, device_at, last_part, node_data, values_at}
 use Rattle.spk_host_node.specs.Inputs as node
-use Rattle.spk_host_node.specs.Inputs.{Comes, Dies, Ticks, Ends}
+use Rattle.spk_host_node.specs.Inputs.{Comes, Ends}
 
 -- A birth was taken in this session of the host, and the death of its session didn't come since.
 abbrev pub is_alive : Setting → HostRecord → Bool
@@ -19,10 +19,8 @@ is_alive s h = is_some (taken s h) && not (is_session_dead s h)
 -- calls of the sessions of the host before: none, or the last of them is that session's end
 abbrev pub AreOver : List node.Input → Type 0
 AreOver [] = Unit {0}
-AreOver (Comes read now ∷ older) = ⊥
-AreOver (Dies bd ∷ older) = ⊥
-AreOver (Ticks now ∷ older) = ⊥
 AreOver (Ends ∷ older) = Unit {0}
+AreOver (_ ∷ older) = ⊥
 
 -- what is numbered as an NBIRTH is about the node's birth
 abbrev pub IsMarked : NumberedData → Type 0
@@ -31,9 +29,7 @@ IsMarked read = (stamp bd : ℕ) → read.kind ≡ Birth stamp bd → read.subje
 abbrev pub AreMarked : List node.Input → Type 0
 AreMarked [] = Unit {0}
 AreMarked (Comes read now ∷ before) = IsMarked read × AreMarked before
-AreMarked (Dies bd ∷ before) = AreMarked before
-AreMarked (Ticks now ∷ before) = AreMarked before
-AreMarked (Ends ∷ before) = AreMarked before
+AreMarked (_ ∷ before) = AreMarked before
 
 -- A view shows the values at the last of these messages, as of a node that is alive or not and followed or not: its own metrics and each
 -- device's. A device that was named before the last birth alone is offline and stale.

@@ -8,7 +8,7 @@ use Rattle.std.specs.String.{string_bytes}
 use Rattle.spk_topics.specs.Levels.{joined, is_empty, levels}
 use Rattle.spk_topics.specs.Text.{holds, is_plain}
 use Rattle.spk_topics.specs.declared.fault.TopicFault.{TopicFault}
-use Rattle.spk_topics.specs.declared.fault.TopicFault.TheVariants.{NoMemory, Empty, Wildcard, Nul, TooLong, NotSparkplug}
+use Rattle.spk_topics.specs.declared.fault.TopicFault.TheVariants.{NoMemory, NotSparkplug}
 use Rattle.spk_topics.specs.declared.spark.Verb.{Verb}
 use Rattle.spk_topics.specs.declared.spark.Verb.TheVariants.{Birth, Death, Data, Command}
 use Rattle.spk_topics.specs.declared.spark.Spark.{Spark}
@@ -84,16 +84,10 @@ named_at text = option_and_then if_names (named_by (levels text))
 abbrev pub RefusesText : List ℕ → TopicFault → Type 0
 RefusesText text NoMemory = Unit {0}
 RefusesText text NotSparkplug = (n : Named) → IsTrue (has_names n) → topic_of n ≢ text
-RefusesText text Empty = ⊥
-RefusesText text Wildcard = ⊥
-RefusesText text Nul = ⊥
-RefusesText text TooLong = ⊥
+RefusesText text _ = ⊥
 
 -- names are refused exactly where one of them is no name, but for want of memory
 abbrev pub RefusesNames : Named → TopicFault → Type 0
 RefusesNames n NoMemory = Unit {0}
 RefusesNames n NotSparkplug = ¬ IsTrue (has_names n)
-RefusesNames n Empty = ⊥
-RefusesNames n Wildcard = ⊥
-RefusesNames n Nul = ⊥
-RefusesNames n TooLong = ⊥
+RefusesNames n _ = ⊥

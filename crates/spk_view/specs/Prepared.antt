@@ -47,11 +47,8 @@ has_device name devices = list_any (λ d. bytes_eq name d.name) devices
 
 -- a device that isn't in the view takes room in it
 abbrev pub is_new : Prepared → View → Bool
-is_new (NodeTable rows) v = false
-is_new (NodeChanges ms) v = false
 is_new (DeviceTable name rows) v = not (has_device name v.devices)
-is_new (DeviceChanges name ms) v = false
-is_new (DeviceEnd name) v = false
+is_new _ v = false
 
 abbrev pub takes_room : Option View → Prepared → Bool
 takes_room None p = false
@@ -68,10 +65,7 @@ is_unknown_by view (DeviceEnd name) = rules.is_device_lacking (rules.device_rows
 
 abbrev pub is_birth_by : Prepared → Bool
 is_birth_by (NodeTable rows) = true
-is_birth_by (NodeChanges ms) = false
-is_birth_by (DeviceTable name rows) = false
-is_birth_by (DeviceChanges name ms) = false
-is_birth_by (DeviceEnd name) = false
+is_birth_by _ = false
 
 -- a request is due at such a cause
 abbrev pub asks_by : ℕ → Watch → Bool → ℕ → Bool

@@ -25,6 +25,7 @@ reply_as (call.Told match) = Told match
 reply_as (call.Ticked true) = Gaps 1
 reply_as (call.Ticked false) = Gaps 0
 
+-- a moment found a gap of this node
 abbrev pub is_gap : call.Reply → Bool
 is_gap (call.Ticked gap) = gap
 is_gap (call.Stepped step) = false
@@ -34,6 +35,7 @@ is_gap (call.Told match) = false
 abbrev pub gaps_of : World → List Deed → (h now : ℕ) → ℕ
 gaps_of w done h now = count_by (λ n. is_gap (event_of w done h n (TickComes now)).reply) (range_with_len 0 (length w.nodes))
 
+-- the answer to what is done, behind all that was done
 abbrev pub answer_of : World → List Deed → Deed → Answer
 answer_of w done (AtNode n input) = Added (length (published_of w (AtNode n input ∷ done) n) - length (published_of w done n))
 answer_of w done (Hand h n p now) = reply_as (event_of w done h n (MessageComes p now)).reply

@@ -12,6 +12,7 @@ pub record HostData : Type 0 where
   pub wait : ℕ
   pub width : ℕ
 
+-- A world: its nodes and its hosts, by number from 0.
 pub record World : Type 0 where
   pub nodes : List Setup
   pub hosts : List HostData
@@ -30,11 +31,13 @@ pub record HasWidth (h : HostData) : Type 0 where
   pub some_places : 0 < h.width
   pub few_places : h.width ≤ 96
 
+-- the same of all hosts of a world
 abbrev pub HasWidths : World → Type 0
 HasWidths w = AllByRecursion HasWidth w.hosts
 
 -- ---- by number; where there is none, one that nothing is handed to
 
+-- a node that nothing comes to, with no name and no metric
 abbrev pub no_node : Setup
 no_node = record {
   config = record { group = []; node = []; primary = None; keep = 0; numbering = RunsOn };
@@ -45,11 +48,14 @@ no_node = record {
   book = empty_book;
 }
 
+-- a host that nothing comes to
 abbrev pub no_host : HostData
 no_host = record { wait = 0; width = 1 }
 
+-- the node of this number
 abbrev pub node_at : World → ℕ → Setup
 node_at w n = get_or w.nodes n no_node
 
+-- the host of this number
 abbrev pub host_at : World → ℕ → HostData
 host_at w h = get_or w.hosts h no_host

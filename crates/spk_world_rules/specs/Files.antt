@@ -41,12 +41,15 @@ rebirth_payload now = record {
   seq = None;
 }
 
+-- the command that asks a node for a rebirth
 abbrev pub rebirth_of : Config → ℕ → edge.Act
 rebirth_of c now = edge.Command (topic_of (of_node c.group verb.Command c.node)) (spelling (rebirth_payload now))
 
+-- a STATE of the primary host as it comes to a node
 abbrev pub state_of : Bool → ℕ → edge.Act
 state_of online timestamp = edge.State (state_text (record { online = online; timestamp = timestamp }))
 
+-- an act comes to a node at a moment
 abbrev pub at_node : ℕ → ℕ → edge.Act → Deed
 at_node node now act = deed.AtNode node (record { now = now; ack = None; act = act })
 

@@ -11,12 +11,10 @@ use Rattle.spk_world_rules.specs.Events.{World, Deed, AtNode, Hand, Death, Tick,
 
 -- ---- nodes
 
+-- the inputs of a node, with what is done
 abbrev pub with_call : Deed → ℕ → List edge.Input → List edge.Input
 with_call (AtNode m input) n calls = if m == n then input ∷ calls else calls
-with_call (Hand k m p now) n calls = calls
-with_call (Death k m session now) n calls = calls
-with_call (Tick k now) n calls = calls
-with_call (Renew k now) n calls = calls
+with_call _ n calls = calls
 
 -- the inputs of a node
 abbrev pub calls_of : List Deed → ℕ → List edge.Input
@@ -33,6 +31,7 @@ sessions_of w done n = run.opened (run_of (node_at w n) (calls_of done n))
 
 -- ---- hosts
 
+-- what came to a host of a node, with what is done; a new session of the host begins with nothing
 abbrev pub with_input : Deed → (h n : ℕ) → List order.Input → List order.Input
 with_input (AtNode m input) h n is = is
 with_input (Hand k m p now) h n is = if (k == h) && (m == n) then MessageComes p now ∷ is else is
@@ -45,6 +44,7 @@ abbrev pub inputs_of : List Deed → (h n : ℕ) → List order.Input
 inputs_of [] h n = []
 inputs_of (e ∷ done) h n = with_input e h n (inputs_of done h n)
 
+-- what a node published, as a host of this wait and width orders it
 abbrev pub setting_of : World → List Deed → (h n : ℕ) → Setting
 setting_of w done h n =
     host_setting (node_at w n) (published_of w done n) (host_at w h).wait (host_at w h).width

@@ -1,6 +1,7 @@
 -- Why a thing isn't done, in the order in which the causes are tried: what isn't there, what wasn't published, the window, sessions
 -- that one byte of bdSeq couldn't tell apart, and what comes before its own NBIRTH where numbers restart.
-use Rattle.std.specs.Prelude.{◌≡◌, ℕ, ◌+◌, ◌-◌, ◌*◌, nat_lt, nat_le, Bool, false, not, ◌&&◌, ◌||◌, List, [], ◌∷◌, length, Option, Some, None, Result, Ok, Err, if◌then◌else◌}
+use Rattle.std.specs.Prelude.{◌≡◌, ℕ, ◌+◌, nat_lt, nat_le, Bool, false, not, ◌&&◌, ◌||◌, List, [], ◌∷◌, length, Option, Some, None, Result, Ok, Err, if◌then◌else◌}
+use Rattle.spk_sequence.specs.Budget.{budget}
 use Rattle.spk_sequence.specs.Following.{contains, following, taken}
 use Rattle.spk_sequence.specs.HostRecord.{HostRecord, reach}
 use Rattle.spk_sequence.specs.NodeRecord.{Numbering, RunsOn, Restarts, Setting, opens, session_at, start_of}
@@ -11,6 +12,7 @@ use Rattle.spk_edge_rules.specs.Run.{right_at, run_of}
 use Rattle.spk_world_rules.specs.Events.{World, Deed, AtNode, Hand, Death, Tick, Renew, node_at}
 use Rattle.spk_world_rules.specs.Queries.{calls_of, record_of, sessions_of, setting_of}
 
+-- Why a thing isn't done.
 pub data Refusal : Type 0 where
   NoSuch : Refusal
   NotPublished : Refusal
@@ -22,7 +24,7 @@ pub data Refusal : Type 0 where
 -- more than width - 1 behind the greatest position handed, or while the host follows more than 256 - 2 * width ahead of it
 abbrev pub is_outside : Setting → HostRecord → ℕ → Bool
 is_outside s h p =
-    not (nat_le (reach h) (p + s.width)) || ((following s h).on && not (nat_lt p (reach h + (256 - 2 * s.width))))
+    not (nat_le (reach h) (p + s.width)) || ((following s h).on && not (nat_lt p (reach h + budget s.width)))
 
 -- 256 or more sessions from that of the birth taken last, either way
 abbrev pub is_far_from : Setting → Option ℕ → ℕ → Bool
@@ -30,6 +32,7 @@ is_far_from s None session = false
 is_far_from s (Some b) session =
     not (nat_lt session (session_at s.published b + 256)) || not (nat_lt (session_at s.published b) (session + 256))
 
+-- the same by what the host took
 abbrev pub is_far : Setting → HostRecord → ℕ → Bool
 is_far s h session = is_far_from s (taken s h) session
 
@@ -38,6 +41,7 @@ abbrev pub overtakes : Numbering → Setting → HostRecord → ℕ → Bool
 overtakes RunsOn s h p = false
 overtakes Restarts s h p = not (opens s.published p) && not (contains (start_of s.published p) (handed_of h))
 
+-- why the message of a position isn't handed to a host: the first cause that holds
 abbrev pub message_refusal : Setting → HostRecord → ℕ → Option Refusal
 message_refusal s h p =
     if not (nat_lt p (length s.published)) then Some NotPublished
@@ -46,25 +50,31 @@ message_refusal s h p =
     else if overtakes s.numbering s h p then Some OvertakesBirth
     else None
 
+-- why the NDEATH of a session isn't, of a node that opened so many
 abbrev pub death_refusal : Setting → HostRecord → (sessions session : ℕ) → Option Refusal
 death_refusal s h sessions session =
     if not (nat_lt session sessions) then Some NotPublished
     else if is_far s h session then Some TooFar
     else None
 
+-- the node's own refusal
 abbrev pub edge_refusal : Result Answer EdgeFault → Option Refusal
 edge_refusal (Ok answer) = None
 edge_refusal (Err fault) = Some (Edge fault)
 
+-- what isn't there comes before every other cause
 abbrev pub if_there : Bool → Option Refusal → Option Refusal
 if_there there refusal = if there then refusal else Some NoSuch
 
+-- there is a node of this number
 abbrev pub has_node : World → ℕ → Bool
 has_node w n = nat_lt n (length w.nodes)
 
+-- there is a host of this number
 abbrev pub has_host : World → ℕ → Bool
 has_host w h = nat_lt h (length w.hosts)
 
+-- why a thing isn't done behind all that was done; none where it is
 abbrev pub refusal_of : World → List Deed → Deed → Option Refusal
 refusal_of w done (AtNode n input) =
     if_there (has_node w n) (edge_refusal (right_at (node_at w n) (run_of (node_at w n) (calls_of done n)) input))

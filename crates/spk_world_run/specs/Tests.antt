@@ -1,5 +1,6 @@
 -- Why a thing isn't done, by the data: tests on numbers, in the order of the causes.
-use Rattle.std.specs.Prelude.{ℕ, ◌+◌, ◌-◌, ◌*◌, ◌==◌, nat_lt, nat_le, Bool, false, not, ◌&&◌, ◌||◌, length, get_or, slice_get, Option, Some, None, if◌then◌else◌}
+use Rattle.std.specs.Prelude.{ℕ, ◌+◌, ◌==◌, nat_lt, nat_le, Bool, false, not, ◌&&◌, ◌||◌, length, get_or, slice_get, Option, Some, None, if◌then◌else◌}
+use Rattle.spk_sequence.specs.Budget.{budget}
 use Rattle.spk_sequence.specs.Following.{contains}
 use Rattle.spk_sequence.specs.NodeRecord.{Numbering, RunsOn, Restarts}
 use Rattle.spk_sequence.specs.Step.{is_live}
@@ -28,7 +29,7 @@ is_opening n p = start_at n p == p
 
 abbrev pub is_outside_at : ℕ → Bool → Track → ℕ → Bool
 is_outside_at width follows t p =
-    not (nat_le t.reach (p + width)) || (follows && not (nat_lt p (t.reach + (256 - 2 * width))))
+    not (nat_le t.reach (p + width)) || (follows && not (nat_lt p (t.reach + budget width)))
 
 -- 256 or more sessions from that of the birth taken last, either way
 abbrev pub is_far_at : Option ℕ → ℕ → Bool
