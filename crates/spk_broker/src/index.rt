@@ -17,8 +17,7 @@ use crate::out::Draft;
 use crate::session::{Grant, Session};
 use crate::state::State;
 use spk_packets::Packet;
-use spk_topics::laws::{granted, matching};
-use spk_topics::{Filter, Topic, Tree};
+use spk_topics::{Filter, Topic, Tree, laws};
 use std::alloc::{AllocError, Global};
 
 /// The numbers of the sessions that the index finds for a topic; none where there is no index, or where the text is no topic.
@@ -27,7 +26,7 @@ pub(crate) fn reach(tree: &Option<Tree>, topic: &str) -> Result<Option<Vec<(u64,
     ensures passed { IfOk result (λ o. (ss : List plain.Session)
         → IsIndex tree.now ss → ArePassed o topic.now ss) }
 {
-    matching();
+    laws::matching();
     let Some(tree) = tree else {
         return Ok(None);
     };
@@ -73,7 +72,7 @@ fn index(alloc: Global, sessions: &[Session]) -> Result<Option<Tree>, AllocError
     ensures only { IfOk result
         (λ o. IfSome o (λ tree. HasNoOther tree (flat_map session_now sessions.now))) }
 {
-    granted();
+    laws::granted();
     if !is_small(sessions) {
         return Ok(None);
     }

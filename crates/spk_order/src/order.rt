@@ -1,3 +1,4 @@
+//! The order of one node with the payloads that it holds.
 ghost use Rattle.std.specs.Prelude.{◌⊎◌, true, false, ◌≡◌, ℕ, ◌+◌, ◌^◌, ◌<◌, ◌≤◌, map, length, Some, is_some, replicate, IfOk, IfErr, OnOk, OnErr};
 ghost use Rattle.spk_sequence.specs.declared.message.Kind.{Kind};
 ghost use Rattle.spk_sequence.specs.declared.answer.Step.{Step};
@@ -12,8 +13,7 @@ ghost use Rattle.spk_order.specs.Ordered.{IsKept};
 ghost use Rattle.spk_order.specs.Step.{consumed_with, handed, stands_so, fresh_order, IsAlone};
 
 use crate::slots::{empty_slots, place, settle};
-use spk_sequence::laws::numbers;
-use spk_sequence::{Gap, Kind, Loss, Match, Sequence, Step, Width};
+use spk_sequence::{Gap, Kind, Loss, Match, Sequence, Step, Width, laws};
 use std::alloc::{AllocError, Global};
 use std::fmt;
 use std::marker::Model;
@@ -227,7 +227,7 @@ fn room_for(sequence: &Sequence, is_any_held: bool) -> usize
     ensures enough { (number now n : ℕ) (kind : Kind) → number < 256
         → (hand sequence.now number kind now).0 ≡ Step.Consumed n → n ≤ result }
 {
-    numbers();
+    laws::numbers();
     if is_any_held { 96 } else { 1 }
 }
 

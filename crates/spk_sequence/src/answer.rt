@@ -1,3 +1,5 @@
+//! What became of a message, a death or a moment, and what was lost by it.
+
 /// What became of a message that was handed in.
 #[derive(Clone, Copy, Debug, PartialEq, Eq)]
 pub enum Step {

@@ -1,3 +1,5 @@
+//! What a host knows of a numbered message.
+
 /// What a host knows of a message that carries a sequence number, beside that number.
 /// Timestamps are in milliseconds (Sparkplug 3.0.0, chapter 6).
 #[derive(Clone, Copy, Debug, PartialEq, Eq)]

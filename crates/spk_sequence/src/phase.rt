@@ -1,3 +1,5 @@
+//! How a host stands to a node.
+
 /// How a host stands to a node.
 #[derive(Clone, Copy, Debug, PartialEq, Eq)]
 pub enum Phase {

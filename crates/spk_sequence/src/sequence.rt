@@ -1,3 +1,4 @@
+//! The order of one node by sequence numbers: what comes next, what is held, and what was lost.
 ghost use Rattle.std.specs.Prelude.{◌≡◌, ℕ, ◌+◌, ◌^◌, ◌<◌, ◌≤◌, ◌==◌, nat_le, is_some, if◌then◌else◌, Option, None};
 ghost use Rattle.spk_sequence.specs.Data.{Standing, IsWhole, held_at};
 ghost use Rattle.spk_sequence.specs.Due.{has_come};

@@ -1,3 +1,4 @@
+//! The slots of the reorder window.
 ghost use Rattle.std.specs.Prelude.{◌≡◌, ℕ, ◌+◌, ◌%◌, ◌<◌, ◌≤◌, List, length, get_or, set, replicate, Option, Some, None, not, is_some, if◌then◌else◌, nat_lt};
 ghost use Rattle.std.specs.List.{list_any};
 ghost use Rattle.spk_sequence.specs.Step.{run_of, is_kept};

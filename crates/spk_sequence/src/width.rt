@@ -1,3 +1,4 @@
+//! The width of the reorder window.
 ghost use Rattle.spk_sequence.specs.Budget.{budget};
 ghost use Rattle.std.specs.Prelude.{◌≡◌, ◌-◌, ◌*◌, ◌<◌, ◌≤◌, ◌↔◌, IsSome, IfSome};
 

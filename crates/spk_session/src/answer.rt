@@ -1,3 +1,5 @@
+//! What is sent to a client, and what becomes of one that couldn't take it.
+
 /// What was to be sent to a client that couldn't take it.
 #[derive(Clone, Copy, Debug, PartialEq, Eq)]
 pub enum Sort {

@@ -1,3 +1,4 @@
+//! How many dropped sends a client may have.
 ghost use Rattle.std.specs.Prelude.{◌≡◌};
 ghost use Rattle.spk_session.specs.Parts.{fresh_drops, drops_verdict, drops_after, drops_reopened};
 

@@ -1,3 +1,4 @@
+//! The packet identifiers of a client (MQTT 3.1.1, 2.3.1).
 ghost use Rattle.std.specs.Prelude.{◌≡◌, IfOk};
 ghost use Rattle.spk_session.specs.Data.{AreWhole};
 ghost use Rattle.spk_session.specs.PacketIds.{is_in, IsNextFree};

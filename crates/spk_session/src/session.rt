@@ -1,3 +1,4 @@
+//! A client's packet identifiers and its dropped sends, in one.
 ghost use Rattle.std.specs.Prelude.{◌≡◌, IfOk};
 ghost use Rattle.spk_session.specs.Data.{Standing, IsWhole};
 ghost use Rattle.spk_session.specs.PacketIds.{is_in, IsNextFree};

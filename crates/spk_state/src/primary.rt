@@ -1,3 +1,4 @@
+//! How an edge node hears its primary host.
 ghost use Rattle.std.specs.Prelude.{◌≡◌, Option, None};
 ghost use Rattle.spk_state.specs.Step.{heard_as, after_heard};
 

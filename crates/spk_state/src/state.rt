@@ -1,3 +1,4 @@
+//! The payload of a STATE (Sparkplug 3.0.0, chapter 6).
 ghost use Rattle.std.specs.Prelude.{◌≡◌, ◌^◌, ◌<◌, ◌⊎◌, Some, option_and_then, string_bytes, IfOk, IfErr};
 ghost use Rattle.serde_json.specs.Read.{read};
 ghost use Rattle.serde_json.specs.View.{view};

@@ -110,7 +110,7 @@ impl Store {
         self.lost
     }
 
-    // Whether the change at a place is of an owner.
+    /// Whether the change at a place is of an owner.
     fn is_of(&self, place: usize, owner: Owner) -> bool
         ensures { result ≡ is_at owner (slice_get self.now.items place) }
     {
@@ -120,7 +120,7 @@ impl Store {
         }
     }
 
-    // So many more are lost.
+    /// So many more are lost.
     fn count(&mut self, n: u64)
         ensures items { self.new.items ≡ self.old.items }
         ensures capacity { self.new.capacity ≡ self.old.capacity }
@@ -129,7 +129,7 @@ impl Store {
         self.lost = self.lost.saturating_add(n);
     }
 
-    // How many changes at the front are of an owner, but no more than `max`.
+    /// How many changes at the front are of an owner, but no more than `max`.
     fn run_of_owner(&self, owner: Owner, max: usize) -> usize
         ensures { result ≡ min max (prefix_len (is_of owner) self.now.items) }
     {

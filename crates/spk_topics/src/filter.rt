@@ -48,14 +48,14 @@ impl<'a> Filter<'a> {
     }
 }
 
-// Whether a level has no wildcard, or one that may stand there.
+/// Whether a level has no wildcard, or one that may stand there.
 fn is_placed(level: &str, is_last: bool) -> bool
     ensures { result ≡ is_placed level.now is_last }
 {
     is_plain(level) || level == "+" || (level == "#" && is_last)
 }
 
-// Whether each wildcard of a filter's text stands where it may.
+/// Whether each wildcard of a filter's text stands where it may.
 fn has_wildcards_in_place(text: &str) -> bool
     ensures { result ≡ in_place (levels text.now) }
 {

@@ -8,7 +8,7 @@ use crate::fault::TopicFault;
 use std::alloc::Global;
 use std::collections::BTreeMap;
 
-// The QoS that a key has at least.
+/// The QoS that a key has at least.
 fn raise(found: &mut BTreeMap<u64, u8>, key: u64, qos: u8) -> Result<(), TopicFault>
     ensures ok { OnOk result
         ((j : ℕ)

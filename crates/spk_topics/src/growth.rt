@@ -38,7 +38,7 @@ impl Nodes {
         }
     }
 
-    // Makes the root, if it isn't there yet.
+    /// Makes the root, if it isn't there yet.
     fn plant(&mut self, alloc: Global) -> Result<(), TopicFault>
         requires { IsWhole self.old }
         ensures whole { IsWhole self.new }
@@ -52,7 +52,7 @@ impl Nodes {
         Ok(())
     }
 
-    // The first unused node, or a new one.
+    /// The first unused node, or a new one.
     fn unused_node(&mut self, alloc: Global) -> Result<usize, TopicFault>
         requires { 0 < vec_len self.old.list }
         ensures whole { (at : ℕ) → IsWholeBut self.old at → IsWholeBut self.new at }
@@ -74,7 +74,7 @@ impl Nodes {
         Ok(number)
     }
 
-    // Lets a level that leads nowhere yet lead from a node to the new one of a filter.
+    /// Lets a level that leads nowhere yet lead from a node to the new one of a filter.
     fn add_leaf(
         &mut self,
         alloc: Global,
@@ -104,7 +104,7 @@ impl Nodes {
         }
     }
 
-    // The same, but where it fails, the node stays as it is.
+    /// The same, but where it fails, the node stays as it is.
     fn link(
         &mut self,
         alloc: Global,
@@ -137,7 +137,7 @@ impl Nodes {
         Ok(child)
     }
 
-    // The node of a filter that parts from the edge to a child.
+    /// The node of a filter that parts from the edge to a child.
     fn grow_inside(
         &mut self,
         alloc: Global,
@@ -170,8 +170,8 @@ impl Nodes {
         self.add_leaf(alloc, filter, place, next)
     }
 
-    // The first level of the edge to a child that the rest of a filter doesn't share, and what is left of the
-    // filter there.
+    /// The first level of the edge to a child that the rest of a filter doesn't share, and what is left of the
+    /// filter there.
     fn parting<'a>(
         &self,
         alloc: Global,
@@ -198,7 +198,7 @@ impl Nodes {
         Ok((key, left))
     }
 
-    // Puts a new node into the edge to a child, where a key leads on to the child.
+    /// Puts a new node into the edge to a child, where a key leads on to the child.
     fn split(
         &mut self,
         alloc: Global,
@@ -234,7 +234,7 @@ impl Nodes {
         Ok(place)
     }
 
-    // The same with the first unused node, for which there is all that it needs. It takes no memory.
+    /// The same with the first unused node, for which there is all that it needs. It takes no memory.
     fn set_between(
         &mut self,
         number: usize,
@@ -279,7 +279,7 @@ impl Nodes {
         }
     }
 
-    // Takes a node off the tree if it has no grants and no child, and says which one was above it.
+    /// Takes a node off the tree if it has no grants and no child, and says which one was above it.
     fn free_leaf(&mut self, number: usize) -> Option<usize>
         requires { IsWholeBut self.old number }
         ensures whole { MatchOption result (IsWholeBut self.new number)
@@ -296,8 +296,8 @@ impl Nodes {
         Some(edge.parent)
     }
 
-    // Takes a node without grants out of its edge if one child alone hangs on it. The child hangs on the node
-    // above then.
+    /// Takes a node without grants out of its edge if one child alone hangs on it. The child hangs on the node
+    /// above then.
     fn join(&mut self, number: usize)
         requires whole { IsWholeBut self.old number }
         requires stays { StaysIn self.old number }

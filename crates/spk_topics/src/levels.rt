@@ -20,7 +20,7 @@ pub(crate) fn cut(text: &str) -> (&str, Option<&str>)
     (&text[..end], Some(&text[end + 1..]))
 }
 
-// The place of the first slash, or the text's length. A loop over bytes takes a third of the time of a search for a character.
+/// The place of the first slash, or the text's length. A loop over bytes takes a third of the time of a search for a character.
 fn end_of_level(text: &str) -> usize
     ensures first { result ≡ position_or_len (λ b. b == 47) text.now }
     ensures within { result ≤ length text.now }

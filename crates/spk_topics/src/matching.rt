@@ -25,7 +25,7 @@ pub fn matches_text(filter: &str, topic: &str) -> bool
     !is_barred(filter, topic) && fits(filter, topic)
 }
 
-// Whether a filter that starts with a wildcard stands before a topic that begins with `$`.
+/// Whether a filter that starts with a wildcard stands before a topic that begins with `$`.
 pub(crate) fn is_barred(filter: &str, topic: &str) -> bool
     ensures { result ≡ is_barred filter.now topic.now }
 {
@@ -43,7 +43,7 @@ pub(crate) fn begins_with_dollar(topic: &str) -> bool
     topic.starts_with('$')
 }
 
-// Whether the levels of a filter fit those of a topic.
+/// Whether the levels of a filter fit those of a topic.
 fn fits(filter: &str, topic: &str) -> bool
     ensures { result ≡ fits (levels filter.now) (levels topic.now) }
 {

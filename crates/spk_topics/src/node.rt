@@ -180,7 +180,7 @@ impl Children {
         }
     }
 
-    // Whether no edge leads on.
+    /// Whether no edge leads on.
     fn are_none(&self) -> bool
         ensures none { IsTrue result → (l : List ℕ) → ways_of self.now l ≡ None }
         ensures some { result ≡ false → (l : List ℕ) × (n : ℕ) × (ways_of self.now l ≡ Some n) }
@@ -192,7 +192,7 @@ impl Children {
         }
     }
 
-    // The number of the node below, if there is a single one.
+    /// The number of the node below, if there is a single one.
     fn only(&self) -> Option<usize>
         ensures one { IfSome result (λ n. HasOne (ways_of self.now) n) }
         ensures none { IfNone result
@@ -272,7 +272,7 @@ impl Children {
 }
 
 impl Branch {
-    // The number of the node, if the edge begins with a level.
+    /// The number of the node, if the edge begins with a level.
     fn get(&self, level: &str) -> Option<usize>
         ensures { result ≡ only_way self.now level.now }
     {
@@ -283,7 +283,7 @@ impl Branch {
         }
     }
 
-    // A map of the edge and of another one, which goes before it.
+    /// A map of the edge and of another one, which goes before it.
     fn with(
         &self,
         alloc: Global,
@@ -304,7 +304,7 @@ impl Branch {
     }
 }
 
-// The value of a map, if it has a single one.
+/// The value of a map, if it has a single one.
 fn only_of(branches: &BTreeMap<String, usize>) -> Option<usize>
     ensures one { IfSome result (λ n. HasOne (ways_of (Children.Many branches.now)) n) }
     ensures none { IfNone result
@@ -320,7 +320,7 @@ fn only_of(branches: &BTreeMap<String, usize>) -> Option<usize>
     }
 }
 
-// Sets the value of a key that is there.
+/// Sets the value of a key that is there.
 fn turn_in(branches: &mut BTreeMap<String, usize>, level: &str, number: usize)
     requires { (n : ℕ) × (ways_of (Children.Many branches.old) level.now ≡ Some n) }
     ensures { (l : List ℕ)

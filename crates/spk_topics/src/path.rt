@@ -12,7 +12,7 @@ use crate::levels::{cut, part};
 use crate::nodes::Nodes;
 
 impl Nodes {
-    // Where the levels behind a node's path begin in a path that goes on from it.
+    /// Where the levels behind a node's path begin in a path that goes on from it.
     fn end_of(&self, number: usize) -> usize
         ensures { result ≡ path_end (rows_of self.now) number }
     {
@@ -61,7 +61,7 @@ impl Nodes {
         (number, left)
     }
 
-    // The child to which a text leads along a whole edge, and what is left of the text there.
+    /// The child to which a text leads along a whole edge, and what is left of the text there.
     fn follow<'a>(&self, number: usize, text: &'a str) -> Option<(usize, Option<&'a str>)>
         requires { IsTreeIn self.now }
         ensures on { IfSome result (λ step. IsOnIn self.now step.0) }

@@ -92,7 +92,7 @@ impl Spark {
         Ok(self.spelled(alloc)?)
     }
 
-    // Whether each of its names may stand in a topic.
+    /// Whether each of its names may stand in a topic.
     fn has_names(&self) -> bool
         ensures { result ≡ has_names (named self.now) }
     {
@@ -108,7 +108,7 @@ impl Spark {
         }
     }
 
-    // Its levels with slashes between them.
+    /// Its levels with slashes between them.
     fn spelled(&self, alloc: Global) -> Result<String, AllocError>
         ensures { IfOk result (λ t. string_bytes t ≡ topic_of (named self.now)) }
     {
@@ -132,7 +132,7 @@ impl Spark {
 }
 
 impl<'a> Parts<'a> {
-    // The same names with memory of their own.
+    /// The same names with memory of their own.
     fn owned(self, alloc: Global) -> Result<Spark, AllocError>
         ensures { IfOk result (λ s. named s ≡ parts_named self.entry) }
     {
@@ -155,7 +155,7 @@ impl<'a> Parts<'a> {
     }
 }
 
-// The names in a text, if it is a Sparkplug topic.
+/// The names in a text, if it is a Sparkplug topic.
 fn parse(text: &str) -> Option<Parts<'_>>
     ensures found { IfSome result
         (λ p. IsTrue (has_names (parts_named p))
@@ -176,7 +176,7 @@ fn parse(text: &str) -> Option<Parts<'_>>
     }
 }
 
-// The names of an edge node or of a device, whose levels from the third on are the kind and the rest.
+/// The names of an edge node or of a device, whose levels from the third on are the kind and the rest.
 fn parse_named<'a>(group: &'a str, kind: &'a str, rest: &'a str) -> Option<Parts<'a>>
     ensures found { IfSome result
         (λ p. IsTrue (has_names (parts_named p))
@@ -202,7 +202,7 @@ fn parse_named<'a>(group: &'a str, kind: &'a str, rest: &'a str) -> Option<Parts
     }
 }
 
-// Whether a byte stands in a text that no name has. One pass serves, since names are short.
+/// Whether a byte stands in a text that no name has. One pass serves, since names are short.
 fn has_barred(text: &str) -> bool
     ensures { result ≡ list_any (λ b. b == 47 || b == 43 || b == 35 || b == 0) text.now }
 {
@@ -242,7 +242,7 @@ pub fn device_type(kind: Verb) -> &'static str
     }
 }
 
-// What an edge node's third level says.
+/// What an edge node's third level says.
 fn node_verb(kind: &str) -> Option<Verb>
     ensures some { IfSome result (λ verb. node_type verb ≡ kind.now) }
     ensures none { IfNone result ((verb : Verb) → node_type verb ≢ kind.now) }
@@ -260,7 +260,7 @@ fn node_verb(kind: &str) -> Option<Verb>
     }
 }
 
-// What a device's third level says.
+/// What a device's third level says.
 fn device_verb(kind: &str) -> Option<Verb>
     ensures some { IfSome result (λ verb. device_type verb ≡ kind.now) }
     ensures none { IfNone result ((verb : Verb) → device_type verb ≢ kind.now) }

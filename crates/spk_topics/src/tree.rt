@@ -126,7 +126,7 @@ fn grant_in(
     }
 }
 
-// The node of a filter's grants, or a new one for them.
+/// The node of a filter's grants, or a new one for them.
 fn place_for(alloc: Global, nodes: &mut Nodes, filter: &str) -> Result<usize, TopicFault>
     requires { IsWhole nodes.old }
     ensures whole { IfOk result (λ n. IsWholeBut nodes.new n) }

@@ -53,8 +53,8 @@ impl Nodes {
         Ok(found)
     }
 
-    // The first front, and what is left of the topic then. No wildcard leads on from the root where the
-    // topic begins with `$`.
+    /// The first front, and what is left of the topic then. No wildcard leads on from the root where the
+    /// topic begins with `$`.
     fn begin<'a, 'b>(
         &'a self,
         alloc: Global,
@@ -79,7 +79,7 @@ impl Nodes {
         Ok((front, Some(topic)))
     }
 
-    // The root, to which no level leads.
+    /// The root, to which no level leads.
     fn root(&self) -> Ahead<'_>
         ensures { way_of result ≡ (0, []) }
     {
@@ -89,7 +89,7 @@ impl Nodes {
         }
     }
 
-    // The nodes to which a level of the topic leads from those of the front, in place of what `next` held, with what `#` there matches.
+    /// The nodes to which a level of the topic leads from those of the front, in place of what `next` held, with what `#` there matches.
     fn pass<'a>(
         &'a self,
         front: &[Ahead<'a>],
@@ -111,7 +111,7 @@ impl Nodes {
         Ok(())
     }
 
-    // Goes on by one level of the topic, along the edge to a node or from the node itself.
+    /// Goes on by one level of the topic, along the edge to a node or from the node itself.
     fn step<'a>(
         &'a self,
         ahead: &Ahead<'a>,
@@ -134,7 +134,7 @@ impl Nodes {
         }
     }
 
-    // Goes on along the edge to a node by `+` or the level, and gathers what `#` there matches.
+    /// Goes on along the edge to a node by `+` or the level, and gathers what `#` there matches.
     fn step_along<'a>(
         &'a self,
         number: usize,
@@ -180,7 +180,7 @@ impl Nodes {
         self.gather_at(number, topic, found)
     }
 
-    // Goes on from a node by `+` and by the level, and gathers what `#` there matches.
+    /// Goes on from a node by `+` and by the level, and gathers what `#` there matches.
     fn step_from<'a>(
         &'a self,
         number: usize,
@@ -236,7 +236,7 @@ impl Nodes {
         Ok(())
     }
 
-    // Gathers what stands where all levels of the topic lead, and what `#` there matches.
+    /// Gathers what stands where all levels of the topic lead, and what `#` there matches.
     fn arrive(
         &self,
         front: &[Ahead<'_>],
@@ -257,7 +257,7 @@ impl Nodes {
         Ok(())
     }
 
-    // Gathers the grants of the node to which a level leads, if they match.
+    /// Gathers the grants of the node to which a level leads, if they match.
     fn gather_below(
         &self,
         number: usize,
@@ -276,7 +276,7 @@ impl Nodes {
         }
     }
 
-    // Gathers the grants of a node, if its path matches the topic.
+    /// Gathers the grants of a node, if its path matches the topic.
     fn gather_at(
         &self,
         number: usize,
