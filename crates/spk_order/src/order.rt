@@ -93,7 +93,7 @@ impl<T: Drop> Order<T> {
         ensures unchanged { OnErr result (self.new ≡ self.old) }
         ensures whole { IsKept self.new.standing self.new.kept }
     {
-        numbers();
+        laws::numbers();
         let is_any_held = self.sequence.is_any_held();
         let room = room_for(&self.sequence, is_any_held);
         let Ok(consumed) = Vec::with_capacity(self.alloc, room) else {
@@ -112,7 +112,7 @@ impl<T: Drop> Order<T> {
         ensures data { (payload : T) → self.new ≡ handed self.old number kind payload now }
         ensures whole { IsKept self.new.standing self.new.kept }
     {
-        numbers();
+        laws::numbers();
         let is_any_held = self.sequence.is_any_held();
         let passed = self.sequence.hand(number, kind, now);
         settle(
@@ -129,7 +129,7 @@ impl<T: Drop> Order<T> {
         ensures data { self.new ≡ stands_so (tick self.old.standing now) self.old.kept }
         ensures whole { IsKept self.new.standing self.new.kept }
     {
-        numbers();
+        laws::numbers();
         let gap = self.sequence.tick(now);
         settle(&mut self.slots, &self.sequence, gap.is_some());
         gap
@@ -141,7 +141,7 @@ impl<T: Drop> Order<T> {
         ensures data { self.new ≡ stands_so (death self.old.standing bd) self.old.kept }
         ensures whole { IsKept self.new.standing self.new.kept }
     {
-        numbers();
+        laws::numbers();
         let is_any_held = self.sequence.is_any_held();
         let answer = self.sequence.death(bd);
         settle(

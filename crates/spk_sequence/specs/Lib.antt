@@ -1,3 +1,4 @@
+pub mod Budget
 pub mod Calls
 pub mod Claims
 pub mod Consecutive
