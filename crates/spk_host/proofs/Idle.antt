@@ -45,7 +45,7 @@ no_requests now (e ∷ nodes) idle =
     ∙ no_requests now nodes (rest_still now e nodes idle)
 
 out_of : List Step → List Named → List Message → OutData
-out_of steps rebirths packets = record { consumed = []; steps = steps; rebirths = rebirths; packets = spelled packets }
+out_of steps rebirths packets = record { consumed = []; steps = steps; death = None; rebirths = rebirths; packets = spelled packets }
 
 -- a moment hands out what it does without a node
 pub still_out : (nodes : List Entry) (now due : ℕ) → now < due → AreStillUntil due nodes → tick_out [] now ≡ tick_out nodes now

@@ -1,5 +1,6 @@
 pub mod Along
 pub mod Asked
+pub mod Deaths
 pub mod Found
 pub mod Fresh
 pub mod Heard

@@ -1,5 +1,5 @@
 -- Requests to a node: one more, and those of a longer list.
-use Rattle.std.proofs.Common.{◌≡◌, ◌∙◌, sym, ap, refl, ℕ, zero, suc, ◌+◌, ◌≤◌, Bool, true, false, List, [], ◌∷◌, ◌++◌, map, length, take, append_assoc}
+use Rattle.std.proofs.Common.{◌≡◌, ◌∙◌, sym, ap, refl, ℕ, zero, suc, ◌+◌, ◌≤◌, Bool, true, false, List, [], ◌∷◌, ◌++◌, map, length, take, append_assoc, None}
 use Rattle.std.specs.Prelude.{replicate, if◌then◌else◌}
 use Rattle.std.proofs.lemmas.List.{length-map, map-append, replicate-append-replicate, take-map, take-replicate}
 use Rattle.std.proofs.Math.Seq.{take-append-add}
@@ -72,7 +72,7 @@ requests_cut see new all first acks group node now k most size is are acked size
     ∙ sym (map-append spelling acks (requests_to group node now k))
 
 abbrev pub out_of : List NumberedData → List Step → List Named → List (List ℕ) → OutData
-out_of cs ss rs ps = record { consumed = cs; steps = ss; rebirths = rs; packets = ps }
+out_of cs ss rs ps = record { consumed = cs; steps = ss; death = None; rebirths = rs; packets = ps }
 
 pub same_out : {cs ds : List NumberedData} {ss ts : List Step} {rs qs : List Named} {ps os : List (List ℕ)} → cs ≡ ds → ss ≡ ts → rs ≡ qs →
     ps ≡ os → out_of cs ss rs ps ≡ out_of ds ts qs os

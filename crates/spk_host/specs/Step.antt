@@ -5,6 +5,7 @@ use Rattle.spk_packets.specs.Message.{Message, PubAck}
 use Rattle.spk_packets.specs.Spelling.{spelling}
 use Rattle.spk_sequence.specs.declared.answer.Step.{Step}
 use Rattle.spk_sequence.specs.declared.answer.Step.TheVariants as step
+use Rattle.spk_sequence.specs.Data.{Standing}
 use Rattle.spk_sequence.specs.Step as sequence
 use Rattle.spk_topics.specs.Spark.{Named}
 use Rattle.spk_topics.specs.Spark.Named.{of_node}
@@ -47,7 +48,7 @@ abbrev pub requests_to : List ℕ → List ℕ → ℕ → ℕ → List Message
 requests_to group name now count = if is_address group name then replicate count (rebirth_of group name now) else []
 
 abbrev pub nothing : OutData
-nothing = record { consumed = []; steps = []; rebirths = []; packets = [] }
+nothing = record { consumed = []; steps = []; death = None; rebirths = []; packets = [] }
 
 abbrev pub sends : List Message → OutData
 sends packets = record nothing { packets = spelled packets }
@@ -59,18 +60,29 @@ abbrev pub message_out : NodeData → Option ℕ → NumberedData → ℕ → Ou
 message_out n ack m now = record {
   consumed = node.taken_of n.order m now;
   steps = node.step_of n.order m now ∷ [];
+  death = None;
   rebirths = topics_to m.group m.node (node.requests_of n m now);
   packets = spelled (acks ack ++ requests_to m.group m.node now (node.requests_of n m now));
 }
+
+-- ---- an NDEATH of a node, with its bdSeq
+
+-- the acknowledgement, and whether it is that of the session of the birth taken last
+abbrev pub death_out : Standing → Option ℕ → ℕ → OutData
+death_out s ack bd = record (sends (acks ack)) { death = Some (sequence.match_of s bd) }
 
 -- ---- a packet
 
 abbrev pub fresh : HostData → NodeData
 fresh h = fresh_node h.session.config.wait h.session.config.width
 
+-- how the order of a node stands, one that was never heard included
+abbrev pub standing_of : HostData → (group name : List ℕ) → Standing
+standing_of h group name = (node_or (fresh h) h.nodes group name).order.standing
+
 abbrev pub published_out : HostData → Option ℕ → ContentData → ℕ → OutData
 published_out h ack (said.Message m) now = message_out (node_or (fresh h) h.nodes m.group m.node) ack m now
-published_out h ack (said.Death group name bd) now = sends (acks ack)
+published_out h ack (said.Death group name bd) now = death_out (standing_of h group name) ack bd
 published_out h ack said.Nothing now = sends (acks ack)
 
 abbrev pub nodes_after : HostData → ContentData → ℕ → List Entry
@@ -130,6 +142,7 @@ abbrev pub tick_out : List Entry → ℕ → OutData
 tick_out nodes now = record {
   consumed = [];
   steps = gaps_at now nodes;
+  death = None;
   rebirths = topics_at now nodes;
   packets = spelled (requests_at now nodes);
 }

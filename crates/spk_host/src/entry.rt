@@ -2,12 +2,13 @@
 ghost use Rattle.std.specs.Prelude.{◌≡◌, ◌≤◌, map, IfOk, OnOk, OnErr, string_bytes};
 ghost use Rattle.spk_reading.specs.View.{numbered_view};
 ghost use Rattle.spk_host_node.specs.Data.{fresh_node};
+ghost use Rattle.spk_sequence.specs.Step as sequence;
 ghost use Rattle.spk_host_node.specs.Step as node;
 ghost use Rattle.spk_host.specs.Step as step;
 
 use spk_host_node::{Handed, HostNode};
 use spk_reading::Numbered;
-use spk_sequence::Width;
+use spk_sequence::{Match, Width};
 use spk_view::NodeView;
 use std::alloc::{AllocError, Global};
 use std::fmt;
@@ -94,10 +95,11 @@ impl Entry {
     }
 
     /// An NDEATH of it.
-    pub(crate) fn death(&mut self, bd: u8)
-        ensures { self.new ≡ record self.old { kept = node.death self.old.kept bd } }
+    pub(crate) fn death(&mut self, bd: u8) -> Match
+        ensures answer { result ≡ sequence.match_of self.old.kept.order.standing bd }
+        ensures data { self.new ≡ record self.old { kept = node.death self.old.kept bd } }
     {
-        let _answer = self.kept.death(bd);
+        self.kept.death(bd)
     }
 
     /// A moment.

@@ -26,7 +26,7 @@ use crate::nodes::Nodes;
 use crate::out::Out;
 use spk_host_session::{HostConfig, HostFault, HostSession};
 use spk_reading::{Content, Heard, Numbered, ReadFault, read};
-use spk_sequence::{Loss, Phase};
+use spk_sequence::{Loss, Match, Phase};
 use spk_view::NodeView;
 use std::alloc::{AllocError, Global};
 use std::fmt;
@@ -84,6 +84,24 @@ fn sent(alloc: Global, packets: Vec<Vec<u8>>) -> Out
     Out {
         consumed: Vec::new(alloc),
         steps: Vec::new(alloc),
+        death: None,
+        rebirths: Vec::new(alloc),
+        packets,
+    }
+}
+
+/// What an NDEATH is answered by.
+fn answered_death(alloc: Global, packets: Vec<Vec<u8>>, answer: Match) -> Out
+    ensures said { out_view result ≡ record step.nothing {
+      death = Some answer;
+      packets = map (λ b. b.items) packets.items;
+    } }
+    ensures whole { All (λ b. IsPacket b.items) packets.items → AreWhole result }
+{
+    Out {
+        consumed: Vec::new(alloc),
+        steps: Vec::new(alloc),
+        death: Some(answer),
         rebirths: Vec::new(alloc),
         packets,
     }
@@ -171,8 +189,8 @@ impl Host {
             }
             Content::Death { group, node, bd } => {
                 let packets = acknowledged(self.alloc, ack)?;
-                self.nodes.hear_death(group.as_str(), node.as_str(), bd);
-                Ok(sent(self.alloc, packets))
+                let answer = self.nodes.hear_death(group.as_str(), node.as_str(), bd);
+                Ok(answered_death(self.alloc, packets, answer))
             }
             Content::Nothing => Ok(sent(self.alloc, acknowledged(self.alloc, ack)?)),
         }
@@ -211,7 +229,7 @@ impl Host {
     }
 
     /// The bytes of a packet came at a moment, in milliseconds. Of what they say (`spk_reading`) a PUBLISH at QoS 1 is acknowledged
-    /// first; a message of a node is handed to it, an NDEATH is told it; CONNACK 0 is answered by SUBSCRIBE, SUBACK by STATE online;
+    /// first; a message of a node is handed to it, an NDEATH is told it, and the answer says whether it matched; CONNACK 0 is answered by SUBSCRIBE, SUBACK by STATE online;
     /// a CONNACK with another code ends the session.
     ///
     /// Refused with WrongPhase (75) outside a session, and then with what `spk_reading::read` refuses (70 to 74). A packet that is

@@ -1,5 +1,8 @@
 //! Laws of the definitions alone: functions that do nothing, whose contracts speak of definitions.
-ghost use Rattle.std.specs.Prelude.{◌≡◌, ◌++◌, ℕ, false, List, [], Option, map, replicate};
+ghost use Rattle.std.specs.Prelude.{◌≡◌, ◌++◌, ℕ, false, List, [], Option, Some, None, map, replicate, if◌then◌else◌};
+ghost use Rattle.spk_sequence.specs.Step.{is_live, match_of};
+ghost use Rattle.spk_sequence.specs.declared.answer.Match.TheVariants.{Matched, Ignored};
+ghost use Rattle.spk_sequence.specs.declared.phase.Phase.TheVariants.{Live, Dead};
 ghost use Rattle.spk_reading.specs.Data.{NumberedData, Published, Answered, Granted, Other, Message, Death, Nothing};
 ghost use Rattle.spk_topics.specs.Spark.Named.{of_node};
 ghost use Rattle.spk_topics.specs.declared.spark.Verb.TheVariants.{Command};
@@ -13,7 +16,7 @@ ghost use Rattle.spk_host.specs.Index.{names_of};
 ghost use Rattle.spk_host.specs.Inputs.{Call, host_after, host_with, is_same, node_calls, with_node_call};
 ghost use Rattle.spk_host.specs.Nodes.{change_node, node_or, put_node};
 ghost use Rattle.spk_host.specs.Requests.{asked_at_moment, asked_by, heard_names, request_to};
-ghost use Rattle.spk_host.specs.Step.{acks, fresh, over_entry, packet_out, spelled, tick_entry, tick_out, topics_to};
+ghost use Rattle.spk_host.specs.Step.{acks, after_packet, fresh, over_entry, packet_out, spelled, standing_of, tick_entry, tick_out, topics_to};
 
 /// Of the list of nodes: what each change of it does to what is kept of a node, one that was never heard included.
 pub fn nodes()
@@ -126,3 +129,44 @@ pub fn addressed()
     ensures tick { (nodes : List Entry) (now : ℕ) → let out = tick_out nodes now in
         out.packets ≡ spelled (map (request_to now) out.rebirths) }
 {}
+
+/// What is told of an NDEATH: whether it matched, that is, was of the session of the last birth taken of its node.
+pub fn deaths()
+    // one that is told as matched leaves its node dead, and any other leaves the node's order as it stood
+    ensures matched { (h : HostData) (ack : Option ℕ) (group name : List ℕ) (bd now : ℕ)
+        → let death = Published ack (Death group name bd) in
+        (packet_out h death now).death ≡ Some Matched
+        → (standing_of (after_packet h death now) group name).phase ≡ Dead }
+    ensures ignored { (h : HostData) (ack : Option ℕ) (group name : List ℕ) (bd now : ℕ)
+        → let death = Published ack (Death group name bd) in
+        (packet_out h death now).death ≡ Some Ignored
+        → standing_of (after_packet h death now) group name ≡ standing_of h group name }
+
+    // so of a node that is followed one is told as matched exactly where the node isn't followed behind it
+    ensures followed { (h : HostData) (ack : Option ℕ) (group name : List ℕ) (bd now : ℕ)
+        → let death = Published ack (Death group name bd) in
+        (standing_of h group name).phase ≡ Live
+        → (packet_out h death now).death
+        ≡ Some (if is_live (standing_of (after_packet h death now) group name).phase
+        then Ignored else Matched) }
+
+    // along any list of calls it is the order of the present session alone that tells it
+    ensures order { (config : Config) (calls : List Call) (ack : Option ℕ) (group name : List ℕ)
+        (bd now : ℕ)
+        → (packet_out (host_after config calls) (Published ack (Death group name bd)) now).death
+        ≡ Some (match_of (order_after config.wait config.width
+        (since_end (node_calls calls group name))).standing bd) }
+
+    // and nothing is told of one where none came
+    ensures message { (h : HostData) (ack : Option ℕ) (m : NumberedData) (now : ℕ)
+        → (packet_out h (Published ack (Message m)) now).death ≡ None }
+    ensures command { (h : HostData) (ack : Option ℕ) (now : ℕ)
+        → (packet_out h (Published ack Nothing) now).death ≡ None }
+    ensures answered { (h : HostData) (code now : ℕ)
+        → (packet_out h (Answered code) now).death ≡ None }
+    ensures granted { (h : HostData) (now : ℕ) → (packet_out h Granted now).death ≡ None }
+    ensures other { (h : HostData) (now : ℕ) → (packet_out h Other now).death ≡ None }
+    ensures tick { (nodes : List Entry) (now : ℕ) → (tick_out nodes now).death ≡ None }
+{
+    spk_host_node::laws::any_list();
+}

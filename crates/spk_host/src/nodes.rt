@@ -2,6 +2,7 @@
 ghost use Rattle.std.specs.Prelude.{◌≡◌, ◌<◌, false, ◌++◌, ◌∷◌, ℕ, List, [], None, Some, map, length, slice_get, IfOk, OnOk, OnErr, if◌then◌else◌};
 ghost use Rattle.std.specs.List.{position};
 ghost use Rattle.spk_reading.specs.View.{numbered_view};
+ghost use Rattle.spk_sequence.specs.Step as sequence;
 ghost use Rattle.spk_host_node.specs.Data.{fresh_node};
 ghost use Rattle.spk_host_node.specs.Step as one_node;
 ghost use Rattle.spk_host.specs.Data.{Entry};
@@ -19,7 +20,7 @@ use crate::index::Index;
 use crate::messages::hear_message;
 use crate::out::Out;
 use spk_reading::Numbered;
-use spk_sequence::{Step, Width};
+use spk_sequence::{Match, Step, Width};
 use std::alloc::{AllocError, Global};
 use std::marker::Model;
 
@@ -153,17 +154,20 @@ impl Nodes {
     }
 
     /// An NDEATH of a node. Of a node that was never heard it changes nothing.
-    pub(crate) fn hear_death(&mut self, group: &str, node: &str, bd: u8)
-        ensures { self.new
+    pub(crate) fn hear_death(&mut self, group: &str, node: &str, bd: u8) -> Match
+        ensures answer { (wait width : ℕ) → result ≡ sequence.match_of
+            (spec.node_or (fresh_node wait width) self.old group.now node.now).order.standing bd }
+        ensures nodes { self.new
             ≡ spec.change_node group.now node.now (λ n. one_node.death n bd) self.old }
     {
         match self.place_of(group, node) {
             Some(place) => {
                 let entry = &mut self.entries[place];
-                entry.death(bd);
+                let answer = entry.death(bd);
                 self.due = self.due.min(due_of(entry));
+                answer
             }
-            None => {}
+            None => Match::Ignored,
         }
     }
 
@@ -242,6 +246,7 @@ fn ask_at(alloc: Global, nodes: &[Entry], now: u64) -> Result<Out, AllocError>
     Ok(Out {
         consumed: Vec::new(alloc),
         steps,
+        death: None,
         rebirths,
         packets,
     })

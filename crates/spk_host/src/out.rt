@@ -1,6 +1,6 @@
 //! What a call of a host hands out.
 use spk_reading::Numbered;
-use spk_sequence::Step;
+use spk_sequence::{Match, Step};
 use spk_topics::Spark;
 
 /// A message that was consumed: which node's and about what, its topic as it was published, and its payload.
@@ -13,6 +13,9 @@ pub struct Out {
     pub consumed: Vec<Taken>,
     /// What became of the message that was handed in; or a gap, for each node that had one at a moment.
     pub steps: Vec<Step>,
+    /// Whether the NDEATH that was handed in is that of the session of the last birth taken of its node (Sparkplug 3.0.0, chapter 6 on
+    /// `bdSeq`). None where no NDEATH was handed in.
+    pub death: Option<Match>,
     /// The topics of the rebirth requests.
     pub rebirths: Vec<Spark>,
     /// The bytes of the packets to be sent, in order.

@@ -6,7 +6,7 @@ use crate::network::{Dice, Pair, given, session_of};
 use crate::twin::{Answer, Hearer, Sent, Source};
 use spk_host::{Out, Taken};
 use spk_payload::Raw;
-use spk_sequence::{Phase, Step};
+use spk_sequence::{Match, Phase, Step};
 use std::alloc::{AllocError, Global};
 use std::process::Abort;
 
@@ -72,6 +72,16 @@ fn are_acknowledgements(packets: &[Vec<u8>]) -> bool {
     }
 }
 
+/// Of an NDEATH: its acknowledgement, and that it matched, or not.
+fn is_ended_alike(out: &Out, is_last: bool) -> bool {
+    let matched = if is_last {
+        Match::Matched
+    } else {
+        Match::Ignored
+    };
+    are_acknowledgements(out.packets.as_slice()) && out.death == Some(matched)
+}
+
 /// How many messages a step consumes.
 fn count_of(step: Step) -> usize {
     match step {
@@ -98,6 +108,7 @@ fn is_alike(
         )
         && are_requests(rt, out.packets.as_slice(), node, now, answer.requests)
         && out.rebirths.len() == answer.requests
+        && out.death.is_none()
 }
 
 /// How often each sort of answer came: what became of a message, a gap at a moment, a request, an NDEATH that ended a session.
@@ -256,14 +267,14 @@ impl Run {
         let pair = self.nodes.get_mut(place)?;
         let session = session_of(&mut self.dice, &pair.source, &pair.twin);
         let packet = death(rt, node, session);
-        pair.twin.tell(&pair.source, session);
+        let is_last = pair.twin.tell(&pair.source, session);
         let phase = pair.twin.phase();
         self.count(9, usize::from(phase == Phase::Dead));
-        let is_acknowledged = match told(host, packet.as_slice(), now) {
-            Ok(out) => are_acknowledgements(out.packets.as_slice()),
+        let is_alike = match told(host, packet.as_slice(), now) {
+            Ok(out) => is_ended_alike(&out, is_last),
             Err(_) => false,
         };
-        Some(is_acknowledged && host.phase_of(node.0, node.1) == phase)
+        Some(is_alike && host.phase_of(node.0, node.1) == phase)
     }
 
     fn hear(&mut self, place: usize) {

@@ -8,6 +8,8 @@ mod beside_twin;
 #[cfg(test)]
 mod bytes;
 #[cfg(test)]
+mod ends;
+#[cfg(test)]
 mod foreseen;
 #[cfg(test)]
 mod host;

@@ -375,12 +375,14 @@ impl Hearer {
         Answer { step, requests }
     }
 
-    /// The NDEATH of a session near that of the birth taken last is handed.
-    pub(crate) fn tell(&mut self, node: &Source, session: u64) {
-        if self.session(node) == Some(session) {
+    /// The NDEATH of a session near that of the birth taken last is handed: whether it is that one's.
+    pub(crate) fn tell(&mut self, node: &Source, session: u64) -> bool {
+        let is_last = self.session(node) == Some(session);
+        if is_last {
             self.dead = true;
             self.stop();
         }
+        is_last
     }
 
     /// A moment comes: None without a gap, or else how many requests are due.
