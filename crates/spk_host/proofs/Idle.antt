@@ -11,9 +11,10 @@ use Rattle.spk_host_node.specs.Step.{tick}
 use Rattle.spk_host.specs.Data.{Entry, OutData}
 use Rattle.spk_host.specs.Idle.{AreStillUntil, IsInOrder, IsStillUntil}
 use Rattle.spk_host.specs.Index.{IndexData, IsIndexed, names_of}
-use Rattle.spk_host.specs.Step.{gaps_at, requests_at, requests_to, spelled, tick_entry, tick_out, topics_at, topics_to}
+use Rattle.spk_host.specs.Step.{gap_places, gaps_at, requests_at, requests_to, spelled, tick_entry, tick_out, topics_at, topics_to}
 use Rattle.spk_topics.specs.Spark.{Named}
 use Rattle.spk_packets.specs.Message.{Message}
+use Rattle.spk_host.proofs.GapPlaces.{no-gap-places}
 use Rattle.spk_host.proofs.Indexed.{indexed-lent, indexed-set, lent-all}
 use Rattle.spk_host.proofs.Mapped.{same-some}
 
@@ -44,18 +45,19 @@ no_requests now (e ∷ nodes) idle =
     ap (λ b. (if b && rules.asks e.kept.order.standing.wait e.kept.watch (Gap now) then requests_to e.group e.node now 1 else []) ++ requests_at now nodes) (idle 0 e refl).0
     ∙ no_requests now nodes (rest_still now e nodes idle)
 
-out_of : List Step → List Named → List Message → OutData
-out_of steps rebirths packets = record { consumed = []; steps = steps; death = None; rebirths = rebirths; packets = spelled packets }
+out_of : List Step → List ℕ → List Named → List Message → OutData
+out_of steps gaps rebirths packets = record { consumed = []; steps = steps; gaps = gaps; death = None; rebirths = rebirths; packets = spelled packets }
 
 -- a moment hands out what it does without a node
 pub still_out : (nodes : List Entry) (now due : ℕ) → now < due → AreStillUntil due nodes → tick_out [] now ≡ tick_out nodes now
 unfolding out_of
 still_out nodes now due low still =
     let idle : AreStillAt now nodes = λ k e at. still k e at now low in
-    let all : out_of (gaps_at now nodes) (topics_at now nodes) (requests_at now nodes) ≡ out_of [] [] [] =
-    ap (λ s. out_of s (topics_at now nodes) (requests_at now nodes)) (no_gaps now nodes idle)
-    ∙ ap (λ t. out_of [] t (requests_at now nodes)) (no_topics now nodes idle)
-    ∙ ap (out_of [] []) (no_requests now nodes idle) in
+    let all : out_of (gaps_at now nodes) (gap_places now nodes) (topics_at now nodes) (requests_at now nodes) ≡ out_of [] [] [] [] =
+    ap (λ s. out_of s (gap_places now nodes) (topics_at now nodes) (requests_at now nodes)) (no_gaps now nodes idle)
+    ∙ ap (λ g. out_of [] g (topics_at now nodes) (requests_at now nodes)) (no-gap-places now nodes (λ k e at. (idle k e at).0))
+    ∙ ap (λ t. out_of [] [] t (requests_at now nodes)) (no_topics now nodes idle)
+    ∙ ap (out_of [] [] []) (no_requests now nodes idle) in
     sym all
 
 entry_with : Entry → NodeData → Entry

@@ -3,6 +3,7 @@ pub mod Asked
 pub mod Deaths
 pub mod Found
 pub mod Fresh
+pub mod GapPlaces
 pub mod Heard
 pub mod Idle
 pub mod Indexed

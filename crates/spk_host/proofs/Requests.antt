@@ -71,10 +71,10 @@ requests_cut see new all first acks group node now k most size is are acked size
     ∙ ap (λ l. l ++ spelled (requests_to group node now k)) acked
     ∙ sym (map-append spelling acks (requests_to group node now k))
 
-abbrev pub out_of : List NumberedData → List Step → List Named → List (List ℕ) → OutData
-out_of cs ss rs ps = record { consumed = cs; steps = ss; death = None; rebirths = rs; packets = ps }
+abbrev pub out_of : List NumberedData → List Step → List ℕ → List Named → List (List ℕ) → OutData
+out_of cs ss gs rs ps = record { consumed = cs; steps = ss; gaps = gs; death = None; rebirths = rs; packets = ps }
 
-pub same_out : {cs ds : List NumberedData} {ss ts : List Step} {rs qs : List Named} {ps os : List (List ℕ)} → cs ≡ ds → ss ≡ ts → rs ≡ qs →
-    ps ≡ os → out_of cs ss rs ps ≡ out_of ds ts qs os
-same_out {cs} {ds} {ss} {ts} {rs} {qs} {ps} {os} a b c d =
-    ap (λ x. out_of x ss rs ps) a ∙ ap (λ x. out_of ds x rs ps) b ∙ ap (λ x. out_of ds ts x ps) c ∙ ap (out_of ds ts qs) d
+pub same_out : {cs ds : List NumberedData} {ss ts : List Step} {gs hs : List ℕ} {rs qs : List Named} {ps os : List (List ℕ)} → cs ≡ ds → ss ≡ ts →
+    gs ≡ hs → rs ≡ qs → ps ≡ os → out_of cs ss gs rs ps ≡ out_of ds ts hs qs os
+same_out {cs} {ds} {ss} {ts} {gs} {hs} {rs} {qs} {ps} {os} a b g c d =
+    ap (λ x. out_of x ss gs rs ps) a ∙ ap (λ x. out_of ds x gs rs ps) b ∙ ap (λ x. out_of ds ts x rs ps) g ∙ ap (λ x. out_of ds ts hs x ps) c ∙ ap (out_of ds ts hs qs) d

@@ -19,11 +19,12 @@ pub record HostData : Type 0 where
   pub nodes : List Entry
 
 -- What a call hands out: the messages consumed, in order; what became of the message that was handed in, or a gap for each node
--- that had one; whether the NDEATH that was handed in matched; the topics of the rebirth requests; and the bytes of the packets to
--- be sent.
+-- that had one, and the places of these nodes; whether the NDEATH that was handed in matched; the topics of the rebirth requests; and
+-- the bytes of the packets to be sent.
 pub record OutData : Type 0 where
   pub consumed : List NumberedData
   pub steps : List Step
+  pub gaps : List ℕ
   pub death : Option Match
   pub rebirths : List Named
   pub packets : List (List ℕ)

@@ -1,6 +1,8 @@
 -- What a host does at each call: what it hands out, and its data after it, by the steps of its session (`spk_host_session`) and of the
 -- node concerned (`spk_host_node`).
-use Rattle.std.specs.Prelude.{ℕ, ◌<◌, ◌==◌, Bool, List, [], ◌∷◌, ◌++◌, map, replicate, Option, Some, None, Result, Ok, Err, if◌then◌else◌}
+use Rattle.std.specs.Prelude.{ℕ, ◌<◌, ◌==◌, Bool, false, List, [], ◌∷◌, ◌++◌, length, map, replicate, slice_get, Option, Some, None, Result, Ok, Err, if◌then◌else◌}
+use Rattle.std.specs.List.{filter, range_with_len}
+use Rattle.std.specs.Option.{option_map_or}
 use Rattle.spk_packets.specs.Message.{Message, PubAck}
 use Rattle.spk_packets.specs.Spelling.{spelling}
 use Rattle.spk_sequence.specs.declared.answer.Step.{Step}
@@ -48,7 +50,7 @@ abbrev pub requests_to : List ℕ → List ℕ → ℕ → ℕ → List Message
 requests_to group name now count = if is_address group name then replicate count (rebirth_of group name now) else []
 
 abbrev pub nothing : OutData
-nothing = record { consumed = []; steps = []; death = None; rebirths = []; packets = [] }
+nothing = record { consumed = []; steps = []; gaps = []; death = None; rebirths = []; packets = [] }
 
 abbrev pub sends : List Message → OutData
 sends packets = record nothing { packets = spelled packets }
@@ -60,6 +62,7 @@ abbrev pub message_out : NodeData → Option ℕ → NumberedData → ℕ → Ou
 message_out n ack m now = record {
   consumed = node.taken_of n.order m now;
   steps = node.step_of n.order m now ∷ [];
+  gaps = [];
   death = None;
   rebirths = topics_to m.group m.node (node.requests_of n m now);
   packets = spelled (acks ack ++ requests_to m.group m.node now (node.requests_of n m now));
@@ -138,10 +141,18 @@ abbrev pub gaps_at : ℕ → List Entry → List Step
 gaps_at now [] = []
 gaps_at now (e ∷ nodes) = (if has_gap now e then step.Gap ∷ [] else []) ++ gaps_at now nodes
 
+-- the places of the nodes that have one, in their order
+abbrev pub is_gap_at : ℕ → List Entry → ℕ → Bool
+is_gap_at now nodes place = option_map_or (has_gap now) (slice_get nodes place) false
+
+abbrev pub gap_places : ℕ → List Entry → List ℕ
+gap_places now nodes = filter (is_gap_at now nodes) (range_with_len 0 (length nodes))
+
 abbrev pub tick_out : List Entry → ℕ → OutData
 tick_out nodes now = record {
   consumed = [];
   steps = gaps_at now nodes;
+  gaps = gap_places now nodes;
   death = None;
   rebirths = topics_at now nodes;
   packets = spelled (requests_at now nodes);

@@ -14,6 +14,7 @@ abbrev pub out_view : Out → OutData
 out_view o = record {
   consumed = map numbered_view o.consumed.items;
   steps = o.steps.items;
+  gaps = o.gaps.items;
   death = o.death;
   rebirths = map named o.rebirths.items;
   packets = map (λ b. b.items) o.packets.items;

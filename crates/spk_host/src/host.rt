@@ -84,6 +84,7 @@ fn sent(alloc: Global, packets: Vec<Vec<u8>>) -> Out
     Out {
         consumed: Vec::new(alloc),
         steps: Vec::new(alloc),
+        gaps: Vec::new(alloc),
         death: None,
         rebirths: Vec::new(alloc),
         packets,
@@ -101,6 +102,7 @@ fn answered_death(alloc: Global, packets: Vec<Vec<u8>>, answer: Match) -> Out
     Out {
         consumed: Vec::new(alloc),
         steps: Vec::new(alloc),
+        gaps: Vec::new(alloc),
         death: Some(answer),
         rebirths: Vec::new(alloc),
         packets,
@@ -279,8 +281,8 @@ impl Host {
     }
 
     /// A moment, in milliseconds: a gap at each node of which a held message has waited long enough for one before it, with the
-    /// requests for a rebirth that are due, in the order in which the nodes were first heard. Refused with WrongPhase (75) outside a
-    /// session.
+    /// requests for a rebirth that are due, in the order in which the nodes were first heard. `Out::gaps` says which nodes these are.
+    /// Refused with WrongPhase (75) outside a session.
     pub fn tick(&mut self, now: u64) -> Result<Out, HostFault>
         ensures outside { self.old.session.began ≡ None → result ≡ Err HostFault.WrongPhase }
         ensures answer { is_some self.old.session.began ≡ true

@@ -1,9 +1,11 @@
 //! Laws of the definitions alone: functions that do nothing, whose contracts speak of definitions.
-ghost use Rattle.std.specs.Prelude.{◌≡◌, ◌++◌, ℕ, false, List, [], Option, Some, None, map, replicate, if◌then◌else◌};
+ghost use Rattle.std.specs.Prelude.{◌≡◌, ◌++◌, ℕ, false, List, [], Option, Some, None, map, replicate, slice_get, if◌then◌else◌};
+ghost use Rattle.std.specs.List.{filter, filter_map};
 ghost use Rattle.spk_sequence.specs.Step.{is_live, match_of};
+ghost use Rattle.spk_sequence.specs.declared.answer.Step.TheVariants.{Gap};
 ghost use Rattle.spk_sequence.specs.declared.answer.Match.TheVariants.{Matched, Ignored};
 ghost use Rattle.spk_sequence.specs.declared.phase.Phase.TheVariants.{Live, Dead};
-ghost use Rattle.spk_reading.specs.Data.{NumberedData, Published, Answered, Granted, Other, Message, Death, Nothing};
+ghost use Rattle.spk_reading.specs.Data.{HeardData, NumberedData, Published, Answered, Granted, Other, Message, Death, Nothing};
 ghost use Rattle.spk_topics.specs.Spark.Named.{of_node};
 ghost use Rattle.spk_topics.specs.declared.spark.Verb.TheVariants.{Command};
 ghost use Rattle.spk_host_session.specs.Data.{Config};
@@ -13,10 +15,10 @@ ghost use Rattle.spk_host_node.specs.Inputs.{Input, events_of, node_after, order
 ghost use Rattle.spk_host_node.specs.Step as one_node;
 ghost use Rattle.spk_host.specs.Data.{Entry, HostData};
 ghost use Rattle.spk_host.specs.Index.{names_of};
-ghost use Rattle.spk_host.specs.Inputs.{Call, host_after, host_with, is_same, node_calls, with_node_call};
+ghost use Rattle.spk_host.specs.Inputs.{Call, Ticked, host_after, host_with, is_same, node_calls, with_node_call};
 ghost use Rattle.spk_host.specs.Nodes.{change_node, node_or, put_node};
 ghost use Rattle.spk_host.specs.Requests.{asked_at_moment, asked_by, heard_names, request_to};
-ghost use Rattle.spk_host.specs.Step.{acks, after_packet, fresh, over_entry, packet_out, spelled, standing_of, tick_entry, tick_out, topics_to};
+ghost use Rattle.spk_host.specs.Step.{acks, after_packet, fresh, has_gap, over_entry, packet_out, spelled, standing_of, tick_entry, tick_out, topics_to};
 
 /// Of the list of nodes: what each change of it does to what is kept of a node, one that was never heard included.
 pub fn nodes()
@@ -170,3 +172,22 @@ pub fn deaths()
 {
     spk_host_node::laws::any_list();
 }
+
+/// Whose the gaps of a moment are.
+pub fn gaps()
+    // the nodes at the places that are told are those that have a gap, in the order in which they were first heard
+    ensures nodes { (nodes : List Entry) (now : ℕ)
+        → filter_map (slice_get nodes) (tick_out nodes now).gaps ≡ filter (has_gap now) nodes }
+
+    // there is a step for each of them, in the same order
+    ensures steps { (nodes : List Entry) (now : ℕ)
+        → (tick_out nodes now).steps ≡ map (λ place. Gap) (tick_out nodes now).gaps }
+
+    // each stands at its place before the moment and behind it
+    ensures stay { (h : HostData) (now : ℕ)
+        → map names_of (host_with h (Ticked now)).nodes ≡ map names_of h.nodes }
+
+    // a packet tells of no place
+    ensures packet { (h : HostData) (heard : HeardData) (now : ℕ)
+        → (packet_out h heard now).gaps ≡ [] }
+{}

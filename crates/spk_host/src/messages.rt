@@ -57,6 +57,7 @@ pub(crate) fn hear_message(
     Ok(Out {
         consumed: handed.consumed,
         steps,
+        gaps: Vec::new(alloc),
         death: None,
         rebirths,
         packets,

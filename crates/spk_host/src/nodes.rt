@@ -226,11 +226,13 @@ fn ask_at(alloc: Global, nodes: &[Entry], now: u64) -> Result<Out, AllocError>
     ensures whole { IfOk result (λ o. AreWhole o) }
 {
     let mut steps = Vec::new(alloc);
+    let mut gaps = Vec::new(alloc);
     let mut rebirths = Vec::new(alloc);
     let mut packets = Vec::new(alloc);
-    for entry in nodes {
+    for (place, entry) in nodes.iter().enumerate() {
         if entry.kept().is_over(now) {
             steps.push(Step::Gap)?;
+            gaps.push(place)?;
         }
         if entry.kept().is_asked(now) {
             ask(
@@ -246,6 +248,7 @@ fn ask_at(alloc: Global, nodes: &[Entry], now: u64) -> Result<Out, AllocError>
     Ok(Out {
         consumed: Vec::new(alloc),
         steps,
+        gaps,
         death: None,
         rebirths,
         packets,

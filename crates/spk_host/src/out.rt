@@ -13,6 +13,9 @@ pub struct Out {
     pub consumed: Vec<Taken>,
     /// What became of the message that was handed in; or a gap, for each node that had one at a moment.
     pub steps: Vec<Step>,
+    /// Of each gap of a moment, in the order of `steps`, the place in `Host::nodes` of the node that had it. No place where no moment
+    /// was told: a message names its node itself.
+    pub gaps: Vec<usize>,
     /// Whether the NDEATH that was handed in is that of the session of the last birth taken of its node (Sparkplug 3.0.0, chapter 6 on
     /// `bdSeq`). None where no NDEATH was handed in.
     pub death: Option<Match>,

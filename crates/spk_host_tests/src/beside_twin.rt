@@ -109,6 +109,7 @@ fn is_alike(
         && are_requests(rt, out.packets.as_slice(), node, now, answer.requests)
         && out.rebirths.len() == answer.requests
         && out.death.is_none()
+        && out.gaps.is_empty()
 }
 
 /// How often each sort of answer came: what became of a message, a gap at a moment, a request, an NDEATH that ended a session.
@@ -283,10 +284,15 @@ impl Run {
         }
     }
 
-    /// What a moment asks, by the twin: how many gaps there are, and the nodes asked.
-    fn due(&mut self, rt: &impl Abort, mut asked: Vec<Node>, now: u64) -> (usize, Vec<Node>) {
-        let mut gaps = 0usize;
-        for place in self.heard.iter() {
+    /// What a moment asks, by the twin: which nodes have a gap, by their places among those that were heard, and the nodes asked.
+    fn due(
+        &mut self,
+        rt: &impl Abort,
+        mut gaps: Vec<usize>,
+        mut asked: Vec<Node>,
+        now: u64,
+    ) -> (Vec<usize>, Vec<Node>) {
+        for (at, place) in self.heard.iter().enumerate() {
             let (Some(node), Some(pair)) = (NODES.get(*place).copied(), self.nodes.get_mut(*place))
             else {
                 continue;
@@ -294,7 +300,7 @@ impl Run {
             let Some(requests) = pair.twin.tick(now) else {
                 continue;
             };
-            gaps = gaps.saturating_add(1);
+            assert!(rt; gaps.push(at).is_ok());
             if requests > 0 {
                 assert!(rt; asked.push(node).is_ok());
             }
@@ -304,6 +310,13 @@ impl Run {
 
     /// A moment comes.
     fn tick(&mut self, rt: &(impl Abort + AllocGlobal), host: &mut impl Asks, now: u64) -> bool {
+        let places = match Vec::with_capacity(rt.alloc(), NODES.len()) {
+            Ok(made) => made,
+            Err(_) => Vec::with_capacity(rt.alloc(), NODES.len()).expect(
+                rt,
+                "memory is there again",
+            )
+        };
         let room = match Vec::with_capacity(rt.alloc(), NODES.len()) {
             Ok(made) => made,
             Err(_) => Vec::with_capacity(rt.alloc(), NODES.len()).expect(
@@ -311,9 +324,9 @@ impl Run {
                 "memory is there again",
             )
         };
-        let (gaps, asked) = self.due(rt, room, now);
-        self.count(10, gaps);
-        is_ticked_alike(rt, host, gaps, asked.as_slice(), now)
+        let (gaps, asked) = self.due(rt, places, room, now);
+        self.count(10, gaps.len());
+        is_ticked_alike(rt, host, gaps.as_slice(), asked.as_slice(), now)
     }
 
     /// The session of the host ends, and the next begins.
@@ -345,18 +358,20 @@ impl Run {
     }
 }
 
-/// A moment comes: whether so many gaps and these requests are answered, in order.
+/// A moment comes: whether a gap of each of these nodes and these requests are answered, in order.
 fn is_ticked_alike(
     rt: &(impl Abort + AllocGlobal),
     host: &mut impl Asks,
-    gaps: usize,
+    gaps: &[usize],
     asked: &[Node],
     now: u64,
 ) -> bool {
     let Ok(out) = ticked(host, now) else {
         return false;
     };
-    let mut alike = out.steps.len() == gaps && out.packets.len() == asked.len();
+    let mut alike = out.steps.len() == gaps.len()
+        && out.gaps.as_slice() == gaps
+        && out.packets.len() == asked.len();
     for (packet, node) in out.packets.iter().zip(asked) {
         alike = alike && is_request(rt, packet.as_slice(), *node, now);
     }

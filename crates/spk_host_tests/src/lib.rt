@@ -12,6 +12,8 @@ mod ends;
 #[cfg(test)]
 mod foreseen;
 #[cfg(test)]
+mod gaps;
+#[cfg(test)]
 mod host;
 #[cfg(test)]
 mod messages;

@@ -20,6 +20,7 @@ returns-clause-out c =
     same_out c.in_ok-handed.ensures.consumed
     (c.push_reserved.ensures.items ∙ ap (λ l. l ++ c.in_ok-handed.handed.step ∷ []) c.in_ok-steps.ensures.items
     ∙ ap (λ s. s ∷ []) c.in_ok-handed.ensures.step)
+    c.new.ensures.items
     (topics_cut named c.truncate.new.self.items c.ask_all.new.rebirths.items c.as_str-group.result.now c.as_str-name.result.now
     c.in_ok-handed.handed.requests c.requests_at-most.result c.truncate.ensures.items
     (c.in_ok-ask_all.ensures.topics ∙ ap (λ l. l ++ topics_to c.as_str-group.result.now c.as_str-name.result.now c.requests_at-most.result)
