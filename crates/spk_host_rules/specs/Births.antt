@@ -6,6 +6,7 @@ use Rattle.spk_payload.specs.Meaning.{MetricData}
 use Rattle.spk_host_rules.specs.Data.{Nothing, Row}
 use Rattle.spk_host_rules.specs.Table.{is_alias, is_name, row_of}
 
+-- with one more name, unless it is there
 abbrev pub and_name : Option (List ℕ) → List (List ℕ) → List (List ℕ)
 and_name None names = names
 and_name (Some name) names = if list_any (λ n. bytes_eq name n) names then names else names ++ name ∷ []
@@ -25,6 +26,7 @@ abbrev pub left_by : List MetricData → Option ℕ → Option ℕ
 left_by newer None = None
 left_by newer (Some alias) = if list_any (λ m. is_some m.name && is_alias m.alias alias) newer then None else Some alias
 
+-- the row of a name, from its last metric and those after it
 abbrev pub row_from : List ℕ → Option MetricData → List MetricData → Row
 row_from name None newer = record { name = name; alias = None; datatype = None; shown = Nothing }
 row_from name (Some m) newer = record (row_of name m) { alias = left_by newer m.alias }
@@ -33,5 +35,6 @@ row_from name (Some m) newer = record (row_of name m) { alias = left_by newer m.
 abbrev pub row_at : List MetricData → List ℕ → Row
 row_at ms name = row_from name (find (λ m. is_name m.name name) ms) (newer_than name ms)
 
+-- the rows of a birth, one for each name
 abbrev pub table_by : List MetricData → List Row
 table_by ms = map (row_at ms) (names_of ms)

@@ -58,5 +58,6 @@ pub record Watch : Type 0 where
   pub asked : Option ℕ
   pub born_since : Bool
 
+-- nothing was heard of the node
 abbrev pub unheard : Watch
 unheard = record { view = None; asked = None; born_since = false }

@@ -10,6 +10,7 @@ abbrev pub is_foreign_to : Option (List MetricData) → List MetricData → Bool
 is_foreign_to None ms = true
 is_foreign_to (Some birth) ms = is_lacking (table_of birth) ms
 
+-- behind an NBIRTH: of the node what its birth lacks, of a device what its birth lacks, or all where it had none
 abbrev pub is_foreign_in : Part → Message → Bool
 is_foreign_in part (NodeBirth ms) = false
 is_foreign_in part (NodeData ms) = is_lacking (table_of part.birth) ms

@@ -14,9 +14,11 @@ ShowsDevice online followed (Some w) None = ⊥
 ShowsDevice online followed (Some w) (Some d) =
     (d.born ≡ true) × (d.rows ≡ w.rows) × (d.online ≡ (online && w.alive)) × (d.stale ≡ not (followed && w.alive))
 
+-- the device of this name
 abbrev pub device_in : List ℕ → List Device → Option Device
 device_in device devices = find (λ d. bytes_eq d.name device) devices
 
+-- A view shows what was heard.
 pub record Shows (events : List Event) (v : View) : Type 0 where
   -- the last birth that was taken, and what was consumed since
   pub part : Part

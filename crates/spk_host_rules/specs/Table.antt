@@ -10,18 +10,22 @@ use Rattle.spk_host_rules.specs.Data.{Shown, Nothing, Value, Other, Row}
 
 -- ---- what is shown
 
+-- it is there, and true
 abbrev pub is_set : Option Bool → Bool
 is_set None = false
 is_set (Some b) = b
 
+-- a value shows itself; what could not be typed shows that there is another
 abbrev pub shown_typed : Option Typed → Shown
 shown_typed None = Other
 shown_typed (Some v) = Value v
 
+-- a value by its datatype; without a datatype none is read
 abbrev pub shown_as : Option ℕ → Content → Shown
 shown_as None content = Other
 shown_as (Some datatype) content = shown_typed (typed_of datatype content)
 
+-- no value shows nothing
 abbrev pub shown_content : Option ℕ → Option Content → Shown
 shown_content datatype None = Nothing
 shown_content datatype (Some content) = shown_as datatype content
@@ -46,6 +50,7 @@ abbrev pub released : Option ℕ → Row → Row
 released None r = r
 released (Some alias) r = record r { alias = if is_alias r.alias alias then None else r.alias }
 
+-- the row at the place of one of its name
 abbrev pub replaced : Row → Row → Row
 replaced row r = if bytes_eq row.name r.name then row else r
 
@@ -53,9 +58,11 @@ replaced row r = if bytes_eq row.name r.name then row else r
 abbrev pub placed : Row → List Row → List Row
 placed row rows = if list_any (λ r. bytes_eq row.name r.name) rows then map (replaced row) rows else rows ++ row ∷ []
 
+-- the row of a metric of a birth
 abbrev pub row_of : List ℕ → MetricData → Row
 row_of name m = record { name = name; alias = m.alias; datatype = m.datatype; shown = shown_of m.datatype m }
 
+-- with one more metric of this name, which takes its alias from whichever row had it
 abbrev pub with_named : Option (List ℕ) → MetricData → List Row → List Row
 with_named None m rows = rows
 with_named (Some name) m rows = placed (row_of name m) (map (released m.alias) rows)
@@ -64,6 +71,7 @@ with_named (Some name) m rows = placed (row_of name m) (map (released m.alias) r
 abbrev pub with_metric : List Row → MetricData → List Row
 with_metric rows m = with_named m.name m rows
 
+-- with several more metrics, one after the other
 abbrev pub table_from : List Row → List MetricData → List Row
 table_from rows [] = rows
 table_from rows (m ∷ ms) = table_from (with_metric rows m) ms
@@ -74,13 +82,16 @@ table_of ms = table_from [] ms
 
 -- ---- which row a metric means
 
+-- the name of a row
 abbrev pub name_of : Row → List ℕ
 name_of r = r.name
 
+-- the name that a metric means: that of the row of its alias, or without an alias its own
 abbrev pub name_by : List Row → Option ℕ → Option (List ℕ) → Option (List ℕ)
 name_by rows None name = name
 name_by rows (Some alias) name = option_map name_of (find (λ r. is_alias r.alias alias) rows)
 
+-- it is there, and is this name
 abbrev pub is_name : Option (List ℕ) → List ℕ → Bool
 is_name None name = false
 is_name (Some n) name = bytes_eq n name
@@ -98,5 +109,6 @@ abbrev pub lacks : List Row → Option ℕ → Bool
 lacks rows None = false
 lacks rows (Some alias) = not (list_any (λ r. is_alias r.alias alias) rows)
 
+-- one of the metrics has an alias that no row has
 abbrev pub is_lacking : List Row → List MetricData → Bool
 is_lacking rows ms = list_any (λ m. lacks rows m.alias) ms

@@ -9,6 +9,7 @@ use Rattle.spk_host_rules.specs.Table.{table_of, changes, changed}
 
 -- ---- one owner: the metrics of its birth, and the metrics of all its data since
 
+-- a row with its last change, where there is one
 abbrev pub as_changed : Row → Option MetricData → Row
 as_changed r None = r
 as_changed r (Some m) = changed m r
@@ -17,18 +18,22 @@ as_changed r (Some m) = changed m r
 abbrev pub values_in : List Row → List MetricData → List Row
 values_in table since = map (λ r. as_changed r (find (λ m. changes table r.name m) since)) table
 
+-- the rows of an owner, by its birth and its data since
 abbrev pub values_at : List MetricData → List MetricData → List Row
 values_at birth since = values_in (table_of birth) since
 
 -- ---- the node's birth that the messages end in: the metrics of its NBIRTH, and the messages since
 
+-- The messages of one NBIRTH: its metrics, and what came since.
 pub record Part : Type 0 where
   pub birth : List MetricData
   pub since : List Message
 
+-- with one more message since the NBIRTH
 abbrev pub later : Message → Part → Part
 later m part = record part { since = m ∷ part.since }
 
+-- the last NBIRTH and what came since
 abbrev pub last_part : List Message → Option Part
 last_part [] = None
 last_part (NodeBirth ms ∷ before) = Some (record { birth = ms; since = [] })
@@ -45,23 +50,27 @@ node_data (_ ∷ before) = node_data before
 
 -- ---- a device: the metrics of its last DBIRTH, those of its data since, and whether it died since
 
+-- the metrics of its last DBIRTH
 abbrev pub device_birth : List ℕ → List Message → Option (List MetricData)
 device_birth device [] = None
 device_birth device (DeviceBirth name ms ∷ before) = if bytes_eq name device then Some ms else device_birth device before
 device_birth device (_ ∷ before) = device_birth device before
 
+-- the metrics of its data since its last DBIRTH
 abbrev pub device_data : List ℕ → List Message → List MetricData
 device_data device [] = []
 device_data device (DeviceBirth name ms ∷ before) = if bytes_eq name device then [] else device_data device before
 device_data device (DeviceData name ms ∷ before) = (if bytes_eq name device then reverse ms else []) ++ device_data device before
 device_data device (_ ∷ before) = device_data device before
 
+-- a DDEATH came since its last DBIRTH
 abbrev pub has_died : List ℕ → List Message → Bool
 has_died device [] = false
 has_died device (DeviceBirth name ms ∷ before) = if bytes_eq name device then false else has_died device before
 has_died device (DeviceDeath name ∷ before) = bytes_eq name device || has_died device before
 has_died device (_ ∷ before) = has_died device before
 
+-- What a device shows: whether it is alive, and its rows.
 pub record DeviceValues : Type 0 where
   pub alive : Bool
   pub rows : List Row
@@ -74,11 +83,13 @@ device_at device since =
 
 -- ---- what was heard
 
+-- the messages consumed
 abbrev pub consumed_of : List Event → List Message
 consumed_of [] = []
 consumed_of (Consumed m now ∷ before) = m ∷ consumed_of before
 consumed_of (_ ∷ before) = consumed_of before
 
+-- it is an NBIRTH
 abbrev pub is_node_birth : Message → Bool
 is_node_birth (NodeBirth ms) = true
 is_node_birth _ = false
