@@ -81,6 +81,12 @@ pub if_join_spelled : (p : Message) (r : Result (Vec ℕ Global) PacketFault) (w
 if_join_spelled p (Ok v) whole_body is h = join_spelled p v.items whole_body is h
 if_join_spelled p (Err e) whole_body is h = tt
 
+-- the same up to the bytes that stand last
+pub if_head_spelled : (p : Message) (r : Result (Vec ℕ Global) PacketFault) (rest whole_body : List ℕ) → whole_body ≡ body p
+    → IfOk r (λ v. v.items ++ rest ≡ first_byte p % 256 ∷ (shortest (length whole_body) ++ whole_body)) → IfOk r (λ v. v.items ++ rest ≡ spelling p)
+if_head_spelled p (Ok v) rest whole_body is h = join_spelled p (v.items ++ rest) whole_body is h
+if_head_spelled p (Err e) rest whole_body is h = tt
+
 pub if_join_refused : (p : Message) (r : Result (Vec ℕ Global) PacketFault) (whole_body : List ℕ) → whole_body ≡ body p → first_of (content_refusals p) ≡ None
     → IfErr r (λ e. (e ≡ NoMemory) ⊎ ((e ≡ TooLarge) × (largest < 1 + length (shortest (length whole_body)) + length whole_body))) → IfErr r (λ e. IsNamed e (first_of (unwritable p)))
 if_join_refused p (Ok v) whole_body is none h = tt

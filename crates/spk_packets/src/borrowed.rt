@@ -61,13 +61,21 @@ impl<'a> PublishRef<'a> {
         ((0x30 + flags) % 256) as u8
     }
 
-    /// What stands behind the header.
+    /// What stands behind the header and before the payload.
     #[tactic(auto, unfolding(crate::specs::Spelling::body))]
+    fn put_front(&self, out: &mut Vec<u8>) -> Result<(), AllocError>
+        ensures { OnOk result (out.new.items ++ self.now.payload.now
+            ≡ out.old.items ++ body (publish_view self.now)) }
+    {
+        put_counted(out, self.topic.as_bytes())?;
+        put_id(out, self.id)
+    }
+
+    /// What stands behind the header.
     fn put_body(&self, out: &mut Vec<u8>) -> Result<(), AllocError>
         ensures { OnOk result (out.new.items ≡ out.old.items ++ body (publish_view self.now)) }
     {
-        put_counted(out, self.topic.as_bytes())?;
-        put_id(out, self.id)?;
+        self.put_front(out)?;
         out.extend_from_slice(self.payload)
     }
 
@@ -91,6 +99,27 @@ impl<'a> PublishRef<'a> {
         Ok(out)
     }
 
+    /// The header and the front of the body, up to the payload.
+    fn join_head(&self, alloc: Global) -> Result<Vec<u8>, PacketFault>
+        ensures ok { IfOk result (λ v. v.items ++ self.now.payload.now
+            ≡ first_byte (publish_view self.now) % 256
+            ∷ (shortest (length (body (publish_view self.now))) ++ body (publish_view self.now))) }
+        ensures within { OnOk result
+            (1 + length (shortest (length (body (publish_view self.now))))
+            + length (body (publish_view self.now)) ≤ largest) }
+        ensures over { IfErr result (λ e. (e ≡ PacketFault.NoMemory) ⊎ ((e ≡ PacketFault.TooLarge)
+            × (largest < 1 + length (shortest (length (body (publish_view self.now))))
+            + length (body (publish_view self.now))))) }
+    {
+        let len = self.body_size();
+        let whole = whole_of(len)?;
+        let mut out = Vec::with_capacity(alloc, whole.saturating_sub(self.payload.len()))?;
+        out.push(self.first())?;
+        put_length(&mut out, len)?;
+        self.put_front(&mut out)?;
+        Ok(out)
+    }
+
     /// Its canonical spelling, as `encode` writes the packet that says the same. Refused as there.
     pub fn encode(&self, alloc: Global) -> Result<Vec<u8>, PacketFault>
         ensures spelled { IfOk result (λ v. v.items ≡ spelling (publish_view self.now)) }
@@ -100,5 +129,18 @@ impl<'a> PublishRef<'a> {
     {
         self.judge()?;
         self.join(alloc)
+    }
+
+    /// Its canonical spelling up to its payload, which stands last in it (section 3.3.3): with the payload behind it, it is what
+    /// `encode` writes. Refused as there.
+    pub fn encode_head(&self, alloc: Global) -> Result<Vec<u8>, PacketFault>
+        ensures spelled { IfOk result
+            (λ v. v.items ++ self.now.payload.now ≡ spelling (publish_view self.now)) }
+        ensures refused { IfErr result
+            (λ e. IsNamed e (first_of (unwritable (publish_view self.now)))) }
+        ensures not_refused { OnOk result (first_of (unwritable (publish_view self.now)) ≡ None) }
+    {
+        self.judge()?;
+        self.join_head(alloc)
     }
 }
