@@ -1,6 +1,6 @@
 //! The broker's own limits: grants, retained topics, kept sessions and unacknowledged messages, each at its last one and one beyond.
 use crate::broker::Talks;
-use spk_broker::{Broker, BrokerFault, Out};
+use spk_broker::{Broker, BrokerFault, Out, Outgoing};
 use spk_packets::{Packet, Request};
 use std::alloc::{AllocError, Global};
 use std::test::Fail;
@@ -20,10 +20,15 @@ fn opens(broker: &mut impl Talks) -> u64 {
     }
 }
 
+/// The last byte of a send whose bytes lie in one piece.
+fn last_of(sent: &Outgoing) -> u8 {
+    *sent.bytes.parts().0.last().unwrap_or(&255)
+}
+
 /// The last byte of the first send: a return code of CONNACK or SUBACK.
 fn last_code(out: &Out) -> u8 {
     match out.sends.first() {
-        Some(sent) => *sent.bytes.as_slice().last().unwrap_or(&255),
+        Some(sent) => last_of(sent),
         None => 255,
     }
 }
@@ -34,7 +39,7 @@ pub(crate) fn name(alloc: Global, letter: &str, number: u16) -> Result<String, A
 }
 
 /// A new connection of a client, and the code of its CONNACK.
-fn joins(broker: &mut impl Talks, client: String, clean: bool) -> (u64, u8) {
+pub(crate) fn joins(broker: &mut impl Talks, client: String, clean: bool) -> (u64, u8) {
     let conn = opens(broker);
     let connect = Packet::Connect {
         client,
@@ -130,7 +135,7 @@ fn code(alloc: Global, broker: &mut impl Talks, conn: u64, says: Says) -> Result
 fn last_byte(answer: Option<Out>) -> u8 {
     match answer {
         Some(out) => match out.sends.last() {
-            Some(sent) => *sent.bytes.as_slice().last().unwrap_or(&255),
+            Some(sent) => last_of(sent),
             None => 255,
         },
         None => 255,

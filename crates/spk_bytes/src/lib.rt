@@ -1,8 +1,10 @@
-//! The bytes of a packet, of one owner or shared by many. No standard speaks of it (own rule).
+//! The bytes of a packet, of one owner or shared by many, in one piece or in two. No standard speaks of it (own rule).
 #![tactic(auto)]
 
-mod shared;
+mod packet;
+mod piece;
 #[cfg(test)]
 mod tests;
 
-pub use shared::Bytes;
+pub use packet::Bytes;
+pub use piece::Piece;

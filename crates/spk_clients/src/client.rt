@@ -68,11 +68,11 @@ pub struct Client {
 }
 
 /// Whether these are the bytes of a PUBLISH of QoS 1 (section 3.3.1).
-fn is_numbered(bytes: &[u8]) -> bool
+fn is_numbered(bytes: &Bytes) -> bool
     ensures { result ≡ is_numbered bytes.now }
 {
     match bytes.first() {
-        Some(first) => matches!(*first, 0x32 | 0x33 | 0x3a | 0x3b),
+        Some(first) => matches!(first, 0x32 | 0x33 | 0x3a | 0x3b),
         None => false,
     }
 }
@@ -136,7 +136,7 @@ impl Client {
         if self.is_over() {
             return Offered::Passed;
         }
-        let numbered = is_numbered(bytes.as_slice());
+        let numbered = is_numbered(&bytes);
         if self.outbox.offer(bytes).is_err() {
             match sort {
                 Sort::QosZero => self.drops = self.drops.saturating_add(1),

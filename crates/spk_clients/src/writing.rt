@@ -67,7 +67,7 @@ impl Clients {
         Some(conn)
     }
 
-    /// Joins a front of what waits for a client behind these bytes: whole packets, as many as fit into 65,536 bytes.
+    /// Joins a front of what waits for a client behind these bytes, as `Outbox::gather` does: up to 65,536 bytes.
     pub fn gather(&self, conn: u64, batch: &mut Vec<u8>)
         ensures { batch.new.items ≡ batch.old.items
             ++ take (length batch.new.items - length batch.old.items) (waiting_at self.now conn) }
@@ -77,10 +77,10 @@ impl Clients {
         }
     }
 
-    /// What is left of the first packet that waits for a client.
-    pub fn first(&self, conn: u64) -> Option<&[u8]>
+    /// What is left of the first packet that waits for a client, in two pieces of which the second stands behind the first.
+    pub fn first(&self, conn: u64) -> Option<(&[u8], &[u8])>
         ensures some { IfSome result (λ s. IfSome (client_at self.now conn)
-            (λ c. s.now ≡ rest_of_first c.outbox)) }
+            (λ c. s.0.now ++ s.1.now ≡ rest_of_first c.outbox)) }
         ensures none { IfNone result (IfSome (client_at self.now conn)
             (λ c. length c.outbox.packets ≡ 0)) }
     {

@@ -314,7 +314,8 @@ impl Desk {
         if item.cuts < self.sender.cuts {
             return Ok(());
         }
-        let packet = packet_of(self.alloc, item.bytes.as_slice())?;
+        let whole = item.bytes.joined(self.alloc)?;
+        let packet = packet_of(self.alloc, whole.as_slice())?;
         self.hear_packet(rt, gate, ingress, &packet)?;
         Ok(())
     }

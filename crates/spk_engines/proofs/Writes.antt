@@ -1,6 +1,7 @@
 -- Items that are written one behind the other.
-use Rattle.std.proofs.Common.{◌≡◌, ℕ, ◌+◌, ◌≤◌, length, arith, List, [], ◌∷◌, ◌++◌, Option, Some, None, refl, sym, ◌∙◌, ap, subst}
-use Rattle.std.proofs.lemmas.List.{append_assoc, append-nil, length-append}
+use Rattle.std.proofs.Common.{◌≡◌, ℕ, ◌+◌, ◌≤◌, length, take, drop, arith, List, [], ◌∷◌, ◌++◌, Option, Some, None, refl, sym, ◌∙◌, ap, subst}
+use Rattle.std.proofs.lemmas.List.{append_assoc, append-nil, length-append, drop-append-le, drop-drop, length-drop, take-append-drop}
+use Rattle.std.proofs.Math.Seq.{drop-length}
 use Rattle.std.specs.Io.KnownBytes.{Appends}
 use Rattle.spk_rings.specs.declared.item.Item.{Item}
 use Rattle.spk_rings.specs.declared.inlet.Inlet.{Inlet}
@@ -58,3 +59,25 @@ took_none t v n k m most turn same = (let long : length v ≡ length t = ap leng
 
 pub same_then : (a b c : Inlet) → SameInlet a b → SameInlet b c → SameInlet a c
 same_then a b c s t = (t.0 ∙ s.0, t.1 ∙ s.1, t.2 ∙ s.2, t.3 ∙ s.3)
+
+-- a front of a piece was written, and what is left stands behind it
+pub piece_taken : (bytes piece rest : List ℕ) (count more : ℕ) → piece ++ rest ≡ drop count bytes → more ≤ length piece
+    → take more piece ++ drop (count + more) bytes ≡ drop count bytes
+piece_taken bytes piece rest count more e le =
+    ap (λ x. take more piece ++ x) (sym (drop-drop more count bytes) ∙ ap (drop more) (sym e) ∙ drop-append-le more piece rest le)
+    ∙ sym (append_assoc (take more piece) (drop more piece) rest)
+    ∙ ap (λ x. x ++ rest) (take-append-drop more piece)
+    ∙ e
+
+-- the same where nothing is left
+pub last_taken : (bytes piece rest : List ℕ) (count more len : ℕ) → piece ++ rest ≡ drop count bytes → more ≤ length piece → len ≡ length bytes → count + more ≡ len
+    → take more piece ++ [] ≡ drop count bytes
+last_taken bytes piece rest count more len e le is all =
+    ap (λ x. take more piece ++ x) (sym (drop-length bytes) ∙ ap (λ n. drop n bytes) (sym (all ∙ is)))
+    ∙ piece_taken bytes piece rest count more e le
+
+-- a piece at the front of what is left ends within the bytes
+pub front_within : (bytes head body : List ℕ) (start : ℕ) → head ++ body ≡ drop start bytes → start ≤ length bytes → start + length head ≤ length bytes
+front_within bytes head body start e le =
+    let all : length (head ++ body) ≡ length (drop start bytes) = ap length e in
+    omega (arith, le, length-append head body, all, length-drop start bytes)

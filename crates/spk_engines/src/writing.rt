@@ -8,7 +8,7 @@ ghost use Rattle.spk_engines.specs.Writing.{Writes, rest_of, IsWithin};
 use crate::counted::Counted;
 use crate::device::Failures;
 use crate::fault::EngineFault;
-use spk_rings::{Inlet, Item};
+use spk_rings::{Bytes, Inlet, Item};
 use std::io::Write;
 
 /// An item that is being written, and how many of its bytes were.
@@ -38,10 +38,11 @@ fn write_some<W: Write + Failures>(
         (Appends (W.contents writer.old.device) (W.contents writer.new.device) []) }
 {
     let Underway { item, count } = underway;
-    match writer.write(behind(item.bytes.as_slice(), count), turns) {
+    let len = item.bytes.len();
+    match writer.write(next_of(&item.bytes, count), turns) {
         Ok(more) => {
             let count = count + more;
-            if count == item.bytes.as_slice().len() {
+            if count == len {
                 return Ok(None);
             }
             Ok(Some(Underway { item, count }))
@@ -55,12 +56,17 @@ fn write_some<W: Write + Failures>(
     }
 }
 
-/// What stands behind the first so many bytes.
-fn behind(bytes: &[u8], start: usize) -> &[u8]
+/// What stands behind the first so many bytes, as far as it lies in one piece: all of it, or a front.
+fn next_of(bytes: &Bytes, start: usize) -> &[u8]
     requires { start ≤ length bytes.now }
-    ensures { result.now ≡ drop start bytes.now }
+    ensures front { (rest : List ℕ) × (result.now ++ rest ≡ drop start bytes.now) }
+    ensures within { start + length result.now ≤ length bytes.now }
 {
-    &bytes[start..]
+    let (head, body) = bytes.behind(start);
+    if head.is_empty() {
+        return body;
+    }
+    head
 }
 
 /// Writes what comes out of a ring, item by item, until the ring's other end is gone and the ring is empty. A turn is one

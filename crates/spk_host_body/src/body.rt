@@ -41,8 +41,10 @@ fn tell<R: Wait, G: Gate>(
     ensures took { IfOk result (λ g. TookTold (heard_in g) now desk.old.host desk.new.host
         (frames_put desk.old.line.pass) (frames_put desk.new.line.pass) (consumed_in g)) }
 {
-    let bytes = item.bytes.as_slice();
-    let heard = match read(desk.alloc, bytes) {
+    let Ok(whole) = item.bytes.joined(desk.alloc) else {
+        return Err(HostCause::NoMemory);
+    };
+    let heard = match read(desk.alloc, whole.as_slice()) {
         Ok(heard) => heard,
         Err(ReadFault::NoMemory) => return Err(HostCause::NoMemory),
         Err(_) => {

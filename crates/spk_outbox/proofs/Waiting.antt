@@ -1,5 +1,5 @@
 -- What waits, after each call.
-use Rattle.std.proofs.Common.{◌≡◌, ℕ, zero, suc, ◌+◌, ◌-◌, ◌≤◌, nat_le, true, false, if◌then◌else◌, List, [], ◌∷◌, ◌++◌, length, take, drop, refl, sym, ◌∙◌, ap, arith, append_assoc, length-append}
+use Rattle.std.proofs.Common.{◌≡◌, ℕ, zero, suc, ◌+◌, ◌-◌, ◌≤◌, nat_le, true, false, if◌then◌else◌, List, [], ◌∷◌, ◌++◌, length, take, drop, refl, sym, subst, ◌∙◌, ap, arith, append_assoc, length-append}
 use Rattle.std.specs.List.{concat}
 use Rattle.std.proofs.lemmas.Bool.{leb-true}
 use Rattle.std.proofs.lemmas.List.{take-append-drop, drop-append-le, append-nil}
@@ -87,3 +87,17 @@ joined old batch waits rest e le =
     ∙ ap (take (length batch)) e
     ∙ ap (λ k. take k (old ++ waits)) n
     ∙ take-append-add old waits (length batch - length old)
+
+-- the same where of the next packet a front was joined
+pub joined_part : (old batch new waits rest p : List ℕ) (ps qs : List (List ℕ)) (n : ℕ) → IsPartOfFirst n qs → qs ≡ p ∷ ps
+    → batch ++ drop n (concat qs) ≡ old ++ waits → length old ≤ length batch → new ++ rest ≡ batch ++ drop n p → length batch ≤ length new
+    → new ≡ old ++ take (length new - length old) waits
+joined_part old batch new waits rest p ps qs n h q e le f longer =
+    let part : n ≤ length p = subst (IsPartOfFirst n) q h in
+    joined old new waits (rest ++ concat ps)
+    (sym (append_assoc new rest (concat ps))
+    ∙ ap (λ x. x ++ concat ps) f
+    ∙ append_assoc batch (drop n p) (concat ps)
+    ∙ ap (λ x. batch ++ x) (sym (drop-append-le n p (concat ps) part) ∙ sym (ap (λ x. drop n (concat x)) q))
+    ∙ e)
+    (omega (arith, le, longer))

@@ -1,5 +1,5 @@
 //! The packets that wait to be written to one client.
-ghost use Rattle.std.specs.Prelude.{◌≡◌, ◌-◌, ◌+◌, ◌<◌, ◌≤◌, ◌==◌, ◌++◌, ◌∷◌, [], length, take, drop, OnOk, OnErr, IfOk, IfErr, IfSome, IfNone};
+ghost use Rattle.std.specs.Prelude.{ℕ, List, ◌≡◌, ◌-◌, ◌+◌, ◌<◌, ◌≤◌, ◌==◌, ◌++◌, ◌∷◌, [], length, true, false, take, drop, OnOk, OnErr, IfOk, IfErr, IfSome, IfNone};
 ghost use Rattle.spk_outbox.specs.Data.{first_room, fresh_outbox, rest_of_first, waiting};
 ghost use Rattle.spk_outbox.specs.Step.{most_waiting, put, written};
 
@@ -45,20 +45,39 @@ impl Model for Outbox {
         × (plain.first_room ≤ deque_capacity o.packets) };
 }
 
-/// What stands behind the first so many bytes.
-fn behind(bytes: &[u8], start: usize) -> &[u8]
-    requires { start ≤ length bytes.now }
-    ensures { result.now ≡ drop start bytes.now }
-{
-    &bytes[start..]
-}
-
 /// The packet at this place.
-fn packet_at(packets: &VecDeque<Bytes>, place: usize) -> &[u8]
+fn packet_at(packets: &VecDeque<Bytes>, place: usize) -> &Bytes
     requires { place < length packets.now.items }
     ensures { drop place packets.now.items ≡ result.now ∷ drop (place + 1) packets.now.items }
 {
-    packets[place].as_slice()
+    &packets[place]
+}
+
+/// Puts a piece behind these bytes, where both fit into 65,536 bytes and memory is there. Whether it did.
+fn add(batch: &mut Vec<u8>, piece: &[u8]) -> bool
+    ensures added { result ≡ true → batch.new.items ≡ batch.old.items ++ piece.now }
+    ensures same { result ≡ false → batch.new.items ≡ batch.old.items }
+{
+    if piece.len() > BATCH || batch.len() > BATCH - piece.len() {
+        return false;
+    }
+    batch.extend_from_slice(piece).is_ok()
+}
+
+/// Puts what stands behind the first so many bytes of a packet behind these bytes, piece by piece, as far as the pieces can be. Whether
+/// all of it could.
+fn join(batch: &mut Vec<u8>, packet: &Bytes, skipped: usize) -> bool
+    ensures whole { result ≡ true
+        → batch.new.items ≡ batch.old.items ++ drop skipped packet.now }
+    ensures front { (rest : List ℕ)
+        × (batch.new.items ++ rest ≡ batch.old.items ++ drop skipped packet.now) }
+    ensures longer { length batch.old.items ≤ length batch.new.items }
+{
+    let (head, body) = packet.behind(skipped);
+    if !add(batch, head) {
+        return false;
+    }
+    add(batch, body)
 }
 
 impl Outbox {
@@ -108,28 +127,24 @@ impl Outbox {
         }
     }
 
-    /// What is left of the first packet. None exactly where no packet waits.
-    pub fn first(&self) -> Option<&[u8]>
-        ensures some { IfSome result (λ s. s.now ≡ rest_of_first self.now) }
+    /// What is left of the first packet, in two pieces of which the second stands behind the first. None exactly where no packet waits.
+    pub fn first(&self) -> Option<(&[u8], &[u8])>
+        ensures some { IfSome result (λ s. s.0.now ++ s.1.now ≡ rest_of_first self.now) }
         ensures none { IfNone result (length self.now.packets ≡ 0) }
     {
         let first = self.packets.front()?;
-        Some(behind(first.as_slice(), self.written))
+        Some(first.behind(self.written))
     }
 
     /// Joins a front of what waits behind these bytes: whole packets, as many as fit into 65,536 bytes and for which memory
-    /// is there.
+    /// is there, and of one that lies in two pieces the first where the second doesn't fit.
     pub fn gather(&self, batch: &mut Vec<u8>)
         ensures front { batch.new.items ≡ batch.old.items
             ++ take (length batch.new.items - length batch.old.items) (waiting self.now) }
     {
         let mut skipped = self.written;
         for i in 0..self.packets.len() {
-            let bytes = behind(packet_at(&self.packets, i), skipped);
-            if bytes.len() > BATCH || batch.len() > BATCH - bytes.len() {
-                return;
-            }
-            if batch.extend_from_slice(bytes).is_err() {
+            if !join(batch, packet_at(&self.packets, i), skipped) {
                 return;
             }
             skipped = 0;
@@ -142,7 +157,7 @@ impl Outbox {
     {
         let mut left = count;
         while let Some(first) = self.packets.front() {
-            let rest = first.as_slice().len().saturating_sub(self.written);
+            let rest = first.len().saturating_sub(self.written);
             if left < rest {
                 self.written += left;
                 return;

@@ -46,8 +46,8 @@ impl Broker {
 fn is_connack(send: &Outgoing) -> bool
     ensures { result ≡ is_connack send.now }
 {
-    match send.bytes.as_slice() {
-        [0x20, ..] => true,
+    match send.bytes.first() {
+        Some(0x20) => true,
         _ => false,
     }
 }

@@ -300,8 +300,8 @@ impl<P: Port> Rounds<P> {
         self.batch.clear();
         self.server.gather(conn, &mut self.batch);
         if self.batch.is_empty() {
-            let bytes = self.server.first(conn)?;
-            return Some(line.write(bytes));
+            let (head, body) = self.server.first(conn)?;
+            return Some(line.write(if head.is_empty() { body } else { head }));
         }
         Some(line.write(self.batch.as_slice()))
     }

@@ -42,7 +42,7 @@ impl Server {
         ensures noted { OnOk result (AreNoted self.old.clients → AreNoted self.new.clients) }
     {
         let Outgoing { conn, sort, bytes } = send;
-        let message = is_message(bytes.as_slice());
+        let message = is_message(&bytes);
         let answer = self.clients.offer(conn, sort, bytes)?;
         self.tally.hand(answer.0, message);
         let has_many = answer.1;

@@ -3,7 +3,7 @@ ghost use Rattle.std.specs.Prelude.{◌≡◌};
 ghost use Rattle.spk_packets.specs.View.{view};
 ghost use Rattle.spk_server.specs.Tallies.{handed_with, heard_with, is_message, stalled};
 
-use spk_clients::Offered;
+use spk_clients::{Bytes, Offered};
 use spk_packets::Packet;
 
 /// What came and went since the server began. Each count stands at the greatest number.
@@ -20,11 +20,11 @@ pub struct Tally {
 }
 
 /// Whether these are the bytes of a PUBLISH (section 2.2.1).
-pub(crate) fn is_message(bytes: &[u8]) -> bool
+pub(crate) fn is_message(bytes: &Bytes) -> bool
     ensures { result ≡ is_message bytes.now }
 {
     match bytes.first() {
-        Some(first) => *first >= 0x30 && *first < 0x40,
+        Some(first) => first >= 0x30 && first < 0x40,
         None => false,
     }
 }

@@ -39,10 +39,11 @@ impl Server {
         }
     }
 
-    /// What is left of the first packet that waits for a client. None exactly where nothing waits, or something that was noted isn't kept.
-    pub fn first(&self, conn: Conn) -> Option<&[u8]>
+    /// What is left of the first packet that waits for a client, in two pieces of which the second stands behind the first. None exactly where nothing
+    /// waits, or something that was noted isn't kept.
+    pub fn first(&self, conn: Conn) -> Option<(&[u8], &[u8])>
         ensures some { IfSome result (λ s. IfSome (client_at self.entry.now.clients conn)
-            (λ c. s.now ≡ rest_of_first c.outbox)) }
+            (λ c. s.0.now ++ s.1.now ≡ rest_of_first c.outbox)) }
         ensures kept { IfSome result (λ s. is_all_kept (room_of self.entry.now) ≡ true) }
         ensures none { IfNone result (is_all_kept (room_of self.entry.now) ≡ true
             → IfSome (client_at self.entry.now.clients conn) (λ c. length c.outbox.packets ≡ 0)) }

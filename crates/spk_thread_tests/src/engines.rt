@@ -1,6 +1,7 @@
 ghost use Rattle.std.specs.Prelude.{◌≡◌, ◌≤◌, ℕ, IfSome};
 ghost use Rattle.spk_ingress.specs.Passes.{PutsInto, TakesFrom, AllPutInto};
 
+use spk_bytes::Piece;
 use spk_engines::{Counted, EngineFault, Failures, read_frames, write_items};
 use spk_ingress::{Frame, Ingress, PutPass, TakePass};
 use spk_packets::PacketFault;
@@ -365,11 +366,21 @@ fn item(rt: &(impl Abort + AllocGlobal), bytes: &[u8]) -> Item {
     }
 }
 
-/// A ring with two items, of two bytes and of three.
+/// An item whose bytes lie in two pieces.
+fn headed(rt: &(impl Abort + AllocGlobal), head: &[u8], body: &[u8]) -> Item {
+    let head = Vec::from_slice(rt.alloc(), head).expect(rt, "memory");
+    let body = Vec::from_slice(rt.alloc(), body).expect(rt, "memory");
+    Item {
+        bytes: Bytes::headed(rt.alloc(), head, Piece::new(body)).expect(rt, "memory"),
+        cuts: 0,
+    }
+}
+
+/// A ring with two items, of two bytes and of three, which lie in two pieces.
 fn two_items(rt: &(impl Abort + AllocGlobal)) -> (Outlet, Inlet) {
     let (mut outlet, inlet) = ring(rt.alloc(), 4).expect(rt, "a ring");
     assert!(rt; outlet.offer(item(rt, &[1, 2])).is_ok());
-    assert!(rt; outlet.offer(item(rt, &[3, 4, 5])).is_ok());
+    assert!(rt; outlet.offer(headed(rt, &[3], &[4, 5])).is_ok());
     (outlet, inlet)
 }
 

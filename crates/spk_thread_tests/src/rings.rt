@@ -43,7 +43,7 @@ pub(crate) fn is_full(outlet: &mut Outlet, item: Item, byte: u8) -> bool
 {
     match outlet.offer(item) {
         Ok(()) => false,
-        Err(full) => full.number() == 91 && full.item.bytes.as_slice() == [byte].as_slice(),
+        Err(full) => full.number() == 91 && full.item.bytes.parts().0 == [byte].as_slice(),
     }
 }
 
@@ -52,7 +52,7 @@ pub(crate) fn is_next(inlet: &mut Inlet, byte: u8, cuts: u64) -> bool
     ensures { SameInlet inlet.old inlet.new }
 {
     match inlet.next() {
-        Some(item) => item.cuts == cuts && item.bytes.as_slice() == [byte].as_slice(),
+        Some(item) => item.cuts == cuts && item.bytes.parts().0 == [byte].as_slice(),
         None => false,
     }
 }

@@ -1,4 +1,4 @@
-use Rattle.std.proofs.Common.{◌≡◌, ◌<◌, ◌≤◌, refl, subst, sym, ℕ, List, length, ◌+◌}
+use Rattle.std.proofs.Common.{◌≡◌, ◌∙◌, ◌<◌, ◌≤◌, refl, subst, sym, ℕ, List, length, ◌+◌}
 use Rattle.spk_edge_body.specs.At.{IsReadAs, input_in}
 use Rattle.spk_edge_body.specs.Log.{Hears, Passes, inputs_of}
 use Rattle.spk_edge_body.proofs.Hearing.{arrives}
@@ -11,7 +11,7 @@ returns-then-item-self-clause-heard g c = λ o log h.
 pub returns-clause-heard : goal.returns-clause-heard
 returns-clause-heard g c = λ o log h.
     let read : IsReadAs c.args.item.bytes c.in_ok-packet.packet =
-    subst (λ (bytes : List ℕ). IsReadAs bytes c.in_ok-packet.packet) c.as_slice.ensures c.in_ok-packet.ensures.read in (
+    subst (λ (bytes : List ℕ). IsReadAs bytes c.in_ok-packet.packet) (c.as_slice.ensures.value ∙ c.in_ok-whole.ensures) c.in_ok-packet.ensures.read in (
       Hears c.args.item (input_in o.setup.config (1000000 + length (inputs_of log)) c.in_ok-packet.packet),
       c.in_ok-hear_packet.ensures.heard o (inputs_of log) h,
       (

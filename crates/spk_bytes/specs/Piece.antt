@@ -1,7 +1,7 @@
--- What contracts see of shared bytes.
+-- What contracts see of bytes in one piece.
 use Rattle.std.specs.Prelude.{ℕ, List}
-use Rattle.spk_bytes.specs.declared.shared.Held.{Held}
-use Rattle.spk_bytes.specs.declared.shared.Held.TheVariants.{Alone, Together}
+use Rattle.spk_bytes.specs.declared.piece.Held.{Held}
+use Rattle.spk_bytes.specs.declared.piece.Held.TheVariants.{Alone, Together}
 
 abbrev pub held_items : Held → List ℕ
 held_items (Alone bytes) = bytes.items
