@@ -277,3 +277,8 @@ session-sound d more s sound is fits = (
   ap (λ b. sessions_on b (flat_map session_now more)) sound.settled ∙ ap (sessions_on (state_was d)) (sessions-more d.sessions.items more (whole s) is (ap (λ (b : plain.Broker). b.sessions) sound.settled) refl),
   subst (λ ss. IsLawful (sessions_on (state_was d) ss)) (sym (ap (map session_was) is ∙ map_push session_was d.sessions.items (whole s))) (lawful-session (state_was d) s sound.lawful fits),
 )
+
+-- the message that can be written is the one that was given
+pub kept-as : (p m : plain.AppMessage) (b : Bool) → Some p ≡ cond b (Some m) None → p ≡ m
+kept-as p m true e = let same : p ≡ m = cc in same
+kept-as p m false e = absurd (let z : ⊥ = cc in z)

@@ -9,7 +9,7 @@ use Rattle.spk_broker.specs.declared.session.Grant.{Grant}
 use Rattle.spk_broker.specs.declared.session.Connection.{Connection}
 
 abbrev pub app_message_view : AppMessage → plain.AppMessage
-app_message_view p = record { topic = string_bytes p.topic; payload = p.payload.items; qos = p.qos; retain = p.retain }
+app_message_view p = record { topic = string_bytes p.topic; payload = p.payload; qos = p.qos; retain = p.retain }
 
 abbrev pub grant_view : Grant → List ℕ × ℕ
 grant_view g = (string_bytes g.filter, g.qos)
@@ -27,7 +27,7 @@ connection_was l = record { conn = l.conn; alive = l.alive; heard = l.heard_befo
 
 -- a retained message, by its topic
 abbrev pub stored_view : Stored → plain.Stored
-stored_view s = record { payload = s.payload.items; qos = s.qos }
+stored_view s = record { payload = s.payload; qos = s.qos }
 
 abbrev pub retained_view : {A : Type 0} → String A × Stored → List ℕ × plain.Stored
 retained_view e = (string_bytes e.0, stored_view e.1)

@@ -22,7 +22,7 @@ use crate::queries::{away_place, place_near};
 use crate::session::{Connection, InFlight, Session};
 use crate::state::State;
 use spk_packets::Packet;
-use spk_session::Identifiers;
+use spk_session::{Identifiers, Sort};
 use std::alloc::{AllocError, Global};
 
 /// What enters once a call is settled: what a new session is made of, or the connection of the kept one that is taken up.
@@ -169,13 +169,14 @@ fn resend(draft: &mut Draft, conn: Conn, message: &InFlight) -> Result<(), Alloc
         (draft_view draft.new
         ≡ with_sends (again conn (in_flight_view message.now) ∷ []) (draft_view draft.old)) }
 {
-    let publish = message.app_message.as_publish(
+    let bytes = message.app_message.spelled(
+        draft.alloc,
         message.handed,
         1,
         message.app_message.retain,
         Some(message.id),
-    );
-    draft.publish(conn, &publish)
+    )?;
+    draft.send(conn, Sort::Other, bytes)
 }
 
 /// All messages in flight are sent again, in the order in which they were made.

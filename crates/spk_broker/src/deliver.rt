@@ -74,10 +74,8 @@ impl Session {
             return Ok(());
         }
         if let Some(connection) = &self.here {
-            draft.publish(
-                connection.conn,
-                &app_message.as_publish(false, 0, retain, None),
-            )?;
+            let bytes = app_message.spelled(draft.alloc, false, 0, retain, None)?;
+            draft.send(connection.conn, Sort::QosZero, bytes)?;
         }
         Ok(())
     }
@@ -134,10 +132,8 @@ impl Session {
             self.in_flight.push(message)?;
         }
         if let Some(connection) = &self.here {
-            draft.publish(
-                connection.conn,
-                &app_message.as_publish(false, 1, retain, Some(id)),
-            )?;
+            let bytes = app_message.spelled(draft.alloc, false, 1, retain, Some(id))?;
+            draft.send(connection.conn, Sort::Other, bytes)?;
         }
         Ok(())
     }

@@ -18,7 +18,7 @@ use std::collections::BTreeMap;
 
 /// The bytes of a retained message with QoS 0 and RETAIN. Refused only where memory is.
 fn spelled_retained(alloc: Global, topic: &String, stored: &Stored) -> Result<Vec<u8>, AllocError>
-    requires { is_sendable (string_bytes topic.now) stored.now.payload.items stored.now.qos ≡ true }
+    requires { is_sendable (string_bytes topic.now) stored.now.payload stored.now.qos ≡ true }
     ensures { IfOk result (λ v. v.items ≡ spelling
         (plain_packet (retained_at 0 (string_bytes topic.now) (stored_view stored.now)))) }
 {
@@ -86,7 +86,7 @@ impl Encoded {
         topic: &String,
         stored: &Stored,
     ) -> Result<Bytes, AllocError>
-        requires sendable { is_sendable (string_bytes topic.now) stored.now.payload.items stored.now.qos ≡ true }
+        requires sendable { is_sendable (string_bytes topic.now) stored.now.payload stored.now.qos ≡ true }
         requires right { AreBytesOf (encoded_at self.old place)
             (Some (string_bytes topic.now, stored_view stored.now)) }
         ensures bytes { IfOk result (λ b. b ≡ spelling

@@ -6,6 +6,7 @@ ghost use Rattle.spk_packets.specs.View.{view};
 ghost use Rattle.spk_broker.specs.Restoring.{is_app_message, message_view, sendable_as, words_of};
 
 use crate::app_message::AppMessage;
+use spk_bytes::Piece;
 use spk_packets::{Packet, is_writable};
 
 /// An application message (section 3.3): a will (section 3.1.2.5), or one that a session keeps.
@@ -55,7 +56,7 @@ pub(crate) fn app_message(message: Message) -> Option<AppMessage>
     let (topic, payload) = words(packet)?;
     Some(AppMessage {
         topic,
-        payload,
+        payload: Piece::new(payload),
         qos,
         retain,
     })

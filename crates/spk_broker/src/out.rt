@@ -23,7 +23,7 @@ pub struct Outgoing {
     pub conn: Conn,
     /// Whether it may be dropped.
     pub sort: Sort,
-    /// One packet, in its canonical spelling. Those who get the same QoS 0 publish share its bytes.
+    /// One packet, in its canonical spelling. Those who get the same publish share its bytes, at QoS 1 those of its payload.
     pub bytes: Bytes,
 }
 
@@ -90,6 +90,19 @@ pub(crate) fn spelled_publish(
     }
 }
 
+/// The canonical spelling of a PUBLISH that can be written, up to its payload. Refused only where memory is.
+pub(crate) fn spelled_head(alloc: Global, publish: &PublishRef<'_>) -> Result<Vec<u8>, AllocError>
+    requires { IsWritable (publish_view publish.now) }
+    ensures { IfOk result
+        (λ v. v.items ++ publish.now.payload.now ≡ spelling (publish_view publish.now)) }
+{
+    match publish.encode_head(alloc) {
+        Ok(bytes) => Ok(bytes),
+        Err(PacketFault::NoMemory) => Err(AllocError),
+        Err(_) => unreachable!(),
+    }
+}
+
 impl Draft {
     /// Nothing yet.
     pub(crate) fn new(alloc: Global) -> Draft
@@ -146,17 +159,5 @@ impl Draft {
     {
         self.waiting.push_back(app_message)?;
         Ok(())
-    }
-
-    /// One more PUBLISH for a connection.
-    pub(crate) fn publish(&mut self, conn: Conn, publish: &PublishRef<'_>) -> Result<(), AllocError>
-        requires { IsWritable (publish_view publish.now) }
-        ensures { OnOk result (draft_view self.new ≡ record (draft_view self.old) {
-          sends = (draft_view self.old).sends
-              ++ outgoing (record { conn = conn; packet = publish_view publish.now }) ∷ [];
-        }) }
-    {
-        let bytes = spelled_publish(self.alloc, publish)?;
-        self.send(conn, sort_at(publish.qos), Bytes::new(bytes))
     }
 }

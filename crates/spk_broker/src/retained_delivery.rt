@@ -26,11 +26,11 @@ use std::alloc::AllocError;
 
 /// A retained message as it is offered at a QoS.
 fn app_message_at(topic: &String, stored: &Stored, qos: u8) -> Result<AppMessage, AllocError>
-    requires { is_sendable (string_bytes topic.now) stored.now.payload.items qos ≡ true }
+    requires { is_sendable (string_bytes topic.now) stored.now.payload qos ≡ true }
     ensures { IfOk result
         (λ p. app_message_view p ≡ retained_at qos (string_bytes topic.now) (stored_view stored.now)) }
 {
-    AppMessage::of(topic, &stored.payload, qos, true)
+    AppMessage::sharing(topic, &stored.payload, qos, true)
 }
 
 /// What is given of a retained message: its bytes, where it goes with QoS 0, or the message itself.
@@ -48,7 +48,7 @@ fn offered_one(
     stored: &Stored,
     grant: &Grant,
 ) -> Result<Option<Given>, AllocError>
-    requires sendable { is_sendable (string_bytes topic.now) stored.now.payload.items stored.now.qos
+    requires sendable { is_sendable (string_bytes topic.now) stored.now.payload stored.now.qos
         ≡ true }
     requires right { AreBytesOf (encoded_at encoded.old place)
         (Some (string_bytes topic.now, stored_view stored.now)) }

@@ -6,12 +6,13 @@ ghost use Rattle.spk_broker.specs.Sendable.{are_sendable};
 use crate::newcomer::Newcomer;
 use crate::session::Session;
 use indexmap::IndexMap;
+use spk_bytes::Piece;
 use std::alloc::Global;
 
 /// What is kept of a retained message beside its topic (section 3.3.1.3).
 #[derive(Debug, Drop)]
 pub(crate) struct Stored {
-    pub(crate) payload: Vec<u8>,
+    pub(crate) payload: Piece,
     /// 0 or 1.
     pub(crate) qos: u8,
 }

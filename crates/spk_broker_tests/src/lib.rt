@@ -28,6 +28,8 @@ mod pressure;
 #[cfg(test)]
 mod serve;
 #[cfg(test)]
+mod sharing;
+#[cfg(test)]
 mod sockets;
 #[cfg(test)]
 mod status;

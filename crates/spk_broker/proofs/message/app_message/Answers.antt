@@ -1,4 +1,4 @@
-use Rattle.std.proofs.Common.{◌≡◌, ◌∙◌, ap, cond, sym, string_bytes, Some, None, true}
+use Rattle.std.proofs.Common.{◌≡◌, ◌∙◌, ap, cond, sym, subst, string_bytes, Some, None, true}
 use Rattle.spk_packets.specs.View.{view}
 use Rattle.spk_broker.specs.Restoring.{is_app_message, message_view}
 use Rattle.spk_broker.specs.Sendable.{is_sendable}
@@ -15,4 +15,7 @@ invariant_of-result c =
     let m = message_view c.args.message in
     let fits : is_app_message m ≡ true = app_message-fits m (view c.publish-packet.result) c.is_writable.result c.publish-packet.ensures c.is_writable.ensures ∙ c.if-not-is_writable.false in
     let same = words-fit m (view c.publish-packet.result) (string_bytes c.in_ok-topic.topic) c.in_ok-topic.payload.items c.publish-packet.ensures c.in_ok-topic.ensures in
-    record { sendable = ap (λ t. is_sendable t c.in_ok-topic.payload.items m.qos) same.0 ∙ ap (λ q. is_sendable m.topic q m.qos) same.1 ∙ fits }
+    record {
+      sendable = subst (λ q. is_sendable (string_bytes c.in_ok-topic.topic) q m.qos ≡ true) (sym c.new.ensures)
+          (ap (λ t. is_sendable t c.in_ok-topic.payload.items m.qos) same.0 ∙ ap (λ q. is_sendable m.topic q m.qos) same.1 ∙ fits);
+    }

@@ -15,7 +15,7 @@ returns-then-not-is_match-clause-given c =
 
 pub app_message_at-requires : goal.app_message_at-requires
 app_message_at-requires c =
-    lower (string_bytes c.args.topic.now) c.args.stored.now.payload.items c.args.stored.now.qos c.min-qos.result c.requires.sendable (omega (arith, c.min-qos.ensures))
+    lower (string_bytes c.args.topic.now) c.args.stored.now.payload c.args.stored.now.qos c.min-qos.result c.requires.sendable (omega (arith, c.min-qos.ensures))
 
 pub returns-then-qos-eq0-clause-given : goal.returns-then-qos-eq0-clause-given
 returns-then-qos-eq0-clause-given c =

@@ -6,4 +6,4 @@ use Rattle.spk_broker.proofs.delivery.Delivery.plain.Goals as goal
 pub spelled_publish-requires : goal.spelled_publish-requires
 spelled_publish-requires c =
     let app_message = c.self.inside.app_message.now in
-    subst IsWritable (sym c.as_publish-publish.ensures) (plain-writable (string_bytes app_message.topic) app_message.payload.items app_message.qos false app_message.sendable)
+    subst IsWritable (sym c.as_publish-publish.ensures) (plain-writable (string_bytes app_message.topic) app_message.payload app_message.qos false app_message.sendable)
