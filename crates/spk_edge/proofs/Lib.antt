@@ -24,3 +24,4 @@ mod Fronts
 mod Filled
 mod Severals
 mod Sets
+mod Once

@@ -7,7 +7,7 @@ use Rattle.std.proofs.lemmas.List.{flat_map_more, take_all, take_more, map_push}
 use Rattle.std.proofs.lemmas.List.Elements.{All-push}
 use Rattle.spk_payload.specs.Meaning.{MetricData}
 use Rattle.spk_payload.specs.Spelling.{MetricFits}
-use Rattle.spk_payload.specs.Typing.{Typed, typed_view}
+use Rattle.spk_payload.specs.Typing.{Typed}
 use Rattle.spk_payload.specs.declared.typing.Value.{Value}
 use Rattle.spk_device.specs.Book.{Book, GaugeData, gauge_at}
 use Rattle.spk_device.specs.Calls.{unless_refused}

@@ -1,7 +1,8 @@
 -- A list of calls of an edge node, newest first, and what they handed out.
-use Rattle.std.specs.Prelude.{◌≡◌, ℕ, Bool, true, false, List, [], ◌∷◌, ◌++◌, map}
+use Rattle.std.specs.Prelude.{◌≡◌, ℕ, ◌+◌, ◌<◌, ◌≤◌, Bool, true, false, List, [], ◌∷◌, ◌++◌, map, Some, slice_get}
 use Rattle.std.specs.List.{AllByRecursion}
 use Rattle.spk_packets.specs.Message as packets
+use Rattle.spk_sequence.specs.NodeRecord.{Numbering, RunsOn, Restarts}
 use Rattle.spk_edge_rules.specs.Config.{Setup}
 use Rattle.spk_edge_rules.specs.Inputs.{Cut, Input}
 use Rattle.spk_edge_rules.specs.Run.{Done, packets_of}
@@ -13,7 +14,7 @@ use Rattle.spk_edge.specs.declared.message.Out.{Out}
 use Rattle.spk_edge.specs.declared.plan.Plan.{Plan}
 
 -- What changes a node: a plan of an input is taken up, an input is done at once (`open`, `packet` and the like), or the
--- connection is gone. A call that was refused changes nothing and isn't in the list.
+-- connection is gone. A call that was refused changes nothing and isn't in the list, nor is a plan that was let go.
 pub data Call : Type 0 where
   TakeUp : (i : Input) (p : Plan) → Call
   Tell : (i : Input) (out : Out) → Call
@@ -32,7 +33,8 @@ IsAfterCall n (TakeUp i p) after = IsPlan n i p × (after ≡ patched n p)
 IsAfterCall n (Tell i out) after = IsDone n i after out
 IsAfterCall n CutOff after = after ≡ after_cut n
 
--- a node that was made, and then called; each plan is taken up by the node that it is a plan of
+-- A node that was made, and then called. A plan holds its node until it is taken up or let go: so whatever plans are made, and
+-- in whatever order, each one is taken up by the node that it is a plan of, as that node was then.
 abbrev pub IsAfterCalls : Setup → List Call → NodeData → Type 0
 IsAfterCalls s [] n = n ≡ node_of s []
 IsAfterCalls s (call ∷ calls) n = (before : NodeData) × IsAfterCalls s calls before × IsAfterCall before call n
@@ -71,3 +73,15 @@ messages_by CutOff = []
 abbrev pub messages_out : List Call → List MessageData
 messages_out [] = []
 messages_out (call ∷ calls) = messages_out calls ++ messages_by call
+
+-- ---- numbers that come once
+
+-- the numbers go on from a place to a later one: they run on, or no NBIRTH is among the messages behind the first of these
+abbrev pub GoesOn : Numbering → List MessageData → ℕ → ℕ → Type 0
+GoesOn RunsOn ms j k = Unit {0}
+GoesOn Restarts ms j k = (q : ℕ) (m : MessageData) → j < q → q ≤ k → slice_get ms q ≡ Some m → m.opens ≡ false
+
+-- Of 256 messages in a row no two have the same number, as far as the numbers go on.
+abbrev pub AreNumberedOnce : Numbering → List MessageData → Type 0
+AreNumberedOnce numbering ms = (j k : ℕ) (a b : MessageData) → slice_get ms j ≡ Some a → slice_get ms k ≡ Some b
+    → j < k → k < j + 256 → GoesOn numbering ms j k → a.payload.seq ≡ b.payload.seq → ⊥

@@ -11,3 +11,4 @@ pub mod Saying
 pub mod Rows
 pub mod History
 pub mod Reborn
+pub mod Holding

@@ -1,5 +1,5 @@
 -- Several changes of one owner that are done at once, and what they make of a node's data.
-use Rattle.std.specs.Prelude.{◌≡◌, ◌⊎◌, ℕ, ◌^◌, Bool, true, false, List, [], ◌∷◌, map, nat_lt, Option, Some, None, Ok, Err, if◌then◌else◌}
+use Rattle.std.specs.Prelude.{◌≡◌, ◌⊎◌, ℕ, ◌^◌, true, false, List, [], ◌∷◌, map, nat_lt, Option, Some, None, Ok, Err, if◌then◌else◌}
 use Rattle.std.specs.Option.{option_map}
 use Rattle.spk_payload.specs.Meaning.{MetricData}
 use Rattle.spk_payload.specs.Typing.{Typed, typed_view}

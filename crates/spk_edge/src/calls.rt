@@ -28,8 +28,8 @@ impl EdgeNode {
         if let Act::Command(topic, payload) = input.act {
             return self.commanded(input.now, input.ack, topic, payload);
         }
-        let plan = self.plan(input)?;
-        Ok(self.take_up(plan).out)
+        let plan = self.planned(input)?;
+        Ok(self.take(plan).out)
     }
 
     /// Opens a connection: CONNECT, with the will of the next session. Taken when Idle.

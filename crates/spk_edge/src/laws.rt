@@ -11,7 +11,7 @@ ghost use Rattle.spk_edge_rules.specs.Inputs.{Cut, Input};
 ghost use Rattle.spk_edge_rules.specs.Run.{Message, published, right_at, run_of, wires_at};
 ghost use Rattle.spk_edge_rules.specs.Step.{Record, standing_of};
 ghost use Rattle.spk_edge.specs.Along.{AllWhole, IsPlanned, IsStepped, message_at, messages_from, node_of};
-ghost use Rattle.spk_edge.specs.Calls.{AreTakenUp, Call, IsAfterCalls, bytes_out, inputs_by, messages_out, packets_in};
+ghost use Rattle.spk_edge.specs.Calls.{AreNumberedOnce, AreTakenUp, Call, IsAfterCalls, bytes_out, inputs_by, messages_out, packets_in};
 ghost use Rattle.spk_edge.specs.Patch.{IsDone, IsPlan, IsRefusal, after_cut, made, plain_input, setup_of};
 ghost use Rattle.spk_edge.specs.Sealing.{AreWhole, bytes_of, numbered, wire_of};
 ghost use Rattle.spk_edge.specs.View.{NodeData, message_view, unnumbered};
@@ -131,10 +131,16 @@ pub fn calls()
         → AreTakenUp calls
         → messages_out calls ≡ messages_from s (published (run_of s (inputs_by calls))) 0 }
 
+    // so no number comes twice in 256 messages in a row, unless an NBIRTH between starts the numbers again
+    ensures once { (s : Setup) (calls : List Call) (n : NodeData) → IsAfterCalls s calls n
+        → AreTakenUp calls → AreNumberedOnce s.config.numbering (messages_out calls) }
+
     // and each message published can be written
     ensures whole { (s : Setup) (calls : List Call) (n : NodeData) → IsAfterCalls s calls n
         → AllWhole s (published (run_of s (inputs_by calls))) }
 {
     along();
+    positions();
+    spk_edge_rules::laws::any_list();
     spk_sequence::laws::records();
 }

@@ -55,15 +55,6 @@ impl fmt::Debug for Plan {
     }
 }
 
-impl Plan {
-    /// What will be published, in order.
-    pub fn messages(&self) -> &[Published]
-        ensures { result.now ≡ self.now.messages.items }
-    {
-        &self.messages
-    }
-}
-
 /// What was taken up: what is answered, and what was published. The last of the packets are the messages' bytes.
 #[derive(Debug, PartialEq, Drop)]
 pub struct Taken {
@@ -269,7 +260,7 @@ impl EdgeNode {
     }
 
     /// What a plan says is so from now on.
-    pub fn take_up(&mut self, plan: Plan) -> Taken
+    pub(crate) fn take(&mut self, plan: Plan) -> Taken
         ensures data { self.new ≡ patch.patched self.old plan }
         ensures out { result.out ≡ plan.out }
         ensures messages { result.messages ≡ plan.messages }
@@ -326,12 +317,8 @@ impl EdgeNode {
         }
     }
 
-    /// The plan of an input. It makes all growths, and changes nothing.
-    ///
-    /// Refuses in this order: WrongPhase (60), ClockEnd (61) for a moment of 2^63 or more, what the act itself refuses,
-    /// ClockEnd for a stamp that is needed, TooLarge (64). NoMemory (1) comes from no input that gives and sets nothing,
-    /// as a value that is the metric's already.
-    pub fn plan(&self, input: Input<'_>) -> Result<Plan, EdgeFault>
+    /// What an input comes to, with all growths made.
+    pub(crate) fn planned(&self, input: Input<'_>) -> Result<Plan, EdgeFault>
         ensures planned { IfOk result (patch.IsPlan self.now (input_view input.entry)) }
         ensures refused { IfErr result (patch.IsRefusal self.now (input_view input.entry)) }
         ensures memory { IfErr result (patch.IsShort self.now (input_view input.entry)) }

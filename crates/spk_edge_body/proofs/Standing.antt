@@ -7,6 +7,7 @@ use Rattle.spk_edge.specs.Patch.{IsPlan, IsRefusal, patched}
 use Rattle.spk_edge.specs.Sealing.{bytes_of}
 use Rattle.spk_edge.specs.View.{NodeData, message_view}
 use Rattle.spk_edge.specs.declared.plan.Plan.{Plan}
+use Rattle.spk_edge.specs.declared.plan.Taken.{Taken}
 use Rattle.spk_edge_rules.specs.Config.{Setup}
 use Rattle.spk_edge_rules.specs.Inputs.{Input}
 use Rattle.spk_edge_rules.specs.declared.fault.EdgeFault.{EdgeFault}
@@ -17,7 +18,7 @@ use Rattle.spk_ingress.specs.declared.frame.Frame.{Frame}
 use Rattle.spk_ingress.specs.declared.frame.Frame.TheVariants.{Packet}
 use Rattle.spk_edge_body.specs.At.{HasPut, Origin, Stands}
 use Rattle.spk_edge_body.specs.Frames.{cut_if, cuts_in, frames_at, frames_of, is_cut}
-use Rattle.spk_edge_body.specs.Taking.{IsPassed, IsTaken}
+use Rattle.spk_edge_body.specs.Taking.{IsPassed, IsTaken, IsTakenUp}
 use Rattle.spk_edge_body.specs.Told.{newest_first, told_view}
 use Rattle.spk_edge_body.specs.Vain.{in_vain, vain_after}
 use Rattle.spk_edge_body.specs.declared.desk.Desk.{Desk}
@@ -100,10 +101,10 @@ tell-passed o is d e told i fault same law h refusal memory node inputs messages
 abbrev pub Takes : Type 0
 Takes = (s : Setup) (is : List Input) (i : Input) (p : Plan) → IsPlan (node_of s is) i p → IsTaken s is i p
 
-pub tell-taken : (o : Origin) (is : List Input) (d e : Desk) (told : Told) (i : Input) (p : Plan) → told_view told ≡ i → Takes → Stands o is d → IsPlan d.node i p
-    → (IsPlan d.node (told_view told) p → Stands o (told_view told ∷ is) e)
+pub tell-taken : (o : Origin) (is : List Input) (d e : Desk) (told : Told) (i : Input) (after : NodeData) (taken : Taken) → told_view told ≡ i → Takes → Stands o is d
+    → IsTakenUp d.node i after taken → (IsTakenUp d.node (told_view told) after taken → Stands o (told_view told ∷ is) e)
     → Stands o (i ∷ is) e × (false ≡ is_err (right_at o.setup (run_of o.setup is) i))
-tell-taken o is d e told i p same law h plan took = (
-  subst (λ (j : Input). Stands o (j ∷ is) e) same (took (subst (λ (j : Input). IsPlan d.node j p) (sym same) plan)),
-  sym ((law o.setup is i p (subst (λ (n : NodeData). IsPlan n i p) h.node plan)).done),
+tell-taken o is d e told i after taken same law h up took = (
+  subst (λ (j : Input). Stands o (j ∷ is) e) same (took (subst (λ (j : Input). IsTakenUp d.node j after taken) (sym same) up)),
+  sym ((law o.setup is i up.plan (subst (λ (n : NodeData). IsPlan n i up.plan) h.node up.planned)).done),
 )

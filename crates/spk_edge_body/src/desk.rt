@@ -1,7 +1,7 @@
 //! An edge node with what it was told and what it gave.
-ghost use Rattle.std.specs.Prelude.{◌≡◌, ◌+◌, List, [], ◌∷◌, length, ◌&&◌, ◌||◌, nat_lt, is_err, Ok, false, Some, None, if◌then◌else◌, OnOk, IfOk};
-ghost use Rattle.spk_edge.specs.Patch.{IsPlan};
-ghost use Rattle.spk_edge.specs.View.{act_view, input_view};
+ghost use Rattle.std.specs.Prelude.{◌≡◌, ◌+◌, List, [], ◌∷◌, length, ◌&&◌, ◌||◌, nat_lt, is_err, Ok, false, Some, None, if◌then◌else◌, OnErr, OnOk, IfErr, IfOk};
+ghost use Rattle.spk_edge.specs.Patch.{IsRefusal};
+ghost use Rattle.spk_edge.specs.View.{NodeData, act_view, input_view};
 ghost use Rattle.spk_edge.specs.Along.{node_of};
 ghost use Rattle.spk_edge_rules.specs.Config.{Setup};
 ghost use Rattle.spk_edge_rules.specs.Inputs as inputs;
@@ -13,6 +13,7 @@ ghost use Rattle.spk_edge_body.specs.At.{Goes, IsAt, IsOf, IsReadAs, Origin, Put
 ghost use Rattle.spk_edge_body.specs.Frames as frames;
 ghost use Rattle.spk_edge_body.specs.Log.{Asks, MayMove, Move, asked_at, inputs_of};
 ghost use Rattle.spk_edge_body.specs.Script.{Asked, is_refused};
+ghost use Rattle.spk_edge_body.specs.Taking.{IsTakenUp};
 ghost use Rattle.spk_edge_body.specs.Told.{told_act, told_view};
 ghost use Rattle.spk_edge_body.specs.Vain as vain;
 
@@ -20,7 +21,7 @@ use crate::fault::EdgeCause;
 use crate::laws::stepping;
 use crate::sending::Sender;
 use crate::told::{Told, ToldAct};
-use spk_edge::{Act, EdgeFault, EdgeNode, Input, Out, Phase, Plan, Published, Taken};
+use spk_edge::{Act, EdgeFault, EdgeNode, Input, Out, Phase, Published, Taken};
 use spk_ingress::{Ingress, PutPass};
 use spk_packets::{Packet, PacketFault, decode};
 use spk_plan::Gate;
@@ -117,6 +118,16 @@ fn is_offline(alloc: Global, payload: &[u8]) -> Result<bool, AllocError>
     }
 }
 
+/// Tells a node an input, and takes its plan up.
+fn taken_up(node: &mut EdgeNode, input: Input<'_>) -> Result<Taken, EdgeFault>
+    ensures taken { IfOk result (IsTakenUp node.old (input_view input.entry) node.new) }
+    ensures refused { IfErr result (IsRefusal node.old (input_view input.entry)) }
+    ensures err { OnErr result (node.new ≡ node.old) }
+{
+    let plan = node.plan(input)?;
+    Ok(plan.take_up())
+}
+
 impl Desk {
     /// A node that was told nothing.
     pub(crate) fn new(
@@ -190,26 +201,27 @@ impl Desk {
         }
     }
 
-    /// Takes a plan up, and puts what it gives: its packets, then Cut where the connection is gone or closed by it.
-    fn take_up<R: Wait, G: Gate>(
+    /// What was taken up is published, and put: its packets, then Cut where the connection is gone or closed by it.
+    fn put<R: Wait, G: Gate>(
         &mut self,
         rt: &R,
         gate: &G,
         ingress: &Ingress,
         told: Told,
-        plan: Plan,
+        taken: Taken,
     ) -> Result<(), EdgeCause>
         requires { PutsInto ingress.now self.old.sender.pass }
         ensures pass { PutsOn ingress.now self.old.sender.pass self.new.sender.pass }
-        ensures taken { OnOk result ((o : Origin) (is : List inputs.Input) → Stands o is self.old
-            → IsPlan self.old.node (told_view told) plan
+        ensures taken { OnOk result ((o : Origin) (is : List inputs.Input) (n : NodeData)
+            → Stands o is (record self.old { node = n })
+            → IsTakenUp n (told_view told) self.old.node taken
             → Stands o (told_view told ∷ is) self.new) }
         ensures inlet { self.new.inlet ≡ self.old.inlet }
     {
         stepping();
         let in_vain = self.waits_in_vain(&told.act, false)?;
         self.in_vain = in_vain;
-        let Taken { out, mut messages } = self.node.take_up(plan);
+        let Taken { out, mut messages } = taken;
         let is_over = is_over(&told.act, &out);
         self.inputs.push(told)?;
         self.published.append(&mut messages)?;
@@ -236,8 +248,8 @@ impl Desk {
     {
         stepping();
         let told = Told::of(self.alloc, input)?;
-        let plan = match self.node.plan(input) {
-            Ok(plan) => plan,
+        let taken = match taken_up(&mut self.node, input) {
+            Ok(taken) => taken,
             Err(fault) => {
                 unless_memory(fault)?;
                 let in_vain = self.waits_in_vain(&told.act, true)?;
@@ -246,7 +258,7 @@ impl Desk {
                 return Ok(true);
             }
         };
-        self.take_up(rt, gate, ingress, told, plan)?;
+        self.put(rt, gate, ingress, told, taken)?;
         Ok(false)
     }
 

@@ -1,5 +1,5 @@
 //! Kept changes beside the greatest packet, which has 1,048,576 bytes: how many of them a drain sends, and which it gives up.
-use crate::host::{done, planned};
+use crate::host::{done, let_go};
 use crate::node::{Call, Kind, PLAIN, Plays, config, lost_by, record_of, told};
 use spk_device::{Alias, DeviceFault, Owner, Registry};
 use spk_edge::{Act, EdgeFault, EdgeNode, Out, Record};
@@ -182,11 +182,10 @@ fn keep(rt: &(impl Abort + AllocGlobal), node: &mut impl Plays, texts: &[(Alias,
     done(rt, node, &[Call::Open, Call::Accepted]);
 }
 
-/// How many changes the next drain sends, by its plan.
-fn count(rt: &impl Abort, node: &impl Plays) -> usize {
-    let plan = planned(node, 9, Act::Drain).expect(rt, "a plan");
-    match plan.messages().first() {
-        Some(message) => message.payload.metrics.len(),
+/// How many changes the next drain sends, by a plan that is let go.
+fn count(rt: &impl Abort, node: &mut impl Plays) -> usize {
+    match let_go(node, 9, Act::Drain).expect(rt, "a plan") {
+        Some((_, count)) => count,
         None => 0,
     }
 }

@@ -1,10 +1,10 @@
 //! A node with a primary host: STATE, kept changes, packets of the server, and the phases.
 use crate::node::{
-    CONNECT, Call, Kind, NBIRTH, NDEATH, PLAIN, Plays, Row, is_told, lost_by, phase_of, play,
-    play_on, refusal_of,
+    CONNECT, Call, Front, Kind, NBIRTH, NDEATH, PLAIN, Plays, Row, is_told, lost_by, phase_of,
+    play, play_on, refusal_of,
 };
 use crate::which::Test;
-use spk_edge::{Act, EdgeFault, Phase, Plan, Published};
+use spk_edge::{Act, EdgeFault, Phase, Published};
 use spk_payload::Metric;
 use spk_state::StateFault;
 use std::process::Abort;
@@ -140,28 +140,35 @@ fn a_node_hears_its_primary_host_alone(rt: HostRuntime) {
     play_on(&rt, PLAIN, Test::HearsNoHost);
 }
 
-/// A plan. Where memory was refused it is made again.
-pub(crate) fn planned(node: &impl Plays, now: u64, act: Act<'_>) -> Result<Plan, EdgeFault> {
-    match node.plan_of(now, act) {
-        Err(EdgeFault::NoMemory) => node.plan_of(now, act),
+/// The first message of a plan that is let go. Where memory was refused it is made again.
+pub(crate) fn let_go(
+    node: &mut impl Plays,
+    now: u64,
+    act: Act<'_>,
+) -> Result<Option<Front>, EdgeFault> {
+    match node.let_go(now, act) {
+        Err(EdgeFault::NoMemory) => node.let_go(now, act),
         answer => answer,
     }
 }
 
 /// What an act is refused for, if it is.
-pub(crate) fn plan_refusal(node: &impl Plays, now: u64, act: Act<'_>) -> Option<EdgeFault> {
-    planned(node, now, act).err()
+pub(crate) fn plan_refusal(node: &mut impl Plays, now: u64, act: Act<'_>) -> Option<EdgeFault> {
+    let_go(node, now, act).err()
 }
 
-/// What an act publishes.
+/// What an act publishes. Where memory was refused it is planned again.
 pub(crate) fn published(
     rt: &impl Abort,
     node: &mut impl Plays,
     now: u64,
     act: Act<'_>,
 ) -> Vec<Published> {
-    let plan = planned(node, now, act).expect(rt, "a plan");
-    node.taken(plan)
+    let answer = match node.tell_published(now, act) {
+        Err(EdgeFault::NoMemory) => node.tell_published(now, act),
+        answer => answer,
+    };
+    answer.expect(rt, "a plan")
 }
 
 fn are_historical(metrics: &[Metric]) -> bool {
@@ -305,7 +312,7 @@ pub(crate) const STEPS: [Call; 4] = [
 /// An act at two moments, of which the second is behind the clock's end: it is taken, or refused with these faults.
 pub(crate) fn assert_refused(
     rt: &impl Abort,
-    node: &impl Plays,
+    node: &mut impl Plays,
     act: Act<'_>,
     fault: Option<EdgeFault>,
     late: EdgeFault,

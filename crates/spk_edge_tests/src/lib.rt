@@ -16,6 +16,8 @@ mod node;
 #[cfg(test)]
 mod packet;
 #[cfg(test)]
+mod plans;
+#[cfg(test)]
 mod refusal;
 #[cfg(test)]
 mod run;

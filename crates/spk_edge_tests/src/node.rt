@@ -2,8 +2,8 @@
 use crate::which::Test;
 use spk_device::{Alias, DeviceFault, Owner, Refusal, Registry};
 use spk_edge::{
-    Act, ChangesFault, EdgeConfig, EdgeFault, EdgeNode, Input, Numbering, Out, Phase, Plan,
-    Published, Record,
+    Act, ChangesFault, EdgeConfig, EdgeFault, EdgeNode, Input, Numbering, Out, Phase, Published,
+    Record,
 };
 use spk_packets::Packet;
 use spk_payload::Value;
@@ -170,6 +170,25 @@ pub(crate) enum Call {
 pub(crate) const REBIRTH: &[u8] =
     b"\x08\x09\x12\x1c\x0a\x14Node Control/Rebirth\x18\x09\x20\x0b\x70\x01";
 
+/// The number of a message, and how many metrics it has.
+pub(crate) type Front = (Option<u64>, usize);
+
+fn front(messages: &[Published]) -> Option<Front> {
+    match messages.first() {
+        Some(message) => Some((message.payload.seq, message.payload.metrics.len())),
+        None => None,
+    }
+}
+
+/// An act that nothing acknowledges.
+fn input(now: u64, act: Act<'_>) -> Input<'_> {
+    Input {
+        now,
+        ack: None,
+        act,
+    }
+}
+
 /// What the tests ask of a node. They are written over any that answers it, since a function over a type parameter is proved
 /// without the parts of a node.
 pub(crate) trait Plays {
@@ -181,7 +200,8 @@ pub(crate) trait Plays {
 
     fn tell_packet(&mut self, now: u64, packet: &Packet) -> Result<Out, EdgeFault>;
 
-    fn plan_of(&self, now: u64, act: Act<'_>) -> Result<Plan, EdgeFault>;
+    /// The number of the first message of a plan that is let go, and how many metrics it has.
+    fn let_go(&mut self, now: u64, act: Act<'_>) -> Result<Option<Front>, EdgeFault>;
 
     fn tell_value(
         &mut self,
@@ -200,7 +220,7 @@ pub(crate) trait Plays {
 
     fn tell_plan(&mut self, now: u64, act: Act<'_>) -> Result<Out, EdgeFault>;
 
-    fn taken(&mut self, plan: Plan) -> Vec<Published>;
+    fn tell_published(&mut self, now: u64, act: Act<'_>) -> Result<Vec<Published>, EdgeFault>;
 
     fn lose_connection(&mut self);
 
@@ -233,12 +253,9 @@ impl Plays for EdgeNode {
         self.packet(now, packet)
     }
 
-    fn plan_of(&self, now: u64, act: Act<'_>) -> Result<Plan, EdgeFault> {
-        self.plan(Input {
-            now,
-            ack: None,
-            act,
-        })
+    fn let_go(&mut self, now: u64, act: Act<'_>) -> Result<Option<Front>, EdgeFault> {
+        let plan = self.plan(input(now, act))?;
+        Ok(front(plan.messages()))
     }
 
     fn tell_value(
@@ -263,12 +280,13 @@ impl Plays for EdgeNode {
     }
 
     fn tell_plan(&mut self, now: u64, act: Act<'_>) -> Result<Out, EdgeFault> {
-        let plan = self.plan_of(now, act)?;
-        Ok(self.take_up(plan).out)
+        let plan = self.plan(input(now, act))?;
+        Ok(plan.take_up().out)
     }
 
-    fn taken(&mut self, plan: Plan) -> Vec<Published> {
-        self.take_up(plan).messages
+    fn tell_published(&mut self, now: u64, act: Act<'_>) -> Result<Vec<Published>, EdgeFault> {
+        let plan = self.plan(input(now, act))?;
+        Ok(plan.take_up().messages)
     }
 
     fn lose_connection(&mut self) {

@@ -1,5 +1,5 @@
 //! The tests that play on a node. Each is a word that `play_on` takes, so that one function alone holds a node.
-use crate::{command, host, node, packet, refusal, run, several, twin};
+use crate::{command, host, node, packet, plans, refusal, run, several, twin};
 use node::Plays;
 use spk_edge::Numbering;
 use std::process::Abort;
@@ -30,6 +30,7 @@ pub(crate) enum Test<'a> {
     Commands,
     LongRun,
     Several,
+    Plans,
 }
 
 impl<'a> Test<'a> {
@@ -59,6 +60,7 @@ impl<'a> Test<'a> {
             Test::Commands => command::does_commands(rt, node),
             Test::LongRun => twin::plays_long(rt, node),
             Test::Several => several::says_several_at_once(rt, node),
+            Test::Plans => plans::numbers_what_is_taken_up(rt, node),
         }
     }
 }

@@ -3,22 +3,20 @@ use Rattle.std.proofs.Common.{◌≡◌, ℕ, ◌+◌, ◌%◌, true, false, Lis
 use Rattle.spk_packets.specs.Message.{Disconnect, PingReq}
 use Rattle.spk_packets.specs.Spelling.{spelling}
 use Rattle.spk_payload.specs.Meaning.{PayloadData}
-use Rattle.spk_edge.specs.Patch.{IsDone, patched}
+use Rattle.spk_edge.specs.Patch.{IsDone}
 use Rattle.spk_edge.specs.Sealing.{bytes_of}
 use Rattle.spk_edge.specs.View.{NodeData}
 use Rattle.spk_edge.specs.declared.message.Out.{Out}
-use Rattle.spk_edge.specs.declared.plan.Plan as edge
 use Rattle.spk_edge_rules.specs.Answers.{Answer}
 use Rattle.spk_edge_rules.specs.Inputs.{Input}
-use Rattle.spk_edge_rules.specs.Messages.{Draft}
-use Rattle.spk_edge_rules.specs.Step.{answer_at, seq_after, seq_kept, stepped}
+use Rattle.spk_edge_rules.specs.Step.{answer_at, seq_kept, stepped}
 use Rattle.spk_edge_rules.specs.declared.fault.EdgeFault.{EdgeFault}
 use Rattle.spk_ingress.specs.declared.rule.Message.{Message}
 use Rattle.spk_broker_body.specs.Step.{has_ended}
 use Rattle.spk_plan.specs.declared.plan.Plan.{Plan}
 use Rattle.spk_plant.specs.Report.{RunsAs}
 use Rattle.spk_plant.specs.declared.report.Report.{Report}
-use Rattle.spk_refusals.specs.Wrong.{IsCutPlan, IsEmptied, begins_with, first_brought, further_on, is_disconnect, is_of_device, is_short, longer, not_passed, other_config, turned}
+use Rattle.spk_refusals.specs.Wrong.{IsEmptied, begins_with, first_brought, further_on, is_disconnect, is_of_device, is_short, longer, not_passed, turned}
 use Rattle.spk_refusals.specs.declared.turning.Turn.TheVariants.{DeviceNumber, Stamp}
 
 -- ---- packets
@@ -79,19 +77,13 @@ a_clock_that_stands_has_not_passed = refl
 a_clock_past_the_stamp_has : not_passed (Some 7) 8 ≡ None
 a_clock_past_the_stamp_has = refl
 
-drafts_of : Result Answer EdgeFault → List Draft
-drafts_of (Ok answer) = answer.given.drafts
-drafts_of (Err fault) = []
-
--- whatever node takes such a plan up has the next number
-a_plan_of_a_node_further_on_spends_a_number : (n m : NodeData) (p : edge.Plan) → IsCutPlan (further_on n) p
-    → (patched m p).standing.seq ≡ (seq_kept n.config.numbering n.standing.seq + 1) % 256
-unfolding drafts_of
-a_plan_of_a_node_further_on_spends_a_number n m p plan =
+-- the node that goes on in its place has the next number
+a_node_further_on_has_the_next_number : (n : NodeData)
+    → (further_on n).standing.seq ≡ (seq_kept n.config.numbering n.standing.seq + 1) % 256
+a_node_further_on_has_the_next_number n =
     let next : ℕ = (seq_kept n.config.numbering n.standing.seq + 1) % 256 in
-    let none : [] ≡ plan.answer.given.drafts = ap drafts_of plan.answered in
     let small : next % 256 ≡ next = omega arith in
-    ap (λ (x : NodeData). x.standing.seq) plan.after ∙ sym (ap (λ (ds : List Draft). seq_after other_config (next % 256) ds) none) ∙ small
+    small
 
 same_answer : (r : Result Answer EdgeFault) (one other : Answer) → r ≡ Ok one → r ≡ Ok other → one ≡ other
 same_answer r one other a b = cc

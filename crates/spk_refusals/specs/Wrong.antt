@@ -27,10 +27,8 @@ use Rattle.spk_device.specs.Book.{empty_book}
 use Rattle.spk_sequence.specs.NodeRecord.{RunsOn}
 use Rattle.spk_edge_rules.specs.declared.fault.EdgeFault.{EdgeFault}
 use Rattle.spk_edge_rules.specs.Config.{Config}
-use Rattle.spk_edge_rules.specs.Inputs as inputs
 use Rattle.spk_edge_rules.specs.Step as step
 use Rattle.spk_edge.specs.declared.message.Out.{Out}
-use Rattle.spk_edge.specs.declared.plan.Plan.{Plan}
 use Rattle.spk_edge.specs.Patch as patch
 use Rattle.spk_edge.specs.View.{NodeData}
 use Rattle.spk_world.specs.declared.event.Event.{Event}
@@ -215,14 +213,10 @@ one_further r = record r { seq = (r.seq + 1) % 256 }
 abbrev pub further_on : NodeData → NodeData
 further_on n = patch.made other_config 1 (one_further (step.record_at n.config n.standing)) empty_book
 
--- the plan is one of a cut of this node
-abbrev pub IsCutPlan : NodeData → Plan → Type 0
-IsCutPlan n p = patch.IsPlan n (patch.plain_input 0 inputs.Cut) p
-
--- a node that keeps more changes than this takes up the plan, if there is one; else it is as it was
-abbrev pub with_taken_up : ℕ → Option Plan → NodeData → NodeData
-with_taken_up kept None n = n
-with_taken_up kept (Some p) n = if nat_lt kept (length n.standing.asked.store.items) then patch.patched n p else n
+-- where more changes are kept than this, another node goes on in its place, if there is one; else it is as it was
+abbrev pub with_other : ℕ → Option NodeData → NodeData → NodeData
+with_other kept None n = n
+with_other kept (Some other) n = if nat_lt kept (length n.standing.asked.store.items) then other else n
 
 -- ---- the world
 

@@ -4,11 +4,11 @@ ghost use Rattle.std.specs.Option.{option_map};
 ghost use Rattle.spk_payload.specs.Typing.{typed_view};
 ghost use Rattle.spk_edge_rules.specs.Inputs as inputs;
 ghost use Rattle.spk_edge.specs.Patch as patch;
-ghost use Rattle.spk_refusals.specs.Wrong.{AreTurned, IsCutPlan, IsStampRepeated, IsTurnedAnswer, further_on, not_passed, with_taken_up};
+ghost use Rattle.spk_refusals.specs.Wrong.{AreTurned, IsStampRepeated, IsTurnedAnswer, further_on, not_passed, with_other};
 
 use crate::turning::{Turn, turn_packets};
 use spk_device::{Alias, Registry};
-use spk_edge::{Act, EdgeConfig, EdgeFault, EdgeNode, Input, Numbering, Out, Plan, Record};
+use spk_edge::{EdgeConfig, EdgeFault, EdgeNode, Numbering, Out, Record};
 use spk_payload::Value;
 use std::alloc::Global;
 use std::marker::Model;
@@ -140,34 +140,21 @@ fn further_on(alloc: Global, node: &EdgeNode) -> Result<EdgeNode, EdgeFault>
     EdgeNode::new(alloc, config, start, Registry::new(alloc))
 }
 
-/// The plan of a cut of such a node.
-fn plan_further_on(alloc: Global, node: &EdgeNode) -> Result<Plan, EdgeFault>
-    ensures planned { IfOk result (IsCutPlan (further_on node.now)) }
-    ensures fault { IfErr result (λ e. e ≡ EdgeFault.NoMemory) }
-{
-    let other = further_on(alloc, node)?;
-    other.plan(Input {
-        now: 0,
-        ack: None,
-        act: Act::Cut,
-    })
-}
-
-/// A change that is kept spends a number: where more are kept than before, the node takes up this plan, of another one that is a number further.
+/// A change that is kept spends a number: where more are kept than before, this one goes on in the node's place, a number further.
 fn kept_change_takes_number(
     turns: bool,
     answer: Result<Out, EdgeFault>,
     node: &mut EdgeNode,
     kept: usize,
-    plan: Option<Plan>,
+    other: Option<EdgeNode>,
 ) -> Result<Out, EdgeFault>
     ensures answer { result ≡ answer }
     ensures control { turns ≡ false → node.new ≡ node.old }
-    ensures turned { turns ≡ true → node.new ≡ with_taken_up kept plan node.old }
+    ensures turned { turns ≡ true → node.new ≡ with_other kept other node.old }
 {
-    match plan {
-        Some(plan) if turns && node.kept() > kept => {
-            let _taken = node.take_up(plan);
+    match other {
+        Some(other) if turns && node.kept() > kept => {
+            *node = other;
         }
         _ => {}
     }

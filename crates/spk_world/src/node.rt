@@ -104,7 +104,7 @@ impl Node {
         let added = plan.messages().len();
         self.log.reserve(added)?;
         let session = self.log.session();
-        let Taken { out: _, messages } = self.edge.take_up(plan);
+        let Taken { out: _, messages } = plan.take_up();
         self.log.add(session, messages);
         if is_open(&input.act) {
             self.log.open(input.now);

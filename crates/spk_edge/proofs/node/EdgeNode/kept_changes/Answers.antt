@@ -1,9 +1,8 @@
-use Rattle.std.proofs.Common.{◌≡◌, ◌∙◌, ◌++◌, ◌∷◌, [], ap, sym, map, take}
+use Rattle.std.proofs.Common.{◌∙◌, ◌++◌, ◌∷◌, [], ap, map, take}
 use Rattle.std.proofs.lemmas.List.{map_push}
 use Rattle.spk_edge_rules.specs.Inputs.{ChangeData}
 use Rattle.spk_edge.specs.Several.{all_at, pair_view, pairs}
 use Rattle.spk_edge.specs.View.{change_view}
-use Rattle.std.proofs.Common.{List}
 use Rattle.spk_edge.proofs.Sets.{kept-more, pairs-all, pairs-more}
 use Rattle.spk_edge.proofs.node.EdgeNode.kept_changes.Goals as goal
 

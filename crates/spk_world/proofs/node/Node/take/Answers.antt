@@ -1,9 +1,11 @@
-use Rattle.std.proofs.Common.{◌∙◌, sym, ap, subst, map, length, ◌+◌, ◌-◌, ◌++◌, ◌∷◌, [], ℕ, List, None}
+use Rattle.std.proofs.Common.{◌≡◌, ◌∙◌, sym, ap, subst, map, length, ◌+◌, ◌-◌, ◌++◌, ◌∷◌, [], ℕ, List, None, rules}
 use Rattle.std.proofs.lemmas.List.{length-map}
 use Rattle.std.specs.Prelude.{if◌then◌else◌}
 use Rattle.std.specs.List.{count_by, last_or}
-use Rattle.spk_edge.specs.View.{MessageData, input_view, message_view}
+use Rattle.spk_edge.specs.Patch.{patched}
+use Rattle.spk_edge.specs.View.{MessageData, NodeData, input_view, message_view}
 use Rattle.spk_edge.specs.declared.message.Published.{Published as Message}
+use Rattle.spk_edge_rules.specs.Inputs.{Input}
 use Rattle.spk_world_run.specs.Data.{NodePart}
 use Rattle.spk_world_run.specs.Step.{or_zero, posts_from, starts_from}
 use Rattle.spk_edge.specs.Sealing.{AreWhole}
@@ -13,6 +15,9 @@ use Rattle.spk_world.specs.View.{published_view}
 use Rattle.spk_world.specs.declared.records.Published.{Published}
 use Rattle.spk_world.proofs.Nodes.{after-parts, count-messages, part_of}
 use Rattle.spk_world.proofs.node.Node.take.Goals as goal
+
+taken-of : (before n : NodePart) (input : Input) (after : NodePart) (added : ℕ) → before ≡ n → IsTaken before input after added → IsTaken n input after added
+taken-of before n input after added same taken = subst (λ (m : NodePart). IsTaken m input after added) same taken
 
 pub returns-then-is_open-clause-done : goal.returns-then-is_open-clause-done
 returns-then-is_open-clause-done c =
@@ -37,15 +42,14 @@ returns-then-is_open-clause-done c =
     let kept = ap (λ v. v.items) c.add.ensures.opened ∙ reserved.opened in
     let opened = c.open.ensures.opened ∙ ap (λ (l : List ℕ). l ++ input.now ∷ []) kept
     ∙ sym (ap (λ b. if b then log.opened.items ++ (input.now ∷ []) else log.opened.items) (sym c.is_open.ensures ∙ c.if-is_open.true)) in
-    subst (λ (n : NodePart). IsTaken n input (part_of c.take_up-messages.new.self (map published_view c.open.new.self.published.items) c.open.new.self.starts.items c.open.new.self.births c.open.new.self.opened.items)
-    (length c.messages-added.result.now)) c.self.view_is
+    taken-of before _ input _ _ c.self.view_is
     (record {
       given = given;
       answered = planned.answered;
       whole = planned.whole;
-      is = after-parts before input given c.take_up-messages.new.self ms (map published_view c.open.new.self.published.items) c.open.new.self.starts.items c.open.new.self.births c.open.new.self.opened.items
-          (c.take_up-messages.ensures.data ∙ planned.after) messages published starts births opened;
-      count = ap (λ (l : List Message). length l) c.messages-added.ensures ∙ sym (length-map c.in_ok-plan.plan.messages.items message_view)
+      is = after-parts before input given _ ms (map published_view c.open.new.self.published.items) c.open.new.self.starts.items c.open.new.self.births c.open.new.self.opened.items
+          ((search rules) ∙ (c.take_up-messages.ensures.data ∙ (ap (λ (n : NodeData). patched n c.in_ok-plan.plan.plan) c.in_ok-plan.ensures.same ∙ planned.after))) messages published starts births opened;
+      count = ap (λ (l : List Message). length l) c.messages-added.ensures ∙ sym (length-map c.in_ok-plan.plan.plan.messages.items message_view)
           ∙ ap (λ (l : List MessageData). length l) planned.messages
           ∙ count-messages c.self.inside.edge.config.numbering c.self.inside.edge.standing.seq c.self.inside.edge.config given.given.drafts;
     })
@@ -73,15 +77,14 @@ returns-else-is_open-clause-done c =
     let kept = ap (λ v. v.items) c.add.ensures.opened ∙ reserved.opened in
     let opened = kept
     ∙ sym (ap (λ b. if b then log.opened.items ++ (input.now ∷ []) else log.opened.items) (sym c.is_open.ensures ∙ c.if-is_open.false)) in
-    subst (λ (n : NodePart). IsTaken n input (part_of c.take_up-messages.new.self (map published_view c.add.new.self.published.items) c.add.new.self.starts.items c.add.new.self.births c.add.new.self.opened.items)
-    (length c.messages-added.result.now)) c.self.view_is
+    taken-of before _ input _ _ c.self.view_is
     (record {
       given = given;
       answered = planned.answered;
       whole = planned.whole;
-      is = after-parts before input given c.take_up-messages.new.self ms (map published_view c.add.new.self.published.items) c.add.new.self.starts.items c.add.new.self.births c.add.new.self.opened.items
-          (c.take_up-messages.ensures.data ∙ planned.after) messages published starts births opened;
-      count = ap (λ (l : List Message). length l) c.messages-added.ensures ∙ sym (length-map c.in_ok-plan.plan.messages.items message_view)
+      is = after-parts before input given _ ms (map published_view c.add.new.self.published.items) c.add.new.self.starts.items c.add.new.self.births c.add.new.self.opened.items
+          ((search rules) ∙ (c.take_up-messages.ensures.data ∙ (ap (λ (n : NodeData). patched n c.in_ok-plan.plan.plan) c.in_ok-plan.ensures.same ∙ planned.after))) messages published starts births opened;
+      count = ap (λ (l : List Message). length l) c.messages-added.ensures ∙ sym (length-map c.in_ok-plan.plan.plan.messages.items message_view)
           ∙ ap (λ (l : List MessageData). length l) planned.messages
           ∙ count-messages c.self.inside.edge.config.numbering c.self.inside.edge.standing.seq c.self.inside.edge.config given.given.drafts;
     })

@@ -5,7 +5,7 @@ use Rattle.spk_edge.specs.Patch.{IsPlan, IsRefusal, IsSealed, IsShort, IsUnseale
 use Rattle.spk_edge.specs.View.{act_view, given_view, input_view}
 use Rattle.spk_edge.proofs.Plans.{given-known, if-err, if-ok, planned, sealed_refused}
 use Rattle.spk_edge.proofs.Still.{on-err, sealed-short}
-use Rattle.spk_edge.proofs.node.EdgeNode.plan.Goals as goal
+use Rattle.spk_edge.proofs.node.EdgeNode.planned.Goals as goal
 
 pub sealed-requires : goal.sealed-requires
 sealed-requires c =
