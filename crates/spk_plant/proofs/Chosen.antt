@@ -16,24 +16,24 @@ use Rattle.spk_plan.specs.declared.fault.PlantFault.{PlantFault}
 use Rattle.spk_plan.specs.declared.fault.PlantFault.TheVariants as fault
 use Rattle.spk_plan.specs.declared.plan.Plan.{Plan}
 use Rattle.spk_plan_rules.specs.Plan.{CanRun}
-use Rattle.spk_edge_body.specs.Done.{EdgeFailed}
-use Rattle.spk_edge_body.specs.Fault.{fault_of as edge_fault}
-use Rattle.spk_edge_body.specs.declared.fault.EdgeCause.{EdgeCause}
-use Rattle.spk_edge_body.specs.declared.fault.EdgeCause.TheVariants as edge_why
-use Rattle.spk_edge_body.specs.declared.edge.EdgeStart.{EdgeStart}
-use Rattle.spk_edge_body.specs.declared.edge.EdgeEnd.{EdgeEnd}
-use Rattle.spk_edge_body.specs.declared.edge.EdgeFailure.{EdgeFailure}
-use Rattle.spk_broker_body.specs.Fault.{fault_of as broker_fault}
-use Rattle.spk_broker_body.specs.declared.fault.BrokerFailed.{BrokerFailed}
-use Rattle.spk_broker_body.specs.declared.fault.BrokerFailed.TheVariants as failed
-use Rattle.spk_broker_body.specs.declared.part.BrokerStart.{BrokerStart}
-use Rattle.spk_broker_body.specs.declared.part.BrokerEnd.{BrokerEnd}
-use Rattle.spk_host_body.specs.Fault.{fault_of as host_fault}
-use Rattle.spk_host_body.specs.declared.fault.HostCause.{HostCause}
-use Rattle.spk_host_body.specs.declared.fault.HostCause.TheVariants as why
-use Rattle.spk_host_body.specs.declared.ends.HostStart.{HostStart}
-use Rattle.spk_host_body.specs.declared.ends.HostEnd.{HostEnd}
-use Rattle.spk_host_body.specs.declared.ends.HostFailed.{HostFailed}
+use Rattle.spk_plant_edge.specs.Done.{EdgeFailed}
+use Rattle.spk_plant_edge.specs.Fault.{fault_of as edge_fault}
+use Rattle.spk_plant_edge.specs.declared.fault.EdgeCause.{EdgeCause}
+use Rattle.spk_plant_edge.specs.declared.fault.EdgeCause.TheVariants as edge_why
+use Rattle.spk_plant_edge.specs.declared.edge.EdgeStart.{EdgeStart}
+use Rattle.spk_plant_edge.specs.declared.edge.EdgeEnd.{EdgeEnd}
+use Rattle.spk_plant_edge.specs.declared.edge.EdgeFailure.{EdgeFailure}
+use Rattle.spk_plant_broker.specs.Fault.{fault_of as broker_fault}
+use Rattle.spk_plant_broker.specs.declared.fault.BrokerFailed.{BrokerFailed}
+use Rattle.spk_plant_broker.specs.declared.fault.BrokerFailed.TheVariants as failed
+use Rattle.spk_plant_broker.specs.declared.part.BrokerStart.{BrokerStart}
+use Rattle.spk_plant_broker.specs.declared.part.BrokerEnd.{BrokerEnd}
+use Rattle.spk_plant_host.specs.Fault.{fault_of as host_fault}
+use Rattle.spk_plant_host.specs.declared.fault.HostCause.{HostCause}
+use Rattle.spk_plant_host.specs.declared.fault.HostCause.TheVariants as why
+use Rattle.spk_plant_host.specs.declared.ends.HostStart.{HostStart}
+use Rattle.spk_plant_host.specs.declared.ends.HostEnd.{HostEnd}
+use Rattle.spk_plant_host.specs.declared.ends.HostFailed.{HostFailed}
 use Rattle.spk_plant.specs.Choice.{AreJoined, HasFramesLeft, IsChosen, IsFault, IsFirst, IsLeft, IsMissing, IsOfEdges, IsThreads, IsUnsettled, fault_of_all, fault_of_edges, passes_of}
 use Rattle.spk_plant.specs.Done.{AllDone, AreApart, AreDone, AreTied, IsEdgeDone, lists_of}
 use Rattle.spk_plant.specs.Start.{AreParts, HasAt}

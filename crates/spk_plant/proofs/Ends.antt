@@ -3,9 +3,9 @@ use Rattle.std.proofs.Common.{◌≡◌, ◌∙◌, inl, inr, ℕ, zero, suc, �
 use Rattle.std.proofs.lemmas.List.{map-append}
 use Rattle.std.specs.List.{slice_get}
 use Rattle.spk_edge_rules.specs.Config.{Config}
-use Rattle.spk_given.specs.Handed.{IsOfNode}
-use Rattle.spk_given.specs.declared.handed.Handed.{Handed}
-use Rattle.spk_host_body.specs.declared.ends.Given.{Given}
+use Rattle.spk_plant_given.specs.Handed.{IsOfNode}
+use Rattle.spk_plant_given.specs.declared.handed.Handed.{Handed}
+use Rattle.spk_plant_host.specs.declared.ends.Given.{Given}
 use Rattle.spk_ingress.specs.Lanes.{share_of}
 use Rattle.spk_ingress.specs.Passes.{AllPutInto, AllTaken, PutsInto, frames_put, frames_taken}
 use Rattle.spk_ingress.specs.declared.channel.Ingress.{Ingress}
@@ -14,8 +14,8 @@ use Rattle.spk_ingress.specs.declared.rule.Message.{Message}
 use Rattle.spk_rings.specs.Ring.{IsShorterBy, all_offered, popped}
 use Rattle.spk_rings.specs.declared.item.Item.{Item}
 use Rattle.spk_rings.specs.declared.token.Token.{Token}
-use Rattle.spk_edge_body.specs.declared.edge.EdgeStart.{EdgeStart}
-use Rattle.spk_edge_body.specs.declared.edge.EdgeEnd.{EdgeEnd}
+use Rattle.spk_plant_edge.specs.declared.edge.EdgeStart.{EdgeStart}
+use Rattle.spk_plant_edge.specs.declared.edge.EdgeEnd.{EdgeEnd}
 use Rattle.spk_plant.specs.Done.{AllInto, AreApart, AreDone, AreReady, AreTheirs, IsAllOf, IsEdgeDone, IsFrontOf, IsReportOf, IsTied, Lists, lists_of}
 use Rattle.spk_plant.specs.Start.{HasAt}
 use Rattle.spk_plant.specs.declared.report.NodeReport.{NodeReport}

@@ -15,28 +15,28 @@ use Rattle.spk_rings.specs.declared.token.Token.{Token}
 use Rattle.spk_plan.specs.declared.plan.Plan.{Plan}
 use Rattle.spk_plan.specs.declared.plan.PlanNode.{PlanNode}
 use Rattle.spk_edge_rules.specs.Config.{Config, Setup}
-use Rattle.spk_given.specs.Handed.{IsOfNode}
+use Rattle.spk_plant_given.specs.Handed.{IsOfNode}
 use Rattle.spk_edge.specs.View.{message_view}
 use Rattle.spk_ingress.specs.declared.frame.Frame.TheVariants.{End}
-use Rattle.spk_edge_body.specs.Frames.{frames_of}
-use Rattle.spk_edge_body.specs.Log.{inputs_of, items_of}
-use Rattle.spk_edge_body.specs.Told.{newest_first}
-use Rattle.spk_edge_body.specs.Done.{EdgeDone}
-use Rattle.spk_edge_body.specs.declared.edge.EdgeStart.{EdgeStart}
-use Rattle.spk_edge_body.specs.declared.edge.EdgeEnd.{EdgeEnd}
-use Rattle.spk_broker_body.specs.Data.{Entry, Took, Accepted, Refused, Passed, Told}
-use Rattle.spk_broker_body.specs.Done.{AreTokens, BrokerDone, IsTokenAt}
-use Rattle.spk_broker_body.specs.Log.{AtRefusals, HasFilled, got_of, taken_of}
-use Rattle.spk_broker_body.specs.declared.part.BrokerStart.{BrokerStart}
-use Rattle.spk_host_body.specs.declared.ends.HostStart.{HostStart}
+use Rattle.spk_plant_edge.specs.Frames.{frames_of}
+use Rattle.spk_plant_edge.specs.Log.{inputs_of, items_of}
+use Rattle.spk_plant_edge.specs.Told.{newest_first}
+use Rattle.spk_plant_edge.specs.Done.{EdgeDone}
+use Rattle.spk_plant_edge.specs.declared.edge.EdgeStart.{EdgeStart}
+use Rattle.spk_plant_edge.specs.declared.edge.EdgeEnd.{EdgeEnd}
+use Rattle.spk_plant_broker.specs.Data.{Entry, Took, Accepted, Refused, Passed, Told}
+use Rattle.spk_plant_broker.specs.Done.{AreTokens, BrokerDone, IsTokenAt}
+use Rattle.spk_plant_broker.specs.Log.{AtRefusals, HasFilled, got_of, taken_of}
+use Rattle.spk_plant_broker.specs.declared.part.BrokerStart.{BrokerStart}
+use Rattle.spk_plant_host.specs.declared.ends.HostStart.{HostStart}
 use Rattle.spk_plant.specs.Done.{AllDone, AreReady, AreTheirs, AreTied, IsEdgeDone, IsFront, IsReportOf, IsTied, Lists, lists, lists_of}
 use Rattle.spk_plan_rules.specs.Plan.{host_in, setup_in}
 use Rattle.std.specs.String.{string_bytes}
 use Rattle.spk_host.specs.Data.{HostData}
 use Rattle.spk_ingress.specs.declared.frame.Frame.TheVariants as frame
-use Rattle.spk_host_body.specs.Calls.{packets_of}
-use Rattle.spk_host_body.specs.Ends.{config_of}
-use Rattle.spk_host_body.specs.Told.{AreToldBy, calls_of, heard_in, told_in}
+use Rattle.spk_plant_host.specs.Calls.{packets_of}
+use Rattle.spk_plant_host.specs.Ends.{config_of}
+use Rattle.spk_plant_host.specs.Told.{AreToldBy, calls_of, heard_in, told_in}
 use Rattle.spk_plant.specs.Report.{IsHandedAt, IsHost, IsLogged, IsNode, IsNodeAt, RunsAs}
 use Rattle.spk_plant.specs.Start.{AreParts, HasAt, IsPass, IsRing, IsStart}
 use Rattle.spk_plant.specs.declared.report.NodeReport.{NodeReport}

@@ -10,9 +10,9 @@ use Rattle.spk_rings.specs.declared.inlet.Inlet.{Inlet}
 use Rattle.spk_rings.specs.declared.outlet.Outlet.{Outlet}
 use Rattle.spk_plan.specs.declared.plan.Plan.{Plan}
 use Rattle.spk_plan.specs.declared.plan.PlanNode.{PlanNode}
-use Rattle.spk_edge_body.specs.declared.edge.EdgeStart.{EdgeStart}
-use Rattle.spk_broker_body.specs.declared.part.BrokerStart.{BrokerStart}
-use Rattle.spk_host_body.specs.declared.ends.HostStart.{HostStart}
+use Rattle.spk_plant_edge.specs.declared.edge.EdgeStart.{EdgeStart}
+use Rattle.spk_plant_broker.specs.declared.part.BrokerStart.{BrokerStart}
+use Rattle.spk_plant_host.specs.declared.ends.HostStart.{HostStart}
 use Rattle.spk_plan_rules.specs.Plan.{AreEdges, host_in, is_edge}
 use Rattle.spk_plant.specs.Start.{AreParts, AreRings, AreStarts, HasAt, IsPass, IsRing, IsStart, names_in}
 use Rattle.spk_plant.proofs.Places.{get_last, get_more, get_parts, has_last, has_more}

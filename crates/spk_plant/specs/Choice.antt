@@ -14,21 +14,21 @@ use Rattle.spk_plan.specs.declared.fault.PlantFault.{PlantFault}
 use Rattle.spk_plan.specs.declared.fault.PlantFault.TheVariants as fault
 use Rattle.spk_plan.specs.declared.plan.Plan.{Plan}
 use Rattle.spk_plan_rules.specs.Plan.{CanRun}
-use Rattle.spk_edge_body.specs.Done.{EdgeFailed}
-use Rattle.spk_edge_body.specs.Fault.{fault_of as edge_fault}
-use Rattle.spk_edge_body.specs.declared.edge.EdgeStart.{EdgeStart}
-use Rattle.spk_edge_body.specs.declared.edge.EdgeEnd.{EdgeEnd}
-use Rattle.spk_edge_body.specs.declared.edge.EdgeFailure.{EdgeFailure}
-use Rattle.spk_broker_body.specs.Done.{BrokerDone}
-use Rattle.spk_broker_body.specs.Fault.{fault_of as broker_fault}
-use Rattle.spk_broker_body.specs.declared.fault.BrokerFailed.{BrokerFailed}
-use Rattle.spk_broker_body.specs.declared.part.BrokerStart.{BrokerStart}
-use Rattle.spk_broker_body.specs.declared.part.BrokerEnd.{BrokerEnd}
-use Rattle.spk_host_body.specs.Ends.{HostBroke, HostDone}
-use Rattle.spk_host_body.specs.Fault.{fault_of as host_fault}
-use Rattle.spk_host_body.specs.declared.ends.HostStart.{HostStart}
-use Rattle.spk_host_body.specs.declared.ends.HostEnd.{HostEnd}
-use Rattle.spk_host_body.specs.declared.ends.HostFailed.{HostFailed}
+use Rattle.spk_plant_edge.specs.Done.{EdgeFailed}
+use Rattle.spk_plant_edge.specs.Fault.{fault_of as edge_fault}
+use Rattle.spk_plant_edge.specs.declared.edge.EdgeStart.{EdgeStart}
+use Rattle.spk_plant_edge.specs.declared.edge.EdgeEnd.{EdgeEnd}
+use Rattle.spk_plant_edge.specs.declared.edge.EdgeFailure.{EdgeFailure}
+use Rattle.spk_plant_broker.specs.Done.{BrokerDone}
+use Rattle.spk_plant_broker.specs.Fault.{fault_of as broker_fault}
+use Rattle.spk_plant_broker.specs.declared.fault.BrokerFailed.{BrokerFailed}
+use Rattle.spk_plant_broker.specs.declared.part.BrokerStart.{BrokerStart}
+use Rattle.spk_plant_broker.specs.declared.part.BrokerEnd.{BrokerEnd}
+use Rattle.spk_plant_host.specs.Ends.{HostBroke, HostDone}
+use Rattle.spk_plant_host.specs.Fault.{fault_of as host_fault}
+use Rattle.spk_plant_host.specs.declared.ends.HostStart.{HostStart}
+use Rattle.spk_plant_host.specs.declared.ends.HostEnd.{HostEnd}
+use Rattle.spk_plant_host.specs.declared.ends.HostFailed.{HostFailed}
 use Rattle.spk_plant.specs.Start.{AreParts, HasAt}
 use Rattle.spk_plant.specs.Done.{AllDone, AreDone}
 use Rattle.spk_plant.specs.declared.choice.Ends.{Ends}

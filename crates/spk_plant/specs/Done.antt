@@ -10,19 +10,19 @@ use Rattle.spk_ingress.specs.declared.channel.PutPass.{PutPass}
 use Rattle.spk_rings.specs.Ring.{IsTokenOf, all_offered, popped}
 use Rattle.spk_rings.specs.declared.item.Item.{Item}
 use Rattle.spk_rings.specs.declared.token.Token.{Token}
-use Rattle.spk_edge_body.specs.Done.{EdgeDone}
-use Rattle.spk_edge_body.specs.declared.edge.EdgeStart.{EdgeStart}
-use Rattle.spk_edge_body.specs.declared.edge.EdgeEnd.{EdgeEnd}
-use Rattle.spk_broker_body.specs.Done.{BrokerDone}
-use Rattle.spk_host_body.specs.Ends.{HostDone}
-use Rattle.spk_host_body.specs.declared.ends.Given.{Given}
-use Rattle.spk_given.specs.Handed.{IsOfNode}
+use Rattle.spk_plant_edge.specs.Done.{EdgeDone}
+use Rattle.spk_plant_edge.specs.declared.edge.EdgeStart.{EdgeStart}
+use Rattle.spk_plant_edge.specs.declared.edge.EdgeEnd.{EdgeEnd}
+use Rattle.spk_plant_broker.specs.Done.{BrokerDone}
+use Rattle.spk_plant_host.specs.Ends.{HostDone}
+use Rattle.spk_plant_host.specs.declared.ends.Given.{Given}
+use Rattle.spk_plant_given.specs.Handed.{IsOfNode}
 use Rattle.spk_ingress.specs.declared.rule.Message.{Message}
 use Rattle.spk_plant.specs.Start.{HasAt}
 use Rattle.spk_plant.specs.declared.report.NodeReport.{NodeReport}
 use Rattle.spk_plant.specs.declared.report.Report.{Report}
-use Rattle.spk_broker_body.specs.declared.part.BrokerStart.{BrokerStart}
-use Rattle.spk_host_body.specs.declared.ends.HostStart.{HostStart}
+use Rattle.spk_plant_broker.specs.declared.part.BrokerStart.{BrokerStart}
+use Rattle.spk_plant_host.specs.declared.ends.HostStart.{HostStart}
 use Rattle.spk_rings.specs.declared.inlet.Inlet.{Inlet}
 use Rattle.spk_plant.specs.declared.choice.Ends.{Ends}
 

@@ -15,21 +15,21 @@ use Rattle.spk_plan.specs.declared.plan.Plan.{Plan}
 use Rattle.spk_plan.specs.declared.plan.PlanNode.{PlanNode}
 use Rattle.spk_plan.specs.declared.script.Step.{Step}
 use Rattle.spk_plan.specs.declared.script.Step.TheVariants.{Stop}
-use Rattle.spk_edge_body.specs.Frames.{frames_of}
-use Rattle.spk_edge_body.specs.Log as edge
-use Rattle.spk_edge_body.specs.Script.{Leads}
-use Rattle.spk_edge_body.specs.Told.{newest_first}
-use Rattle.spk_broker_body.specs.Data.{Entry}
-use Rattle.spk_broker_body.specs.Done.{refused_to}
-use Rattle.spk_broker_body.specs.Log.{AtRefusals, IsLog, accepted_of, got_of, refusals_of, room_of, taken_of}
-use Rattle.spk_broker_body.specs.Step.{has_ended}
+use Rattle.spk_plant_edge.specs.Frames.{frames_of}
+use Rattle.spk_plant_edge.specs.Log as edge
+use Rattle.spk_plant_edge.specs.Script.{Leads}
+use Rattle.spk_plant_edge.specs.Told.{newest_first}
+use Rattle.spk_plant_broker.specs.Data.{Entry}
+use Rattle.spk_plant_broker.specs.Done.{refused_to}
+use Rattle.spk_plant_broker.specs.Log.{AtRefusals, IsLog, accepted_of, got_of, refusals_of, room_of, taken_of}
+use Rattle.spk_plant_broker.specs.Step.{has_ended}
 use Rattle.spk_host_session.specs.Data.{Config}
-use Rattle.spk_host_body.specs.Calls.{packets_of}
-use Rattle.spk_host_body.specs.Told.{AreToldBy, calls_of, consumed_by, consumptions, heard_in, told_in}
-use Rattle.spk_host_body.specs.declared.ends.Given.{Given}
+use Rattle.spk_plant_host.specs.Calls.{packets_of}
+use Rattle.spk_plant_host.specs.Told.{AreToldBy, calls_of, consumed_by, consumptions, heard_in, told_in}
+use Rattle.spk_plant_host.specs.declared.ends.Given.{Given}
 use Rattle.spk_plant.specs.Done.{IsFront}
 use Rattle.spk_plan_rules.specs.Plan.{host_in, setup_in}
-use Rattle.spk_given.specs.Handed.{IsOfNode}
+use Rattle.spk_plant_given.specs.Handed.{IsOfNode}
 use Rattle.std.specs.String.{string_bytes}
 use Rattle.spk_plant.specs.Start.{HasAt}
 use Rattle.spk_plant.specs.declared.report.NodeReport.{NodeReport}

@@ -12,10 +12,10 @@ use Rattle.spk_rings.specs.declared.inlet.Inlet.{Inlet}
 use Rattle.spk_rings.specs.declared.outlet.Outlet.{Outlet}
 use Rattle.spk_plan.specs.declared.plan.Plan.{Plan}
 use Rattle.spk_plan.specs.declared.plan.PlanNode.{PlanNode}
-use Rattle.spk_edge_body.specs.declared.edge.EdgeStart.{EdgeStart}
+use Rattle.spk_plant_edge.specs.declared.edge.EdgeStart.{EdgeStart}
 use Rattle.spk_plan_rules.specs.Plan.{edge_setup, host_in}
-use Rattle.spk_broker_body.specs.declared.part.BrokerStart.{BrokerStart}
-use Rattle.spk_host_body.specs.declared.ends.HostStart.{HostStart}
+use Rattle.spk_plant_broker.specs.declared.part.BrokerStart.{BrokerStart}
+use Rattle.spk_plant_host.specs.declared.ends.HostStart.{HostStart}
 
 -- an element of a list at a place, of which something holds
 pub record HasAt (A : Type 0) (P : A → Type 0) (xs : List A) (k : ℕ) : Type 0 where

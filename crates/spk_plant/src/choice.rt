@@ -2,10 +2,10 @@
 ghost use Rattle.std.specs.Prelude.{◌≡◌, ◌⊎◌, IfOk, IfErr, Some, None};
 ghost use Rattle.spk_plant.specs.Choice.{AreAll, AreJoined, fault_of_all, fault_of_edges};
 
-use spk_broker_body::{BrokerEnd, BrokerFailed};
-use spk_edge_body::{EdgeEnd, EdgeFailure};
-use spk_host_body::{HostEnd, HostFailed};
 use spk_plan::PlantFault;
+use spk_plant_broker::{BrokerEnd, BrokerFailed};
+use spk_plant_edge::{EdgeEnd, EdgeFailure};
+use spk_plant_host::{HostEnd, HostFailed};
 
 /// What the threads hand on at their ends.
 #[derive(Drop)]

@@ -11,4 +11,4 @@ mod tie;
 
 pub use plant::run_plant;
 pub use report::{NodeReport, Report};
-pub use spk_given::Handed;
+pub use spk_plant_given::Handed;

@@ -1,10 +1,10 @@
 //! What a plant did.
-use spk_broker_body::Refusal;
 use spk_edge::Published;
-use spk_edge_body::Told;
-use spk_given::Handed;
-use spk_host_body::Given;
 use spk_ingress::Message;
+use spk_plant_broker::Refusal;
+use spk_plant_edge::Told;
+use spk_plant_given::Handed;
+use spk_plant_host::Given;
 
 /// What an edge node did.
 #[derive(Debug, Drop)]

@@ -10,14 +10,14 @@ ghost use Rattle.spk_plan_rules.specs.Plan.{AreEdges, CanRun, edge_setup, host_c
 ghost use Rattle.spk_plant.specs.Choice.{IsRefused};
 ghost use Rattle.spk_plant.specs.Start.{AreParts, AreRings, AreStarts, IsRing, IsStart, names_in};
 
-use spk_broker_body::BrokerStart;
 use spk_edge::{EdgeConfig, EdgeFault, EdgeNode, Numbering, Record};
-use spk_edge_body::EdgeStart;
 use spk_host::{Host, HostConfig};
-use spk_host_body::HostStart;
 use spk_ingress::{Ingress, OpenFault, PutPass};
 use spk_plan::{Plan, PlanNode, PlantFault};
 use spk_plan_rules::is_within;
+use spk_plant_broker::BrokerStart;
+use spk_plant_edge::EdgeStart;
+use spk_plant_host::HostStart;
 use spk_rings::{Inlet, Outlet, RingFault, ring};
 use spk_sequence::Width;
 use std::alloc::{AllocError, Global};

@@ -2,18 +2,18 @@
 ghost use Rattle.std.specs.Prelude.{◌≡◌, ◌⊎◌, ◌≤◌, ◌+◌, [], ◌∷◌, ◌++◌, length, IfOk, IfErr, IfSome, None};
 ghost use Rattle.std.specs.Thread.{IsSync};
 ghost use Rattle.spk_ingress.specs.Passes.{PutsInto};
-ghost use Rattle.spk_broker_body.specs.Done.{BrokerDone, BrokerReady};
-ghost use Rattle.spk_edge_body.specs.Done.{EdgeFailed};
-ghost use Rattle.spk_host_body.specs.Ends.{HostBroke, HostDone, HostReady};
+ghost use Rattle.spk_plant_broker.specs.Done.{BrokerDone, BrokerReady};
+ghost use Rattle.spk_plant_edge.specs.Done.{EdgeFailed};
+ghost use Rattle.spk_plant_host.specs.Ends.{HostBroke, HostDone, HostReady};
 ghost use Rattle.spk_plant.specs.Choice.{IsChosen, IsOfEdges};
 ghost use Rattle.spk_plant.specs.Done.{AllDone, AreDone, AreReady, IsEdgeDone};
 
 use crate::choice::{Ends, edges_of, ends_of};
-use spk_broker_body::{Bells, BrokerEnd, BrokerFailed, BrokerStart, run_broker};
-use spk_edge_body::{EdgeEnd, EdgeFailure, EdgeStart, run_edge};
-use spk_host_body::{HostEnd, HostFailed, HostStart, run_host};
 use spk_ingress::Ingress;
 use spk_plan::{Gate, PlantFault};
+use spk_plant_broker::{Bells, BrokerEnd, BrokerFailed, BrokerStart, run_broker};
+use spk_plant_edge::{EdgeEnd, EdgeFailure, EdgeStart, run_edge};
+use spk_plant_host::{HostEnd, HostFailed, HostStart, run_host};
 use std::alloc::{AllocError, Global};
 use std::sync::Wait;
 use std::thread::{Parker, Threads, join};

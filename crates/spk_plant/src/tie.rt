@@ -1,19 +1,19 @@
 //! What is tied once all threads are joined.
 ghost use Rattle.std.specs.Prelude.{◌≡◌, ◌⊎◌, ◌<◌, [], ◌∷◌, ◌++◌, length, IfOk, IfErr, IfSome, OnOk, Some, None};
-ghost use Rattle.spk_given.specs.Handed.{IsOfNode};
+ghost use Rattle.spk_plant_given.specs.Handed.{IsOfNode};
 ghost use Rattle.spk_plant.specs.Choice.{IsMissing, IsUnsettled};
 ghost use Rattle.spk_plant.specs.Done.{AreApart, AreTheirs, AreTied, IsFrontOf, IsReportOf, IsTied, lists};
 ghost use Rattle.spk_rings.specs.Ring.{IsTokenOf};
 
 use crate::choice::Ends;
 use crate::report::{NodeReport, Report};
-use spk_broker_body::BrokerEnd;
 use spk_edge::EdgeNode;
-use spk_edge_body::EdgeEnd;
-use spk_given::{OfNode, of_node};
-use spk_host_body::{Given, HostEnd};
 use spk_ingress::{Ingress, Message, PutPass, SettleFault};
 use spk_plan::PlantFault;
+use spk_plant_broker::BrokerEnd;
+use spk_plant_edge::EdgeEnd;
+use spk_plant_given::{OfNode, of_node};
+use spk_plant_host::{Given, HostEnd};
 use spk_rings::Token;
 use std::alloc::{AllocError, Global};
 use std::sync::Wait;

@@ -1,13 +1,13 @@
 //! What must hold of every report, judged on its lists alone.
 use crate::plans::{NAMES, taken_in};
-use spk_broker_body::Refusal;
 use spk_edge::Published;
 use spk_host::Taken;
-use spk_host_body::Given;
 use spk_ingress::{Frame, Message};
 use spk_packets::Packet;
 use spk_payload::{Payload, decode};
 use spk_plant::{NodeReport, Report};
+use spk_plant_broker::Refusal;
+use spk_plant_host::Given;
 use spk_reading::{Content, Heard, Subject};
 use std::alloc::Global;
 

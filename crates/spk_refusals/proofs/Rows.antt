@@ -12,7 +12,7 @@ use Rattle.spk_edge_rules.specs.Inputs.{Input}
 use Rattle.spk_edge_rules.specs.Step.{answer_at, seq_kept, stepped}
 use Rattle.spk_edge_rules.specs.declared.fault.EdgeFault.{EdgeFault}
 use Rattle.spk_ingress.specs.declared.rule.Message.{Message}
-use Rattle.spk_broker_body.specs.Step.{has_ended}
+use Rattle.spk_plant_broker.specs.Step.{has_ended}
 use Rattle.spk_plan.specs.declared.plan.Plan.{Plan}
 use Rattle.spk_plant.specs.Report.{RunsAs}
 use Rattle.spk_plant.specs.declared.report.Report.{Report}

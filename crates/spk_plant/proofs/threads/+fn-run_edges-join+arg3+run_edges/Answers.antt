@@ -1,5 +1,5 @@
 use Rattle.std.proofs.Common.{IfOk, IfErr, rules}
-use Rattle.spk_edge_body.specs.Done.{EdgeFailed}
+use Rattle.spk_plant_edge.specs.Done.{EdgeFailed}
 use Rattle.spk_plant.specs.Choice.{IsOfEdges}
 use Rattle.spk_plant.specs.Done.{AreDone, IsEdgeDone}
 use Rattle.spk_plant.proofs.Chosen.{edges_done, edges_fault}

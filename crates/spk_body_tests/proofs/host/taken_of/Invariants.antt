@@ -1,5 +1,0 @@
-use Rattle.spk_ingress.specs.Passes.{TakesFrom}
-use Rattle.spk_body_tests.proofs.host.taken_of.Given as goal
-
-abbrev pub invariant-loop : goal.invariant-loop
-invariant-loop g l = TakesFrom l.ingress l.taker

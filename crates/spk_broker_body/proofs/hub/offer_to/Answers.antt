@@ -1,7 +1,0 @@
-use Rattle.spk_broker_body.proofs.Lines.{offers_line}
-use Rattle.spk_broker_body.proofs.hub.offer_to.Goals as goal
-
-pub returns-clause-gives : goal.returns-clause-gives
-returns-clause-gives c firsts dropped got taken fits =
-    offers_line firsts dropped got taken c.args.lines.now.items c.args.client c.args.bytes c.index_mut.result.now c.offer.new.self c.offer.result fits
-    c.requires c.index_mut.ensures.value c.offer.ensures

@@ -1,9 +1,0 @@
--- Why an edge node's thread failed, as the fault of a plant (own rule).
-use Rattle.spk_plan.specs.declared.fault.PlantFault.{PlantFault}
-use Rattle.spk_plan.specs.declared.fault.PlantFault.TheVariants as plant
-use Rattle.spk_edge_body.specs.declared.fault.EdgeCause.{EdgeCause}
-use Rattle.spk_edge_body.specs.declared.fault.EdgeCause.TheVariants as why
-
-abbrev pub fault_of : EdgeCause → PlantFault
-fault_of why.NoMemory = plant.NoMemory
-fault_of (why.Closed gone) = plant.Closed

@@ -1,5 +1,0 @@
-use Rattle.spk_ingress.specs.Passes.{TakesFrom}
-use Rattle.spk_thread_tests.proofs.engines.taken_of.Given as goal
-
-abbrev pub invariant-loop-packets : goal.invariant-loop-packets
-invariant-loop-packets g l = TakesFrom l.ingress l.taker
