@@ -50,3 +50,18 @@ loop-preserved g c = record {
       (frames_put c.loop.desk.line.pass) (frames_put c.take_in.new.desk.line.pass) c.loop.invariant.ran c.gone-gone.ensures.same c.in-Some-next.ensures.some
       (c.in-Ok-take_in.ensures.along c.args.desk.now.host.session.config (frames_put c.args.desk.now.line.pass));
 }
+
+pub loop-preserved-in-Ok-take_in-2 : goal.loop-preserved-in-Ok-take_in-2
+loop-preserved-in-Ok-take_in-2 g c = record {
+  pass = record {
+    puts_into = c.in-Ok-take_in.ensures.pass.puts_into;
+    sender = c.in-Ok-take_in.ensures.pass.sender ∙ c.loop.invariant.pass.sender;
+    ends = c.in-Ok-take_in.ensures.pass.ends ∙ c.loop.invariant.pass.ends;
+  };
+  same = same_then c.args.inlet.now c.loop.inlet c.next-in-loop.new.self c.loop.invariant.same
+      (same_then c.loop.inlet c.gone-gone.new.self c.next-in-loop.new.self c.gone-gone.ensures.end c.in-Some-next.ensures.end);
+  ran = ran_more c.args.desk.now.host.session.config (frames_put c.args.desk.now.line.pass) c.args.inlet.now c.loop.inlet c.gone-gone.new.self
+      c.next-in-loop.new.self c.loop.given.items c.take_in.new.given.items c.in-Some-next.item c.loop.desk.host c.take_in.new.desk.host
+      (frames_put c.loop.desk.line.pass) (frames_put c.take_in.new.desk.line.pass) c.loop.invariant.ran c.gone-gone.ensures.same c.in-Some-next.ensures.some
+      (c.in-Ok-take_in.ensures.along c.args.desk.now.host.session.config (frames_put c.args.desk.now.line.pass));
+}
